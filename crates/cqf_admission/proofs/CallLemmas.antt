@@ -1,7 +1,7 @@
 -- What a call leaves that enters the history: the state that the administration runs on, its answer, and the streams that it holds.
 use Rattle.std.proofs.Common.{◌≡◌, ◌∙◌, ℕ, ◌+◌, ◌-◌, ◌<◌, ◌≤◌, List, [], ◌∷◌, ◌++◌, Some, None, true, false, length, map, refl, ap, sym, subst, arith}
 use Rattle.std.specs.declared.alloc.Global.{Global}
-use Rattle.std.specs.Prelude.{Result, Ok, Err, String, filter, string_bytes}
+use Rattle.std.specs.Prelude.{Contains, Result, Ok, Err, String, filter, string_bytes}
 use Rattle.std.proofs.lemmas.List.{length-map}
 use Rattle.cqf_model.specs.declared.history.Receipt.{Receipt}
 use Rattle.cqf_model.specs.declared.history.Refused.{Refused}
@@ -10,6 +10,7 @@ use Rattle.cqf_model.specs.declared.topology.Row.{Row}
 use Rattle.cqf_model.specs.Domain.{Domain}
 use Rattle.cqf_model.specs.History.{Act, Admits, Asked, Recorded, Seals, Withdraws, is_seal, refusal_of, reply_to, seals, table_at, withdraw_reply}
 use Rattle.cqf_model.specs.History.{withdraw_row}
+use Rattle.cqf_model.specs.Paces.{each_cycle}
 use Rattle.cqf_model.specs.Table.{is_held}
 use Rattle.cqf_topology.specs.declared.streams.Request.{Request}
 use Rattle.cqf_laws_history.specs.StateLaws.{GrantedIsHeld, HeldAreSound, HistoryGoesOn, IsState, RefusedChangesNothing, SealClosesTable, SealLetsGo}
@@ -23,6 +24,7 @@ use Rattle.cqf_admission.specs.declared.entries.Call.TheVariants.{Admit, Withdra
 use Rattle.cqf_admission.specs.declared.entries.Entry.{Entry}
 use Rattle.cqf_admission.proofs.RunLemmas.{answers_entered, ended_at_number, entered_behind, held_behind, refusal_is_entered, request_reply, run_on}
 use Rattle.cqf_admission.proofs.RunLemmas.{run_sealed, withdrawal_is_entered, withdrawal_reply}
+use Rattle.cqf_admission.proofs.EachRow.{each_ended, each_pushed}
 use Rattle.cqf_admission.proofs.TableLemmas.{trees_go_along_links}
 
 -- an administration with these entries
@@ -44,10 +46,10 @@ pub record Leaves (before after : Administration) (rows : List Row) (next sealed
 entered_leaves : HistoryGoesOn → SealsAreCounted → (d : Domain) (old reserved new : List Entry) (e : Entry) (rows rows_after : List Row)
     (next next_after sealed : ℕ) (act : Act) (result : Result Receipt Refused) (change : Administration → List Row) → is_seal act ≡ false →
     is_entered result ≡ true → IsRunning d (map recorded_of old) rows next sealed → length old - sealed < 100000 → next_after ≤ next + 1 →
-    act_of e.call ≡ act → e.reply ≡ reply_of result → reply_to d (map recorded_of old) act ≡ reply_of result → reserved ≡ old → new ≡ reserved ++ e ∷ [] →
+    ((row : Row) → Contains rows_after row → row.pace ≡ each_cycle) → act_of e.call ≡ act → e.reply ≡ reply_of result → reply_to d (map recorded_of old) act ≡ reply_of result → reserved ≡ old → new ≡ reserved ++ e ∷ [] →
     IsState d (with_entry (map recorded_of old) e.seat act (reply_to d (map recorded_of old) act)) rows_after next_after →
     rows_after ≡ change (with_entries d old) → Leaves (with_entries d old) (with_entries d new) rows_after next_after sealed e.seat act result change
-entered_leaves goes_on counted d old reserved new e rows rows_after next next_after sealed act result change no_seal is r few more acts
+entered_leaves goes_on counted d old reserved new e rows rows_after next next_after sealed act result change no_seal is r few more paced acts
     says due kept put state changed =
     let entries = map recorded_of old in
     let few_calls : length entries - sealed < 100000 = omega (arith, few, length-map old recorded_of) in
@@ -56,7 +58,7 @@ entered_leaves goes_on counted d old reserved new e rows rows_after next next_af
     let same = ap (with_entry entries e.seat act) due ∙ sym items in
     record {
       running = subst (λ (es : List Recorded). IsRunning d es rows_after next_after sealed) same
-          (run_on goes_on counted d entries rows rows_after next next_after sealed e.seat act no_seal r few_calls more state);
+          (run_on goes_on counted d entries rows rows_after next next_after sealed e.seat act no_seal r few_calls more paced state);
       answers = answers_entered (with_entries d old) (with_entries d new) e.seat act result is (omega (arith, few_calls, r.counted)) refl (sym due) items;
       held = held_behind d (with_entry entries e.seat act (reply_to d entries act)) (map recorded_of new) rows_after next_after state same ∙ changed;
     }
@@ -70,7 +72,7 @@ refused_leaves : HistoryGoesOn → SealsAreCounted → RefusedChangesNothing →
 refused_leaves goes_on counted refuses d old reserved new e rows same_rows next sealed act refused no_seal is r few acts says due kept put same =
     let entries = map recorded_of old in
     entered_leaves goes_on counted d old reserved new e rows same_rows next next sealed act (Err refused) held_of no_seal is r few (omega arith)
-    acts says due kept put
+    (λ row among. r.paced row (subst (λ (rs : List Row). Contains rs row) same among)) acts says due kept put
     (subst (λ (rs : List Row). IsState d (with_entry entries e.seat act (reply_to d entries act)) rs next) (sym same)
     (refuses d entries rows next e.seat act refused r.state due))
     (same ∙ sym r.state.held)
@@ -109,7 +111,9 @@ request_granted goes_on counted grants {d} {old} {reserved} {new} {rows} {same_r
     (entered_leaves goes_on counted d old reserved new (record { seat = seat; call = Admit copy; reply = Accepted (receipt_of next sealed) }) rows grown next
     (next + 1) sealed (Admits asked) (Ok (receipt_of next sealed)) (λ (a : Administration). held_of a ++ granted_row a.domain next sealed asked ∷ [])
     refl refl r
-    few (omega arith) (ap Admits copied) refl (request_reply d entries rows next sealed asked None r refusal) kept put
+    few (omega arith)
+    (λ x among. each_pushed (λ (y : Row). y.pace ≡ each_cycle) rows row r.paced granted.paced x (subst (λ (rs : List Row). Contains rs x)
+    (pushed ∙ ap (λ (rs : List Row). rs ++ row ∷ []) same) among)) (ap Admits copied) refl (request_reply d entries rows next sealed asked None r refusal) kept put
     (subst (λ (rs : List Row). IsState d (with_entry entries seat (Admits asked) (reply_to d entries (Admits asked))) rs (next + 1))
     (ap (λ (k : ℕ). rows ++ granted_row d next k asked ∷ []) (sym r.counted) ∙ sym one_more)
     (grants d entries rows next seat asked r.legal r.state refusal))
@@ -152,7 +156,9 @@ withdrawal_done goes_on counted withdraws sound {d} {old} {reserved} {new} {rows
     (λ (b : Administration). map (ended_row number sealed) (held_of b))) view
     (entered_leaves goes_on counted d old reserved new (record { seat = seat; call = Withdraw copy; reply = Accepted (receipt_of number sealed) }) rows
     ended_rows next next sealed (Withdraws name) (Ok (receipt_of number sealed)) (λ (a : Administration). map (ended_row number sealed) (held_of a)) refl
-    refl r few (omega arith) (ap Withdraws copied) refl due kept put
+    refl r few (omega arith)
+    (λ x among. each_ended (λ (y : Row). y.pace ≡ each_cycle) (λ y cycle own. own) rows place (record { 0 = sealed }) r.paced x
+    (subst (λ (rs : List Row). Contains rs x) ended among)) (ap Withdraws copied) refl due kept put
     (subst (λ (rs : List Row). IsState d (with_entry entries seat (Withdraws name) (reply_to d entries (Withdraws name))) rs next)
     (ap (λ (k : ℕ). map (ended_row row.no k) rows) (sym r.counted) ∙ sym one_ended)
     (withdraws d entries rows next seat name row r.legal r.state found.named found.open_end))

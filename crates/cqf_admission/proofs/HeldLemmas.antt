@@ -10,11 +10,10 @@ use Rattle.cqf_units.specs.declared.reservations.Cycle.{Cycle}
 use Rattle.cqf_model.proofs.Texts.{pointwise-is_text}
 use Rattle.cqf_model.specs.declared.topology.Row.{Row}
 use Rattle.cqf_model.specs.Domain.{is_text}
-use Rattle.cqf_units.specs.Timing.{cost_of}
 use Rattle.cqf_lists.proofs.Any.{list_any-map}
 use Rattle.cqf_admission.proofs.EndingLemmas.{pairs_remove}
 use Rattle.cqf_admission.proofs.MappedRows.{mapped_less}
-use Rattle.cqf_admission.specs.Rows.{HaveColumns, ended, ended_at, mask_of}
+use Rattle.cqf_admission.specs.Rows.{HaveColumns, ended, ended_at}
 
 -- how many fail before the first that passes, of a mapped list
 prefix_len-map : {X Y : Type 0} (p : Y → Bool) (f : X → Y) (xs : List X) → prefix_len p (map f xs) ≡ prefix_len (λ x. p (f x)) xs
@@ -52,13 +51,11 @@ length-ended_at [] place cycle = refl
 length-ended_at (x ∷ rows) zero cycle = refl
 length-ended_at (x ∷ rows) (suc place) cycle = ap suc (length-ended_at rows place cycle)
 
--- to end a row changes no column
-pub columns_ended : (names : List (List ℕ)) (rows : List Row) (costs masks : List ℕ) (place : ℕ) (cycle : Cycle) (after : List Row) →
-    HaveColumns names rows costs masks → after ≡ ended_at rows place cycle → HaveColumns names after costs masks
-columns_ended names rows costs masks place cycle after h e = subst (λ (rs : List Row). HaveColumns names rs costs masks) (sym e) (record {
+-- to end a row changes no name
+pub columns_ended : (names : List (List ℕ)) (rows : List Row) (place : ℕ) (cycle : Cycle) (after : List Row) →
+    HaveColumns names rows → after ≡ ended_at rows place cycle → HaveColumns names after
+columns_ended names rows place cycle after h e = subst (HaveColumns names) (sym e) (record {
   are_names = h.are_names ∙ sym (map-ended_at (λ (row : Row). row.name) (λ row c. refl) rows place cycle);
-  are_costs = h.are_costs ∙ sym (map-ended_at (λ (row : Row). cost_of row.octets) (λ row c. refl) rows place cycle);
-  are_masks = h.are_masks ∙ sym (map-ended_at mask_of (λ row c. refl) rows place cycle);
   few = omega (arith, h.few, length-ended_at rows place cycle);
   apart = h.apart;
 })
@@ -69,14 +66,11 @@ column_less : {X : Type 0} (f : Row → X) (rows after : List Row) (place : ℕ)
 column_less {X} f rows after place xs xs_after rows_less are without =
     without ∙ ap (λ (ys : List X). remove ys place) are ∙ sym (mapped_less f rows (remove rows place) place refl) ∙ ap (map f) (sym rows_less)
 
--- without a row each column is without it
-pub columns_removed : (names names_after : List (List ℕ)) (rows after : List Row) (costs costs_after masks masks_after : List ℕ) (place : ℕ) →
-    HaveColumns names rows costs masks → place < length rows → after ≡ remove rows place → names_after ≡ remove names place →
-    costs_after ≡ remove costs place → masks_after ≡ remove masks place → HaveColumns names_after after costs_after masks_after
-columns_removed names names_after rows after costs costs_after masks masks_after place h inside rows_less names_less costs_less masks_less = record {
+-- without a row the names are without its
+pub columns_removed : (names names_after : List (List ℕ)) (rows after : List Row) (place : ℕ) → HaveColumns names rows → place < length rows →
+    after ≡ remove rows place → names_after ≡ remove names place → HaveColumns names_after after
+columns_removed names names_after rows after place h inside rows_less names_less = record {
   are_names = column_less (λ (r : Row). r.name) rows after place names names_after rows_less h.are_names names_less;
-  are_costs = column_less (λ (r : Row). cost_of r.octets) rows after place costs costs_after rows_less h.are_costs costs_less;
-  are_masks = column_less mask_of rows after place masks masks_after rows_less h.are_masks masks_less;
   few = omega (arith, h.few, ap (λ (rs : List Row). length rs) rows_less, length-remove rows place inside);
   apart = subst (AllPairs (λ (a b : List ℕ). a ≢ b)) (sym names_less) (pairs_remove (λ (a b : List ℕ). a ≢ b) names place h.apart);
 }

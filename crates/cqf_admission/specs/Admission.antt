@@ -1,14 +1,15 @@
 -- What an administration is to those who call it, and what its calls do (profile).
-use Rattle.std.specs.Prelude.{ℕ, ◌≡◌, ◌+◌, ◌-◌, ◌≤◌, ◌<◌, ◌↔◌, ◌++◌, [], ◌∷◌, Bool, true, false, List, Result, Ok, Err, filter, length, map, string_bytes}
+use Rattle.std.specs.Prelude.{ℕ, ◌≡◌, ◌+◌, ◌-◌, ◌≤◌, ◌<◌, ◌↔◌, ◌++◌, [], ◌∷◌, Bool, true, false, Contains, List, Result, Ok, Err, filter, length, map, string_bytes}
 use Rattle.cqf_model.specs.declared.history.Receipt.{Receipt}
 use Rattle.cqf_model.specs.declared.history.Refused.{Refused}
-use Rattle.cqf_model.specs.declared.history.Refused.TheVariants.{BadName, BadOctets, UnknownNode, BrokenPath, LoopingPath, NotATree, NameHeld, TooManyStreams}
-use Rattle.cqf_model.specs.declared.history.Refused.TheVariants.{BudgetShort, NotHeld, AlreadyWithdrawn, HistoryFull, Memory}
+use Rattle.cqf_model.specs.declared.history.Refused.TheVariants.{BadName, BadOctets, BadPace, UnknownNode, BrokenPath, LoopingPath, NotATree, NameHeld, TooManyStreams}
+use Rattle.cqf_model.specs.declared.history.Refused.TheVariants.{TooManyHops, BudgetShort, NotHeld, AlreadyWithdrawn, HistoryFull, Memory}
 use Rattle.cqf_model.specs.declared.history.Reply.{Reply}
 use Rattle.cqf_model.specs.declared.history.Reply.TheVariants.{Accepted, Sealed, Refused as RefusedFor}
 use Rattle.cqf_model.specs.declared.topology.Row.{Row}
 use Rattle.cqf_model.specs.Domain.{Domain}
 use Rattle.cqf_model.specs.History.{Act, Admits, Asked, IsLegalHistory, Recorded, Seals, Withdraws, held_in, reply_to, seals, table_at}
+use Rattle.cqf_model.specs.Paces.{each_cycle}
 use Rattle.cqf_model.specs.Table.{is_held}
 use Rattle.cqf_laws_history.specs.StateLaws.{IsState, ended_row, granted_row, with_entry}
 use Rattle.cqf_admission.specs.declared.entries.Call.{Call}
@@ -54,10 +55,12 @@ is_entered (Err HistoryFull) = false
 is_entered (Err Memory) = false
 is_entered (Err BadName) = true
 is_entered (Err BadOctets) = true
+is_entered (Err BadPace) = true
 is_entered (Err (UnknownNode place)) = true
 is_entered (Err (BrokenPath place)) = true
 is_entered (Err (LoopingPath place)) = true
 is_entered (Err (NotATree branch)) = true
+is_entered (Err TooManyHops) = true
 is_entered (Err NameHeld) = true
 is_entered (Err TooManyStreams) = true
 is_entered (Err (BudgetShort link left)) = true
@@ -103,5 +106,6 @@ Closes old new seat (Err fault.Memory) = (seals old.entries < most_cycles) × (n
 pub record IsRunning (d : Domain) (entries : List Recorded) (rows : List Row) (next sealed : ℕ) : Type 0 where
   pub legal : IsLegalHistory d entries
   pub state : IsState d entries rows next
+  pub paced : (row : Row) → Contains rows row → row.pace ≡ each_cycle
   pub counted : sealed ≡ seals entries
   pub few : next + sealed ≤ length entries

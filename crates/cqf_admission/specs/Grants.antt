@@ -8,14 +8,17 @@ use Rattle.cqf_model.specs.declared.topology.Row.{Row}
 use Rattle.std.specs.List.{list_any}
 use Rattle.cqf_model.specs.Domain.{Domain, budget, is_text}
 use Rattle.cqf_model.specs.History.{Asked, refusal_of, withdraw_reply}
-use Rattle.cqf_model.specs.Table.{link_cost, row_named}
+use Rattle.cqf_model.specs.Paces.{each_cycle}
+use Rattle.cqf_model.specs.Table.{row_named}
 use Rattle.cqf_laws_history.specs.StateLaws.{granted_row}
 use Rattle.cqf_model.specs.Limits.{most_reserved, most_streams}
+use Rattle.cqf_admission.specs.Rows.{IsCountable, costs_on}
 
--- the streams are within the limits of a reservation, and within each link's budget
+-- the streams are offered in each cycle, within the limits of a reservation, and within each link's budget
 pub record CanBeAsked (d : Domain) (rows : List Row) : Type 0 where
+  pub paced : (row : Row) → Contains rows row → row.pace ≡ each_cycle
   pub octets : (row : Row) → Contains rows row → row.octets ≤ most_reserved
-  pub loads : (l : ℕ) → link_cost rows l ≤ budget d l
+  pub loads : (l : ℕ) → costs_on rows l ≤ budget d l
 
 -- a request that nothing speaks against, and its row: its name is free, and there is room for a stream more
 pub record IsGranted (d : Domain) (rows : List Row) (asked : Asked) (number : ℕ) (effect : Cycle) (row : Row) : Type 0 where
@@ -23,7 +26,8 @@ pub record IsGranted (d : Domain) (rows : List Row) (asked : Asked) (number : �
   pub is : row ≡ granted_row d number effect.0 asked
   pub free : list_any (λ (other : Row). is_text other.name row.name) rows ≡ false
   pub few : length rows < most_streams
-  pub most_octets : row.octets ≤ most_reserved
+  pub paced : row.pace ≡ each_cycle
+  pub countable : IsCountable (length d.links) row
 
 -- a look at a request gives its row, or the first reason against it
 abbrev pub Grants : Domain → List Row → Asked → ℕ → Cycle → Result Row Refused → Type 0

@@ -1,5 +1,6 @@
 pub mod Admission
 pub mod Rows
+pub mod Costs
 pub mod Judging
 pub mod Tables
 pub mod Asking

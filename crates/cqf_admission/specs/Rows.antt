@@ -1,18 +1,18 @@
 -- The rows of streams that are held, and the columns that are kept beside them.
-use Rattle.std.specs.Prelude.{ℕ, ◌≡◌, ◌≢◌, ◌≤◌, ◌⊎◌, AllPairs, Contains, None, ◌^◌, List, [], ◌∷◌, if◌then◌else◌}
-use Rattle.std.specs.Prelude.{nat_lt, ◌+◌, ◌-◌, ◌<◌, bit_or, fold, length, map, slice_index_or, Some, zero, suc}
+use Rattle.std.specs.Prelude.{ℕ, ◌≡◌, ◌≢◌, ◌+◌, ◌<◌, ◌≤◌, ◌⊎◌, All, AllPairs, Contains, List, [], ◌∷◌, None, Some, length, map, slice_index_or, sum_by, suc, zero}
 use Rattle.std.specs.Option.{option_map_or}
 use Rattle.cqf_units.specs.Timing.{cost_of}
 use Rattle.cqf_units.specs.declared.reservations.Cycle.{Cycle}
 use Rattle.cqf_model.specs.declared.topology.Row.{Row}
-use Rattle.cqf_model.specs.Table.{link_cost, links_of, residence}
-use Rattle.cqf_lanes.specs.Kernels.{has_bit, masked_total}
-use Rattle.cqf_model.specs.Limits.{most_streams}
+use Rattle.cqf_model.specs.Table.{links_of, residence}
+use Rattle.cqf_model.specs.Limits.{most_reserved, most_streams}
+use Rattle.cqf_admission_trees.specs.Sums.{part_on}
 
--- the rows of held streams by number, and how many rows more have room
+-- the rows of held streams by number, how many rows more have room, and of how many links sums are kept
 pub record HeldRows : Type 0 where
   pub rows : List Row
   pub room : ℕ
+  pub links : ℕ
 
 -- a row with its stream withdrawn from a cycle on, and rows with the one at a place so
 abbrev pub ended : Row → Cycle → Row
@@ -23,49 +23,30 @@ ended_at [] place cycle = []
 ended_at (row ∷ rows) zero cycle = ended row cycle ∷ rows
 ended_at (row ∷ rows) (suc place) cycle = row ∷ ended_at rows place cycle
 
--- a mask with the bit of a link more, where it isn't beyond 63
-abbrev pub with_link : ℕ → ℕ → ℕ
-with_link mask link = if nat_lt link 64 then bit_or mask (2 ^ link) else mask
-
--- the mask of a row: bit l is set where its stream goes by link l
-abbrev pub mask_of : Row → ℕ
-mask_of row = fold with_link 0 (links_of row)
-
--- beside the rows stand their names, no two of them the same, their costs and their masks
-pub record HaveColumns (names : List (List ℕ)) (rows : List Row) (costs masks : List ℕ) : Type 0 where
+-- beside the rows stand their names, no two of them the same
+pub record HaveColumns (names : List (List ℕ)) (rows : List Row) : Type 0 where
   pub are_names : names ≡ map (λ (row : Row). row.name) rows
-  pub are_costs : costs ≡ map (λ (row : Row). cost_of row.octets) rows
-  pub are_masks : masks ≡ map mask_of rows
   pub few : length rows ≤ most_streams
   pub apart : AllPairs (λ (a b : List ℕ). a ≢ b) names
 
+-- what a row costs can be added to the sums of so many links: it is no more than a stream may reserve, and its links are among
+-- these, each once
+pub record IsCountable (links : ℕ) (row : Row) : Type 0 where
+  pub octets : row.octets ≤ most_reserved
+  pub inside : All (λ (l : ℕ). l < links) (links_of row)
+  pub apart : AllPairs (λ (a b : ℕ). a ≢ b) (links_of row)
+
+-- what a row's stream costs of a link in each of its cycles, and what those of some rows cost together
+abbrev pub cost_by_link : Row → ℕ → ℕ
+cost_by_link row l = part_on (links_of row) (cost_of row.octets) l
+
+abbrev pub costs_on : List Row → ℕ → ℕ
+costs_on rows l = sum_by (λ (row : Row). cost_by_link row l) rows
+
 -- by link, what the rows cost of it
 pub record AreSums (rows : List Row) (sums : List ℕ) : Type 0 where
-  pub sixty_four : length sums ≡ 64
-  pub each : (l : ℕ) → l < 64 → slice_index_or sums l 0 ≡ link_cost rows l
-
--- and what the columns say
-pub record AreHeldTotals (costs masks sums : List ℕ) : Type 0 where
-  pub sixty_four : length sums ≡ 64
-  pub each : (l : ℕ) → l < 64 → slice_index_or sums l 0 ≡ masked_total l costs masks
-
--- what a stream of a mask and these octets costs of a link
-abbrev pub part_on : ℕ → ℕ → ℕ → ℕ
-part_on mask octets l = if has_bit mask l then octets else 0
-
--- the columns say that much more of each link that a mask has
-abbrev pub AreMoreBy : List ℕ → ℕ → ℕ → List ℕ → List ℕ → Type 0
-AreMoreBy sums mask octets costs masks =
-    (l : ℕ) → l < 64 → masked_total l costs masks ≡ slice_index_or sums l 0 + part_on mask octets l
-
--- the sums have that much of each link that a mask has
-abbrev pub AreWithin : List ℕ → ℕ → ℕ → Type 0
-AreWithin sums mask octets = (l : ℕ) → l < 64 → part_on mask octets l ≤ slice_index_or sums l 0
-
--- and these are the sums without that
-pub record AreLessBy (sums : List ℕ) (mask octets : ℕ) (after : List ℕ) : Type 0 where
-  pub sixty_four : length after ≡ 64
-  pub each : (l : ℕ) → l < 64 → slice_index_or after l 0 ≡ slice_index_or sums l 0 - part_on mask octets l
+  pub countable : (row : Row) → Contains rows row → IsCountable (length sums) row
+  pub each : (l : ℕ) → l < length sums → slice_index_or sums l 0 ≡ costs_on rows l
 
 -- the first cycle in which a withdrawn row isn't held any more: 0 for one that isn't withdrawn
 abbrev pub end_of_row : Row → ℕ

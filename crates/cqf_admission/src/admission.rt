@@ -1,5 +1,5 @@
 //! The admission of streams.
-ghost use Rattle.std.specs.Prelude.{◌≡◌, ◌≤◌, ◌<◌, [], map, length, string_bytes, IfOk};
+ghost use Rattle.std.specs.Prelude.{ℕ, ◌≡◌, ◌≤◌, ◌<◌, [], map, length, string_bytes, IfOk};
 ghost use Rattle.cqf_model.specs.Domain.{budget};
 ghost use Rattle.cqf_model.specs.History.{Admits, Withdraws, IsLegalHistory, held_in, seals};
 ghost use Rattle.cqf_model.specs.Table.{link_cost};
@@ -30,14 +30,14 @@ pub struct Admission {
 }
 
 impl Model for Admission {
-    ghost use Rattle.std.specs.Prelude.{map};
+    ghost use Rattle.std.specs.Prelude.{◌≡◌, length, map};
     ghost use Rattle.cqf_admission.specs.Admission.{Administration, IsRunning, recorded_of};
 
     ghost Value = { Administration };
 
     ghost view = { λ a. record { domain = a.domain; entries = map recorded_of a.history.items } };
 
-    ghost invariant = { λ a. IsRunning a.domain (map recorded_of a.history.items) a.held.rows a.next a.sealed };
+    ghost invariant = { λ a. IsRunning a.domain (map recorded_of a.history.items) a.held.rows a.next a.sealed × (a.held.links ≡ length a.domain.links) };
 }
 
 impl Admission {
@@ -50,7 +50,7 @@ impl Admission {
             alloc,
             domain: domain.try_copy(alloc)?,
             history: Vec::new(alloc),
-            held: Held::new(alloc)?,
+            held: Held::new(alloc, usize::from(domain.links()))?,
             next: 0,
             sealed: 0,
         })
@@ -91,8 +91,8 @@ impl Admission {
     ///
     /// Refused with `HistoryFull`, before all else, where 100,000 entries aren't Seals; with `Memory` where a growth is
     /// refused; then with the first reason that is due, in this order: `BadName`, `BadOctets`, `UnknownNode`,
-    /// `BrokenPath`, `LoopingPath`, `NotATree`, each over all branches before the next, `NameHeld`, `TooManyStreams` (1,024
-    /// are held), `BudgetShort`; and where none is, with `Memory` where there is none for the stream's row. `HistoryFull` and
+    /// `BrokenPath`, `LoopingPath`, `NotATree`, each over all branches before the next, `TooManyHops`, `NameHeld`, `TooManyStreams`
+    /// (as many are held as the domain may have), `BudgetShort`; and where none is, with `Memory` where there is none for the stream's row. `HistoryFull` and
     /// `Memory` change nothing; each other call enters the history with its answer (profile).
     pub fn admit(&mut self, seat: u16, request: &Request) -> Result<Receipt, Refused>
         ensures answers { Answers self.old self.new seat (Admits (asked_of request.now)) result }
@@ -185,9 +185,9 @@ impl Admission {
 
     /// What the streams that are held in the next cycle cost of a link, in octets a cycle: never more than its budget
     /// (profile).
-    pub fn held_on(&self, link: u8) -> Octets
+    pub fn held_on(&self, link: u16) -> Octets
         requires { link < length self.now.domain.links }
-        ensures held { result.0 ≡ link_cost (held_in self.now.domain self.now.entries (seals self.now.entries)) link }
+        ensures held { (cycle : ℕ) → result.0 ≡ link_cost (held_in self.now.domain self.now.entries (seals self.now.entries)) link cycle }
         ensures within { result.0 ≤ budget self.now.domain link }
     {
         state_follows_history();

@@ -1,4 +1,4 @@
-//! The streams that are held, by number and by name, with their costs and their links in columns.
+//! The streams that are held, by number and by name, with what they cost of each link.
 ghost use Rattle.std.specs.Prelude.{◌≡◌, ◌≢◌, ◌+◌, ◌-◌, ◌<◌, ◌≤◌, ◌^◌, [], ◌∷◌, ◌++◌, All, AllPairs, Contains, drop};
 ghost use Rattle.std.specs.Prelude.{length, filter, if◌then◌else◌, map, nat_lt, position, slice_get, take, false, None};
 ghost use Rattle.std.specs.Prelude.{Some, OnErr, OnOk, IfOk, vec_len, vec_capacity};
@@ -6,15 +6,16 @@ ghost use Rattle.indexmap.specs.IndexSet.{spare};
 ghost use Rattle.std.specs.Arc.{arc_value};
 ghost use Rattle.std.specs.List.{list_any};
 ghost use Rattle.cqf_model.specs.Domain.{is_text};
-ghost use Rattle.cqf_model.specs.Table.{is_held, link_cost};
-ghost use Rattle.cqf_admission.specs.Rows.{AreLessBy, AreMoreBy, AreHeldTotals, AreWithin, end_of_row, ended_at, part_on};
-ghost use Rattle.cqf_lanes.specs.Kernels.{has_bit, masked_total};
-ghost use Rattle.cqf_model.specs.Limits.{most_reserved, most_streams};
+ghost use Rattle.cqf_units.specs.Timing.{cost_of};
+ghost use Rattle.cqf_model.specs.Table.{is_held, links_of};
+ghost use Rattle.cqf_admission_trees.specs.Sums.{AreLessOn, AreMoreOn, HaveOn, HaveRoomOn};
+ghost use Rattle.cqf_admission.specs.Rows.{IsCountable, costs_on, end_of_row, ended_at};
+ghost use Rattle.cqf_model.specs.Limits.{most_streams};
 
 use crate::listed::Listed;
 use crate::numbers::Numbers;
-use crate::rows::{mask_of_row, shared_rows};
-use cqf_lanes::masked_sum;
+use crate::rows::shared_rows;
+use cqf_admission_trees::{add_on, take_on};
 use cqf_model::Row;
 use cqf_units::{Cycle, Memory, Name, Octets, cost};
 use indexmap::IndexSet;
@@ -26,16 +27,14 @@ use std::sync::Arc;
 /// one.
 const MOST_BEHIND: usize = 32;
 
-/// The rows of held streams by number, at most 1,024, as tables share them: a row that changes is another. Beside them stand
-/// their names, what each costs of its links, and a mask of these links, so that what a link costs is one sum.
+/// The rows of held streams by number, as tables share them: a row that changes is another. Beside them stand their names, and by
+/// link what they cost of it.
 #[derive(Debug, Drop)]
 pub(crate) struct Held {
     names: IndexSet<Name>,
     rows: Vec<Arc<Row>>,
-    costs: Vec<u32>,
-    masks: Vec<u64>,
     /// By link, the sum of the costs of those that go by it.
-    sums: [u64; 64],
+    sums: Vec<u64>,
     /// Rows as tables share them, and whether they are these rows: whether nothing has changed since they were listed.
     shared: Arc<Listed>,
     is_shared: bool,
@@ -48,7 +47,7 @@ pub(crate) struct Held {
 
 impl Model for Held {
     ghost use Rattle.std.specs.Arc.{arc_value};
-    ghost use Rattle.std.specs.Prelude.{◌≡◌, ◌-◌, map, min, true, vec_len, vec_capacity};
+    ghost use Rattle.std.specs.Prelude.{◌≡◌, ◌-◌, length, map, min, true, vec_len, vec_capacity};
     ghost use Rattle.indexmap.specs.IndexSet.{spare};
     ghost use Rattle.cqf_admission.specs.Numbers.{AreNumbered};
     ghost use Rattle.cqf_admission.specs.Rows.{AreEnding, AreSums, HaveColumns, HeldRows};
@@ -57,106 +56,46 @@ impl Model for Held {
 
     ghost view = { λ h. record {
       rows = map (λ row. arc_value row) h.rows.items;
-      room = min (min (vec_capacity h.rows - vec_len h.rows) (spare h.names))
-          (min (vec_capacity h.costs - vec_len h.costs) (vec_capacity h.masks - vec_len h.masks));
+      room = min (vec_capacity h.rows - vec_len h.rows) (spare h.names);
+      links = length h.sums.items;
     } };
 
-    ghost invariant = { λ h. HaveColumns h.names.keys (map (λ row. arc_value row) h.rows.items) h.costs.items h.masks.items
-        × AreSums (map (λ row. arc_value row) h.rows.items) h.sums
+    ghost invariant = { λ h. HaveColumns h.names.keys (map (λ row. arc_value row) h.rows.items)
+        × AreSums (map (λ row. arc_value row) h.rows.items) h.sums.items
         × (h.is_shared ≡ true → arc_value h.shared ≡ map (λ row. arc_value row) h.rows.items)
         × AreNumbered (arc_value h.numbers) h.numbered (map (λ row. arc_value row) h.rows.items)
         × AreEnding (map (λ row. arc_value row) h.rows.items) (map (λ row. arc_value row) h.ending.items) };
 }
 
 /// Makes room for one more in each column, unless memory runs out.
-fn reserve_each(
-    names: &mut IndexSet<Name>,
-    rows: &mut Vec<Arc<Row>>,
-    costs: &mut Vec<u32>,
-    masks: &mut Vec<u64>,
-) -> Result<(), Memory>
+fn reserve_each(names: &mut IndexSet<Name>, rows: &mut Vec<Arc<Row>>) -> Result<(), Memory>
     ensures names { names.new.keys ≡ names.old.keys }
     ensures rows { rows.new.items ≡ rows.old.items }
-    ensures costs { costs.new.items ≡ costs.old.items }
-    ensures masks { masks.new.items ≡ masks.old.items }
-    ensures room { OnOk result (0 < spare names.new × 0 < vec_capacity rows.new - vec_len rows.new
-        × 0 < vec_capacity costs.new - vec_len costs.new × 0 < vec_capacity masks.new - vec_len masks.new) }
+    ensures room { OnOk result (0 < spare names.new × 0 < vec_capacity rows.new - vec_len rows.new) }
 {
     names.reserve(1)?;
     rows.reserve(1)?;
-    costs.reserve(1)?;
-    masks.reserve(1)?;
     Ok(())
 }
 
-/// What a link's streams cost of it, where that is a sum and, if the mask has the link's bit, the octets.
-fn sum_with(sum: u64, mask: u64, octets: u32, costs: &[u32], masks: &[u64], link: u32) -> u64
-    requires side_by_side { length costs.now ≡ length masks.now }
-    requires few { length costs.now < 2 ^ 32 }
-    requires low { link < 64 }
-    requires more { masked_total link costs.now masks.now ≡ sum + (if has_bit mask link then octets else 0) }
-    ensures { result ≡ masked_total link costs.now masks.now }
+/// Adds what a row costs to the sums of its links.
+fn add_row(sums: &mut Vec<u64>, row: &Row)
+    requires countable { IsCountable (length sums.old.items) row.now }
+    requires room { HaveRoomOn sums.old.items (links_of row.now) (cost_of row.now.octets) }
+    ensures { AreMoreOn sums.old.items (links_of row.now) (cost_of row.now.octets) sums.new.items }
 {
-    if mask & (1 << link) == 0 {
-        return sum;
-    }
-    match sum.checked_add(u64::from(octets)) {
-        Some(total) => total,
-        None => masked_sum(costs, masks, link),
-    }
+    let links = row.links();
+    add_on(sums, links.as_slice(), cost(Octets(row.octets)).0);
 }
 
-/// By link, what the columns cost of it, where that is what it was and, if the mask has the link's bit, the octets.
-fn sums_with(sums: &[u64; 64], mask: u64, octets: u32, costs: &[u32], masks: &[u64]) -> [u64; 64]
-    requires side_by_side { length costs.now ≡ length masks.now }
-    requires few { length costs.now < 2 ^ 32 }
-    requires more { AreMoreBy sums.now mask octets costs.now masks.now }
-    ensures { AreHeldTotals costs.now masks.now result }
+/// Takes what a row costs from the sums of its links.
+fn take_row(sums: &mut Vec<u64>, row: &Row)
+    requires countable { IsCountable (length sums.old.items) row.now }
+    requires held { HaveOn sums.old.items (links_of row.now) (cost_of row.now.octets) }
+    ensures { AreLessOn sums.old.items (links_of row.now) (cost_of row.now.octets) sums.new.items }
 {
-    let mut after = [0; 64];
-    for link in 0..64u32 {
-        let place = link as usize;
-        after[place] = sum_with(sums[place], mask, octets, costs, masks, link);
-    }
-    after
-}
-
-/// A link's sum without a stream, where the mask has the link's bit if it goes by it.
-fn sum_without(sum: u64, mask: u64, octets: u32, link: u32) -> u64
-    requires low { link < 64 }
-    requires within { part_on mask octets link ≤ sum }
-    ensures { result ≡ sum - part_on mask octets link }
-{
-    if mask & (1 << link) == 0 {
-        return sum;
-    }
-    sum - u64::from(octets)
-}
-
-/// By link, the sums without a stream of this mask and these octets.
-fn sums_without(sums: &[u64; 64], mask: u64, octets: u32) -> [u64; 64]
-    requires { AreWithin sums.now mask octets }
-    ensures { AreLessBy sums.now mask octets result }
-{
-    let mut after = [0; 64];
-    for link in 0..64u32 {
-        let place = link as usize;
-        after[place] = sum_without(sums[place], mask, octets, link);
-    }
-    after
-}
-
-/// By link, what the columns cost of it.
-fn sums_of(costs: &[u32], masks: &[u64]) -> [u64; 64]
-    requires side_by_side { length costs.now ≡ length masks.now }
-    requires few { length costs.now < 2 ^ 32 }
-    ensures { AreHeldTotals costs.now masks.now result }
-{
-    let mut sums = [0; 64];
-    for link in 0..64u32 {
-        sums[link as usize] = masked_sum(costs, masks, link);
-    }
-    sums
+    let links = row.links();
+    take_on(sums, links.as_slice(), cost(Octets(row.octets)).0);
 }
 
 /// How many of the rows that are found by their numbers are left without the one at a place.
@@ -209,22 +148,19 @@ fn place_among(ending: &[Arc<Row>], end: u64) -> usize
 }
 
 impl Held {
-    /// No streams, unless memory runs out.
-    pub(crate) fn new(alloc: Global) -> Result<Held, Memory>
-        ensures { IfOk result (λ held. held.rows ≡ []) }
+    /// No streams, of so many links, unless memory runs out.
+    pub(crate) fn new(alloc: Global, links: usize) -> Result<Held, Memory>
+        ensures rows { IfOk result (λ held. held.rows ≡ []) }
+        ensures links { IfOk result (λ held. held.links ≡ links) }
     {
         let names = IndexSet::new(alloc);
-        let costs = Vec::new(alloc);
-        let masks = Vec::new(alloc);
-        let sums = sums_of(costs.as_slice(), masks.as_slice());
+        let sums = vec![in alloc; 0; links]?;
         let numbers = Arc::new(alloc, Numbers::none(alloc))?;
         let listed = Listed::new(Vec::new(alloc), Arc::try_clone(&numbers)?, 0);
         let shared = Arc::new(alloc, listed)?;
         Ok(Held {
             names,
             rows: Vec::new(alloc),
-            costs,
-            masks,
             sums,
             shared,
             is_shared: true,
@@ -258,9 +194,9 @@ impl Held {
     }
 
     /// What the streams cost of a link, in octets a cycle.
-    pub(crate) fn cost_on(&self, link: u8) -> u64
-        requires { link < 64 }
-        ensures { result ≡ link_cost self.now.rows link }
+    pub(crate) fn cost_on(&self, link: u16) -> u64
+        requires { link < self.now.links }
+        ensures { result ≡ costs_on self.now.rows link }
     {
         let rows = &self.rows;
         self.sums[usize::from(link)]
@@ -269,37 +205,29 @@ impl Held {
     /// Makes room for a row more, unless memory runs out.
     pub(crate) fn reserve(&mut self) -> Result<(), Memory>
         ensures same { self.new.rows ≡ self.old.rows }
+        ensures links { self.new.links ≡ self.old.links }
         ensures room { OnOk result (0 < self.new.room) }
     {
         let (names, rows) = (&mut self.names, &mut self.rows);
-        reserve_each(names, rows, &mut self.costs, &mut self.masks)
+        reserve_each(names, rows)
     }
 
     /// Adds the row of a name that isn't held, behind the others, where there is room, unless memory runs out.
     pub(crate) fn push(&mut self, alloc: Global, row: Row) -> Result<(), Memory>
         requires room { 0 < self.old.room }
         requires few { length self.old.rows < most_streams }
-        requires octets { row.octets ≤ most_reserved }
+        requires countable { IsCountable self.old.links row }
         requires live { row.withdrawn ≡ None }
         requires free { list_any (λ other. is_text other.name row.name) self.old.rows ≡ false }
         ensures rows { OnOk result (self.new.rows ≡ self.old.rows ++ row ∷ []) }
+        ensures links { self.new.links ≡ self.old.links }
         ensures same { OnErr result (self.new ≡ self.old) }
     {
         let name = row.name.copied();
-        let octets = cost(Octets(row.octets)).0;
-        let mask = mask_of_row(&row);
         let shared = Arc::new(alloc, row)?;
+        add_row(&mut self.sums, &shared);
         self.names.insert(name).unwrap();
         self.rows.push(shared).unwrap();
-        self.costs.push(octets).unwrap();
-        self.masks.push(mask).unwrap();
-        self.sums = sums_with(
-            &self.sums,
-            mask,
-            octets,
-            self.costs.as_slice(),
-            self.masks.as_slice(),
-        );
         self.is_shared = false;
         Ok(())
     }
@@ -308,6 +236,7 @@ impl Held {
     pub(crate) fn end(&mut self, alloc: Global, place: usize, cycle: Cycle) -> Result<(), Memory>
         requires { place < length self.old.rows }
         ensures rows { OnOk result (self.new.rows ≡ ended_at self.old.rows place cycle) }
+        ensures links { self.new.links ≡ self.old.links }
         ensures same { OnErr result (self.new ≡ self.old) }
     {
         let mut row = self.rows[place].copied();
@@ -325,7 +254,8 @@ impl Held {
     /// that end by then, and at the next one that does.
     pub(crate) fn let_go(&mut self, cycle: Cycle)
         requires { (row : Row) → Contains self.old.rows row → row.admitted.0 ≤ cycle.0 }
-        ensures { self.new.rows ≡ filter (λ row. is_held row cycle.0) self.old.rows }
+        ensures rows { self.new.rows ≡ filter (λ row. is_held row cycle.0) self.old.rows }
+        ensures links { self.new.links ≡ self.old.links }
     {
         let mut left = self.ending.len();
         while left > 0 {
@@ -336,11 +266,9 @@ impl Held {
             }
             if let Some(place) = self.names.get_index_of(&ended.name) {
                 if !self.rows[place].is_held(cycle) {
+                    take_row(&mut self.sums, &self.rows[place]);
                     let _ = self.rows.remove(place);
                     let _ = self.names.shift_remove_index(place);
-                    let octets = self.costs.remove(place);
-                    let mask = self.masks.remove(place);
-                    self.sums = sums_without(&self.sums, mask, octets);
                     self.numbered = numbered_without(self.numbered, place);
                     self.is_shared = false;
                 }
@@ -381,14 +309,13 @@ impl Held {
 
     /// The same streams again, unless memory runs out. The two share their rows.
     pub(crate) fn try_copy(&self, alloc: Global) -> Result<Held, Memory>
-        ensures { IfOk result (λ copy. copy.rows ≡ self.now.rows) }
+        ensures rows { IfOk result (λ copy. copy.rows ≡ self.now.rows) }
+        ensures links { IfOk result (λ copy. copy.links ≡ self.now.links) }
     {
         Ok(Held {
             names: self.names.clone()?,
             rows: shared_rows(alloc, self.rows.as_slice())?,
-            costs: Vec::from_slice(alloc, self.costs.as_slice())?,
-            masks: Vec::from_slice(alloc, self.masks.as_slice())?,
-            sums: self.sums,
+            sums: Vec::from_slice(alloc, self.sums.as_slice())?,
             shared: Arc::try_clone(&self.shared)?,
             is_shared: self.is_shared,
             numbers: Arc::try_clone(&self.numbers)?,

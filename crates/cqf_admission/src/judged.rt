@@ -15,14 +15,14 @@ use cqf_units::{Name, Octets, cost};
 pub struct Judged {
     pub name: Name,
     pub cost: Octets,
-    pub tree: ArrayVec<Hop, 64>,
+    pub tree: ArrayVec<Hop, 200>,
 }
 
 /// What a request is by itself. The caller sees to it that its branches have fewer than 2^64 places together (profile).
 ///
 /// # Errors
 /// The first reason against its form: `BadName`, `BadOctets`, `UnknownNode`, `BrokenPath`, `LoopingPath`, `NotATree`, each
-/// over all branches before the next.
+/// over all branches before the next, and `TooManyHops`.
 pub fn judge(domain: &Domain, request: &Request) -> Result<Judged, Refused>
     requires { places_of (branches_of request.now.paths.items) < 2 ^ 64 }
     ensures { Judges domain.now (asked_of request.now) result }

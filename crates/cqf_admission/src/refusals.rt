@@ -1,23 +1,23 @@
 //! Why a request is refused, or the row that it gets.
 ghost use Rattle.std.specs.Prelude.{◌≡◌, ◌<◌, ◌≤◌, ◌^◌, length, All};
-ghost use Rattle.cqf_model.specs.History.{left_on};
-ghost use Rattle.cqf_model.specs.Table.{link_cost};
 ghost use Rattle.cqf_admission.specs.Asking.{asked_of};
 ghost use Rattle.cqf_admission_trees.specs.Branches.{branches_of, places_of};
 ghost use Rattle.cqf_admission.specs.Grants.{CanBeAsked, FindsOpen, Grants, HaveNames};
-ghost use Rattle.cqf_admission.specs.Judging.{short_refusal};
+ghost use Rattle.cqf_admission.specs.Judging.{left_by, short_by};
+ghost use Rattle.cqf_admission.specs.Rows.{costs_on};
 
 use crate::held::Held;
 use crate::judged::{Judged, judge};
-use cqf_model::{Hop, MOST_STREAMS, Refused, Row};
+use cqf_model::{EACH_CYCLE, Hop, Refused, Row};
 use cqf_topology::{Domain, Request};
 use cqf_units::{Cycle, Name, budget};
 
 /// What a link has left of its budget beside the held streams, in octets a cycle.
-pub(crate) fn left_of(domain: &Domain, held: &Held, link: u8) -> u32
+pub(crate) fn left_of(domain: &Domain, held: &Held, link: u16) -> u32
     requires inside { link < length domain.now.links }
     requires sound { CanBeAsked domain.now held.now.rows }
-    ensures { result ≡ left_on domain.now held.now.rows link }
+    requires columns { held.now.links ≡ length domain.now.links }
+    ensures { result ≡ left_by domain.now held.now.rows link }
 {
     let rate = domain.link(link).rate;
     let most = budget(domain.cycle_time(), domain.guard(), rate);
@@ -26,10 +26,11 @@ pub(crate) fn left_of(domain: &Domain, held: &Held, link: u8) -> u32
 }
 
 /// What the held streams take of a link's budget, in octets a cycle.
-pub(crate) fn taken_of(domain: &Domain, held: &Held, link: u8) -> u32
+pub(crate) fn taken_of(domain: &Domain, held: &Held, link: u16) -> u32
     requires inside { link < length domain.now.links }
     requires sound { CanBeAsked domain.now held.now.rows }
-    ensures { result ≡ link_cost held.now.rows link }
+    requires columns { held.now.links ≡ length domain.now.links }
+    ensures { result ≡ costs_on held.now.rows link }
 {
     let rate = domain.link(link).rate;
     let most = budget(domain.cycle_time(), domain.guard(), rate);
@@ -42,7 +43,8 @@ pub(crate) fn taken_of(domain: &Domain, held: &Held, link: u8) -> u32
 fn short_of(domain: &Domain, held: &Held, octets: u32, tree: &[Hop]) -> Option<Refused>
     requires inside { All (λ hop. hop.link < length domain.now.links) tree.now }
     requires sound { CanBeAsked domain.now held.now.rows }
-    ensures { result ≡ short_refusal domain.now held.now.rows octets tree.now }
+    requires columns { held.now.links ≡ length domain.now.links }
+    ensures { result ≡ short_by domain.now held.now.rows octets tree.now }
 {
     for hop in tree {
         let link = hop.link;
@@ -63,6 +65,7 @@ pub(crate) fn grant(
     effect: Cycle,
 ) -> Result<Row, Refused>
     requires sound { CanBeAsked domain.now held.now.rows }
+    requires columns { held.now.links ≡ length domain.now.links }
     requires places { places_of (branches_of request.now.paths.items) < 2 ^ 64 }
     ensures { Grants domain.now held.now.rows (asked_of request.now) no effect result }
 {
@@ -70,7 +73,7 @@ pub(crate) fn grant(
     if held.place_of(&judged.name).is_some() {
         return Err(Refused::NameHeld);
     }
-    if held.len() >= MOST_STREAMS {
+    if held.len() >= domain.limits().streams_within() {
         return Err(Refused::TooManyStreams);
     }
     if let Some(refused) = short_of(domain, held, judged.cost.0, judged.tree.as_slice()) {
@@ -81,6 +84,7 @@ pub(crate) fn grant(
         no,
         name,
         octets: request.octets,
+        pace: EACH_CYCLE,
         tree,
         admitted: effect,
         withdrawn: None,

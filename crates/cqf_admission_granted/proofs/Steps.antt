@@ -2,8 +2,8 @@
 use Rattle.std.proofs.Common.{◌≡◌, ℕ, ◌+◌, ◌<◌, ◌≤◌, ◌∷◌, [], ◌++◌, List, true, false, Option, Some, None, inl, inr}
 use Rattle.std.proofs.Common.{refl, sym, ap, ◌∙◌, arith, length, take, map, Contains, option_map, cond, drop}
 use Rattle.std.proofs.Common.{length-take-le}
-use Rattle.std.specs.Prelude.{slice_get, slice_index_or, slice_set}
-use Rattle.std.proofs.lemmas.Bool.{cases_lt}
+use Rattle.std.specs.Prelude.{nat_lt, slice_get, slice_index_or, slice_set}
+use Rattle.std.proofs.lemmas.Bool.{cases_lt, false_from_ne_true, ltb-true}
 use Rattle.std.proofs.lemmas.Grind.{take_at_read}
 use Rattle.std.proofs.lemmas.List.{get_or_past, length-append, take-take, take-append-drop}
 use Rattle.std.proofs.lemmas.List.Sums.{count_by-le-length, sum_by-append}
@@ -15,14 +15,15 @@ use Rattle.cqf_lists.proofs.Members.{contains_from_filter, place_of_member}
 use Rattle.cqf_lists.proofs.Places.{slice_get-take}
 use Rattle.cqf_model.specs.declared.history.Receipt.{Receipt}
 use Rattle.cqf_model.specs.declared.history.Refused.{Refused}
-use Rattle.cqf_model.specs.declared.history.Refused.TheVariants.{BrokenPath, LoopingPath, NotATree, UnknownNode}
+use Rattle.cqf_model.specs.declared.history.Refused.TheVariants.{BrokenPath, LoopingPath, NotATree, TooManyHops, UnknownNode}
 use Rattle.cqf_model.specs.declared.history.Reply.{Reply}
 use Rattle.cqf_model.specs.declared.history.Reply.TheVariants.{Accepted, Sealed, Refused as RefusedFor}
 use Rattle.cqf_model.specs.declared.topology.Row.{Row}
 use Rattle.cqf_model.specs.Domain.{Domain}
 use Rattle.cqf_model.specs.History.{Act, Admits, Asked, IsLegalHistory, Recorded, Seals, is_seal, Withdraws}
-use Rattle.cqf_model.specs.History.{admit_reply, held_in, next_number, refusal_of, refused_at, reply_to, seals}
+use Rattle.cqf_model.specs.History.{admit_reply, held_in, next_number, refusal_of, refused_at, refused_if, reply_to, seals, tree_of}
 use Rattle.cqf_model.specs.History.{stream_by, streams_of, withdraw_reply, withdraw_row, withdrawal_by}
+use Rattle.cqf_model.specs.Limits.{hops_within}
 use Rattle.cqf_model.specs.Table.{is_held, row_named}
 use Rattle.cqf_laws_history.specs.StateLaws.{ended_row, granted_row}
 use Rattle.cqf_laws_history.specs.StreamLaws.{GrantedIsLast, WithdrawnEnds}
@@ -85,10 +86,14 @@ no_end s number Seals reply refused_so = refl
 pub admissible : {d : Domain} (rows : List Row) (asked : Asked) → refusal_of d rows asked ≡ None → IsAdmissible d asked
 admissible {d} rows asked none =
     let g = granted_so d rows asked none in
+    let few : nat_lt (hops_within d.limits) (length (tree_of d asked.paths)) ≡ false =
+    false_from_ne_true (nat_lt (hops_within d.limits) (length (tree_of d asked.paths)))
+    (λ t. omega (arith, ltb-true (hops_within d.limits) (length (tree_of d asked.paths)) t, g.few_hops)) in
     record {
       named = g.named;
       tree = λ i. or_else (refused_at (λ place. UnknownNode place) (g.known i)) (or_else (refused_at (λ place. BrokenPath place) (g.whole i))
-          (or_else (refused_at (λ place. LoopingPath place) (g.simple i)) (refused_at (λ branch. NotATree branch) (g.together i))));
+          (or_else (refused_at (λ place. LoopingPath place) (g.simple i)) (or_else (refused_at (λ branch. NotATree branch) (g.together i))
+          (refused_if (few i) TooManyHops))));
     }
 
 module _ (d : Domain) (all : List Recorded) (legal : IsLegalHistory d all) (k : ℕ) (e : Recorded) (at : slice_get all k ≡ Some e) where
@@ -198,5 +203,5 @@ pub is_there : {d : Domain} (requests : List Asked) (place : ℕ) → IsAdmissib
 is_there requests place admitted = elim (cases_lt place (length requests)) [
   | inl low ↦ low
   | inr past ↦ absurd (true_not_false (sym admitted.named ∙ ap (λ (asked : Asked). is_name asked.name)
-      (get_or_past requests place (record { name = []; octets = 0; paths = [] }) past)))
+      (get_or_past requests place (record { name = []; octets = 0; every = 1; phase = 0; paths = [] }) past)))
 ]

@@ -13,7 +13,7 @@ use cqf_admission::{Call, Entry};
 use cqf_admission_ledger::{Logged, What};
 use cqf_admission_trees::{count_places, find_tree};
 use cqf_laws_history::streams_follow_history;
-use cqf_model::{Receipt, Reply, Row};
+use cqf_model::{EACH_CYCLE, Receipt, Reply, Row};
 use cqf_topology::{Domain, Request};
 use cqf_units::{Memory, Name};
 use std::alloc::{AllocError, Global};
@@ -34,6 +34,7 @@ fn row_of(domain: &Domain, request: &Request, receipt: Receipt) -> Row
         no: receipt.no,
         name,
         octets: request.octets,
+        pace: EACH_CYCLE,
         tree,
         admitted: receipt.effect,
         withdrawn: None,

@@ -1,5 +1,5 @@
 -- What calls leave of a ledger.
-use Rattle.std.proofs.Common.{◌≡◌, ℕ, ◌+◌, ◌-◌, ◌<◌, ◌%◌, List, Result, Ok, Err, [], ◌∷◌, ◌++◌, get_or, set, map, length, refl, sym, ap, ◌∙◌, subst, arith}
+use Rattle.std.proofs.Common.{◌≡◌, ℕ, ◌+◌, ◌-◌, ◌<◌, ◌%◌, List, Result, Ok, Err, None, Some, [], ◌∷◌, ◌++◌, get_or, set, map, length, refl, sym, ap, ◌∙◌, subst, arith}
 use Rattle.std.proofs.lemmas.List.{length-map}
 use Rattle.cqf_units.specs.declared.reservations.Cycle.{Cycle}
 use Rattle.cqf_model.specs.declared.history.Receipt.{Receipt}
@@ -7,7 +7,8 @@ use Rattle.cqf_model.specs.declared.history.Refused.{Refused}
 use Rattle.cqf_model.specs.declared.history.Reply.TheVariants.{Accepted, Sealed, Refused as RefusedFor}
 use Rattle.cqf_model.specs.declared.topology.Row.{Row}
 use Rattle.cqf_model.specs.Domain.{Domain, IsAccepted}
-use Rattle.cqf_model.specs.History.{Act, Admits, Asked, Recorded, Withdraws, admit_reply, held_in, next_number, reply_to, seals}
+use Rattle.cqf_model.specs.History.{Act, Admits, Asked, Recorded, Withdraws, admit_reply, held_in, next_number, pace_of, reply_to, seals}
+use Rattle.cqf_model.specs.Paces.{each_cycle}
 use Rattle.cqf_laws_history.specs.StateLaws.{GrantedIsHeld, HeldAreSound, HistoryGoesOn, SealLetsGo, SealsAreCounted, WithdrawnIsHeldOn, ended_row, granted_row}
 use Rattle.cqf_laws_history.specs.StreamLaws.{GrantedIsLast, WithdrawnEnds}
 use Rattle.cqf_topology.specs.declared.streams.Request.{Request}
@@ -17,9 +18,9 @@ use Rattle.cqf_admission.specs.Admission.{Answers, held_of}
 use Rattle.cqf_admission.specs.Asking.{asked_of}
 use Rattle.cqf_admission.proofs.RunLemmas.{refusal_is_entered, withdraw_entered}
 use Rattle.cqf_admission_ledger.specs.declared.forms.Form.{Form}
-use Rattle.cqf_admission_ledger.specs.declared.holdings.Stand.{Stand}
+use Rattle.cqf_admission_ledger.specs.Holdings.{Standing}
 use Rattle.cqf_admission_ledger.specs.declared.logs.Logged.{Logged}
-use Rattle.cqf_admission_ledger.specs.Forms.{FindsOpenForm, IsFormOf, IsOpenFormAt, Weighs, number_of_form}
+use Rattle.cqf_admission_ledger.specs.Forms.{FindsOpenForm, IsFormOf, IsOpenFormAt, IsStandBy, Weighs, number_of_form}
 use Rattle.cqf_admission_ledger.specs.Holdings.{AreLetGo, holding_ended}
 use Rattle.cqf_admission_ledger.specs.Ledger.{ClosesCycle, Kept, recorded_in}
 use Rattle.cqf_admission_ledger.specs.Running.{AreOf, AreThere}
@@ -37,14 +38,14 @@ abbrev pub kept_by : Domain → List Request → List ℕ → List Logged → Ke
 kept_by d requests script log = record { administration = of_entries d (entries_of requests script log); requests = map asked_of requests; script = script }
 
 -- what a call leaves that is logged
-pub record Called (d : Domain) (requests : List Request) (script : List ℕ) (before : Kept) (after : List Logged) (stands : List Stand) (slots : List (List ℕ))
+pub record Called (d : Domain) (requests : List Request) (script : List ℕ) (before : Kept) (after : List Logged) (stands : List Standing) (slots : List (List ℕ))
     (sealed seat : ℕ) (act : Kept → Act) (result : Result Receipt Refused) (held : Kept → List Row) : Type 0 where
   pub of : AreOf d requests (entries_of requests script after) stands slots sealed
   pub there : AreThere (map asked_of requests) script after
   pub answers : Answers before.administration (of_entries d (entries_of requests script after)) seat (act before) result
   pub holds : held_of (of_entries d (entries_of requests script after)) ≡ held before
 
-module _ (d : Domain) (requests : List Request) (script : List ℕ) (log reserved after : List Logged) (stands : List Stand) (slots : List (List ℕ)) (sealed : ℕ)
+module _ (d : Domain) (requests : List Request) (script : List ℕ) (log reserved after : List Logged) (stands : List Standing) (slots : List (List ℕ)) (sealed : ℕ)
     (r : AreOf d requests (entries_of requests script log) stands slots sealed) (there : AreThere (map asked_of requests) script log) (before : Kept)
     (view : kept_by d requests script log ≡ before) (kept : reserved ≡ log) (few : length log - sealed < 100000) where
   abbrev entries : List Recorded
@@ -53,7 +54,7 @@ module _ (d : Domain) (requests : List Request) (script : List ℕ) (log reserve
   few_calls : length entries - sealed < 100000
   few_calls = omega (arith, few, length-map log (recorded_in (map asked_of requests) script))
 
-  called : (seat : ℕ) (act : Kept → Act) (result : Result Receipt Refused) (held : Kept → List Row) (stands_after : List Stand) (slots_after : List (List ℕ)) →
+  called : (seat : ℕ) (act : Kept → Act) (result : Result Receipt Refused) (held : Kept → List Row) (stands_after : List Standing) (slots_after : List (List ℕ)) →
       Leaves d requests entries (entries_of requests script after) stands_after slots_after sealed seat (act (kept_by d requests script log)) result
       (held (kept_by d requests script log)) →
       AreThere (map asked_of requests) script after → Called d requests script before after stands_after slots_after sealed seat act result held
@@ -61,16 +62,21 @@ module _ (d : Domain) (requests : List Request) (script : List ℕ) (log reserve
       subst (λ (k : Kept). Called d requests script k after stands_after slots_after sealed seat act result held) view
       (record { of = leaves.of; there = all; answers = leaves.answers; holds = leaves.holds })
 
+  -- a request asks for a stream of each cycle
+  own : (place : ℕ) (request : Request) → place < length requests → request ≡ get_or requests place request →
+      pace_of (request_at (map asked_of requests) place) ≡ each_cycle
+  own place request low is = ap pace_of (asked_at requests place request low is)
+
   -- a request that is refused
   pub admit_refused : HistoryGoesOn → SealsAreCounted → HeldAreSound → IsAccepted d → (seat place : ℕ) (request : Request) (form : Form) (refused : Refused) →
-      place < length requests → request ≡ get_or requests place request → IsFormOf d requests (asked_of request) form → Weighs d stands form (Err refused) →
+      place < length requests → request ≡ get_or requests place request → IsFormOf d requests (asked_of request) form → Weighs d stands form (Some refused) →
       after ≡ reserved ++ record { seat = seat; what = Admit place; reply = RefusedFor refused } ∷ [] →
       Called d requests script before after stands slots sealed seat (λ k. Admits (request_at k.requests place)) (Err refused) (λ k. held_of k.administration)
   admit_refused goes_on count sound ok seat place request form refused low is of weighs put =
       let e : Logged = record { seat = seat; what = Admit place; reply = RefusedFor refused } in
       let asked = request_at (map asked_of requests) place in
       let of_asked : IsFormOf d requests asked form = subst (λ (a : Asked). IsFormOf d requests a form) (sym (asked_at requests place request low is)) of in
-      let reason = weighs_none d requests entries stands slots sealed r sound ok asked form refused of_asked weighs in
+      let reason = weighs_none d requests entries stands slots sealed r sound ok asked (own place request low is) form refused of_asked weighs in
       called seat (λ k. Admits (request_at k.requests place)) (Err refused) (λ k. held_of k.administration) stands slots
       (refused_leaves d requests entries (entries_of requests script after) stands slots sealed r goes_on count seat (Admits asked) refused
       (refusal_is_entered d (held_in d entries (seals entries)) asked refused reason) few_calls
@@ -80,22 +86,22 @@ module _ (d : Domain) (requests : List Request) (script : List ℕ) (log reserve
   -- and one that is granted
   pub admit_granted : HistoryGoesOn → SealsAreCounted → HeldAreSound → GrantedIsHeld → GrantedIsLast → IsAccepted d →
       (seat place : ℕ) (request : Request) (form : Form)
-      (stand : Stand) (grown : List Stand) (receipt : Receipt) →
-      place < length requests → request ≡ get_or requests place request → IsFormOf d requests (asked_of request) form → Weighs d stands form (Ok stand) →
+      (stand : Standing) (grown : List Standing) (receipt : Receipt) →
+      place < length requests → request ≡ get_or requests place request → IsFormOf d requests (asked_of request) form → Weighs d stands form None → IsStandBy form stand →
       receipt ≡ record { no = length stands; effect = record { 0 = sealed } } → grown ≡ stands ++ stand ∷ [] →
       after ≡ reserved ++ record { seat = seat; what = Admit place; reply = Accepted receipt } ∷ [] →
       Called d requests script before after grown slots sealed seat (λ k. Admits (request_at k.requests place)) (Ok receipt)
       (λ k. held_of k.administration ++ granted_row k.administration.domain receipt.no receipt.effect.0 (request_at k.requests place) ∷ [])
-  admit_granted goes_on count sound grants last ok seat place request form stand grown receipt low is of weighs is_receipt more put =
+  admit_granted goes_on count sound grants last ok seat place request form stand grown receipt low is of weighs by is_receipt more put =
       let e : Logged = record { seat = seat; what = Admit place; reply = Accepted receipt } in
       let asked = request_at (map asked_of requests) place in
       let of_asked : IsFormOf d requests asked form = subst (λ (a : Asked). IsFormOf d requests a form) (sym (asked_at requests place request low is)) of in
-      let new = weighs_one d requests entries stands slots sealed r sound ok asked form stand of_asked weighs in
+      let new = weighs_one d requests entries stands slots sealed r sound ok asked (own place request low is) form stand of_asked weighs by in
       called seat (λ k. Admits (request_at k.requests place)) (Ok receipt)
       (λ k. held_of k.administration ++ granted_row k.administration.domain receipt.no receipt.effect.0 (request_at k.requests place) ∷ []) grown slots
       (granted_leaves d requests entries (entries_of requests script after) stands slots sealed r goes_on count grants last seat asked
       receipt stand grown few_calls
-      new.none new.known is_receipt new.is more (logged_behind (map asked_of requests) script log reserved after e kept put))
+      new.none new.known (own place request low is) is_receipt new.is more (logged_behind (map asked_of requests) script log reserved after e kept put))
       (there_behind (map asked_of requests) script log reserved after e kept put there (omega (arith, low, length-map requests asked_of)))
 
   -- a withdrawal that is refused
@@ -118,10 +124,10 @@ module _ (d : Domain) (requests : List Request) (script : List ℕ) (log reserve
   -- and one that is done
   pub withdraw_done : HistoryGoesOn → SealsAreCounted → WithdrawnIsHeldOn → HeldAreSound → WithdrawnEnds →
       (seat from octets : ℕ) (word : List ℕ) (number slot : ℕ)
-      (stand : Stand) (less : List Stand) (more : List (List ℕ)) (receipt : Receipt) →
+      (stand : Standing) (less : List Standing) (more : List (List ℕ)) (receipt : Receipt) →
       word ≡ word_at script from octets → StandsIn (map asked_of requests) script (Withdraw from octets) →
-      IsOpenFormAt stands (number_of_form requests word) number → ((s : Stand) → get_or stands number s ≡ stand) → slot ≡ (sealed + stand.residence) % 32 →
-      ((s : Stand) → less ≡ set stands number (holding_ended (get_or stands number s) (record { 0 = sealed }))) →
+      IsOpenFormAt stands (number_of_form requests word) number → ((s : Standing) → get_or stands number s ≡ stand) → slot ≡ (sealed + stand.residence) % 128 →
+      ((s : Standing) → less ≡ set stands number (holding_ended (get_or stands number s) (record { 0 = sealed }))) →
       more ≡ set slots slot (get_or slots slot [] ++ number ∷ []) → receipt ≡ record { no = number; effect = record { 0 = sealed } } →
       after ≡ reserved ++ record { seat = seat; what = Withdraw from octets; reply = Accepted receipt } ∷ [] →
       Called d requests script before after less more sealed seat (λ k. Withdraws (word_at k.script from octets)) (Ok receipt)
@@ -139,17 +145,17 @@ module _ (d : Domain) (requests : List Request) (script : List ℕ) (log reserve
       (there_behind (map asked_of requests) script log reserved after e kept put there stands_there)
 
 -- what a Seal leaves
-pub record Closed (d : Domain) (requests : List Request) (script : List ℕ) (before : Kept) (after : List Logged) (stands : List Stand) (slots : List (List ℕ))
+pub record Closed (d : Domain) (requests : List Request) (script : List ℕ) (before : Kept) (after : List Logged) (stands : List Standing) (slots : List (List ℕ))
     (sealed seat : ℕ) (cycle : Cycle) : Type 0 where
   pub of : AreOf d requests (entries_of requests script after) stands slots sealed
   pub there : AreThere (map asked_of requests) script after
   pub closes : ClosesCycle before.administration (of_entries d (entries_of requests script after)) seat (Ok cycle)
 
-module _ (d : Domain) (requests : List Request) (script : List ℕ) (log reserved after : List Logged) (stands : List Stand) (slots : List (List ℕ)) (sealed : ℕ)
+module _ (d : Domain) (requests : List Request) (script : List ℕ) (log reserved after : List Logged) (stands : List Standing) (slots : List (List ℕ)) (sealed : ℕ)
     (r : AreOf d requests (entries_of requests script log) stands slots sealed) (there : AreThere (map asked_of requests) script log) (before : Kept)
     (view : kept_by d requests script log ≡ before) (kept : reserved ≡ log) where
-  pub seal_done : HistoryGoesOn → SealsAreCounted → SealLetsGo → (seat next_sealed : ℕ) (let_go : List Stand) (emptied : List (List ℕ)) (cycle : Cycle) →
-      sealed < 100000 → AreLetGo (get_or slots ((sealed + 1) % 32) []) stands let_go → emptied ≡ set slots ((sealed + 1) % 32) [] → next_sealed ≡ sealed + 1 →
+  pub seal_done : HistoryGoesOn → SealsAreCounted → SealLetsGo → (seat next_sealed : ℕ) (let_go : List Standing) (emptied : List (List ℕ)) (cycle : Cycle) →
+      sealed < 100000 → AreLetGo (get_or slots ((sealed + 1) % 128) []) stands let_go → emptied ≡ set slots ((sealed + 1) % 128) [] → next_sealed ≡ sealed + 1 →
       cycle ≡ record { 0 = sealed } → after ≡ reserved ++ record { seat = seat; what = Seal; reply = Sealed } ∷ [] →
       Closed d requests script before after let_go emptied next_sealed seat cycle
   seal_done goes_on count lets_go seat next_sealed let_go emptied cycle some gone is_emptied next is_cycle put =

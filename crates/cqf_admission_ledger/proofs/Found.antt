@@ -17,10 +17,9 @@ use Rattle.cqf_laws_history.proofs.Places.{entry_at}
 use Rattle.cqf_laws_history.proofs.Sound.{named_is_held}
 use Rattle.cqf_laws_history.proofs.Numbers.{numbered}
 use Rattle.cqf_topology.specs.declared.streams.Request.{Request}
-use Rattle.cqf_admission.specs.Rows.{mask_of}
 use Rattle.cqf_admission.proofs.GrantLemmas.{ended_reply}
 use Rattle.cqf_admission.proofs.TableLemmas.{the_row_named}
-use Rattle.cqf_admission_ledger.specs.declared.holdings.Stand.{Stand}
+use Rattle.cqf_admission_ledger.specs.Holdings.{Standing}
 use Rattle.cqf_admission_ledger.specs.Forms.{FindsOpenForm, number_of_form}
 use Rattle.cqf_admission_ledger.specs.Holdings.{IsFree, IsHolder}
 use Rattle.cqf_admission_ledger.specs.Running.{AreOf}
@@ -28,27 +27,27 @@ use Rattle.cqf_admission_ledger.specs.Streams.{stand_of}
 use Rattle.cqf_admission_ledger.proofs.Names.{number_tells}
 
 -- the stream of a number, and that it's the one of a name that is held
-pub record IsFound (d : Domain) (requests : List Request) (entries : List Recorded) (stands : List Stand) (name : List ℕ) (number : ℕ) : Type 0 where
+pub record IsFound (d : Domain) (requests : List Request) (entries : List Recorded) (stands : List Standing) (name : List ℕ) (number : ℕ) : Type 0 where
   pub row : Row
   pub at : slice_get (streams_of d entries) number ≡ Some row
   pub among : Contains (streams_of d entries) row
   pub held : is_held row (seals entries) ≡ true
   pub named : row_named (held_in d entries (seals entries)) name ≡ Some row
-  pub is : (s : Stand) → get_or stands number s ≡ stand_of (number_of_form requests) mask_of (seals entries) row
+  pub is : (s : Standing) → get_or stands number s ≡ stand_of (number_of_form requests) (seals entries) row
   pub number_is : row.no ≡ number
 
-module _ (d : Domain) (requests : List Request) (entries : List Recorded) (stands : List Stand) (slots : List (List ℕ)) (sealed : ℕ)
+module _ (d : Domain) (requests : List Request) (entries : List Recorded) (stands : List Standing) (slots : List (List ℕ)) (sealed : ℕ)
     (r : AreOf d requests entries stands slots sealed) where
-  abbrev as_stand : Row → Stand
-  as_stand row = stand_of (number_of_form requests) mask_of (seals entries) row
+  abbrev as_stand : Row → Standing
+  as_stand row = stand_of (number_of_form requests) (seals entries) row
 
   many : length stands ≡ length (streams_of d entries)
-  many = ap (λ (ss : List Stand). length ss) r.are_streams ∙ length-map (streams_of d entries) as_stand
+  many = ap (λ (ss : List Standing). length ss) r.are_streams ∙ length-map (streams_of d entries) as_stand
 
   -- a stream as it stands at its number
-  stands_at : (number : ℕ) (row : Row) → slice_get (streams_of d entries) number ≡ Some row → (s : Stand) → get_or stands number s ≡ as_stand row
+  stands_at : (number : ℕ) (row : Row) → slice_get (streams_of d entries) number ≡ Some row → (s : Standing) → get_or stands number s ≡ as_stand row
   stands_at number row at s =
-      ap (λ (ss : List Stand). get_or ss number s) r.are_streams
+      ap (λ (ss : List Standing). get_or ss number s) r.are_streams
       ∙ get_or-map as_stand (streams_of d entries) number row s (slice_get_within (streams_of d entries) number row at)
       ∙ ap as_stand (get_or_from_slice_get (streams_of d entries) number row row at)
 
@@ -60,8 +59,8 @@ module _ (d : Domain) (requests : List Request) (entries : List Recorded) (stand
       let row = one.0 in
       let among = contains_at (streams_of d entries) number row one.1 in
       let is = stands_at number row one.1 in
-      let held : is_held row (seals entries) ≡ true = ap (λ (s : Stand). s.held) (sym (is (as_stand row))) ∙ holder.is_held.held (as_stand row) in
-      let numbers : number_of_form requests row.name ≡ number_of_form requests name = ap (λ (s : Stand). s.name) (sym (is (as_stand row)))
+      let held : is_held row (seals entries) ≡ true = ap (λ (s : Standing). s.held) (sym (is (as_stand row))) ∙ holder.is_held.held (as_stand row) in
+      let numbers : number_of_form requests row.name ≡ number_of_form requests name = ap (λ (s : Standing). s.name) (sym (is (as_stand row)))
       ∙ holder.named (as_stand row) in
       let same : row.name ≡ name =
       is_text_same row.name name (sym (number_tells requests row.name name (r.known row among))
@@ -97,8 +96,8 @@ module _ (d : Domain) (requests : List Request) (entries : List Recorded) (stand
             | inl behind ↦ absurd (omega (arith, behind, numbers, r.known row there.0))
             | inr nobody ↦ absurd (nobody place.0 (record {
               inside = omega (arith, slice_get_within (streams_of d entries) place.0 row place.1, many);
-              held = λ s. ap (λ (x : Stand). x.held) (is s) ∙ there.1;
-            }) (as_stand row) (ap (λ (x : Stand). x.name) (is (as_stand row)) ∙ numbers))
+              held = λ s. ap (λ (x : Standing). x.held) (is s) ∙ there.1;
+            }) (as_stand row) (ap (λ (x : Standing). x.name) (is (as_stand row)) ∙ numbers))
           ]
 
   -- why a stream can't be withdrawn is the answer that is due
@@ -108,6 +107,6 @@ module _ (d : Domain) (requests : List Request) (entries : List Recorded) (stand
     | inl none ↦ ap (withdraw_reply (seals entries)) (none_found name none.1) ∙ ap RefusedFor (sym none.0)
     | inr ended ↦ (
         let f = found sound name ended.1 ended.2.0 in
-        let over : is_some f.row.withdrawn ≡ true = ap (λ (s : Stand). is_some s.withdrawn) (sym (f.is (as_stand f.row))) ∙ ended.2.1 (as_stand f.row) in
+        let over : is_some f.row.withdrawn ≡ true = ap (λ (s : Standing). is_some s.withdrawn) (sym (f.is (as_stand f.row))) ∙ ended.2.1 (as_stand f.row) in
         ap (withdraw_reply (seals entries)) f.named ∙ ended_reply (seals entries) f.row.no f.row.withdrawn over ∙ ap RefusedFor (sym ended.0))
   ]

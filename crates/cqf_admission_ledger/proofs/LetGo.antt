@@ -8,18 +8,18 @@ use Rattle.std.proofs.lemmas.List.{get_or-set_same, get_or-set_other, length-set
 use Rattle.std.proofs.lemmas.List.Elements.{Contains-append_right}
 use Rattle.cqf_lists.proofs.Members.{any_member, contains_here}
 use Rattle.cqf_lists.proofs.Pairs.{pairs_head, pairs_second}
-use Rattle.cqf_admission_ledger.specs.declared.holdings.Stand.{Stand}
+use Rattle.cqf_admission_ledger.specs.Holdings.{Standing}
 use Rattle.cqf_admission_ledger.specs.Holdings.{AreLetGo, IsHeldAt, let_go_if, released}
 use Rattle.cqf_admission_ledger.proofs.Figures.{same_or_not}
 
 -- of the listed numbers the last were taken, and theirs are let go of
-pub record AreTaken (numbers : List ℕ) (rows : List Stand) (left : List ℕ) (now : List Stand) : Type 0 where
+pub record AreTaken (numbers : List ℕ) (rows : List Standing) (left : List ℕ) (now : List Standing) : Type 0 where
   pub taken : List ℕ
   pub is : numbers ≡ left ++ taken
   pub gone : AreLetGo taken rows now
 
 -- at first none was
-pub none_taken : (numbers : List ℕ) (rows : List Stand) → AreTaken numbers rows numbers rows
+pub none_taken : (numbers : List ℕ) (rows : List Standing) → AreTaken numbers rows numbers rows
 none_taken numbers rows = record {
   taken = [];
   is = sym (append_none numbers);
@@ -30,7 +30,7 @@ none_taken numbers rows = record {
     append_none [] = refl
     append_none (x ∷ xs) = ap (λ (ys : List ℕ). x ∷ ys) (append_none xs)
 
-module _ (numbers : List ℕ) (rows : List Stand) (left : List ℕ) (now : List Stand) (t : AreTaken numbers rows left now) where
+module _ (numbers : List ℕ) (rows : List Standing) (left : List ℕ) (now : List Standing) (t : AreTaken numbers rows left now) where
   module _ (number : ℕ) (less : List ℕ) (last : left ≡ less ++ number ∷ []) where
     -- the list, with the next one in its midst
     midst : numbers ≡ less ++ (number ∷ t.taken)
@@ -57,18 +57,18 @@ module _ (numbers : List ℕ) (rows : List Stand) (left : List ℕ) (now : List 
         record {
           inside = omega (arith, first.inside, t.gone.as_many);
           held = λ d.
-              ap (λ (x : Stand). x.held) (t.gone.each number d first.inside
+              ap (λ (x : Standing). x.held) (t.gone.each number d first.inside
               ∙ ap (λ (b : Bool). if b then released (get_or rows number d) else get_or rows number d) (not_taken once)) ∙ first.held d;
         }
 
     -- and with it let go of, one more is taken
-    pub one_taken : (after : List Stand) → number < length now → ((d : Stand) → after ≡ set now number (released (get_or now number d))) →
+    pub one_taken : (after : List Standing) → number < length now → ((d : Standing) → after ≡ set now number (released (get_or now number d))) →
         AreTaken numbers rows less after
     one_taken after inside set_is = record {
       taken = number ∷ t.taken;
       is = midst;
       gone = record {
-        as_many = ap (λ (xs : List Stand). length xs) (set_is some) ∙ length-set now number (released (get_or now number some)) ∙ t.gone.as_many;
+        as_many = ap (λ (xs : List Standing). length xs) (set_is some) ∙ length-set now number (released (get_or now number some)) ∙ t.gone.as_many;
         each = λ k d low. elim (same_or_not k number) [
           | inl same ↦ at_number k d low same
           | inr differ ↦ elsewhere k d low differ
@@ -76,20 +76,20 @@ module _ (numbers : List ℕ) (rows : List Stand) (left : List ℕ) (now : List 
       };
     }
       where
-        some : Stand
+        some : Standing
         some = first_of now (omega (arith, inside))
           where
-            first_of : (xs : List Stand) → 0 < length xs → Stand
+            first_of : (xs : List Standing) → 0 < length xs → Standing
             first_of [] h = absurd (omega (arith, h))
             first_of (x ∷ xs) h = x
 
-        released_once : (b : Bool) (s : Stand) → released (if b then released s else s) ≡ released s
+        released_once : (b : Bool) (s : Standing) → released (if b then released s else s) ≡ released s
         released_once true s = refl
         released_once false s = refl
 
-        at_number : (k : ℕ) (d : Stand) → k < length rows → k ≡ number → get_or after k d ≡ let_go_if (number ∷ t.taken) k (get_or rows k d)
+        at_number : (k : ℕ) (d : Standing) → k < length rows → k ≡ number → get_or after k d ≡ let_go_if (number ∷ t.taken) k (get_or rows k d)
         at_number k d low same =
-            ap (λ (xs : List Stand). get_or xs k d) (set_is d)
+            ap (λ (xs : List Standing). get_or xs k d) (set_is d)
             ∙ ap (λ (n : ℕ). get_or (set now number (released (get_or now number d))) n d) same
             ∙ get_or-set_same now number (released (get_or now number d)) d inside
             ∙ ap (λ (n : ℕ). released (get_or now n d)) (sym same)
@@ -98,14 +98,14 @@ module _ (numbers : List ℕ) (rows : List Stand) (left : List ℕ) (now : List 
             ∙ sym (ap (λ (b : Bool). if b || list_any (λ other. other == k) t.taken then released (get_or rows k d) else get_or rows k d)
             (eq-eqb number k (sym same)))
 
-        elsewhere : (k : ℕ) (d : Stand) → k < length rows → k ≢ number → get_or after k d ≡ let_go_if (number ∷ t.taken) k (get_or rows k d)
+        elsewhere : (k : ℕ) (d : Standing) → k < length rows → k ≢ number → get_or after k d ≡ let_go_if (number ∷ t.taken) k (get_or rows k d)
         elsewhere k d low differ =
-            ap (λ (xs : List Stand). get_or xs k d) (set_is d)
+            ap (λ (xs : List Standing). get_or xs k d) (set_is d)
             ∙ get_or-set_other now number k (released (get_or now number d)) d differ
             ∙ t.gone.each k d low
             ∙ sym (ap (λ (b : Bool). if b || list_any (λ other. other == k) t.taken then released (get_or rows k d) else get_or rows k d)
             (ne_eqb number k (λ e. differ (sym e))))
 
 -- at the end all were
-pub all_taken : (numbers : List ℕ) (rows now : List Stand) → AreTaken numbers rows [] now → AreLetGo numbers rows now
+pub all_taken : (numbers : List ℕ) (rows now : List Standing) → AreTaken numbers rows [] now → AreLetGo numbers rows now
 all_taken numbers rows now t = subst (λ (xs : List ℕ). AreLetGo xs rows now) (sym t.is) t.gone

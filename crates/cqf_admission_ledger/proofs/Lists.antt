@@ -1,5 +1,6 @@
 -- Lists in a list, one of which is another.
-use Rattle.std.proofs.Common.{◌≡◌, ℕ, ◌<◌, List, [], ◌∷◌, map, set, get_or, length, refl, sym, ap, arith, zero, suc}
+use Rattle.std.proofs.lemmas.List.{get_or_default}
+use Rattle.std.proofs.Common.{◌≡◌, ◌∙◌, ℕ, ◌<◌, List, [], ◌∷◌, map, set, get_or, length, refl, sym, ap, arith, zero, suc}
 
 -- a mapped list with one that is another
 pub map_set : {X Y : Type 0} (f : X → Y) (xs : List X) (k : ℕ) (x : X) → map f (set xs k x) ≡ set (map f xs) k (f x)
@@ -18,3 +19,7 @@ pub mapped_there : {X Y : Type 0} (f : X → Y) (xs : List X) (k : ℕ) (x : X) 
 mapped_there f [] k x d low is = absurd (omega (arith, low))
 mapped_there f (y ∷ xs) zero x d low is = ap f (sym is)
 mapped_there f (y ∷ xs) (suc k) x d low is = mapped_there f xs k x d (omega (arith, low)) is
+
+-- what is read twice at one place is the same
+pub read_same : {X : Type 0} (xs : List X) (k : ℕ) (x y : X) → k < length xs → x ≡ get_or xs k x → y ≡ get_or xs k y → x ≡ y
+read_same xs k x y low is also = is ∙ get_or_default xs k x y low ∙ sym also

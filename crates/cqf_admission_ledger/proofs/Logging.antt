@@ -34,7 +34,7 @@ there_behind requests script old reserved new e same is there one =
 pub asked_at : (requests : List Request) (place : ℕ) (request : Request) → place < length requests → request ≡ get_or requests place request →
     request_at (map asked_of requests) place ≡ asked_of request
 asked_at requests place request low is =
-    get_or-map asked_of requests place request (record { name = []; octets = 0; paths = [] }) low ∙ ap asked_of (sym is)
+    get_or-map asked_of requests place request (record { name = []; octets = 0; every = 1; phase = 0; paths = [] }) low ∙ ap asked_of (sym is)
 
 -- it is one of them
 pub among : (requests names : List Request) (place : ℕ) (request : Request) → names ≡ requests → place < length requests → request

@@ -11,7 +11,7 @@ use Rattle.std.proofs.lemmas.List.Elements.{Contains-append_cases}
 use Rattle.cqf_units.specs.declared.reservations.Cycle.{Cycle}
 use Rattle.cqf_lists.proofs.Members.{any_member, contains_none, contains_one, member_any}
 use Rattle.cqf_lists.proofs.Pairs.{pairs_append, pairs_none, pairs_one}
-use Rattle.cqf_admission_ledger.specs.declared.holdings.Stand.{Stand}
+use Rattle.cqf_admission_ledger.specs.Holdings.{Standing}
 use Rattle.cqf_admission_ledger.specs.Holdings.{AreLetGo, IsHeldAt, holding_ended, let_go_if, released}
 use Rattle.cqf_admission_ledger.specs.Ring.{IsRing, in_slot}
 use Rattle.cqf_admission_ledger.proofs.Figures.{same_or_not}
@@ -31,39 +31,39 @@ any_more number other (x ∷ xs) = ap (λ (b : Bool). (x == other) || b) (any_mo
     or_assoc false b c = refl
 
 -- what stands in one slot stands in no other
-one_slot : (stand : Stand) (slot other : ℕ) → in_slot slot stand ≡ true → other ≢ slot → in_slot other stand ≡ false
+one_slot : (stand : Standing) (slot other : ℕ) → in_slot slot stand ≡ true → other ≢ slot → in_slot other stand ≡ false
 one_slot stand slot other here differ = by_end stand.withdrawn refl
   where
     by_end : (o : Option Cycle) → stand.withdrawn ≡ o → in_slot other stand ≡ false
-    by_end None e = ap (λ (x : Option Cycle). stand.held && option_map_or (λ (w : Cycle). (w.0 + stand.residence) % 32 == other) x false) e
+    by_end None e = ap (λ (x : Option Cycle). stand.held && option_map_or (λ (w : Cycle). (w.0 + stand.residence) % 128 == other) x false) e
         ∙ and_none stand.held
       where
         and_none : (b : Bool) → (b && false) ≡ false
         and_none true = refl
         and_none false = refl
     by_end (Some w) e =
-        let parts = and_parts stand.held (option_map_or (λ (x : Cycle). (x.0 + stand.residence) % 32 == slot) stand.withdrawn false) here in
-        let is : ((w.0 + stand.residence) % 32 == slot) ≡ true =
-        sym (ap (λ (x : Option Cycle). option_map_or (λ (y : Cycle). (y.0 + stand.residence) % 32 == slot) x false) e) ∙ parts.1 in
-        let no : ((w.0 + stand.residence) % 32 == other) ≡ false =
-        ne_eqb ((w.0 + stand.residence) % 32) other (λ same. differ (sym same ∙ eqb-true ((w.0 + stand.residence) % 32) slot is)) in
-        ap (λ (x : Option Cycle). stand.held && option_map_or (λ (y : Cycle). (y.0 + stand.residence) % 32 == other) x false) e
+        let parts = and_parts stand.held (option_map_or (λ (x : Cycle). (x.0 + stand.residence) % 128 == slot) stand.withdrawn false) here in
+        let is : ((w.0 + stand.residence) % 128 == slot) ≡ true =
+        sym (ap (λ (x : Option Cycle). option_map_or (λ (y : Cycle). (y.0 + stand.residence) % 128 == slot) x false) e) ∙ parts.1 in
+        let no : ((w.0 + stand.residence) % 128 == other) ≡ false =
+        ne_eqb ((w.0 + stand.residence) % 128) other (λ same. differ (sym same ∙ eqb-true ((w.0 + stand.residence) % 128) slot is)) in
+        ap (λ (x : Option Cycle). stand.held && option_map_or (λ (y : Cycle). (y.0 + stand.residence) % 128 == other) x false) e
         ∙ ap (λ (b : Bool). stand.held && b) no ∙ and_none stand.held
       where
         and_none : (b : Bool) → (b && false) ≡ false
         and_none true = refl
         and_none false = refl
 
-module _ (stands : List Stand) (slots : List (List ℕ)) (r : IsRing stands slots) where
+module _ (stands : List Standing) (slots : List (List ℕ)) (r : IsRing stands slots) where
   -- ---- one slot emptied
-  module _ (slot : ℕ) (after : List Stand) (low : slot < 32) (gone : AreLetGo (get_or slots slot []) stands after) where
+  module _ (slot : ℕ) (after : List Standing) (low : slot < 128) (gone : AreLetGo (get_or slots slot []) stands after) where
     emptied : get_or (set slots slot []) slot [] ≡ []
-    emptied = get_or-set_same slots slot [] [] (omega (arith, low, r.thirty_two))
+    emptied = get_or-set_same slots slot [] [] (omega (arith, low, r.as_many))
 
     others : (other : ℕ) → other ≢ slot → get_or (set slots slot []) other [] ≡ get_or slots other []
     others other differ = get_or-set_other slots slot other [] [] differ
 
-    lists_sealed : (other number : ℕ) (d : Stand) → other < 32 → number < length after →
+    lists_sealed : (other number : ℕ) (d : Standing) → other < 128 → number < length after →
         list_any (λ o. o == number) (get_or (set slots slot []) other []) ≡ in_slot other (get_or after number d)
     lists_sealed other number d below inside = elim (same_or_not other slot) [
       | inl same ↦
@@ -78,7 +78,7 @@ module _ (stands : List Stand) (slots : List (List ℕ)) (r : IsRing stands slot
         was : number < length stands
         was = omega (arith, inside, gone.as_many)
 
-        stand : Stand
+        stand : Standing
         stand = get_or stands number d
 
         listed : Bool
@@ -97,7 +97,7 @@ module _ (stands : List Stand) (slots : List (List ℕ)) (r : IsRing stands slot
 
     pub ring_sealed : IsRing after (set slots slot [])
     ring_sealed = record {
-      thirty_two = length-set slots slot [] ∙ r.thirty_two;
+      as_many = length-set slots slot [] ∙ r.as_many;
       lists = lists_sealed;
       inside = λ other number below c. elim (same_or_not other slot) [
         | inl same ↦ absurd (contains_none number (subst (λ (xs : List ℕ). Contains xs number)
@@ -113,34 +113,34 @@ module _ (stands : List Stand) (slots : List (List ℕ)) (r : IsRing stands slot
     }
 
   -- ---- one withdrawn
-  module _ (number : ℕ) (cycle : Cycle) (stand : Stand) (held : IsHeldAt stands number) (was : (d : Stand) → get_or stands number d ≡ stand)
-      (open_end : stand.withdrawn ≡ None) (slot : ℕ) (is_slot : slot ≡ (cycle.0 + stand.residence) % 32) (low : slot < 32) where
+  module _ (number : ℕ) (cycle : Cycle) (stand : Standing) (held : IsHeldAt stands number) (was : (d : Standing) → get_or stands number d ≡ stand)
+      (open_end : stand.withdrawn ≡ None) (slot : ℕ) (is_slot : slot ≡ (cycle.0 + stand.residence) % 128) (low : slot < 128) where
     -- it stood in no slot
     in_none : (other : ℕ) → in_slot other stand ≡ false
-    in_none other = ap (λ (x : Option Cycle). stand.held && option_map_or (λ (w : Cycle). (w.0 + stand.residence) % 32 == other) x false) open_end
+    in_none other = ap (λ (x : Option Cycle). stand.held && option_map_or (λ (w : Cycle). (w.0 + stand.residence) % 128 == other) x false) open_end
         ∙ and_none stand.held
       where
         and_none : (b : Bool) → (b && false) ≡ false
         and_none true = refl
         and_none false = refl
 
-    unlisted : (other : ℕ) → other < 32 → list_any (λ o. o == number) (get_or slots other []) ≡ false
+    unlisted : (other : ℕ) → other < 128 → list_any (λ o. o == number) (get_or slots other []) ≡ false
     unlisted other below = r.lists other number stand below held.inside ∙ ap (in_slot other) (was stand) ∙ in_none other
 
     -- and stands in one now
     in_one : (other : ℕ) → in_slot other (holding_ended stand cycle) ≡ (slot == other)
     in_one other =
-        ap (λ (b : Bool). b && ((cycle.0 + stand.residence) % 32 == other)) (sym (ap (λ (x : Stand). x.held) (was stand)) ∙ held.held stand)
+        ap (λ (b : Bool). b && ((cycle.0 + stand.residence) % 128 == other)) (sym (ap (λ (x : Standing). x.held) (was stand)) ∙ held.held stand)
         ∙ ap (λ (n : ℕ). n == other) (sym is_slot)
 
     here : get_or (set slots slot (get_or slots slot [] ++ number ∷ [])) slot [] ≡ get_or slots slot [] ++ number ∷ []
-    here = get_or-set_same slots slot (get_or slots slot [] ++ number ∷ []) [] (omega (arith, low, r.thirty_two))
+    here = get_or-set_same slots slot (get_or slots slot [] ++ number ∷ []) [] (omega (arith, low, r.as_many))
 
     beside : (other : ℕ) → other ≢ slot → get_or (set slots slot (get_or slots slot [] ++ number ∷ [])) other [] ≡ get_or slots other []
     beside other differ = get_or-set_other slots slot other (get_or slots slot [] ++ number ∷ []) [] differ
 
     -- of each number, what its slot lists
-    lists_other : (other k : ℕ) → other < 32 →
+    lists_other : (other k : ℕ) → other < 128 →
         list_any (λ o. o == k) (get_or (set slots slot (get_or slots slot [] ++ number ∷ [])) other [])
         ≡ (list_any (λ o. o == k) (get_or slots other []) || ((slot == other) && (number == k)))
     lists_other other k below = elim (same_or_not other slot) [
@@ -160,7 +160,7 @@ module _ (stands : List Stand) (slots : List (List ℕ)) (r : IsRing stands slot
 
     pub ring_withdrawn : IsRing (set stands number (holding_ended stand cycle)) (set slots slot (get_or slots slot [] ++ number ∷ []))
     ring_withdrawn = record {
-      thirty_two = length-set slots slot (get_or slots slot [] ++ number ∷ []) ∙ r.thirty_two;
+      as_many = length-set slots slot (get_or slots slot [] ++ number ∷ []) ∙ r.as_many;
       lists = λ other k d below inside.
           let within : k < length stands = omega (arith, inside, length-set stands number (holding_ended stand cycle)) in
           elim (same_or_not k number) [
@@ -212,9 +212,9 @@ module _ (stands : List Stand) (slots : List (List ℕ)) (r : IsRing stands slot
 
 -- ---- one stream more, that isn't withdrawn
 
-pub ring_pushed : (stands : List Stand) (slots : List (List ℕ)) → IsRing stands slots → (s : Stand) → s.withdrawn ≡ None → IsRing (stands ++ s ∷ []) slots
+pub ring_pushed : (stands : List Standing) (slots : List (List ℕ)) → IsRing stands slots → (s : Standing) → s.withdrawn ≡ None → IsRing (stands ++ s ∷ []) slots
 ring_pushed stands slots r s live = record {
-  thirty_two = r.thirty_two;
+  as_many = r.as_many;
   lists = λ slot number d low below. elim (cases_lt number (length stands)) [
     | inl old ↦ r.lists slot number d low old ∙ ap (in_slot slot) (sym (get_or_append_left stands (s ∷ []) d number old))
     | inr new ↦ (
@@ -228,14 +228,14 @@ ring_pushed stands slots r s live = record {
   where
     -- the new one stands in no slot
     no_slot : (slot : ℕ) → in_slot slot s ≡ false
-    no_slot slot = ap (λ (o : Option Cycle). s.held && option_map_or (λ (w : Cycle). (w.0 + s.residence) % 32 == slot) o false) live ∙ and_none s.held
+    no_slot slot = ap (λ (o : Option Cycle). s.held && option_map_or (λ (w : Cycle). (w.0 + s.residence) % 128 == slot) o false) live ∙ and_none s.held
       where
         and_none : (b : Bool) → (b && false) ≡ false
         and_none true = refl
         and_none false = refl
 
     -- and no slot lists it
-    not_listed : (slot number : ℕ) → slot < 32 → length stands ≤ number → list_any (λ o. o == number) (get_or slots slot []) ≡ false
+    not_listed : (slot number : ℕ) → slot < 128 → length stands ≤ number → list_any (λ o. o == number) (get_or slots slot []) ≡ false
     not_listed slot number low behind = elim (cases_Bool (list_any (λ o. o == number) (get_or slots slot []))) [
       | inl some ↦ (
           let found = any_member (λ o. o == number) (get_or slots slot []) some in

@@ -15,16 +15,17 @@ use Rattle.cqf_model.specs.declared.history.Reply.TheVariants.{Accepted, Sealed,
 use Rattle.cqf_model.specs.declared.topology.Row.{Row}
 use Rattle.cqf_model.specs.Domain.{Domain}
 use Rattle.cqf_model.specs.History.{Act, Admits, Asked, IsLegalHistory, Recorded, Seals, held_in, is_seal, next_number}
-use Rattle.cqf_model.specs.History.{refusal_of, reply_to, seals, streams_of, admit_reply}
+use Rattle.cqf_model.specs.History.{pace_of, refusal_of, reply_to, seals, streams_of, admit_reply}
+use Rattle.cqf_model.specs.Paces.{each_cycle}
 use Rattle.cqf_model.specs.Table.{is_held}
 use Rattle.cqf_laws_history.specs.StateLaws.{GrantedIsHeld, HistoryGoesOn, IsState, SealLetsGo, SealsAreCounted, granted_row, with_entry}
 use Rattle.cqf_laws_history.specs.StreamLaws.{GrantedIsLast}
 use Rattle.cqf_laws_history.proofs.Growth.{begun_now, no_seal_refused, refused_ends_none, refused_none, seals_same, streams_same}
 use Rattle.cqf_topology.specs.declared.streams.Request.{Request}
 use Rattle.cqf_admission.specs.Admission.{Administration, Answers, IsRunning, held_of, is_entered, reply_of}
-use Rattle.cqf_admission.specs.Rows.{mask_of}
+use Rattle.cqf_admission.proofs.EachRow.{each_pushed}
 use Rattle.cqf_admission.proofs.RunLemmas.{answers_entered, run_on, run_sealed}
-use Rattle.cqf_admission_ledger.specs.declared.holdings.Stand.{Stand}
+use Rattle.cqf_admission_ledger.specs.Holdings.{Standing}
 use Rattle.cqf_admission_ledger.specs.Forms.{number_of_form}
 use Rattle.cqf_admission_ledger.specs.Holdings.{AreLetGo, IsHeldAt}
 use Rattle.cqf_admission_ledger.specs.Ring.{IsRing}
@@ -39,14 +40,14 @@ abbrev pub of_entries : Domain → List Recorded → Administration
 of_entries d entries = record { domain = d; entries = entries }
 
 -- what a call leaves that is entered
-pub record Leaves (d : Domain) (requests : List Request) (entries after : List Recorded) (stands : List Stand) (slots : List (List ℕ))
+pub record Leaves (d : Domain) (requests : List Request) (entries after : List Recorded) (stands : List Standing) (slots : List (List ℕ))
     (sealed seat : ℕ) (act : Act)
     (result : Result Receipt Refused) (held : List Row) : Type 0 where
   pub of : AreOf d requests after stands slots sealed
   pub answers : Answers (of_entries d entries) (of_entries d after) seat act result
   pub holds : held_of (of_entries d after) ≡ held
 
-module _ (d : Domain) (requests : List Request) (entries after : List Recorded) (stands : List Stand) (slots : List (List ℕ)) (sealed : ℕ)
+module _ (d : Domain) (requests : List Request) (entries after : List Recorded) (stands : List Standing) (slots : List (List ℕ)) (sealed : ℕ)
     (r : AreOf d requests entries stands slots sealed) where
   pub state : IsState d entries (held_in d entries (seals entries)) (next_number d entries)
   state = record { held = refl; number = refl }
@@ -62,13 +63,16 @@ module _ (d : Domain) (requests : List Request) (entries after : List Recorded) 
     pub sealed_same : seals after ≡ seals entries
     sealed_same = ap seals entered ∙ seals_same entries seat act (reply_of result) no_seal
 
-    pub running : next_number d after ≤ next_number d entries + 1 → IsRunning d after (held_in d after (seals after)) (next_number d after) sealed
-    running more =
+    pub running : next_number d after ≤ next_number d entries + 1 →
+        ((row : Row) → Contains (held_in d after (seals after)) row → row.pace ≡ each_cycle) →
+        IsRunning d after (held_in d after (seals after)) (next_number d after) sealed
+    running more paced =
         let all = with_entry entries seat act (reply_to d entries act) in
         subst (λ (es : List Recorded). IsRunning d es (held_in d es (seals es)) (next_number d es) sealed) same
         (run_on goes_on count d entries (held_in d entries (seals entries)) (held_in d all (seals all)) (next_number d entries)
         (next_number d all) sealed seat act
-        no_seal r.running few (omega (arith, more, ap (next_number d) same)) (record { held = refl; number = refl }))
+        no_seal r.running few (omega (arith, more, ap (next_number d) same))
+        (λ row among. paced row (subst (λ (es : List Recorded). Contains (held_in d es (seals es)) row) same among)) (record { held = refl; number = refl }))
 
     pub answered : is_entered result ≡ true → Answers (of_entries d entries) (of_entries d after) seat act result
     answered is =
@@ -87,8 +91,9 @@ module _ (d : Domain) (requests : List Request) (entries after : List Recorded) 
       let cycle = sealed_same goes_on count seat act (Err refused) no_seal few due entered in
       record {
         of = record {
-          running = running goes_on count seat act (Err refused) no_seal few due entered (omega (arith, ap (λ (rs : List Row). length rs) streams));
-          are_streams = r.are_streams ∙ sym (λ i. map (stand_of (number_of_form requests) mask_of (cycle i)) (streams i));
+          running = running goes_on count seat act (Err refused) no_seal few due entered (omega (arith, ap (λ (rs : List Row). length rs) streams))
+              (λ row among. r.running.paced row (subst (λ (rs : List Row). Contains rs row) (λ i. filter (λ (x : Row). is_held x (cycle i)) (streams i)) among));
+          are_streams = r.are_streams ∙ sym (λ i. map (stand_of (number_of_form requests) (cycle i)) (streams i));
           known = λ row c. r.known row (subst (λ (rs : List Row). Contains rs row) streams c);
           ring = r.ring;
         };
@@ -98,13 +103,13 @@ module _ (d : Domain) (requests : List Request) (entries after : List Recorded) 
 
   -- a granted one adds its stream
   module _ (goes_on : HistoryGoesOn) (count : SealsAreCounted) (grants : GrantedIsHeld) (last : GrantedIsLast) (seat : ℕ) (asked : Asked) (receipt : Receipt)
-      (stand : Stand) (grown : List Stand) (few : length entries - sealed < 100000)
+      (stand : Standing) (grown : List Standing) (few : length entries - sealed < 100000)
       (none : refusal_of d (held_in d entries (seals entries)) asked ≡ None) (known : number_of_form requests asked.name < length requests)
-      (is_receipt : receipt ≡ record { no = length stands; effect = record { 0 = sealed } })
-      (is_stand : stand ≡ stand_of (number_of_form requests) mask_of (seals entries) (granted_row d (next_number d entries) (seals entries) asked))
+      (own : pace_of asked ≡ each_cycle) (is_receipt : receipt ≡ record { no = length stands; effect = record { 0 = sealed } })
+      (is_stand : stand ≡ stand_of (number_of_form requests) (seals entries) (granted_row d (next_number d entries) (seals entries) asked))
       (more : grown ≡ stands ++ stand ∷ []) (entered : after ≡ with_entry entries seat (Admits asked) (Accepted receipt)) where
     number : length stands ≡ next_number d entries
-    number = ap (λ (ss : List Stand). length ss) r.are_streams ∙ length-map (streams_of d entries) (stand_of (number_of_form requests) mask_of (seals entries))
+    number = ap (λ (ss : List Standing). length ss) r.are_streams ∙ length-map (streams_of d entries) (stand_of (number_of_form requests) (seals entries))
 
     due : reply_to d entries (Admits asked) ≡ Accepted receipt
     due = ap (admit_reply (next_number d entries) (seals entries)) none
@@ -121,22 +126,30 @@ module _ (d : Domain) (requests : List Request) (entries after : List Recorded) 
     cycle : seals after ≡ seals entries
     cycle = sealed_same goes_on count seat (Admits asked) (Ok receipt) refl few due entered
 
+    -- what is held behind it
+    holds_now : held_in d after (seals after) ≡ held_in d entries (seals entries) ++ new ∷ []
+    holds_now =
+        ap (λ (es : List Recorded). held_in d es (seals es)) (sym (same goes_on count seat (Admits asked) (Ok receipt) refl few due entered))
+        ∙ (grants d entries (held_in d entries (seals entries)) (next_number d entries) seat asked r.running.legal state none).held
+
     pub granted_leaves : Leaves d requests entries after grown slots sealed seat (Admits asked) (Ok receipt)
         (held_in d entries (seals entries) ++ granted_row d receipt.no receipt.effect.0 asked ∷ [])
     granted_leaves = record {
       of = record {
         running = running goes_on count seat (Admits asked) (Ok receipt) refl few due entered
-            (omega (arith, ap (λ (rs : List Row). length rs) streams, length-append (streams_of d entries) (new ∷ [])));
+            (omega (arith, ap (λ (rs : List Row). length rs) streams, length-append (streams_of d entries) (new ∷ [])))
+            (λ row among. each_pushed (λ (x : Row). x.pace ≡ each_cycle) (held_in d entries (seals entries)) new r.running.paced own row
+            (subst (λ (rs : List Row). Contains rs row) holds_now among));
         are_streams =
             more ∙ (λ i. r.are_streams i ++ is_stand i ∷ [])
-            ∙ sym (map-append (stand_of (number_of_form requests) mask_of (seals entries)) (streams_of d entries) (new ∷ []))
-            ∙ sym (λ i. map (stand_of (number_of_form requests) mask_of (cycle i)) (streams i));
+            ∙ sym (map-append (stand_of (number_of_form requests) (seals entries)) (streams_of d entries) (new ∷ []))
+            ∙ sym (λ i. map (stand_of (number_of_form requests) (cycle i)) (streams i));
         known = λ row c. elim (Contains-append_cases (streams_of d entries) (new ∷ []) row (subst (λ (rs : List Row). Contains rs row) streams c)) [
           | inl old ↦ r.known row old
           | inr one ↦ subst (λ (x : Row). number_of_form requests x.name < length requests) (contains_one new row one) known
         ];
-        ring = subst (λ (ss : List Stand). IsRing ss slots) (sym more)
-            (ring_pushed stands slots r.ring stand (ap (λ (s : Stand). s.withdrawn) is_stand));
+        ring = subst (λ (ss : List Standing). IsRing ss slots) (sym more)
+            (ring_pushed stands slots r.ring stand (ap (λ (s : Standing). s.withdrawn) is_stand));
       };
       answers = answered goes_on count seat (Admits asked) (Ok receipt) refl few due entered refl;
       holds =
@@ -147,9 +160,9 @@ module _ (d : Domain) (requests : List Request) (entries after : List Recorded) 
     }
 
   -- what a Seal leaves
-  pub sealed_leaves : HistoryGoesOn → SealsAreCounted → SealLetsGo → (seat next_sealed : ℕ) (let_go : List Stand) → sealed < 100000 →
-      AreLetGo (get_or slots ((sealed + 1) % 32) []) stands let_go → next_sealed ≡ sealed + 1 → after ≡ with_entry entries seat Seals Sealed →
-      (AreOf d requests after let_go (set slots ((sealed + 1) % 32) []) next_sealed)
+  pub sealed_leaves : HistoryGoesOn → SealsAreCounted → SealLetsGo → (seat next_sealed : ℕ) (let_go : List Standing) → sealed < 100000 →
+      AreLetGo (get_or slots ((sealed + 1) % 128) []) stands let_go → next_sealed ≡ sealed + 1 → after ≡ with_entry entries seat Seals Sealed →
+      (AreOf d requests after let_go (set slots ((sealed + 1) % 128) []) next_sealed)
       × (held_in d after (seals after) ≡ filter (λ (row : Row). is_held row (seals entries + 1)) (held_in d entries (seals entries)))
   sealed_leaves goes_on count lets_go seat next_sealed let_go some gone next entered =
       let c = r.running.counted in
@@ -160,43 +173,45 @@ module _ (d : Domain) (requests : List Request) (entries after : List Recorded) 
       let held : held_in d after (seals after) ≡ filter (λ (row : Row). is_held row (seals entries + 1)) (held_in d entries (seals entries)) =
       ap (λ (es : List Recorded). held_in d es (seals es)) entered ∙ state_after.held in
       let ran = run_sealed goes_on count lets_go d entries (held_in d entries (seals entries)) (next_number d entries) sealed seat r.running some in
-      let gone_in : AreLetGo (get_or slots ((seals entries + 1) % 32) []) (stands_in d requests entries) let_go =
-      subst (λ (n : ℕ). AreLetGo (get_or slots ((n + 1) % 32) []) (stands_in d requests entries) let_go) c
-      (subst (λ (ss : List Stand). AreLetGo (get_or slots ((sealed + 1) % 32) []) ss let_go) r.are_streams gone) in
-      let lists = ring_lists_ends (number_of_form requests) mask_of d entries slots r.running.legal
-      (subst (λ (ss : List Stand). IsRing ss slots) r.are_streams r.ring) in (
+      let gone_in : AreLetGo (get_or slots ((seals entries + 1) % 128) []) (stands_in d requests entries) let_go =
+      subst (λ (n : ℕ). AreLetGo (get_or slots ((n + 1) % 128) []) (stands_in d requests entries) let_go) c
+      (subst (λ (ss : List Standing). AreLetGo (get_or slots ((sealed + 1) % 128) []) ss let_go) r.are_streams gone) in
+      let lists = ring_lists_ends (number_of_form requests) d entries slots r.running.legal
+      (subst (λ (ss : List Standing). IsRing ss slots) r.are_streams r.ring) in (
         record {
           running = record {
             legal = subst (IsLegalHistory d) (sym entered) ran.legal;
             state = record { held = refl; number = refl };
+            paced = λ row among. ran.paced row (subst (λ (rs : List Row). Contains rs row)
+                (held ∙ ap (λ (n : ℕ). filter (λ (x : Row). is_held x (n + 1)) (held_in d entries (seals entries))) (sym c)) among);
             counted = next ∙ ap (λ (n : ℕ). n + 1) c ∙ sym more;
             few = omega (arith, ran.few, next, ap (λ (es : List Recorded). length es) entered, ap (λ (rs : List Row). length rs) streams);
           };
           are_streams =
-              let_go_is_next_cycle (number_of_form requests) mask_of (streams_of d entries) (seals entries) (get_or slots ((seals entries + 1) % 32) []) let_go
+              let_go_is_next_cycle (number_of_form requests) (streams_of d entries) (seals entries) (get_or slots ((seals entries + 1) % 128) []) let_go
               (λ row at. begun_now d entries row r.running.legal at) lists gone_in
-              ∙ sym (λ i. map (stand_of (number_of_form requests) mask_of (more i)) (streams i));
+              ∙ sym (λ i. map (stand_of (number_of_form requests) (more i)) (streams i));
           known = λ row at. r.known row (subst (λ (rs : List Row). Contains rs row) streams at);
-          ring = ring_stays_sealed stands let_go slots ((sealed + 1) % 32) r.ring (mod-lt (sealed + 1) (omega arith)) gone;
+          ring = ring_stays_sealed stands let_go slots ((sealed + 1) % 128) r.ring (mod-lt (sealed + 1) (omega arith)) gone;
         },
         held,
       )
 
   -- the streams whose numbers are in the next slot are held, once each
-  pub slot_is_held : (number : ℕ) → Contains (get_or slots ((sealed + 1) % 32) []) number → IsHeldAt stands number
+  pub slot_is_held : (number : ℕ) → Contains (get_or slots ((sealed + 1) % 128) []) number → IsHeldAt stands number
   slot_is_held number there =
-      let low : (sealed + 1) % 32 < 32 = mod-lt (sealed + 1) (omega arith) in
-      let inside = r.ring.inside ((sealed + 1) % 32) number low there in
+      let low : (sealed + 1) % 128 < 128 = mod-lt (sealed + 1) (omega arith) in
+      let inside = r.ring.inside ((sealed + 1) % 128) number low there in
       record {
         inside = inside;
         held = λ s. (and_parts (get_or stands number s).held _
-            (sym (r.ring.lists ((sealed + 1) % 32) number s low inside) ∙ member_any (λ other. other == number)
-            (get_or slots ((sealed + 1) % 32) []) number there
+            (sym (r.ring.lists ((sealed + 1) % 128) number s low inside) ∙ member_any (λ other. other == number)
+            (get_or slots ((sealed + 1) % 128) []) number there
             (eq-eqb number number refl))).0;
       }
 
 -- at first there is nothing
-pub begins : (d : Domain) (requests : List Request) (slots : List (List ℕ)) → length slots ≡ 32 → ((slot : ℕ) → slot < 32 → get_or slots slot [] ≡ []) →
+pub begins : (d : Domain) (requests : List Request) (slots : List (List ℕ)) → length slots ≡ 128 → ((slot : ℕ) → slot < 128 → get_or slots slot [] ≡ []) →
     AreOf d requests [] [] slots 0
 begins d requests slots many none = record {
   running = record {
@@ -206,13 +221,14 @@ begins d requests slots many none = record {
       few_calls = omega arith;
     };
     state = record { held = refl; number = refl };
+    paced = λ row c. absurd (contains_none row c);
     counted = refl;
     few = omega arith;
   };
   are_streams = refl;
   known = λ row c. absurd (contains_none row c);
   ring = record {
-    thirty_two = many;
+    as_many = many;
     lists = λ slot number s low inside. absurd (omega (arith, inside));
     inside = λ slot number low c. absurd (contains_none number (subst (λ (xs : List ℕ). Contains xs number) (none slot low) c));
     once = λ slot low. subst (AllPairs (λ (a b : ℕ). a ≢ b)) (sym (none slot low)) (pairs_none (λ (a b : ℕ). a ≢ b));

@@ -8,28 +8,26 @@ use Rattle.std.proofs.lemmas.List.{get_or-map, length-map}
 use Rattle.std.proofs.lemmas.List.Elements.{Contains-get_or}
 use Rattle.std.proofs.lemmas.List.Sums.{sum_by-cons}
 use Rattle.cqf_units.specs.Timing.{cost_of}
-use Rattle.cqf_lists.proofs.Members.{contains_here, contains_later}
 use Rattle.cqf_model.specs.declared.topology.Row.{Row}
-use Rattle.cqf_model.specs.Table.{cost_on, is_held, link_cost, residence}
-use Rattle.cqf_admission.specs.Rows.{part_on}
+use Rattle.cqf_model.specs.Table.{is_held, links_of, residence}
+use Rattle.cqf_admission.specs.Rows.{cost_by_link, costs_on}
 use Rattle.cqf_laws_history.proofs.Sound.{held_less}
 use Rattle.cqf_laws_history.specs.LedgerLaws.{ends_in}
 use Rattle.cqf_laws_history.proofs.Ends.{next_by_end}
-use Rattle.cqf_admission_ledger.specs.declared.holdings.Stand.{Stand}
+use Rattle.cqf_admission_ledger.specs.Holdings.{Standing}
 use Rattle.cqf_admission_ledger.specs.Holdings.{AreLetGo, held_cost, held_count, held_one, held_part, let_go_if, released}
 use Rattle.cqf_admission_ledger.specs.Streams.{stand_of}
 
 -- what the held ones cost, and how many they are, is what the rows cost that are held, and how many these are
-abbrev pub HeldCostIsLinkCost : Type 0
-HeldCostIsLinkCost =
-    (number : List ℕ → ℕ) (mask : Row → ℕ) (rows : List Row) (cycle l : ℕ) →
-    ((row : Row) → Contains rows row → part_on (mask row) (cost_of row.octets) l ≡ cost_on row l) →
-    held_cost (map (stand_of number mask cycle) rows) l ≡ link_cost (filter (λ (row : Row). is_held row cycle) rows) l
+abbrev pub HeldCostsAreTheirs : Type 0
+HeldCostsAreTheirs =
+    (number : List ℕ → ℕ) (rows : List Row) (cycle l : ℕ) →
+    held_cost (map (stand_of number cycle) rows) l ≡ costs_on (filter (λ (row : Row). is_held row cycle) rows) l
 
 abbrev pub HeldCountIsLength : Type 0
 HeldCountIsLength =
-    (number : List ℕ → ℕ) (mask : Row → ℕ) (rows : List Row) (cycle : ℕ) →
-    held_count (map (stand_of number mask cycle) rows) ≡ length (filter (λ (row : Row). is_held row cycle) rows)
+    (number : List ℕ → ℕ) (rows : List Row) (cycle : ℕ) →
+    held_count (map (stand_of number cycle) rows) ≡ length (filter (λ (row : Row). is_held row cycle) rows)
 
 -- the list of numbers has just the streams that are held in a cycle and end in the next one
 abbrev pub ListsEnds : List Row → ℕ → List ℕ → Type 0
@@ -40,38 +38,37 @@ ListsEnds rows cycle slot =
 -- so to let go of these is to go on to the next cycle
 abbrev pub LetGoIsNextCycle : Type 0
 LetGoIsNextCycle =
-    (number : List ℕ → ℕ) (mask : Row → ℕ) (rows : List Row) (cycle : ℕ) (slot : List ℕ) (after : List Stand) →
-    ((row : Row) → Contains rows row → row.admitted.0 ≤ cycle) → ListsEnds rows cycle slot → AreLetGo slot (map (stand_of number mask cycle) rows) after →
-    after ≡ map (stand_of number mask (cycle + 1)) rows
+    (number : List ℕ → ℕ) (rows : List Row) (cycle : ℕ) (slot : List ℕ) (after : List Standing) →
+    ((row : Row) → Contains rows row → row.admitted.0 ≤ cycle) → ListsEnds rows cycle slot → AreLetGo slot (map (stand_of number cycle) rows) after →
+    after ≡ map (stand_of number (cycle + 1)) rows
 
-pub held_cost_is_link_cost : HeldCostIsLinkCost
-held_cost_is_link_cost number mask [] cycle l parts = refl
-held_cost_is_link_cost number mask (row ∷ rows) cycle l parts =
-    by_flag (is_held row cycle) refl (held_cost_is_link_cost number mask rows cycle l (λ r c. parts r (contains_later row rows r c)))
+pub held_costs : HeldCostsAreTheirs
+held_costs number [] cycle l = refl
+held_costs number (row ∷ rows) cycle l =
+    by_flag (is_held row cycle) refl (held_costs number rows cycle l)
   where
-    by_flag : (b : Bool) → is_held row cycle ≡ b → held_cost (map (stand_of number mask cycle) rows) l
-        ≡ link_cost (filter (λ (r : Row). is_held r cycle) rows) l →
-        held_cost (map (stand_of number mask cycle) (row ∷ rows)) l ≡ link_cost (cond (is_held row cycle) (row ∷ filter (λ (r : Row). is_held r cycle) rows)
+    by_flag : (b : Bool) → is_held row cycle ≡ b → held_cost (map (stand_of number cycle) rows) l
+        ≡ costs_on (filter (λ (r : Row). is_held r cycle) rows) l →
+        held_cost (map (stand_of number cycle) (row ∷ rows)) l ≡ costs_on (cond (is_held row cycle) (row ∷ filter (λ (r : Row). is_held r cycle) rows)
         (filter (λ (r : Row). is_held r cycle) rows)) l
     by_flag true e rest =
-        sum_by-cons (held_part l) (stand_of number mask cycle row) (map (stand_of number mask cycle) rows)
-        ∙ ap (λ (b : Bool). (if b then part_on (mask row) (cost_of row.octets) l else 0) + held_cost (map (stand_of number mask cycle) rows) l) e
-        ∙ ap (λ (n : ℕ). n + held_cost (map (stand_of number mask cycle) rows) l) (parts row (contains_here row rows))
-        ∙ ap (λ (n : ℕ). cost_on row l + n) rest
-        ∙ sym (sum_by-cons (λ (r : Row). cost_on r l) row (filter (λ (r : Row). is_held r cycle) rows))
-        ∙ sym (ap (λ (b : Bool). link_cost (cond b (row ∷ filter (λ (r : Row). is_held r cycle) rows) (filter (λ (r : Row). is_held r cycle) rows)) l) e)
+        sum_by-cons (held_part l) (stand_of number cycle row) (map (stand_of number cycle) rows)
+        ∙ ap (λ (b : Bool). (if b then cost_by_link row l else 0) + held_cost (map (stand_of number cycle) rows) l) e
+        ∙ ap (λ (n : ℕ). cost_by_link row l + n) rest
+        ∙ sym (sum_by-cons (λ (r : Row). cost_by_link r l) row (filter (λ (r : Row). is_held r cycle) rows))
+        ∙ sym (ap (λ (b : Bool). costs_on (cond b (row ∷ filter (λ (r : Row). is_held r cycle) rows) (filter (λ (r : Row). is_held r cycle) rows)) l) e)
     by_flag false e rest =
-        sum_by-cons (held_part l) (stand_of number mask cycle row) (map (stand_of number mask cycle) rows)
-        ∙ ap (λ (b : Bool). (if b then part_on (mask row) (cost_of row.octets) l else 0) + held_cost (map (stand_of number mask cycle) rows) l) e
-        ∙ (let none : 0 + held_cost (map (stand_of number mask cycle) rows) l ≡ held_cost (map (stand_of number mask cycle) rows) l = omega arith in none)
+        sum_by-cons (held_part l) (stand_of number cycle row) (map (stand_of number cycle) rows)
+        ∙ ap (λ (b : Bool). (if b then cost_by_link row l else 0) + held_cost (map (stand_of number cycle) rows) l) e
+        ∙ (let none : 0 + held_cost (map (stand_of number cycle) rows) l ≡ held_cost (map (stand_of number cycle) rows) l = omega arith in none)
         ∙ rest
-        ∙ sym (ap (λ (b : Bool). link_cost (cond b (row ∷ filter (λ (r : Row). is_held r cycle) rows) (filter (λ (r : Row). is_held r cycle) rows)) l) e)
+        ∙ sym (ap (λ (b : Bool). costs_on (cond b (row ∷ filter (λ (r : Row). is_held r cycle) rows) (filter (λ (r : Row). is_held r cycle) rows)) l) e)
 
 pub held_count_is_length : HeldCountIsLength
-held_count_is_length number mask [] cycle = refl
-held_count_is_length number mask (row ∷ rows) cycle =
-    sum_by-cons held_one (stand_of number mask cycle row) (map (stand_of number mask cycle) rows)
-    ∙ ap (λ (n : ℕ). (if is_held row cycle then 1 else 0) + n) (held_count_is_length number mask rows cycle)
+held_count_is_length number [] cycle = refl
+held_count_is_length number (row ∷ rows) cycle =
+    sum_by-cons held_one (stand_of number cycle row) (map (stand_of number cycle) rows)
+    ∙ ap (λ (n : ℕ). (if is_held row cycle then 1 else 0) + n) (held_count_is_length number rows cycle)
     ∙ by_flag (is_held row cycle)
   where
     by_flag : (b : Bool) → (if b then 1 else 0) + length (filter (λ (r : Row). is_held r cycle) rows)
@@ -103,22 +100,22 @@ held_next row cycle begun = elim (cases_Bool (is_held row cycle)) [
     ]
 
 pub let_go_is_next_cycle : LetGoIsNextCycle
-let_go_is_next_cycle number mask rows cycle slot after begun lists gone =
-    same_at_each after (map (stand_of number mask (cycle + 1)) rows)
-    (gone.as_many ∙ length-map rows (stand_of number mask cycle) ∙ sym (length-map rows (stand_of number mask (cycle + 1)))) each
+let_go_is_next_cycle number rows cycle slot after begun lists gone =
+    same_at_each after (map (stand_of number (cycle + 1)) rows)
+    (gone.as_many ∙ length-map rows (stand_of number cycle) ∙ sym (length-map rows (stand_of number (cycle + 1)))) each
   where
-    each : (k : ℕ) (d : Stand) → k < length (map (stand_of number mask (cycle + 1)) rows) →
-        get_or after k d ≡ get_or (map (stand_of number mask (cycle + 1)) rows) k d
+    each : (k : ℕ) (d : Standing) → k < length (map (stand_of number (cycle + 1)) rows) →
+        get_or after k d ≡ get_or (map (stand_of number (cycle + 1)) rows) k d
     each k d low =
-        gone.each k d (omega (arith, inside, length-map rows (stand_of number mask cycle)))
-        ∙ ap (let_go_if slot k) (get_or-map (stand_of number mask cycle) rows k (first rows inside) d inside)
-        ∙ ap (λ (b : Bool). if b then released (stand_of number mask cycle row) else stand_of number mask cycle row) (lists k (first rows inside) inside)
+        gone.each k d (omega (arith, inside, length-map rows (stand_of number cycle)))
+        ∙ ap (let_go_if slot k) (get_or-map (stand_of number cycle) rows k (first rows inside) d inside)
+        ∙ ap (λ (b : Bool). if b then released (stand_of number cycle row) else stand_of number cycle row) (lists k (first rows inside) inside)
         ∙ by_flags (is_held row cycle) (ends_in (cycle + 1) row)
         ∙ ap (with_flag row) (sym (held_next row cycle (begun row (Contains-get_or rows k (first rows inside) inside))))
-        ∙ sym (get_or-map (stand_of number mask (cycle + 1)) rows k (first rows inside) d inside)
+        ∙ sym (get_or-map (stand_of number (cycle + 1)) rows k (first rows inside) d inside)
       where
         inside : k < length rows
-        inside = omega (arith, low, length-map rows (stand_of number mask (cycle + 1)))
+        inside = omega (arith, low, length-map rows (stand_of number (cycle + 1)))
 
         first : (xs : List Row) → k < length xs → Row
         first [] h = absurd (omega (arith, h))
@@ -127,8 +124,8 @@ let_go_is_next_cycle number mask rows cycle slot after begun lists gone =
         row : Row
         row = get_or rows k (first rows inside)
 
-        with_flag : Row → Bool → Stand
-        with_flag r b = record { name = number r.name; cost = cost_of r.octets; mask = mask r; residence = residence r; withdrawn = r.withdrawn; held = b }
+        with_flag : Row → Bool → Standing
+        with_flag r b = record { name = number r.name; cost = cost_of r.octets; links = links_of r; residence = residence r; withdrawn = r.withdrawn; held = b }
 
         by_flags : (held ends : Bool) → (if held && ends then with_flag row false else with_flag row held) ≡ with_flag row (held && not ends)
         by_flags true true = refl

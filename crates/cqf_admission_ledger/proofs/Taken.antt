@@ -8,23 +8,24 @@ use Rattle.cqf_lists.specs.Lists.{or_else}
 use Rattle.cqf_lists.proofs.Members.{any_member, member_any}
 use Rattle.cqf_model.specs.declared.history.Refused.TheVariants.{NameHeld, TooManyStreams}
 use Rattle.cqf_model.specs.Domain.{Domain}
+use Rattle.cqf_model.specs.Limits.{streams_within}
 use Rattle.cqf_model.specs.History.{refused_if}
-use Rattle.cqf_admission_ledger.specs.declared.holdings.Stand.{Stand}
+use Rattle.cqf_admission_ledger.specs.Holdings.{Standing}
 use Rattle.cqf_admission_ledger.specs.Forms.{is_taken, stand_refusal, stand_short}
 use Rattle.cqf_admission_ledger.specs.Holdings.{IsFree, IsHolder, held_count}
 
 -- a name is held where it has a holder
-pub taken_by : (stands : List Stand) (name : ℕ) (o : Option ℕ) → MatchOption o (IsFree stands name) (IsHolder stands name) → is_taken stands name ≡ is_some o
+pub taken_by : (stands : List Standing) (name : ℕ) (o : Option ℕ) → MatchOption o (IsFree stands name) (IsHolder stands name) → is_taken stands name ≡ is_some o
 taken_by stands name None free = elim (cases_Bool (is_taken stands name)) [
   | inl t ↦ (
-      let w = any_member (λ (stand : Stand). stand.held && (stand.name == name)) stands t in
+      let w = any_member (λ (stand : Standing). stand.held && (stand.name == name)) stands t in
       let place = w.1.0 in
       let at : get_or stands place w.0 ≡ w.0 = w.1.2 in
       let parts = and_parts w.0.held (w.0.name == name) w.2 in
       absurd (free place (record {
         inside = w.1.1;
-        held = λ d. ap (λ (s : Stand). s.held) (get_or_default stands place d w.0 w.1.1 ∙ at) ∙ parts.0;
-      }) w.0 (ap (λ (s : Stand). s.name) at ∙ eqb-true w.0.name name parts.1)))
+        held = λ d. ap (λ (s : Standing). s.held) (get_or_default stands place d w.0 w.1.1 ∙ at) ∙ parts.0;
+      }) w.0 (ap (λ (s : Standing). s.name) at ∙ eqb-true w.0.name name parts.1)))
   | inr f ↦ f
 ]
 taken_by stands name (Some number) holder = elim (cases_Bool (is_taken stands name)) [
@@ -32,33 +33,33 @@ taken_by stands name (Some number) holder = elim (cases_Bool (is_taken stands na
   | inr f ↦ holds stands holder
 ]
   where
-    first : (xs : List Stand) → number < length xs → Stand
+    first : (xs : List Standing) → number < length xs → Standing
     first [] h = absurd (omega (arith, h))
     first (x ∷ xs) h = x
 
-    holds : (xs : List Stand) → IsHolder xs name number → is_taken xs name ≡ true
+    holds : (xs : List Standing) → IsHolder xs name number → is_taken xs name ≡ true
     holds xs h =
         let d = first xs h.is_held.inside in
-        member_any (λ (stand : Stand). stand.held && (stand.name == name)) xs (get_or xs number d) (Contains-get_or xs number d h.is_held.inside)
+        member_any (λ (stand : Standing). stand.held && (stand.name == name)) xs (get_or xs number d) (Contains-get_or xs number d h.is_held.inside)
         (and_from (get_or xs number d).held ((get_or xs number d).name == name) (h.is_held.held d) (eq-eqb (get_or xs number d).name name (h.named d)))
 
 -- the first reason
-pub refused_taken : (d : Domain) (stands : List Stand) (name cost : ℕ) (links : List ℕ) → is_taken stands name ≡ true →
+pub refused_taken : (d : Domain) (stands : List Standing) (name cost : ℕ) (links : List ℕ) → is_taken stands name ≡ true →
     Some NameHeld ≡ stand_refusal d stands name cost links
 refused_taken d stands name cost links taken =
     sym (ap (λ (b : Bool). or_else (refused_if b NameHeld)
-    (or_else (refused_if (nat_le 1024 (held_count stands)) TooManyStreams) (stand_short d stands cost links))) taken)
+    (or_else (refused_if (nat_le (streams_within d.limits) (held_count stands)) TooManyStreams) (stand_short d stands cost links))) taken)
 
-pub refused_many : (d : Domain) (stands : List Stand) (name cost : ℕ) (links : List ℕ) → is_taken stands name ≡ false → 1024 ≤ held_count stands →
+pub refused_many : (d : Domain) (stands : List Standing) (name cost : ℕ) (links : List ℕ) → is_taken stands name ≡ false → streams_within d.limits ≤ held_count stands →
     Some TooManyStreams ≡ stand_refusal d stands name cost links
 refused_many d stands name cost links free many =
     sym (ap (λ (b : Bool). or_else (refused_if b NameHeld)
-    (or_else (refused_if (nat_le 1024 (held_count stands)) TooManyStreams) (stand_short d stands cost links))) free
-    ∙ ap (λ (b : Bool). or_else (refused_if b TooManyStreams) (stand_short d stands cost links)) (le-leb 1024 (held_count stands) many))
+    (or_else (refused_if (nat_le (streams_within d.limits) (held_count stands)) TooManyStreams) (stand_short d stands cost links))) free
+    ∙ ap (λ (b : Bool). or_else (refused_if b TooManyStreams) (stand_short d stands cost links)) (le-leb (streams_within d.limits) (held_count stands) many))
 
-pub refused_short : (d : Domain) (stands : List Stand) (name cost : ℕ) (links : List ℕ) → is_taken stands name ≡ false → held_count stands < 1024 →
+pub refused_short : (d : Domain) (stands : List Standing) (name cost : ℕ) (links : List ℕ) → is_taken stands name ≡ false → held_count stands < streams_within d.limits →
     stand_short d stands cost links ≡ stand_refusal d stands name cost links
 refused_short d stands name cost links free few =
     sym (ap (λ (b : Bool). or_else (refused_if b NameHeld)
-    (or_else (refused_if (nat_le 1024 (held_count stands)) TooManyStreams) (stand_short d stands cost links))) free
-    ∙ ap (λ (b : Bool). or_else (refused_if b TooManyStreams) (stand_short d stands cost links)) (lt-leb 1024 (held_count stands) few))
+    (or_else (refused_if (nat_le (streams_within d.limits) (held_count stands)) TooManyStreams) (stand_short d stands cost links))) free
+    ∙ ap (λ (b : Bool). or_else (refused_if b TooManyStreams) (stand_short d stands cost links)) (lt-leb (streams_within d.limits) (held_count stands) few))

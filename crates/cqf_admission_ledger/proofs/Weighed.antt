@@ -1,41 +1,44 @@
 -- What weighing a form by figures says of its request.
-use Rattle.std.proofs.Common.{◌≡◌, ℕ, ◌+◌, ◌-◌, ◌<◌, ◌≤◌, ◌^◌, Bool, true, false, List, Option, Some, None, Ok, Err, length, refl, sym, ap, ◌∙◌, subst, arith}
-use Rattle.std.specs.Prelude.{All, ◌&&◌, if◌then◌else◌}
+use Rattle.std.proofs.Common.{◌≡◌, ℕ, ◌+◌, ◌-◌, ◌<◌, ◌≤◌, ◌^◌, Bool, true, false, List, Option, Some, None, length, refl, sym, ap, ◌∙◌, subst, arith}
+use Rattle.std.specs.Prelude.{◌≢◌, ◌==◌, All, AllPairs, ◌&&◌, if◌then◌else◌}
 use Rattle.std.proofs.Math.Nat.{div-le_self}
 use Rattle.std.proofs.lemmas.Bool.{le-leb}
 use Rattle.std.proofs.lemmas.List.Elements.{All-map}
-use Rattle.cqf_lanes.specs.Kernels.{has_bit}
+use Rattle.cqf_model.specs.Paces.{each_cycle}
+use Rattle.std.specs.List.{list_any}
+use Rattle.cqf_admission.proofs.SumLemmas.{costs_by_link}
 use Rattle.cqf_lists.specs.Lists.{or_else}
 use Rattle.cqf_model.specs.declared.history.Refused.{Refused}
 use Rattle.cqf_model.specs.declared.history.Refused.TheVariants.{NameHeld}
 use Rattle.cqf_model.specs.declared.topology.Hop.{Hop}
 use Rattle.cqf_model.specs.Domain.{Domain, IsAccepted, budget, octet_time_of}
-use Rattle.cqf_model.specs.History.{Asked, Recorded, held_in, next_number, refusal_of, refused_if, seals, tree_of}
+use Rattle.cqf_model.specs.History.{Asked, Recorded, held_in, next_number, pace_of, refusal_of, refused_if, seals, tree_of}
 use Rattle.cqf_model.specs.Table.{is_held}
-use Rattle.cqf_model.proofs.Hops.{hops_inside}
+use Rattle.cqf_model.proofs.Hops.{hops_apart, hops_inside}
 use Rattle.cqf_laws_history.specs.StateLaws.{HeldAreSound, granted_row}
 use Rattle.cqf_topology.specs.declared.streams.Request.{Request}
-use Rattle.cqf_admission.specs.Rows.{mask_of, part_on}
+use Rattle.cqf_admission_trees.specs.Sums.{part_on}
 use Rattle.cqf_admission.proofs.GrantLemmas.{refusal_form, refusal_later}
 use Rattle.cqf_admission_ledger.specs.declared.forms.Form.{Form}
 use Rattle.cqf_admission_ledger.specs.declared.forms.Form.TheVariants.{Bad, Good, Unseen}
 use Rattle.cqf_admission_ledger.specs.declared.forms.Judgement.{Judgement}
-use Rattle.cqf_admission_ledger.specs.declared.holdings.Stand.{Stand}
-use Rattle.cqf_admission_ledger.specs.Forms.{CanBeWeighed, IsFormOf, IsJudgementOf, IsSeen, Weighs, is_taken, number_of_form, stand_by, stand_refusal}
-use Rattle.cqf_admission_ledger.specs.Holdings.{IsFree, held_cost}
+use Rattle.cqf_admission_ledger.specs.Holdings.{Standing}
+use Rattle.cqf_admission_ledger.specs.Forms.{CanBeWeighed, IsFormOf, IsStandBy, IsJudgementOf, IsSeen, Weighs, is_taken, number_of_form, stand_by, stand_refusal}
+use Rattle.cqf_admission_ledger.specs.Holdings.{AreAlong, IsFree, held_cost}
 use Rattle.cqf_admission_ledger.specs.Running.{AreOf}
 use Rattle.cqf_admission_ledger.specs.Streams.{stand_of}
 use Rattle.cqf_admission_ledger.proofs.Told.{costs, free_where_none, state_told}
 
 -- a stream more, of a request that nothing speaks against
-pub record IsNew (d : Domain) (requests : List Request) (entries : List Recorded) (stands : List Stand) (asked : Asked) (stand : Stand) : Type 0 where
+pub record IsNew (d : Domain) (requests : List Request) (entries : List Recorded) (stands : List Standing) (asked : Asked) (stand : Standing) : Type 0 where
   pub none : refusal_of d (held_in d entries (seals entries)) asked ≡ None
   pub known : number_of_form requests asked.name < length requests
-  pub is : stand ≡ stand_of (number_of_form requests) mask_of (seals entries) (granted_row d (next_number d entries) (seals entries) asked)
+  pub is : stand ≡ stand_of (number_of_form requests) (seals entries) (granted_row d (next_number d entries) (seals entries) asked)
   pub is_held : stand.held ≡ true
   pub named : stand.name < length requests
   pub free : IsFree stands stand.name
-  pub fits : (l : ℕ) → l < 64 → held_cost stands l + part_on stand.mask stand.cost l < 2 ^ 64
+  pub along : AreAlong (length d.links) stand.links
+  pub fits : (l : ℕ) → held_cost stands l + part_on stand.links stand.cost l < 2 ^ 64
 
 -- where a first reason isn't due
 first_not_due : (b : Bool) (rest : Option Refused) → or_else (refused_if b NameHeld) rest ≡ None → b ≡ false
@@ -47,13 +50,13 @@ part_within : (b : Bool) (cost : ℕ) → (if b then cost else 0) ≤ cost
 part_within true cost = omega arith
 part_within false cost = omega arith
 
-module _ (d : Domain) (requests : List Request) (entries : List Recorded) (stands : List Stand) (slots : List (List ℕ)) (sealed : ℕ)
+module _ (d : Domain) (requests : List Request) (entries : List Recorded) (stands : List Standing) (slots : List (List ℕ)) (sealed : ℕ)
     (r : AreOf d requests entries stands slots sealed) (sound : HeldAreSound) where
   -- no link is over its budget
-  pub within : (l : ℕ) → l < 64 → held_cost stands l ≤ budget d l
-  within l low =
+  pub within : (l : ℕ) → held_cost stands l ≤ budget d l
+  within l =
       let held = sound d entries (held_in d entries (seals entries)) (next_number d entries) r.running.legal (record { held = refl; number = refl }) in
-      omega (arith, ap (λ (ss : List Stand). held_cost ss l) r.are_streams, costs d requests entries l low, held.loads l)
+      omega (arith, ap (λ (ss : List Standing). held_cost ss l) r.are_streams, costs d requests entries l, costs_by_link (held_in d entries (seals entries)) l 0 r.running.paced, held.loads l 0)
 
 module _ (d : Domain) (requests : List Request) (asked : Asked) (j : Judgement) (g : IsJudgementOf d requests asked j) where
   -- its links are the domain's
@@ -62,13 +65,13 @@ module _ (d : Domain) (requests : List Request) (asked : Asked) (j : Judgement) 
       (All-map (λ (l : ℕ). l < length d.links) (λ (hop : Hop). hop.link) (tree_of d asked.paths) (hops_inside d asked.paths))
 
   -- it is the stream that is granted, as it's held
-  pub judged_stand : (number cycle : ℕ) → stand_by j ≡ stand_of (number_of_form requests) mask_of cycle (granted_row d number cycle asked)
+  pub judged_stand : (number cycle : ℕ) → stand_by j ≡ stand_of (number_of_form requests) cycle (granted_row d number cycle asked)
   judged_stand number cycle =
       let now : is_held (granted_row d number cycle asked) cycle ≡ true = ap (λ (b : Bool). b && true) (le-leb cycle cycle (omega arith)) in
       λ i. record {
         name = g.numbered i;
         cost = g.costs i;
-        mask = g.masked i;
+        links = g.linked i;
         residence = g.resides i;
         withdrawn = None;
         held = sym now i;
@@ -81,24 +84,23 @@ can_be_weighed d requests asked names Unseen of seen many = seen
 can_be_weighed d requests asked names (Bad refused) of seen many = seen
 can_be_weighed d requests asked names (Good j) of seen many = (omega (arith, of.known, many), inside d requests asked j of)
 
-module _ (d : Domain) (requests : List Request) (entries : List Recorded) (stands : List Stand) (slots : List (List ℕ)) (sealed : ℕ)
-    (r : AreOf d requests entries stands slots sealed) (sound : HeldAreSound) (ok : IsAccepted d) (asked : Asked) where
+module _ (d : Domain) (requests : List Request) (entries : List Recorded) (stands : List Standing) (slots : List (List ℕ)) (sealed : ℕ)
+    (r : AreOf d requests entries stands slots sealed) (sound : HeldAreSound) (ok : IsAccepted d) (asked : Asked) (own : pace_of asked ≡ each_cycle) where
   module _ (j : Judgement) (g : IsJudgementOf d requests asked j) where
     -- the reasons against it are those that the figures tell
     refusal_told : refusal_of d (held_in d entries (seals entries)) asked ≡ stand_refusal d stands j.name j.cost j.links.items
     refusal_told =
         refusal_later d (held_in d entries (seals entries)) asked g.none
-        ∙ sym (state_told d requests entries asked stands j.name j.cost j.links.items r.known r.are_streams g.numbered g.costs g.linked
-        (λ k e low. omega (arith, inside d requests asked j g k e low, ok.few_links)))
+        ∙ sym (state_told d requests entries asked stands j.name j.cost j.links.items r.known r.running.paced own r.are_streams g.numbered g.costs g.linked)
 
     -- its cost has room in a sum
-    fits : (l : ℕ) → l < 64 → held_cost stands l + part_on j.mask j.cost l < 2 ^ 64
-    fits l low =
-        let part : part_on j.mask j.cost l ≤ j.cost = part_within (has_bit j.mask l) j.cost in
+    fits : (l : ℕ) → held_cost stands l + part_on j.links.items j.cost l < 2 ^ 64
+    fits l =
+        let part : part_on j.links.items j.cost l ≤ j.cost = part_within (list_any (λ k. k == l) j.links.items) j.cost in
         let most : budget d l ≤ d.cycle_time - d.guard = div-le_self (d.cycle_time - d.guard) (octet_time_of d l) in
         omega (
           arith,
-          within d requests entries stands slots sealed r sound l low,
+          within d requests entries stands slots sealed r sound l,
           most,
           ok.cycle_most,
           part,
@@ -108,25 +110,29 @@ module _ (d : Domain) (requests : List Request) (entries : List Recorded) (stand
           g.most_octets,
         )
 
-  pub weighs_none : (form : Form) (refused : Refused) → IsFormOf d requests asked form → Weighs d stands form (Err refused) →
+  pub weighs_none : (form : Form) (refused : Refused) → IsFormOf d requests asked form → Weighs d stands form (Some refused) →
       refusal_of d (held_in d entries (seals entries)) asked ≡ Some refused
   weighs_none Unseen refused of w = absurd w
   weighs_none (Bad reason) refused of w =
       let same : reason ≡ refused = cc in
       refusal_form d (held_in d entries (seals entries)) asked refused (of ∙ ap (λ (x : Refused). Some x) same)
-  weighs_none (Good j) refused of w = refusal_told j of ∙ w
+  weighs_none (Good j) refused of w = refusal_told j of ∙ sym w
 
-  pub weighs_one : (form : Form) (stand : Stand) → IsFormOf d requests asked form → Weighs d stands form (Ok stand) →
+  pub weighs_one : (form : Form) (stand : Standing) → IsFormOf d requests asked form → Weighs d stands form None → IsStandBy form stand →
       IsNew d requests entries stands asked stand
-  weighs_one Unseen stand of w = absurd w
-  weighs_one (Bad reason) stand of w = absurd cc
-  weighs_one (Good j) stand of w =
-      subst (IsNew d requests entries stands asked) (sym w.0) (record {
-        none = refusal_told j of ∙ w.1;
+  weighs_one Unseen stand of w by = absurd w
+  weighs_one (Bad reason) stand of w by = absurd cc
+  weighs_one (Good j) stand of w by =
+      subst (IsNew d requests entries stands asked) (sym by) (record {
+        none = refusal_told j of ∙ sym w;
         known = subst (λ (n : ℕ). n < length requests) of.numbered of.known;
         is = judged_stand d requests asked j of (next_number d entries) (seals entries);
         is_held = refl;
         named = of.known;
-        free = free_where_none stands j.name (first_not_due (is_taken stands j.name) _ w.1);
+        free = free_where_none stands j.name (first_not_due (is_taken stands j.name) _ (sym w));
+        along = record {
+          inside = inside d requests asked j of;
+          apart = subst (AllPairs (λ (a b : ℕ). a ≢ b)) (sym of.linked) (hops_apart d asked.paths);
+        };
         fits = fits j of;
       })

@@ -14,7 +14,7 @@ use Rattle.cqf_model.specs.History.{IsLegalHistory, Recorded, held_in, next_numb
 use Rattle.cqf_model.specs.Table.{is_held, residence}
 use Rattle.cqf_laws_history.specs.LedgerLaws.{end_from, ends_in}
 use Rattle.cqf_laws_history.proofs.Ends.{ends_are_soon, slot_tells}
-use Rattle.cqf_admission_ledger.specs.declared.holdings.Stand.{Stand}
+use Rattle.cqf_admission_ledger.specs.Holdings.{Standing}
 use Rattle.cqf_admission_ledger.specs.Holdings.{AreLetGo, IsHeldAt, holding_ended}
 use Rattle.cqf_admission_ledger.specs.Ring.{IsRing, in_slot}
 use Rattle.cqf_admission_ledger.specs.Streams.{stand_of}
@@ -24,58 +24,58 @@ use Rattle.cqf_admission_ledger.proofs.Streams.{ListsEnds}
 -- the ring of a legal history's streams has, in the slot of the next cycle, just those that end in it
 abbrev pub RingListsEnds : Type 0
 RingListsEnds =
-    (number : List ℕ → ℕ) (mask : Row → ℕ) (d : Domain) (entries : List Recorded) (slots : List (List ℕ)) → IsLegalHistory d entries →
-    IsRing (map (stand_of number mask (seals entries)) (streams_of d entries)) slots →
-    ListsEnds (streams_of d entries) (seals entries) (slice_index_or slots ((seals entries + 1) % 32) [])
+    (number : List ℕ → ℕ) (d : Domain) (entries : List Recorded) (slots : List (List ℕ)) → IsLegalHistory d entries →
+    IsRing (map (stand_of number (seals entries)) (streams_of d entries)) slots →
+    ListsEnds (streams_of d entries) (seals entries) (slice_index_or slots ((seals entries + 1) % 128) [])
 
 -- it is a ring yet, with a slot emptied and its streams let go of, and with a held stream withdrawn and listed
 abbrev pub RingStaysSealed : Type 0
 RingStaysSealed =
-    (stands after : List Stand) (slots : List (List ℕ)) (slot : ℕ) → IsRing stands slots → slot < 32 → AreLetGo (slice_index_or slots slot []) stands after →
+    (stands after : List Standing) (slots : List (List ℕ)) (slot : ℕ) → IsRing stands slots → slot < 128 → AreLetGo (slice_index_or slots slot []) stands after →
     IsRing after (slice_set slots slot [])
 
 abbrev pub RingStaysWithdrawn : Type 0
 RingStaysWithdrawn =
-    (stands : List Stand) (slots : List (List ℕ)) (number slot : ℕ) (cycle : Cycle) (stand : Stand) → IsRing stands slots → IsHeldAt stands number →
-    ((d : Stand) → slice_index_or stands number d ≡ stand) → stand.withdrawn ≡ None → slot ≡ (cycle.0 + stand.residence) % 32 → slot < 32 →
+    (stands : List Standing) (slots : List (List ℕ)) (number slot : ℕ) (cycle : Cycle) (stand : Standing) → IsRing stands slots → IsHeldAt stands number →
+    ((d : Standing) → slice_index_or stands number d ≡ stand) → stand.withdrawn ≡ None → slot ≡ (cycle.0 + stand.residence) % 128 → slot < 128 →
     IsRing (slice_set stands number (holding_ended stand cycle)) (slice_set slots slot (slice_index_or slots slot [] ++ number ∷ []))
 
 -- a held row stands in the slot of the next cycle if it ends there
-slot_is_end : (number : List ℕ → ℕ) (mask : Row → ℕ) (d : Domain) (entries : List Recorded) (row : Row) → IsLegalHistory d entries →
+slot_is_end : (number : List ℕ → ℕ) (d : Domain) (entries : List Recorded) (row : Row) → IsLegalHistory d entries →
     Contains (streams_of d entries) row →
-    in_slot ((seals entries + 1) % 32) (stand_of number mask (seals entries) row) ≡ (is_held row (seals entries) && ends_in (seals entries + 1) row)
-slot_is_end number mask d entries row legal c = elim (cases_Bool (is_held row (seals entries))) [
+    in_slot ((seals entries + 1) % 128) (stand_of number (seals entries) row) ≡ (is_held row (seals entries) && ends_in (seals entries + 1) row)
+slot_is_end number d entries row legal c = elim (cases_Bool (is_held row (seals entries))) [
   | inl t ↦ by_end t row.withdrawn refl
   | inr f ↦
-      (ap (λ (b : Bool). b && option_map_or (λ (w : Cycle). (w.0 + residence row) % 32 == (seals entries + 1) % 32) row.withdrawn false) f
+      (ap (λ (b : Bool). b && option_map_or (λ (w : Cycle). (w.0 + residence row) % 128 == (seals entries + 1) % 128) row.withdrawn false) f
       ∙ sym (ap (λ (b : Bool). b && ends_in (seals entries + 1) row) f))
 ]
   where
     by_end : is_held row (seals entries) ≡ true → (o : Option Cycle) → row.withdrawn ≡ o →
-        in_slot ((seals entries + 1) % 32) (stand_of number mask (seals entries) row) ≡ (is_held row (seals entries) && ends_in (seals entries + 1) row)
+        in_slot ((seals entries + 1) % 128) (stand_of number (seals entries) row) ≡ (is_held row (seals entries) && ends_in (seals entries + 1) row)
     by_end t None e =
-        ap (λ (x : Option Cycle). is_held row (seals entries) && option_map_or (λ (w : Cycle). (w.0 + residence row) % 32 == (seals entries + 1) % 32) x false)
+        ap (λ (x : Option Cycle). is_held row (seals entries) && option_map_or (λ (w : Cycle). (w.0 + residence row) % 128 == (seals entries + 1) % 128) x false)
         e
         ∙ sym (ap (λ (x : Option Cycle). is_held row (seals entries) && option_map_or (λ (w : Cycle). end_from row w == seals entries + 1) x false) e)
     by_end t (Some w) e =
         let held = contains_filter (λ (r : Row). is_held r (seals entries)) (streams_of d entries) row c t in
         let soon = ends_are_soon d entries (held_in d entries (seals entries)) (next_number d entries) row w legal
         (record { held = refl; number = refl }) held e in
-        ap (λ (x : Option Cycle). is_held row (seals entries) && option_map_or (λ (w : Cycle). (w.0 + residence row) % 32 == (seals entries + 1) % 32) x false)
+        ap (λ (x : Option Cycle). is_held row (seals entries) && option_map_or (λ (w : Cycle). (w.0 + residence row) % 128 == (seals entries + 1) % 128) x false)
         e
         ∙ ap (λ (b : Bool). is_held row (seals entries) && b) (sym (slot_tells (seals entries) (end_from row w) soon.later soon.soon))
         ∙ sym (ap (λ (x : Option Cycle). is_held row (seals entries) && option_map_or (λ (w : Cycle). end_from row w == seals entries + 1) x false) e)
 
 pub ring_lists_ends : RingListsEnds
-ring_lists_ends number mask d entries slots legal r k row inside =
+ring_lists_ends number d entries slots legal r k row inside =
     let c = seals entries in
     let rows = streams_of d entries in
-    let s = (c + 1) % 32 in
-    let stand = stand_of number mask c row in
-    let below : s < 32 = mod-lt (c + 1) (omega arith) in
-    let many : k < length (map (stand_of number mask c) rows) = omega (arith, inside, length-map rows (stand_of number mask c)) in
-    r.lists s k stand below many ∙ ap (in_slot s) (get_or-map (stand_of number mask c) rows k row stand inside)
-    ∙ slot_is_end number mask d entries (get_or rows k row) legal (Contains-get_or rows k row inside)
+    let s = (c + 1) % 128 in
+    let stand = stand_of number c row in
+    let below : s < 128 = mod-lt (c + 1) (omega arith) in
+    let many : k < length (map (stand_of number c) rows) = omega (arith, inside, length-map rows (stand_of number c)) in
+    r.lists s k stand below many ∙ ap (in_slot s) (get_or-map (stand_of number c) rows k row stand inside)
+    ∙ slot_is_end number d entries (get_or rows k row) legal (Contains-get_or rows k row inside)
 
 pub ring_stays_sealed : RingStaysSealed
 ring_stays_sealed stands after slots slot r low gone = ring_sealed stands slots r slot after low gone

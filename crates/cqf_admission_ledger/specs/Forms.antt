@@ -14,13 +14,12 @@ use Rattle.cqf_laws_history.specs.StateLaws.{granted_row}
 use Rattle.cqf_topology.specs.declared.streams.Request.{Request}
 use Rattle.cqf_admission_requests.specs.Names.{has_name}
 use Rattle.cqf_admission.specs.Judging.{form_refusal}
-use Rattle.cqf_admission.specs.Rows.{mask_of}
 use Rattle.cqf_admission_ledger.specs.declared.forms.Form.{Form}
 use Rattle.cqf_admission_ledger.specs.declared.forms.Form.TheVariants.{Bad, Good, Unseen}
 use Rattle.cqf_admission_ledger.specs.declared.forms.Judgement.{Judgement}
-use Rattle.cqf_admission_ledger.specs.declared.holdings.Stand.{Stand}
+use Rattle.cqf_admission_ledger.specs.Holdings.{Standing}
 use Rattle.cqf_admission_ledger.specs.Holdings.{IsFree, IsHolder, held_cost, held_count}
-use Rattle.cqf_model.specs.Limits.{most_reserved, most_streams}
+use Rattle.cqf_model.specs.Limits.{most_reserved, streams_within}
 
 -- the number of a name: the place of the first request of it, and behind all where none has it
 abbrev pub number_of_form : List Request → List ℕ → ℕ
@@ -32,7 +31,6 @@ pub record IsJudgementOf (d : Domain) (requests : List Request) (asked : Asked) 
   pub numbered : judgement.name ≡ number_of_form requests asked.name
   pub known : judgement.name < length requests
   pub costs : judgement.cost ≡ cost_of asked.octets
-  pub masked : judgement.mask ≡ mask_of (granted_row d 0 0 asked)
   pub resides : judgement.residence ≡ residence (granted_row d 0 0 asked)
   pub linked : judgement.links.items ≡ links_of (granted_row d 0 0 asked)
   pub most_octets : asked.octets ≤ most_reserved
@@ -66,51 +64,57 @@ CanBeWeighed d names (Bad refused) = ⊤
 CanBeWeighed d names (Good judgement) = (judgement.name < names) × All (λ (l : ℕ). l < length d.links) judgement.links.items
 
 -- whether a name is held, what a link has left beside those that are held, and which links have too little for a cost
-abbrev pub is_taken : List Stand → ℕ → Bool
-is_taken stands name = list_any (λ (stand : Stand). stand.held && (stand.name == name)) stands
+abbrev pub is_taken : List Standing → ℕ → Bool
+is_taken stands name = list_any (λ (stand : Standing). stand.held && (stand.name == name)) stands
 
-abbrev pub left_by : Domain → List Stand → ℕ → ℕ
+abbrev pub left_by : Domain → List Standing → ℕ → ℕ
 left_by d stands l = budget d l - held_cost stands l
 
-abbrev pub stand_short : Domain → List Stand → ℕ → List ℕ → Option Refused
+abbrev pub stand_short : Domain → List Standing → ℕ → List ℕ → Option Refused
 stand_short d stands cost links = refused_at (λ l. BudgetShort l (left_by d stands l)) (find (λ l. nat_lt (left_by d stands l) cost) links)
 
 -- why a stream of a name, a cost and these links is refused for what is held
-abbrev pub stand_refusal : Domain → List Stand → ℕ → ℕ → List ℕ → Option Refused
+abbrev pub stand_refusal : Domain → List Standing → ℕ → ℕ → List ℕ → Option Refused
 stand_refusal d stands name cost links =
     or_else (refused_if (is_taken stands name) NameHeld)
-    (or_else (refused_if (nat_le most_streams (held_count stands)) TooManyStreams) (stand_short d stands cost links))
+    (or_else (refused_if (nat_le (streams_within d.limits) (held_count stands)) TooManyStreams) (stand_short d stands cost links))
 
 -- the stream of a request of good form, as it is held
-abbrev pub stand_by : Judgement → Stand
+abbrev pub stand_by : Judgement → Standing
 stand_by judgement = record {
   name = judgement.name;
   cost = judgement.cost;
-  mask = judgement.mask;
+  links = judgement.links.items;
   residence = judgement.residence;
   withdrawn = None;
   held = true;
 }
 
--- to weigh a form gives the stream, or the first reason against it
-abbrev pub WeighsGood : Domain → List Stand → Judgement → Result Stand Refused → Type 0
-WeighsGood d stands judgement (Ok stand) =
-    (stand ≡ stand_by judgement) × (stand_refusal d stands judgement.name judgement.cost judgement.links.items ≡ None)
-WeighsGood d stands judgement (Err refused) = stand_refusal d stands judgement.name judgement.cost judgement.links.items ≡ Some refused
+-- to weigh a form gives the first reason against it
+abbrev pub Weighs : Domain → List Standing → Form → Option Refused → Type 0
+Weighs d stands Unseen found = ⊥
+Weighs d stands (Bad reason) found = found ≡ Some reason
+Weighs d stands (Good judgement) found = found ≡ stand_refusal d stands judgement.name judgement.cost judgement.links.items
 
-abbrev pub Weighs : Domain → List Stand → Form → Result Stand Refused → Type 0
-Weighs d stands Unseen result = ⊥
-Weighs d stands (Bad reason) result = result ≡ Err reason
-Weighs d stands (Good judgement) result = WeighsGood d stands judgement result
+-- the form is good, and the stream is the one by it
+abbrev pub IsGood : Form → Type 0
+IsGood Unseen = ⊥
+IsGood (Bad refused) = ⊥
+IsGood (Good judgement) = ⊤
+
+abbrev pub IsStandBy : Form → Standing → Type 0
+IsStandBy Unseen stand = ⊥
+IsStandBy (Bad refused) stand = ⊥
+IsStandBy (Good judgement) stand = stand ≡ stand_by judgement
 
 -- a look for the stream of a name that isn't withdrawn gives its number, or why there is none
-abbrev pub IsOpenFormAt : List Stand → ℕ → ℕ → Type 0
-IsOpenFormAt stands name number = IsHolder stands name number × ((d : Stand) → (slice_index_or stands number d).withdrawn ≡ None)
+abbrev pub IsOpenFormAt : List Standing → ℕ → ℕ → Type 0
+IsOpenFormAt stands name number = IsHolder stands name number × ((d : Standing) → (slice_index_or stands number d).withdrawn ≡ None)
 
-abbrev pub IsEndedAt : List Stand → ℕ → ℕ → Type 0
-IsEndedAt stands name number = IsHolder stands name number × ((d : Stand) → is_some (slice_index_or stands number d).withdrawn ≡ true)
+abbrev pub IsEndedAt : List Standing → ℕ → ℕ → Type 0
+IsEndedAt stands name number = IsHolder stands name number × ((d : Standing) → is_some (slice_index_or stands number d).withdrawn ≡ true)
 
-abbrev pub FindsOpenForm : List Stand → ℕ → ℕ → Result ℕ Refused → Type 0
+abbrev pub FindsOpenForm : List Standing → ℕ → ℕ → Result ℕ Refused → Type 0
 FindsOpenForm stands names name (Ok number) = IsOpenFormAt stands name number
 FindsOpenForm stands names name (Err refused) =
     ((refused ≡ NotHeld) × ((names ≤ name) ⊎ IsFree stands name)) ⊎ ((refused ≡ AlreadyWithdrawn) × (number : ℕ) × IsEndedAt stands name number)

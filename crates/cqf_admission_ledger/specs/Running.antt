@@ -7,21 +7,20 @@ use Rattle.cqf_topology.specs.declared.streams.Request.{Request}
 use Rattle.cqf_admission_requests.specs.Orders.{StandsIn}
 use Rattle.cqf_admission.specs.Admission.{IsRunning}
 use Rattle.cqf_admission.specs.Asking.{asked_of}
-use Rattle.cqf_admission.specs.Rows.{mask_of}
 use Rattle.cqf_admission_ledger.specs.declared.forms.Form.{Form}
 use Rattle.cqf_admission_ledger.specs.declared.forms.Form.TheVariants.{Unseen}
-use Rattle.cqf_admission_ledger.specs.declared.holdings.Stand.{Stand}
+use Rattle.cqf_admission_ledger.specs.Holdings.{Standing}
 use Rattle.cqf_admission_ledger.specs.declared.logs.Logged.{Logged}
 use Rattle.cqf_admission_ledger.specs.Forms.{IsFormOf, number_of_form}
 use Rattle.cqf_admission_ledger.specs.Ring.{IsRing}
 use Rattle.cqf_admission_ledger.specs.Streams.{stand_of}
 
 -- the streams of a history as they stand in the next cycle to be closed
-abbrev pub stands_in : Domain → List Request → List Recorded → List Stand
-stands_in d requests entries = map (stand_of (number_of_form requests) mask_of (seals entries)) (streams_of d entries)
+abbrev pub stands_in : Domain → List Request → List Recorded → List Standing
+stands_in d requests entries = map (stand_of (number_of_form requests) (seals entries)) (streams_of d entries)
 
 -- the figures are of a legal history: its streams, each of the name of a request, and the ring of their ends
-pub record AreOf (d : Domain) (requests : List Request) (entries : List Recorded) (stands : List Stand) (slots : List (List ℕ)) (sealed : ℕ) : Type 0 where
+pub record AreOf (d : Domain) (requests : List Request) (entries : List Recorded) (stands : List Standing) (slots : List (List ℕ)) (sealed : ℕ) : Type 0 where
   pub running : IsRunning d entries (held_in d entries (seals entries)) (next_number d entries) sealed
   pub are_streams : stands ≡ stands_in d requests entries
   pub known : (row : Row) → Contains (streams_of d entries) row → number_of_form requests row.name < length requests

@@ -10,6 +10,7 @@ pub(crate) fn let_go_of(holdings: &mut Holdings, slot: &mut Vec<u32>)
     requires once { AllPairs (λ (a b : ℕ). a ≢ b) slot.old.items }
     ensures rows { AreLetGo slot.old.items holdings.old.rows holdings.new.rows }
     ensures names { holdings.new.names ≡ holdings.old.names }
+    ensures links { holdings.new.links ≡ holdings.old.links }
     ensures empty { slot.new.items ≡ [] }
 {
     while let Some(number) = slot.pop() {

@@ -1,15 +1,14 @@
 //! What requests are by themselves, each looked over once.
-ghost use Rattle.std.specs.Prelude.{◌≡◌, ◌≤◌, Contains, IfOk, OnOk, fold, length};
+ghost use Rattle.std.specs.Prelude.{◌≡◌, ◌≤◌, Contains, IfOk, OnOk, length};
 ghost use Rattle.cqf_model.specs.Table.{links_of, residence};
 ghost use Rattle.cqf_admission.specs.Asking.{asked_of};
-ghost use Rattle.cqf_admission.specs.Rows.{mask_of, with_link};
 ghost use Rattle.cqf_admission_ledger.specs.Forms.{AreUnseen, IsFormOf, IsRowOfGoodForm, IsSeen};
 ghost use Rattle.cqf_model.specs.Limits.{most_reserved};
 
 use cqf_admission::judge;
 use cqf_admission_requests::Names;
 use cqf_admission_trees::count_places;
-use cqf_model::{Refused, Row};
+use cqf_model::{EACH_CYCLE, Refused, Row};
 use cqf_topology::{Domain, Request};
 use cqf_units::{Cycle, Memory, Octets, cost};
 use std::alloc::{AllocError, Global};
@@ -21,12 +20,10 @@ pub(crate) struct Judgement {
     pub name: usize,
     /// What its stream costs of each link of its tree, in octets a cycle.
     pub cost: u32,
-    /// The mask of these links.
-    pub mask: u64,
     /// For how many cycles behind its withdrawal the stream is held on.
     pub residence: u8,
     /// The links, in the order of the tree.
-    pub links: Vec<u8>,
+    pub links: Vec<u16>,
 }
 
 /// What is known of a request's form.
@@ -40,39 +37,18 @@ pub(crate) enum Form {
     Good(Judgement),
 }
 
-/// A mask with the bit of a link more, where it isn't beyond 63.
-fn with_bit(mask: u64, link: u8) -> u64
-    ensures { result ≡ with_link mask link }
-{
-    if link < 64 { mask | 1 << link } else { mask }
-}
-
-/// The mask of some links.
-fn mask_of_links(links: &[u8]) -> u64
-    ensures { result ≡ fold with_link 0 links.now }
-{
-    let mut mask = 0;
-    for link in links {
-        mask = with_bit(mask, *link);
-    }
-    mask
-}
-
 /// What a stream is by its row, with the number of its name and its cost.
 fn judgement_of(alloc: Global, name: usize, cost: Octets, row: &Row) -> Result<Judgement, Memory>
     ensures name { IfOk result (λ judgement. judgement.name ≡ name) }
     ensures cost { IfOk result (λ judgement. judgement.cost ≡ cost.0) }
-    ensures mask { IfOk result (λ judgement. judgement.mask ≡ mask_of row.now) }
     ensures residence { IfOk result (λ judgement. judgement.residence ≡ residence row.now) }
     ensures links { IfOk result (λ judgement. judgement.links.items ≡ links_of row.now) }
 {
     let links = row.links();
-    let mask = mask_of_links(links.as_slice());
     let residence = row.residence();
     Ok(Judgement {
         name,
         cost: cost.0,
-        mask,
         residence,
         links: Vec::from_slice(alloc, links.as_slice())?,
     })
@@ -104,6 +80,7 @@ pub(crate) fn look_over(
                 no: 0,
                 name: judged.name,
                 octets: request.octets,
+                pace: EACH_CYCLE,
                 tree: judged.tree,
                 admitted: Cycle(0),
                 withdrawn: None,

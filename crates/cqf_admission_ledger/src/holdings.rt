@@ -1,10 +1,10 @@
 //! Accepted streams by number, of which some are held.
 ghost use Rattle.std.specs.Prelude.{◌≡◌, ◌+◌, ◌-◌, ◌<◌, ◌≤◌, ◌^◌, ℕ, [], ◌∷◌, ◌++◌, length, true, IfOk, OnOk};
-ghost use Rattle.std.specs.Prelude.{MatchOption, slice_index_or, slice_set, vec_len, vec_capacity};
-ghost use Rattle.cqf_admission.specs.Rows.{part_on};
-ghost use Rattle.cqf_admission_ledger.specs.Holdings.{IsFree, IsHolder, IsHeldAt, holding_ended, held_cost, held_count, released};
+ghost use Rattle.std.specs.Prelude.{MatchOption, replicate, slice_index_or, slice_set, vec_len, vec_capacity};
+ghost use Rattle.cqf_admission_trees.specs.Sums.{part_on};
+ghost use Rattle.cqf_admission_ledger.specs.Holdings.{AreAlong, IsFree, IsHolder, IsHeldAt, Standing, holding_ended, held_cost, held_count, released, standing_of};
 
-use crate::sums::{sums_with, sums_without};
+use cqf_admission_trees::{add_on, take_on};
 use cqf_units::{Cycle, Memory};
 use std::alloc::Global;
 use std::marker::Model;
@@ -12,13 +12,14 @@ use std::marker::Model;
 /// No stream's number: fewer are ever accepted.
 const NOBODY: u32 = 4_294_967_295;
 
-/// A stream that was accepted: the number of its name, its cost a cycle, the mask of its links, for how
-/// long it stays, when it was withdrawn, and whether it is held.
-#[derive(Clone, Copy)]
+/// A stream that was accepted: the number of its name, its cost in each of its cycles, its links, for how long it stays, when it
+/// was withdrawn, and whether it is held.
+#[derive(Drop)]
 pub(crate) struct Stand {
     pub name: usize,
     pub cost: u32,
-    pub mask: u64,
+    /// In the order of its tree.
+    pub links: Vec<u16>,
     /// For how many cycles behind its withdrawal it is held on.
     pub residence: u8,
     pub withdrawn: Option<Cycle>,
@@ -32,39 +33,49 @@ pub(crate) struct Holdings {
     /// By name, the number of the stream that is held under it, or [`NOBODY`].
     by_name: Vec<u32>,
     /// By link, the sum of the costs of the held streams that go by it.
-    sums: [u64; 64],
+    sums: Vec<u64>,
     count: usize,
 }
 
 impl Model for Holdings {
-    ghost use Rattle.std.specs.Prelude.{◌-◌, length, vec_len, vec_capacity};
-    ghost use Rattle.cqf_admission_ledger.specs.Holdings.{HaveFigures, Stands};
+    ghost use Rattle.std.specs.Prelude.{◌-◌, length, map, vec_len, vec_capacity};
+    ghost use Rattle.cqf_admission_ledger.specs.Holdings.{HaveFigures, Stands, standing_of};
 
     ghost Value = { Stands };
 
     ghost view = { λ h. record {
-      rows = h.rows.items;
+      rows = map standing_of h.rows.items;
       names = length h.by_name.items;
       room = vec_capacity h.rows - vec_len h.rows;
+      links = length h.sums.items;
     } };
 
-    ghost invariant = { λ h. HaveFigures h.rows.items h.by_name.items h.sums h.count };
+    ghost invariant = { λ h. HaveFigures (map standing_of h.rows.items) h.by_name.items h.sums.items h.count };
+}
+
+/// A sum of nothing for each of so many links.
+fn no_sums(alloc: Global, links: usize) -> Result<Vec<u64>, Memory>
+    ensures { IfOk result (λ sums. sums.items ≡ replicate links 0) }
+{
+    Ok(vec![in alloc; 0; links]?)
 }
 
 impl Holdings {
-    /// No streams, of so many names, unless memory runs out.
-    pub(crate) fn new(alloc: Global, names: usize) -> Result<Holdings, Memory>
+    /// No streams, of so many names and links, unless memory runs out.
+    pub(crate) fn new(alloc: Global, names: usize, links: usize) -> Result<Holdings, Memory>
         ensures rows { IfOk result (λ holdings. holdings.rows ≡ []) }
         ensures names { IfOk result (λ holdings. holdings.names ≡ names) }
+        ensures links { IfOk result (λ holdings. holdings.links ≡ links) }
     {
         let mut by_name = Vec::with_capacity(alloc, names)?;
         for _ in 0..names {
             by_name.push(NOBODY)?;
         }
+        let sums = no_sums(alloc, links)?;
         Ok(Holdings {
             rows: Vec::new(alloc),
             by_name,
-            sums: [0; 64],
+            sums,
             count: 0,
         })
     }
@@ -90,11 +101,11 @@ impl Holdings {
     }
 
     /// The stream of a number.
-    pub(crate) fn stand(&self, number: u32) -> Stand
+    pub(crate) fn stand(&self, number: u32) -> &Stand
         requires { number < length self.now.rows }
-        ensures { (d : Stand) → slice_index_or self.now.rows number d ≡ result }
+        ensures { (d : Standing) → slice_index_or self.now.rows number d ≡ standing_of result.now }
     {
-        self.rows[number as usize]
+        &self.rows[number as usize]
     }
 
     /// How many streams are held.
@@ -106,8 +117,8 @@ impl Holdings {
     }
 
     /// What the held streams cost of a link.
-    pub(crate) fn cost_on(&self, link: u8) -> u64
-        requires { link < 64 }
+    pub(crate) fn cost_on(&self, link: u16) -> u64
+        requires { link < self.now.links }
         ensures { result ≡ held_cost self.now.rows link }
     {
         let rows = &self.rows;
@@ -118,6 +129,7 @@ impl Holdings {
     pub(crate) fn reserve(&mut self) -> Result<(), Memory>
         ensures rows { self.new.rows ≡ self.old.rows }
         ensures names { self.new.names ≡ self.old.names }
+        ensures links { self.new.links ≡ self.old.links }
         ensures room { OnOk result (0 < self.new.room) }
     {
         self.rows.reserve(1)
@@ -130,41 +142,42 @@ impl Holdings {
         requires held { stand.held ≡ true }
         requires named { stand.name < self.old.names }
         requires free { IsFree self.old.rows stand.name }
-        requires fits { (l : ℕ) → l < 64 → held_cost self.old.rows l + part_on stand.mask stand.cost l < 2 ^ 64 }
-        ensures rows { self.new.rows ≡ self.old.rows ++ stand ∷ [] }
+        requires along { AreAlong self.old.links stand.links.items }
+        requires fits { (l : ℕ) → l < self.old.links → held_cost self.old.rows l + part_on stand.links.items stand.cost l < 2 ^ 64 }
+        ensures rows { self.new.rows ≡ self.old.rows ++ standing_of stand ∷ [] }
         ensures names { self.new.names ≡ self.old.names }
+        ensures links { self.new.links ≡ self.old.links }
     {
         let number = self.rows.len() as u32;
-        self.rows.push(stand).unwrap();
+        add_on(&mut self.sums, stand.links.as_slice(), stand.cost);
         self.by_name[stand.name] = number;
-        self.sums = sums_with(&self.sums, stand.mask, stand.cost);
+        self.rows.push(stand).unwrap();
         self.count += 1;
     }
 
     /// Notes when a stream was withdrawn. It is held on.
     pub(crate) fn end(&mut self, number: u32, cycle: Cycle)
         requires { number < length self.old.rows }
-        ensures rows { (d : Stand) → self.new.rows ≡ slice_set self.old.rows number (holding_ended (slice_index_or self.old.rows number d) cycle) }
+        ensures rows { (d : Standing) → self.new.rows ≡ slice_set self.old.rows number (holding_ended (slice_index_or self.old.rows number d) cycle) }
         ensures names { self.new.names ≡ self.old.names }
+        ensures links { self.new.links ≡ self.old.links }
     {
-        let place = number as usize;
-        let mut stand = self.rows[place];
-        stand.withdrawn = Some(cycle);
-        self.rows[place] = stand;
+        self.rows[number as usize].withdrawn = Some(cycle);
     }
 
     /// Lets go of a stream that is held.
     pub(crate) fn let_go(&mut self, number: u32)
         requires { IsHeldAt self.old.rows number }
-        ensures rows { (d : Stand) → self.new.rows ≡ slice_set self.old.rows number (released (slice_index_or self.old.rows number d)) }
+        ensures rows { (d : Standing) → self.new.rows ≡ slice_set self.old.rows number (released (slice_index_or self.old.rows number d)) }
         ensures names { self.new.names ≡ self.old.names }
+        ensures links { self.new.links ≡ self.old.links }
     {
         let place = number as usize;
-        let mut stand = self.rows[place];
-        stand.held = false;
-        self.rows[place] = stand;
-        self.by_name[stand.name] = NOBODY;
-        self.sums = sums_without(&self.sums, stand.mask, stand.cost);
+        let stand = &self.rows[place];
+        let name = stand.name;
+        take_on(&mut self.sums, stand.links.as_slice(), stand.cost);
+        self.by_name[name] = NOBODY;
+        self.rows[place].held = false;
         self.count -= 1;
     }
 }

@@ -1,5 +1,5 @@
 //! The administration of streams by figures, over requests and a script that stand elsewhere.
-ghost use Rattle.std.specs.Prelude.{◌≡◌, ◌≤◌, ◌<◌, ◌+◌, [], map, length, IfOk};
+ghost use Rattle.std.specs.Prelude.{ℕ, ◌≡◌, ◌≤◌, ◌<◌, ◌+◌, [], map, length, IfOk};
 ghost use Rattle.cqf_model.specs.Domain.{budget};
 ghost use Rattle.cqf_model.specs.History.{Admits, IsLegalHistory, Withdraws, seals};
 ghost use Rattle.cqf_model.specs.Table.{link_cost};
@@ -15,7 +15,7 @@ use crate::forms::{Form, see, take_over, unseen};
 use crate::holdings::Holdings;
 use crate::logs::{Logged, enter};
 use crate::slots::{Slots, slot_of};
-use crate::weighing::{find_open, know_domain, taken_of, weigh};
+use crate::weighing::{find_open, know_domain, stand_by, taken_of, weigh};
 use cqf_admission::{MOST_CALLS, MOST_SEALS, SealFault};
 use cqf_admission_requests::{Names, What, word_of};
 use cqf_laws_history::{state_follows_history, streams_follow_history};
@@ -65,7 +65,8 @@ impl<'s> Model for Ledger<'s> {
         × AreForms l.domain.now l.requests.now l.forms.items
         × (l.names ≡ l.requests.now)
         × (l.holdings.names ≡ length l.requests.now)
-        × AreThere (map asked_of l.requests.now) l.script.now l.log.items };
+        × AreThere (map asked_of l.requests.now) l.script.now l.log.items
+        × (l.holdings.links ≡ length l.domain.now.links) };
 }
 
 impl<'s> Ledger<'s> {
@@ -86,7 +87,7 @@ impl<'s> Ledger<'s> {
     {
         let names = Names::new(alloc, requests)?;
         let forms = unseen(alloc, requests.len())?;
-        let holdings = Holdings::new(alloc, requests.len())?;
+        let holdings = Holdings::new(alloc, requests.len(), usize::from(domain.links()))?;
         let slots = Slots::new(alloc)?;
         Ok(Ledger {
             alloc,
@@ -132,8 +133,8 @@ impl<'s> Ledger<'s> {
     ///
     /// Refused with `HistoryFull`, before all else, where 100,000 entries aren't Seals; with `Memory` where a growth is
     /// refused; then with the first reason that is due, in this order: `BadName`, `BadOctets`, `UnknownNode`,
-    /// `BrokenPath`, `LoopingPath`, `NotATree`, each over all branches before the next, `NameHeld`, `TooManyStreams` (1,024
-    /// are held), `BudgetShort`. `HistoryFull` and `Memory` change nothing; each other call enters the log with its answer
+    /// `BrokenPath`, `LoopingPath`, `NotATree`, each over all branches before the next, `TooManyHops`, `NameHeld`, `TooManyStreams`
+    /// (as many are held as the domain may have), `BudgetShort`. `HistoryFull` and `Memory` change nothing; each other call enters the log with its answer
     /// (profile).
     pub fn admit(&mut self, seat: u16, place: usize) -> Result<Receipt, Refused>
         requires { place < length self.old.requests }
@@ -155,7 +156,8 @@ impl<'s> Ledger<'s> {
         know_domain(self.domain);
         let effect = Cycle(self.sealed);
         match weigh(self.domain, &self.holdings, &self.forms[place]) {
-            Ok(stand) => {
+            None => {
+                let stand = stand_by(self.alloc, &self.forms[place])?;
                 let no = self.holdings.len();
                 let receipt = Receipt { no, effect };
                 self.holdings.push(stand);
@@ -167,7 +169,7 @@ impl<'s> Ledger<'s> {
                 );
                 Ok(receipt)
             }
-            Err(refused) => {
+            Some(refused) => {
                 enter(
                     &mut self.log,
                     seat,
@@ -245,7 +247,7 @@ impl<'s> Ledger<'s> {
         self.log.reserve(1)?;
         state_follows_history();
         let cycle = Cycle(self.sealed);
-        let slot = (self.sealed + 1) % 32;
+        let slot = (self.sealed + 1) % 128;
         self.slots.empty(slot as usize, &mut self.holdings);
         self.sealed += 1;
         enter(&mut self.log, seat, What::Seal, Reply::Sealed);
@@ -254,9 +256,9 @@ impl<'s> Ledger<'s> {
 
     /// What the streams that are held in the next cycle cost of a link, in octets a cycle: never more than its budget
     /// (profile).
-    pub fn held_on(&self, link: u8) -> Octets
+    pub fn held_on(&self, link: u16) -> Octets
         requires { link < length self.now.administration.domain.links }
-        ensures held { result.0 ≡ link_cost (held_of self.now.administration) link }
+        ensures held { (cycle : ℕ) → result.0 ≡ link_cost (held_of self.now.administration) link cycle }
         ensures within { result.0 ≤ budget self.now.administration.domain link }
     {
         state_follows_history();

@@ -17,7 +17,6 @@ mod holdings;
 mod ledger;
 mod logs;
 mod slots;
-mod sums;
 mod weighing;
 
 pub use cqf_admission_requests::What;

@@ -1,4 +1,4 @@
-//! The ring of 32 slots by end cycle.
+//! The ring of 128 slots by end cycle.
 ghost use Rattle.std.specs.Prelude.{◌≡◌, ◌≢◌, ◌<◌, ◌++◌, ◌+◌, ◌%◌, ℕ, [], ◌∷◌, AllPairs, Contains, OnErr, OnOk, IfOk, length, slice_index_or, slice_set};
 ghost use Rattle.cqf_admission_ledger.specs.Holdings.{AreLetGo, IsHeldAt};
 
@@ -10,9 +10,9 @@ use std::marker::Model;
 
 /// The slot of the cycle in which a stream ends that is withdrawn from a cycle on and held on for so many.
 pub(crate) fn slot_of(cycle: u32, residence: u8) -> usize
-    ensures { result ≡ (cycle + residence) % 32 }
+    ensures { result ≡ (cycle + residence) % 128 }
 {
-    ((u64::from(cycle) + u64::from(residence)) % 32) as usize
+    ((u64::from(cycle) + u64::from(residence)) % 128) as usize
 }
 
 /// By slot, the numbers of the streams that end in a cycle that stands there.
@@ -28,17 +28,17 @@ impl Model for Slots {
 
     ghost view = { λ s. map (λ list. list.items) s.lists.items };
 
-    ghost invariant = { λ s. length s.lists.items ≡ 32 };
+    ghost invariant = { λ s. length s.lists.items ≡ 128 };
 }
 
 impl Slots {
     /// No numbers, unless memory runs out.
     pub(crate) fn new(alloc: Global) -> Result<Slots, Memory>
-        ensures many { IfOk result (λ slots. length slots ≡ 32) }
-        ensures empty { IfOk result (λ slots. (slot : ℕ) → slot < 32 → slice_index_or slots slot [] ≡ []) }
+        ensures many { IfOk result (λ slots. length slots ≡ 128) }
+        ensures empty { IfOk result (λ slots. (slot : ℕ) → slot < 128 → slice_index_or slots slot [] ≡ []) }
     {
-        let mut lists = Vec::with_capacity(alloc, 32)?;
-        for _ in 0..32usize {
+        let mut lists = Vec::with_capacity(alloc, 128)?;
+        for _ in 0..128usize {
             lists.push(Vec::new(alloc))?;
         }
         Ok(Slots { lists })
@@ -46,7 +46,7 @@ impl Slots {
 
     /// Puts a number behind those of a slot, unless memory runs out.
     pub(crate) fn put(&mut self, slot: usize, number: u32) -> Result<(), Memory>
-        requires { slot < 32 }
+        requires { slot < 128 }
         ensures more { OnOk result (self.new ≡ slice_set self.old slot (slice_index_or self.old slot [] ++ number ∷ [])) }
         ensures same { OnErr result (self.new ≡ self.old) }
     {
@@ -56,11 +56,12 @@ impl Slots {
 
     /// Lets go of each stream whose number is in a slot, and empties that.
     pub(crate) fn empty(&mut self, slot: usize, holdings: &mut Holdings)
-        requires low { slot < 32 }
+        requires low { slot < 128 }
         requires held { (number : ℕ) → Contains (slice_index_or self.old slot []) number → IsHeldAt holdings.old.rows number }
         requires once { AllPairs (λ (a b : ℕ). a ≢ b) (slice_index_or self.old slot []) }
         ensures rows { AreLetGo (slice_index_or self.old slot []) holdings.old.rows holdings.new.rows }
         ensures names { holdings.new.names ≡ holdings.old.names }
+        ensures links { holdings.new.links ≡ holdings.old.links }
         ensures slots { self.new ≡ slice_set self.old slot [] }
     {
         let_go_of(holdings, &mut self.lists[slot]);

@@ -1,17 +1,16 @@
 //! Why streams are refused for what is held, and which of them can be withdrawn.
 ghost use Rattle.std.specs.Prelude.{◌≡◌, ◌+◌, ◌<◌, ◌≤◌, ◌^◌, ℕ, All, IfOk, length};
 ghost use Rattle.cqf_model.specs.Domain.{IsAccepted, budget};
-ghost use Rattle.cqf_admission.specs.Rows.{part_on};
-ghost use Rattle.cqf_admission_ledger.specs.Forms.{CanBeWeighed, FindsOpenForm, Weighs, left_by, number_of_form, stand_by, stand_refusal, stand_short};
-ghost use Rattle.cqf_admission_ledger.specs.Holdings.{held_cost};
+ghost use Rattle.cqf_admission_ledger.specs.Forms.{CanBeWeighed, FindsOpenForm, IsGood, IsStandBy, Weighs, left_by, number_of_form, stand_by, stand_refusal, stand_short};
+ghost use Rattle.cqf_admission_ledger.specs.Holdings.{held_cost, standing_of};
 
 use crate::forms::{Form, Judgement};
 use crate::holdings::{Holdings, Stand};
-use cqf_admission::MOST_STREAMS;
 use cqf_admission_requests::Names;
 use cqf_model::Refused;
 use cqf_topology::Domain;
-use cqf_units::budget;
+use cqf_units::{Memory, budget};
+use std::alloc::Global;
 
 /// A domain is accepted.
 pub(crate) fn know_domain(domain: &Domain)
@@ -22,8 +21,9 @@ pub(crate) fn know_domain(domain: &Domain)
 }
 
 /// What the held streams take of a link's budget, in octets a cycle.
-pub(crate) fn taken_of(domain: &Domain, holdings: &Holdings, link: u8) -> u32
+pub(crate) fn taken_of(domain: &Domain, holdings: &Holdings, link: u16) -> u32
     requires inside { link < length domain.now.links }
+    requires columns { holdings.now.links ≡ length domain.now.links }
     requires within { held_cost holdings.now.rows link ≤ budget domain.now link }
     ensures { result ≡ held_cost holdings.now.rows link }
 {
@@ -35,8 +35,9 @@ pub(crate) fn taken_of(domain: &Domain, holdings: &Holdings, link: u8) -> u32
 }
 
 /// What a link has left of its budget beside the held streams, in octets a cycle.
-fn left_of(domain: &Domain, holdings: &Holdings, link: u8) -> u32
+fn left_of(domain: &Domain, holdings: &Holdings, link: u16) -> u32
     requires inside { link < length domain.now.links }
+    requires columns { holdings.now.links ≡ length domain.now.links }
     requires within { held_cost holdings.now.rows link ≤ budget domain.now link }
     ensures { result ≡ left_by domain.now holdings.now.rows link }
 {
@@ -47,8 +48,9 @@ fn left_of(domain: &Domain, holdings: &Holdings, link: u8) -> u32
 }
 
 /// Why some links have no room for a cost beside the held streams: the first that has less left, if one has.
-fn short_of(domain: &Domain, holdings: &Holdings, cost: u32, links: &[u8]) -> Option<Refused>
+fn short_of(domain: &Domain, holdings: &Holdings, cost: u32, links: &[u16]) -> Option<Refused>
     requires inside { All (λ link. link < length domain.now.links) links.now }
+    requires columns { holdings.now.links ≡ length domain.now.links }
     requires within { (l : ℕ) → l < length domain.now.links → held_cost holdings.now.rows l ≤ budget domain.now l }
     ensures { result ≡ stand_short domain.now holdings.now.rows cost links.now }
 {
@@ -66,45 +68,55 @@ fn short_of(domain: &Domain, holdings: &Holdings, cost: u32, links: &[u8]) -> Op
 fn refusal_of(domain: &Domain, holdings: &Holdings, judgement: &Judgement) -> Option<Refused>
     requires named { judgement.now.name < holdings.now.names }
     requires inside { All (λ link. link < length domain.now.links) judgement.now.links.items }
+    requires columns { holdings.now.links ≡ length domain.now.links }
     requires within { (l : ℕ) → l < length domain.now.links → held_cost holdings.now.rows l ≤ budget domain.now l }
     ensures { result ≡ stand_refusal domain.now holdings.now.rows judgement.now.name judgement.now.cost judgement.now.links.items }
 {
     if holdings.holder(judgement.name).is_some() {
         return Some(Refused::NameHeld);
     }
-    if holdings.count() >= MOST_STREAMS {
+    if holdings.count() >= domain.limits().streams_within() {
         return Some(Refused::TooManyStreams);
     }
     short_of(domain, holdings, judgement.cost, judgement.links.as_slice())
 }
 
-/// The stream of a request of good form, as it is held.
-fn stand_of(judgement: &Judgement) -> Stand
-    ensures { result ≡ stand_by judgement.now }
-{
-    Stand {
-        name: judgement.name,
-        cost: judgement.cost,
-        mask: judgement.mask,
-        residence: judgement.residence,
-        withdrawn: None,
-        held: true,
-    }
-}
-
-/// The stream of a request, or the first reason against it: for its form, or else for what is held.
-pub(crate) fn weigh(domain: &Domain, holdings: &Holdings, form: &Form) -> Result<Stand, Refused>
+/// The first reason against the stream of a request: for its form, or else for what is held.
+pub(crate) fn weigh(domain: &Domain, holdings: &Holdings, form: &Form) -> Option<Refused>
     requires can { CanBeWeighed domain.now holdings.now.names form.now }
+    requires columns { holdings.now.links ≡ length domain.now.links }
     requires within { (l : ℕ) → l < length domain.now.links → held_cost holdings.now.rows l ≤ budget domain.now l }
     ensures { Weighs domain.now holdings.now.rows form.now result }
 {
     match form {
         Form::Unseen => unreachable!(),
-        Form::Bad(refused) => Err(*refused),
-        Form::Good(judgement) => match refusal_of(domain, holdings, judgement) {
-            Some(refused) => Err(refused),
-            None => Ok(stand_of(judgement)),
-        },
+        Form::Bad(refused) => Some(*refused),
+        Form::Good(judgement) => refusal_of(domain, holdings, judgement),
+    }
+}
+
+/// The stream of a request of good form, as it is held, unless memory runs out.
+fn stand_of(alloc: Global, judgement: &Judgement) -> Result<Stand, Memory>
+    ensures { IfOk result (λ stand. standing_of stand ≡ stand_by judgement.now) }
+{
+    Ok(Stand {
+        name: judgement.name,
+        cost: judgement.cost,
+        links: Vec::from_slice(alloc, judgement.links.as_slice())?,
+        residence: judgement.residence,
+        withdrawn: None,
+        held: true,
+    })
+}
+
+/// The stream of a request by its form, which is good, unless memory runs out.
+pub(crate) fn stand_by(alloc: Global, form: &Form) -> Result<Stand, Memory>
+    requires { IsGood form.now }
+    ensures { IfOk result (λ stand. IsStandBy form.now (standing_of stand)) }
+{
+    match form {
+        Form::Good(judgement) => stand_of(alloc, judgement),
+        _ => unreachable!(),
     }
 }
 

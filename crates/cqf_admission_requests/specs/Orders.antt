@@ -8,7 +8,7 @@ use Rattle.cqf_admission_requests.specs.declared.orders.What.TheVariants.{Admit,
 
 -- the request at a place
 abbrev pub request_at : List Asked → ℕ → Asked
-request_at requests place = slice_index_or requests place (record { name = []; octets = 0; paths = [] })
+request_at requests place = slice_index_or requests place (record { name = []; octets = 0; every = 1; phase = 0; paths = [] })
 
 -- the word of so many octets from a place of a text on
 abbrev pub word_at : List ℕ → ℕ → ℕ → List ℕ

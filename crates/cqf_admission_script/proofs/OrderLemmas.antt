@@ -41,13 +41,13 @@ admits requests name place is =
     ap (option_map (λ (asked : Asked). Admits asked)) (sym asked ∙ slice_get-get_or (map asked_of requests) place nobody inside)
   where
     nobody : Asked
-    nobody = record { name = []; octets = 0; paths = [] }
+    nobody = record { name = []; octets = 0; every = 1; phase = 0; paths = [] }
 
 -- the request at a place, as it was read there
 pub request_read : (requests : List Request) (place : ℕ) (request : Request) → place < length requests → request ≡ slice_index_or requests place request →
     request_at (map asked_of requests) place ≡ asked_of request
 request_read requests place request inside is =
-    get_or-map asked_of requests place request (record { name = []; octets = 0; paths = [] }) inside ∙ ap asked_of (sym is)
+    get_or-map asked_of requests place request (record { name = []; octets = 0; every = 1; phase = 0; paths = [] }) inside ∙ ap asked_of (sym is)
 
 -- no request has the name
 pub unknown_stream : (requests : List Request) (number called : ℕ) (order : Written) → place_named requests order.name ≡ None → order.wish ≡ Admit →

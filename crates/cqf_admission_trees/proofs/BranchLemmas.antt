@@ -6,7 +6,8 @@ use Rattle.std.specs.Prelude.{All, String, Vec, string_bytes, map, option_map, i
 use Rattle.std.specs.List.{flat_map, list_any}
 use Rattle.std.specs.declared.alloc.Global.{Global}
 use Rattle.std.specs.Option.{option_map_or}
-use Rattle.std.proofs.lemmas.Bool.{and_from, both_ways, cases_lt, lt-ltb, or_parts}
+use Rattle.std.proofs.Math.Nat.{min-le_right}
+use Rattle.std.proofs.lemmas.Bool.{and_from, both_ways, cases_lt, eq-eqb, lt-ltb, or_parts}
 use Rattle.std.proofs.lemmas.List.{length-map, take-map}
 use Rattle.std.proofs.lemmas.Option.{slice_get-map, slice_get_past, slice_get_read}
 use Rattle.std.proofs.lemmas.List.Elements.{All-cons, All-nil}
@@ -18,6 +19,7 @@ use Rattle.cqf_lists.proofs.Places.{first_stays}
 use Rattle.cqf_lists.specs.Lists.{least, each_below}
 use Rattle.cqf_lists.proofs.Least.{least_none, or_else_none, unmapped_none}
 use Rattle.cqf_model.specs.History.{Branch, broken_place, first_place, is_bridge, is_broken_at, is_loop_at, is_same, link_at, node_at}
+use Rattle.cqf_model.specs.Limits.{nodes_within}
 use Rattle.cqf_lists.proofs.Any.{list_any-map}
 use Rattle.cqf_admission_trees.specs.Branches.{branch_of, branches_of, places_of}
 
@@ -132,30 +134,31 @@ looping_by_name {S} bytes d path earlier place name stands inside is known found
         looping_is bytes d path earlier place (Some node) stands (found ∙ ap (λ (test : S → Bool). list_any test earlier) tests) front
         (sym (node_of_name bytes d path place name inside is ∙ here))
 
--- a branch that isn't broken has at most 17 nodes
-few_nodes : (d : Domain) (branch : Branch) → least (is_broken_at d branch) (length branch + 1) ≡ None → length branch ≤ 17
+-- a branch that isn't broken has at most 65 nodes
+few_nodes : (d : Domain) (branch : Branch) → least (is_broken_at d branch) (length branch + 1) ≡ None → length branch ≤ 65
 few_nodes d branch e =
-    elim (cases_lt 17 (length branch)) [
-      | inr g ↦ g
-      | inl l ↦ (let whole = least_none (is_broken_at d branch) (length branch + 1) e 17 (omega (arith, l)) in
-          let no_bridge_first = (17 == 0) && not (is_bridge (node_at d branch 0)) in
-          let no_link = nat_le 1 17 && nat_lt 17 (length branch) && is_none (link_at d branch (17 - 1)) in
-          let bridge_last = (17 + 1 == length branch) && is_bridge (node_at d branch 17) in
-          let too_many : Bool = (17 == 17) && nat_lt 17 (length branch) in
-          let long : too_many ≡ true = and_from (17 == 17) (nat_lt 17 (length branch)) refl (lt-ltb 17 (length branch) l) in
+    let most = nodes_within d.limits in
+    elim (cases_lt most (length branch)) [
+      | inr g ↦ omega (arith, g, min-le_right d.limits.nodes 65)
+      | inl l ↦ (let whole = least_none (is_broken_at d branch) (length branch + 1) e most (omega (arith, l)) in
+          let no_bridge_first = (most == 0) && not (is_bridge (node_at d branch 0)) in
+          let no_link = nat_le 1 most && nat_lt most (length branch) && is_none (link_at d branch (most - 1)) in
+          let bridge_last = (most + 1 == length branch) && is_bridge (node_at d branch most) in
+          let too_many : Bool = (most == most) && nat_lt most (length branch) in
+          let long : too_many ≡ true = and_from (most == most) (nat_lt most (length branch)) (eq-eqb most most refl) (lt-ltb most (length branch) l) in
           absurd (both_ways too_many (or_parts (no_bridge_first || no_link || bridge_last) too_many whole).1 long))
     ]
 
--- where no place is broken, each branch has 17 nodes at most
-few_in_each : (d : Domain) (paths : List Branch) → first_place (is_broken_at d) paths ≡ None → All (λ (branch : Branch). length branch ≤ 17) paths
-few_in_each d [] e = All-nil (λ (branch : Branch). length branch ≤ 17)
+-- where no place is broken, each branch has 65 nodes at most
+few_in_each : (d : Domain) (paths : List Branch) → first_place (is_broken_at d) paths ≡ None → All (λ (branch : Branch). length branch ≤ 65) paths
+few_in_each d [] e = All-nil (λ (branch : Branch). length branch ≤ 65)
 few_in_each d (x ∷ paths) e =
     let parts = or_else_none (least (is_broken_at d x) (length x + 1)) (option_map (λ place. length x + place) (first_place (is_broken_at d) paths)) e in
-    All-cons (λ (branch : Branch). length branch ≤ 17) x paths (few_nodes d x parts.0)
+    All-cons (λ (branch : Branch). length branch ≤ 65) x paths (few_nodes d x parts.0)
     (few_in_each d paths (unmapped_none (λ place. length x + place) (first_place (is_broken_at d) paths) parts.1))
 
--- where the branches are whole, each has 17 nodes at most
-pub few_in_all : (d : Domain) (paths : List Branch) → broken_place d paths ≡ None → All (λ (branch : Branch). length branch ≤ 17) paths
+-- where the branches are whole, each has 65 nodes at most
+pub few_in_all : (d : Domain) (paths : List Branch) → broken_place d paths ≡ None → All (λ (branch : Branch). length branch ≤ 65) paths
 few_in_all d [] e = absurd cc
 few_in_all d (x ∷ paths) e = few_in_each d (x ∷ paths) e
 

@@ -2,4 +2,5 @@ mod BranchLemmas
 mod FaultLemmas
 mod NodeLemmas
 mod PartLemmas
+mod SumLemmas
 mod TreeLemmas

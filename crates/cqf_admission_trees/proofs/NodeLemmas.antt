@@ -16,7 +16,7 @@ use Rattle.cqf_admission_trees.specs.Branches.{AreNodes, branch_of, branches_of,
 use Rattle.cqf_admission_trees.proofs.FaultLemmas.{position-cons}
 
 -- where there is no room, no node is added
-full : (d : Domain) (nodes : List (Option Node)) (names : List (List ℕ)) → nat_lt (length nodes) 64 ≡ false → fold (with_node d) nodes names ≡ nodes
+full : (d : Domain) (nodes : List (Option Node)) (names : List (List ℕ)) → nat_lt (length nodes) 256 ≡ false → fold (with_node d) nodes names ≡ nodes
 full d nodes [] none = refl
 full d nodes (x ∷ names) none =
     ap (λ (b : Bool). fold (with_node d) (if b then nodes ++ node_named d x ∷ [] else nodes) names) none ∙ full d nodes names none
@@ -35,7 +35,7 @@ front d (x ∷ names) more = at_each d x names more (front d names more)
 -- names that are looked up behind others
 grown : (d : Domain) (names more : List (List ℕ)) → AreNodes d (names ++ more) (fold (with_node d) (map (node_named d) names) more)
 grown d names [] = front d names []
-grown d names (x ∷ more) = elim (cases_Bool (nat_lt (length (map (node_named d) names)) 64)) [
+grown d names (x ∷ more) = elim (cases_Bool (nat_lt (length (map (node_named d) names)) 256)) [
   | inl t ↦ (let one : with_node d (map (node_named d) names) x ≡ map (node_named d) (names ++ x ∷ []) =
       ap (λ (b : Bool). if b then map (node_named d) names ++ node_named d x ∷ [] else map (node_named d) names) t
       ∙ sym (map-append (node_named d) names (x ∷ [])) in

@@ -33,7 +33,7 @@ pub fn count_places(paths: &[Vec<String>]) -> Option<usize>
 }
 
 /// The nodes of the names of a branch behind those of others, as far as there is room.
-fn add_nodes(domain: &Domain, nodes: &mut ArrayVec<Option<Node>, 64>, branch: &[String])
+fn add_nodes(domain: &Domain, nodes: &mut ArrayVec<Option<Node>, 256>, branch: &[String])
     ensures { nodes.new.items ≡ fold (with_node domain.now) nodes.old.items (branch_of branch.now) }
 {
     for name in branch {
@@ -42,16 +42,16 @@ fn add_nodes(domain: &Domain, nodes: &mut ArrayVec<Option<Node>, 64>, branch: &[
 }
 
 /// The node of a name behind those of others, where there is room.
-fn add_node(domain: &Domain, nodes: &mut ArrayVec<Option<Node>, 64>, name: &String)
+fn add_node(domain: &Domain, nodes: &mut ArrayVec<Option<Node>, 256>, name: &String)
     ensures { nodes.new.items ≡ with_node domain.now nodes.old.items (string_bytes name.now) }
 {
-    if nodes.len() < 64 {
+    if nodes.len() < 256 {
         nodes.push(domain.find(name.as_str()));
     }
 }
 
-/// The nodes of the first 64 names of some branches, each looked up once.
-pub(crate) fn nodes_of(domain: &Domain, paths: &[Vec<String>]) -> ArrayVec<Option<Node>, 64>
+/// The nodes of the first 256 names of some branches, each looked up once.
+pub(crate) fn nodes_of(domain: &Domain, paths: &[Vec<String>]) -> ArrayVec<Option<Node>, 256>
     ensures { AreNodes domain.now (flat_map (λ branch. branch) (branches_of paths.now)) result.items }
 {
     let mut nodes = ArrayVec::new();
@@ -96,7 +96,7 @@ fn unknown_place(domain: &Domain, nodes: &[Option<Node>], branch: &[String]) -> 
 }
 
 /// The link between two nodes, where both are there and it is.
-fn link_of(domain: &Domain, from: Option<Node>, to: Option<Node>) -> Option<u8>
+fn link_of(domain: &Domain, from: Option<Node>, to: Option<Node>) -> Option<u16>
     ensures { result ≡ link_from domain.now from to }
 {
     match from {
@@ -115,7 +115,7 @@ pub(crate) fn link_behind(
     nodes: &[Option<Node>],
     branch: &[String],
     place: usize,
-) -> Option<u8>
+) -> Option<u16>
     requires inside { place < length branch.now }
     requires nodes { AreNodes domain.now (branch_of branch.now) nodes.now }
     ensures { result ≡ link_at domain.now (branch_of branch.now) place }
@@ -135,7 +135,7 @@ fn is_bridge_node(node: Option<Node>) -> bool
 }
 
 /// Whether a branch is broken at a place: it is empty or begins with no bridge; no link goes from the node before to this
-/// one; its last node is a bridge; or a 17th bridge stands before this place (profile).
+/// one; its last node is a bridge; or as many nodes stand before this place as a branch may have (profile).
 fn is_branch_broken_at(
     domain: &Domain,
     nodes: &[Option<Node>],
@@ -153,7 +153,7 @@ fn is_branch_broken_at(
         && link_behind(domain, nodes, branch, place - 1).is_none();
     let ends_in_bridge = place + 1 == count
         && is_bridge_node(node_of(domain, nodes, branch, place));
-    let too_long = place == 17 && place < count;
+    let too_long = place == domain.limits().nodes_within() && place < count;
     begins_ill || unlinked || ends_in_bridge || too_long
 }
 

@@ -1,9 +1,11 @@
 //! Whether the branches of a stream's request are a tree in a domain, and its hops (profile).
 //!
 //! [`find_tree`] looks over a request's branches, each a list of names of nodes: the domain has each node; a link goes from
-//! each to the next, from a first bridge over at most 16 in all on to a station; no node stands twice in a branch; and any two
-//! branches begin at one bridge and part for good. Each of these is asked of all branches before the next, and a place counts
-//! through the branches as one list. No branch at all is `BrokenPath 0`.
+//! each to the next, from a first bridge over no more in all than a branch may have on to a station; no node stands twice in a branch;
+//! any two branches begin at one bridge and part for good; and the tree has no more hops than may be. Each of these is asked of all
+//! branches before the next, and a place counts through the branches as one list. No branch at all is `BrokenPath 0`.
+//!
+//! [`add_on`] and [`take_on`] keep sums by link of streams that come and go.
 //!
 //! With links from bridge a to bridges b and c, from b to station s, and from c to station t:
 //!
@@ -16,7 +18,9 @@
 #![tactic(auto)]
 
 mod branches;
+mod sums;
 mod trees;
 
 pub use branches::count_places;
+pub use sums::{add_on, take_on};
 pub use trees::find_tree;

@@ -1,48 +1,47 @@
 //! The tree of a request's branches.
-ghost use Rattle.std.specs.Prelude.{◌≡◌, ◌<◌, ◌≤◌, ◌==◌, ◌^◌, All, fold, is_none, length, position};
+ghost use Rattle.std.specs.Prelude.{◌≡◌, ◌<◌, ◌≤◌, ◌==◌, ◌^◌, All, List, fold, is_none, length, position};
+ghost use Rattle.cqf_model.specs.declared.topology.Hop.{Hop as HopValue};
 ghost use Rattle.std.specs.List.{flat_map, list_any};
 ghost use Rattle.cqf_model.specs.Domain.{node_named};
 ghost use Rattle.cqf_model.specs.History.{broken_place, first_place, hops_along, is_loop_at, tree_of};
-ghost use Rattle.cqf_admission_trees.specs.Branches.{AreNodes, AreSparse, FindsTree, branch_of, branches_of, keep_link, places_of};
+ghost use Rattle.cqf_admission_trees.specs.Branches.{AreAsFarAsRoom, AreNodes, FindsTree, branch_of, branches_of, keep_link, places_of};
 
 use crate::branches::{Check, first_fault_of, link_behind, nodes_behind, nodes_of, stray_branch};
 use arrayvec::ArrayVec;
-use cqf_model::{Hop, Node, Refused};
+use cqf_model::{Hop, MOST_HOPS, Node, Refused};
 use cqf_topology::Domain;
 
 /// Whether one of some hops is by the link.
-fn has_link(tree: &[Hop], link: u8) -> bool
+fn has_link(tree: &[Hop], link: u16) -> bool
     ensures { result ≡ list_any (λ hop. hop.link == link) tree.now }
 {
     tree.iter().any(|hop| hop.link == link)
 }
 
-/// Adds a hop behind those of a tree, where none of them is by its link.
-fn add_hop(domain: &Domain, tree: &mut ArrayVec<Hop, 64>, hop: Hop)
-    requires few_links { length domain.now.links ≤ 64 }
-    requires sparse { AreSparse domain.now tree.old.items }
-    requires inside { hop.link < length domain.now.links }
-    ensures kept { tree.new.items ≡ keep_link tree.old.items hop }
-    ensures sparse { AreSparse domain.now tree.new.items }
+/// Adds a hop behind those of a tree, where none of them is by its link and there is room.
+fn add_hop(tree: &mut ArrayVec<Hop, 201>, hop: Hop)
+    ensures { (whole : List HopValue) → AreAsFarAsRoom tree.old.items whole → AreAsFarAsRoom tree.new.items (keep_link whole hop) }
 {
-    if !has_link(tree.as_slice(), hop.link) {
-        tree.push(hop);
+    if tree.len() > MOST_HOPS {
+        return;
     }
+    if has_link(tree.as_slice(), hop.link) {
+        return;
+    }
+    tree.push(hop);
 }
 
-/// Adds the hops of a branch of no more than 17 nodes to those of a tree.
+/// Adds the hops of a branch of no more than 65 nodes to those of a tree, as far as there is room.
 fn add_branch(
     domain: &Domain,
     nodes: &[Option<Node>],
-    tree: &mut ArrayVec<Hop, 64>,
+    tree: &mut ArrayVec<Hop, 201>,
     branch: &[String],
 )
     requires nodes { AreNodes domain.now (branch_of branch.now) nodes.now }
-    requires few_nodes { length branch.now ≤ 17 }
-    requires few_links { length domain.now.links ≤ 64 }
-    requires sparse { AreSparse domain.now tree.old.items }
-    ensures kept { tree.new.items ≡ fold keep_link tree.old.items (hops_along domain.now (branch_of branch.now)) }
-    ensures sparse { AreSparse domain.now tree.new.items }
+    requires few_nodes { length branch.now ≤ 65 }
+    ensures { (whole : List HopValue) → AreAsFarAsRoom tree.old.items whole →
+        AreAsFarAsRoom tree.new.items (fold keep_link whole (hops_along domain.now (branch_of branch.now))) }
 {
     let mut before = None;
     for place in 0..branch.len().saturating_sub(1) {
@@ -53,26 +52,35 @@ fn add_branch(
                 depth: place as u8 + 1,
                 from: before,
             };
-            add_hop(domain, tree, hop);
+            add_hop(tree, hop);
         }
         before = link;
     }
 }
 
-/// The tree of some branches of no more than 17 nodes each: their hops, each link once, where it first stands.
-fn tree_along(domain: &Domain, nodes: &[Option<Node>], paths: &[Vec<String>]) -> ArrayVec<Hop, 64>
-    requires few { All (λ branch. length branch ≤ 17) (branches_of paths.now) }
+/// The tree of some branches of no more than 65 nodes each: their hops, each link once, where it first stands,
+/// as far as there is room.
+fn tree_along(domain: &Domain, nodes: &[Option<Node>], paths: &[Vec<String>]) -> ArrayVec<Hop, 201>
+    requires few { All (λ branch. length branch ≤ 65) (branches_of paths.now) }
     requires nodes { AreNodes domain.now (flat_map (λ branch. branch) (branches_of paths.now)) nodes.now }
-    ensures { result.items ≡ tree_of domain.now (branches_of paths.now) }
+    ensures { AreAsFarAsRoom result.items (tree_of domain.now (branches_of paths.now)) }
 {
-    // The domain is accepted, so it has at most 64 links, and so has the tree.
-    let _ = domain.cycle_time();
     let mut tree = ArrayVec::new();
     let mut rest = nodes;
     for branch in paths {
         add_branch(domain, rest, &mut tree, branch.as_slice());
         rest = nodes_behind(rest, branch.len());
     }
+    tree
+}
+
+/// The hops of a tree that has no more of them than are represented.
+fn fitted(hops: &[Hop]) -> ArrayVec<Hop, 200>
+    requires { length hops.now ≤ 200 }
+    ensures { result.items ≡ hops.now }
+{
+    let mut tree = ArrayVec::new();
+    tree.try_extend_from_slice(hops).unwrap();
     tree
 }
 
@@ -112,10 +120,10 @@ fn looping_place_of(domain: &Domain, nodes: &[Option<Node>], paths: &[Vec<String
 /// # Errors
 /// The first reason why they are no tree, each asked of all branches before the next (profile): `UnknownNode`, at the first
 /// place whose node the domain lacks; `BrokenPath`, at the first place that no link leads to from the one before, at which a
-/// branch begins with no bridge or ends with one, or behind a 16th bridge, and 0 where there is no branch; `LoopingPath`, at
+/// branch begins with no bridge or ends with one, or behind as many nodes as a branch may have, and 0 where there is no branch; `LoopingPath`, at
 /// the first place whose node stood earlier in its branch; `NotATree`, with the number, from 0, of the first branch that
-/// begins elsewhere than one before it or doesn't part from it for good. Places count from 0 through all branches.
-pub fn find_tree(domain: &Domain, paths: &[Vec<String>]) -> Result<ArrayVec<Hop, 64>, Refused>
+/// begins elsewhere than one before it or doesn't part from it for good; `TooManyHops`. Places count from 0 through all branches.
+pub fn find_tree(domain: &Domain, paths: &[Vec<String>]) -> Result<ArrayVec<Hop, 200>, Refused>
     requires { places_of (branches_of paths.now) < 2 ^ 64 }
     ensures { FindsTree domain.now (branches_of paths.now) result }
 {
@@ -132,5 +140,9 @@ pub fn find_tree(domain: &Domain, paths: &[Vec<String>]) -> Result<ArrayVec<Hop,
     if let Some(branch) = stray_branch(paths) {
         return Err(Refused::NotATree(branch));
     }
-    Ok(tree_along(domain, nodes.as_slice(), paths))
+    let tree = tree_along(domain, nodes.as_slice(), paths);
+    if tree.len() > domain.limits().hops_within() {
+        return Err(Refused::TooManyHops);
+    }
+    Ok(fitted(tree.as_slice()))
 }

@@ -27,14 +27,14 @@ none_summed : (f : Page → ℕ) (bridges : ℕ) → over_pages f (replicate bri
 none_summed f bridges = omega (arith, sum_by-replicate (λ (row : List Page). sum_by f row) bridges [])
 
 -- a total of nothing
-nothing_at : (link : ℕ) → link < 256 → slice_index (replicate 256 0) link ≡ 0
-nothing_at link below = get_or-replicate {A = ℕ} 256 link 0 0 below
+nothing_at : (link : ℕ) → link < 65536 → slice_index (replicate 65536 0) link ≡ 0
+nothing_at link below = get_or-replicate {A = ℕ} 65536 link 0 0 below
 
 -- the first totals
-none_totals : (bridges : ℕ) → AreTotals (replicate bridges []) (replicate 256 0) (replicate 256 0)
+none_totals : (bridges : ℕ) → AreTotals (replicate bridges []) (replicate 65536 0) (replicate 65536 0)
 none_totals bridges = record {
-  all_frames = length-replicate {A = ℕ} 256 0;
-  all_octets = length-replicate {A = ℕ} 256 0;
+  all_frames = length-replicate {A = ℕ} 65536 0;
+  all_octets = length-replicate {A = ℕ} 65536 0;
   are_frames = λ link below. nothing_at link below ∙ sym (none_summed (λ (page : Page). frames_on link page.starts.items) bridges);
   are_octets = λ link below. nothing_at link below ∙ sym (none_summed (λ (page : Page). octets_on link page.starts.items) bridges);
   few_frames = λ link below. omega (arith, nothing_at link below);
@@ -42,7 +42,7 @@ none_totals bridges = record {
 }
 
 -- before the first page
-none_posted : (bridges cycles : ℕ) → bridges ≤ 32 → cycles ≤ 100000
+none_posted : (bridges cycles : ℕ) → bridges ≤ 1024 → cycles ≤ 100000
     → ArePosted (record { bridges = bridges; cycles = cycles; pages = replicate bridges [] })
 none_posted bridges cycles few_bridges few_cycles = record {
   few_bridges = few_bridges;
@@ -53,13 +53,13 @@ none_posted bridges cycles few_bridges few_cycles = record {
 }
 
 -- and with the first totals
-pub none_kept : (bridges cycles : ℕ) (pages : List (List Page)) (frames octets : List ℕ) → bridges ≤ 32 → cycles ≤ 100000
-    → pages ≡ replicate bridges [] → frames ≡ replicate 256 0 → octets ≡ replicate 256 0
+pub none_kept : (bridges cycles : ℕ) (pages : List (List Page)) (frames octets : List ℕ) → bridges ≤ 1024 → cycles ≤ 100000
+    → pages ≡ replicate bridges [] → frames ≡ replicate 65536 0 → octets ≡ replicate 65536 0
     → AreKeptTotals (record { bridges = bridges; cycles = cycles; pages = pages }) frames octets
 none_kept bridges cycles pages frames octets few_bridges few_cycles is_pages is_frames is_octets =
     subst (λ (rows : List (List Page)). AreKeptTotals (record { bridges = bridges; cycles = cycles; pages = rows }) frames octets) (sym is_pages)
     (subst (λ (fs : List ℕ). AreKeptTotals (record { bridges = bridges; cycles = cycles; pages = replicate bridges [] }) fs octets) (sym is_frames)
-    (subst (λ (os : List ℕ). AreKeptTotals (record { bridges = bridges; cycles = cycles; pages = replicate bridges [] }) (replicate 256 0) os) (sym is_octets)
+    (subst (λ (os : List ℕ). AreKeptTotals (record { bridges = bridges; cycles = cycles; pages = replicate bridges [] }) (replicate 65536 0) os) (sym is_octets)
     (record { posted_so = none_posted bridges cycles few_bridges few_cycles; totals = none_totals bridges })))
 
 -- rows of pages, of which a bridge's has one more page
@@ -178,7 +178,7 @@ room_for_next posted frames octets kept =
     let facts = kept.posted_so in
     let each : All (λ (row : List Page). length row ≤ 100000) rows = λ k d inside.
     omega (arith, facts.in_cycles k, facts.few_cycles, ap length (get_or_default rows k d [] inside)) in
-    let count : count_of_pages rows ≤ 3200000 =
+    let count : count_of_pages rows ≤ 102400000 =
     omega (arith, sum_by-le (λ (row : List Page). length row) 100000 rows each, facts.each_bridge, facts.few_bridges) in
     record {
       all_frames = kept.totals.all_frames;

@@ -26,7 +26,7 @@ page_at posted bridge cycle = slice_get (pages_of posted bridge) cycle
 -- what all pages that were posted keep: no page stands twice and none is missing, since each is of the bridge and of the
 -- cycle at whose place it stands
 pub record ArePosted (posted : Posted) : Type 0 where
-  pub few_bridges : posted.bridges ≤ 32
+  pub few_bridges : posted.bridges ≤ 1024
   pub few_cycles : posted.cycles ≤ most_cycles
   pub each_bridge : length posted.pages ≡ posted.bridges
   pub in_cycles : (bridge : ℕ) → page_count posted bridge ≤ posted.cycles

@@ -7,10 +7,10 @@ use Rattle.cqf_book.specs.Pages.{Posted, ArePosted, frames_posted, octets_posted
 
 -- what was added to the totals of all links is that of the starts
 pub record AreAdded (starts : List Started) (frames octets frames_after octets_after : List ℕ) : Type 0 where
-  pub all_frames : length frames_after ≡ 256
-  pub all_octets : length octets_after ≡ 256
-  pub frames_add : (link : ℕ) → link < 256 → slice_index frames_after link ≡ slice_index frames link + frames_on link starts
-  pub octets_add : (link : ℕ) → link < 256 → slice_index octets_after link ≡ slice_index octets link + octets_on link starts
+  pub all_frames : length frames_after ≡ 65536
+  pub all_octets : length octets_after ≡ 65536
+  pub frames_add : (link : ℕ) → link < 65536 → slice_index frames_after link ≡ slice_index frames link + frames_on link starts
+  pub octets_add : (link : ℕ) → link < 65536 → slice_index octets_after link ≡ slice_index octets link + octets_on link starts
 
 -- of a page's starts, each link has at most 2^64, and these have at most 2^96 octets
 pub record AreFewTotals (starts : List Started) : Type 0 where
@@ -19,10 +19,10 @@ pub record AreFewTotals (starts : List Started) : Type 0 where
 
 -- there is room for the starts of one more page
 pub record HaveTotalsRoom (frames octets : List ℕ) : Type 0 where
-  pub all_frames : length frames ≡ 256
-  pub all_octets : length octets ≡ 256
-  pub frames_room : (link : ℕ) → link < 256 → slice_index frames link + 2 ^ 64 < 2 ^ 128
-  pub octets_room : (link : ℕ) → link < 256 → slice_index octets link + 2 ^ 96 < 2 ^ 128
+  pub all_frames : length frames ≡ 65536
+  pub all_octets : length octets ≡ 65536
+  pub frames_room : (link : ℕ) → link < 65536 → slice_index frames link + 2 ^ 64 < 2 ^ 128
+  pub octets_room : (link : ℕ) → link < 65536 → slice_index octets link + 2 ^ 96 < 2 ^ 128
 
 -- how many pages there are
 abbrev pub count_of_pages : List (List Page) → ℕ
@@ -30,12 +30,12 @@ count_of_pages pages = sum_by (λ (row : List Page). length row) pages
 
 -- by link, the totals are those of the pages, and no more than so many pages can bring: 2^64 starts and 2^96 octets each
 pub record AreTotals (pages : List (List Page)) (frames octets : List ℕ) : Type 0 where
-  pub all_frames : length frames ≡ 256
-  pub all_octets : length octets ≡ 256
-  pub are_frames : (link : ℕ) → link < 256 → slice_index frames link ≡ frames_posted link pages
-  pub are_octets : (link : ℕ) → link < 256 → slice_index octets link ≡ octets_posted link pages
-  pub few_frames : (link : ℕ) → link < 256 → slice_index frames link ≤ count_of_pages pages * 2 ^ 64
-  pub few_octets : (link : ℕ) → link < 256 → slice_index octets link ≤ count_of_pages pages * 2 ^ 96
+  pub all_frames : length frames ≡ 65536
+  pub all_octets : length octets ≡ 65536
+  pub are_frames : (link : ℕ) → link < 65536 → slice_index frames link ≡ frames_posted link pages
+  pub are_octets : (link : ℕ) → link < 65536 → slice_index octets link ≡ octets_posted link pages
+  pub few_frames : (link : ℕ) → link < 65536 → slice_index frames link ≤ count_of_pages pages * 2 ^ 64
+  pub few_octets : (link : ℕ) → link < 65536 → slice_index octets link ≤ count_of_pages pages * 2 ^ 96
 
 -- what is kept: pages that stand in order, and their totals
 pub record AreKeptTotals (posted : Posted) (frames octets : List ℕ) : Type 0 where

@@ -17,7 +17,7 @@ use cqf_units::Memory;
 use std::alloc::Global;
 
 /// How many of the shares are the bridge's.
-fn count_of(shares: &[Share], bridge: u8) -> usize
+fn count_of(shares: &[Share], bridge: u16) -> usize
     ensures { result ≡ count_by (is_of bridge) shares.now }
 {
     shares
@@ -27,7 +27,7 @@ fn count_of(shares: &[Share], bridge: u8) -> usize
 }
 
 /// Whether there is one share of each of so many bridges, and no other.
-fn are_one_each(shares: &[Share], bridges: u8) -> bool
+fn are_one_each(shares: &[Share], bridges: u16) -> bool
     ensures { (result ≡ true) ↔ AreOneEach bridges shares.now }
 {
     if shares.len() != usize::from(bridges) {
@@ -42,14 +42,14 @@ fn are_one_each(shares: &[Share], bridges: u8) -> bool
 }
 
 /// The bridge's share, the first where there are several.
-fn share_of(shares: &[Share], bridge: u8) -> Option<&Share>
+fn share_of(shares: &[Share], bridge: u16) -> Option<&Share>
     ensures { option_copied result ≡ find (is_of bridge) shares.now }
 {
     shares.iter().find(|share| share.bridge() == bridge)
 }
 
 /// The pages in the bridge's share; none where there is no such share.
-fn share_pages(shares: &[Share], bridge: u8) -> &[Page]
+fn share_pages(shares: &[Share], bridge: u16) -> &[Page]
     ensures { result.now ≡ pages_by shares.now bridge }
 {
     match share_of(shares, bridge) {
@@ -73,7 +73,7 @@ fn continues(pages: &[Page], earlier: &[Page], later: &[Page]) -> bool
 }
 
 /// The least bridge whose pages aren't those from before and its share's behind them, where there is one.
-fn first_to_disagree(opening: &Pages, posted: &Pages, shares: &[Share]) -> Option<u8>
+fn first_to_disagree(opening: &Pages, posted: &Pages, shares: &[Share]) -> Option<u16>
     ensures none { IfNone result (Agree opening.now shares.now posted.now opening.now.bridges) }
     ensures least { IfSome result (λ bridge. IsLeastToDisagree opening.now shares.now posted.now bridge) }
 {
@@ -109,7 +109,7 @@ fn add_pages(book: &mut Book, pages: &[Page]) -> Result<(), Memory>
 }
 
 /// What stands on the pages of the first bridges, so many of them, bridge by bridge and page by page.
-fn gathered(alloc: Global, posted: &Pages, bridges: u8) -> Result<Book, Memory>
+fn gathered(alloc: Global, posted: &Pages, bridges: u16) -> Result<Book, Memory>
     ensures starts { IfOk result (λ book. book.starts.items ≡ on_pages (λ page. page.starts.items) (pages_of posted.now) bridges) }
     ensures background { IfOk result (λ book. book.background.items ≡ on_pages (λ page. page.background.items) (pages_of posted.now) bridges) }
     ensures drops { IfOk result (λ book. book.drops.items ≡ on_pages (λ page. page.drops.items) (pages_of posted.now) bridges) }
@@ -127,7 +127,7 @@ fn gathered(alloc: Global, posted: &Pages, bridges: u8) -> Result<Book, Memory>
 
 /// The book of the pages of the first bridges, so many of them: what stands on them, in the order of a book. `Memory` where a growth
 /// is refused.
-pub fn book_of(alloc: Global, posted: &Pages, bridges: u8) -> Result<Book, Memory>
+pub fn book_of(alloc: Global, posted: &Pages, bridges: u16) -> Result<Book, Memory>
     ensures { IfOk result (λ book. IsBookOfPages (pages_of posted.now) bridges (contents_of book)) }
 {
     let mut book = gathered(alloc, posted, bridges)?;

@@ -20,7 +20,7 @@ use std::sync::{Mutex, Wait};
 /// What a bridge has in a [`CycleBook`]: its number, and the pages that it has posted there.
 #[derive(Debug, Drop)]
 pub struct Share {
-    bridge: u8,
+    bridge: u16,
     pages: Vec<Page>,
 }
 
@@ -34,7 +34,7 @@ impl Model for Share {
 
 impl Share {
     /// The number of the share's bridge.
-    pub fn bridge(&self) -> u8
+    pub fn bridge(&self) -> u16
         ensures { result ≡ self.now.bridge }
     {
         self.bridge
@@ -49,7 +49,7 @@ impl Share {
 }
 
 /// The shares of so many bridges, by number, that have posted nothing.
-fn one_each(alloc: Global, bridges: u8) -> Result<Vec<Share>, Memory>
+fn one_each(alloc: Global, bridges: u16) -> Result<Vec<Share>, Memory>
     ensures { IfOk result (λ shares. shares.items ≡ new_shares bridges) }
 {
     let mut shares = Vec::new(alloc);
@@ -223,7 +223,7 @@ impl CycleBook {
 
     /// How many streams' frames the pages have on the link, and their octets: what [`Pages::totals`] answers of the pages at
     /// one time; no fewer than on those that it was made of. It may wait for the lock, and takes no memory.
-    pub fn totals<R: Wait>(&self, rt: &R, link: u8) -> Totals
+    pub fn totals<R: Wait>(&self, rt: &R, link: u16) -> Totals
         ensures some { AreTotalsOfSome link result.frames result.octets }
         ensures frames { frames_posted link self.now.pages ≤ result.frames }
         ensures octets { octets_posted link self.now.pages ≤ result.octets }

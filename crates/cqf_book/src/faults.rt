@@ -41,7 +41,7 @@ pub enum BookClose {
     /// The shares aren't one of each bridge of the book.
     ShareMissing,
     /// The pages in this bridge's share aren't those that the book took of the bridge: the least bridge of which that is so.
-    SharesDisagree(u8),
+    SharesDisagree(u16),
     /// A growth was refused.
     Memory,
 }

@@ -17,7 +17,7 @@ use std::marker::Model;
 /// The pages that bridges have posted, each bridge's in order of cycle, and the totals of what they have on each link.
 #[derive(Debug, Drop)]
 pub struct Pages {
-    bridges: u8,
+    bridges: u16,
     cycles: u32,
     /// By bridge.
     posted: Vec<BridgePages>,
@@ -37,9 +37,9 @@ impl Model for Pages {
 }
 
 impl Pages {
-    /// No page yet, of so many bridges and cycles: up to 32 bridges and 100,000 cycles.
-    pub fn new(alloc: Global, bridges: u8, cycles: u32) -> Result<Pages, Memory>
-        requires few_bridges { bridges ≤ 32 }
+    /// No page yet, of so many bridges and cycles: up to 1,024 bridges and 100,000 cycles.
+    pub fn new(alloc: Global, bridges: u16, cycles: u32) -> Result<Pages, Memory>
+        requires few_bridges { bridges ≤ 1024 }
         requires few_cycles { cycles ≤ most_cycles }
         ensures { IfOk result (λ pages. pages ≡ record { bridges = bridges; cycles = cycles; pages = replicate bridges [] }) }
     {
@@ -111,7 +111,7 @@ impl Pages {
     }
 
     /// How many streams' frames the pages have on the link, and their octets. The sums are kept, and it takes no memory.
-    pub fn totals(&self, link: u8) -> Totals
+    pub fn totals(&self, link: u16) -> Totals
         ensures frames { result.frames ≡ frames_posted link self.now.pages }
         ensures octets { result.octets ≡ octets_posted link self.now.pages }
         ensures facts { ArePosted self.now }
@@ -120,14 +120,14 @@ impl Pages {
     }
 
     /// The bridge's page of the cycle, where it has posted it. It takes no memory.
-    pub fn page(&self, bridge: u8, cycle: Cycle) -> Option<&Page>
+    pub fn page(&self, bridge: u16, cycle: Cycle) -> Option<&Page>
         ensures { option_copied result ≡ page_at self.now bridge cycle.0 }
     {
         self.posted.get(usize::from(bridge))?.get(cycle.0 as usize)
     }
 
     /// How many bridges there are.
-    pub(crate) fn bridges(&self) -> u8
+    pub(crate) fn bridges(&self) -> u16
         ensures { result ≡ self.now.bridges }
     {
         self.bridges
@@ -142,7 +142,7 @@ impl Pages {
     }
 
     /// The bridge's pages, in order of cycle; none of a bridge that isn't one of the bridges.
-    pub(crate) fn of_bridge(&self, bridge: u8) -> &[Page]
+    pub(crate) fn of_bridge(&self, bridge: u16) -> &[Page]
         ensures { result.now ≡ pages_of self.now bridge }
     {
         match self.posted.get(usize::from(bridge)) {
@@ -178,7 +178,7 @@ fn copied_rows(alloc: Global, posted: &[BridgePages]) -> Result<Vec<BridgePages>
 }
 
 /// So many bridges, of which none has posted a page.
-fn no_pages(alloc: Global, bridges: u8) -> Result<Vec<BridgePages>, Memory>
+fn no_pages(alloc: Global, bridges: u16) -> Result<Vec<BridgePages>, Memory>
     ensures { IfOk result (λ posted. posted.items ≡ replicate bridges []) }
 {
     let mut posted = Vec::new(alloc);

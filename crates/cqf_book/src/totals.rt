@@ -13,22 +13,30 @@ pub struct Totals {
     pub octets: u128,
 }
 
-/// The totals of the links 0 to 255.
+/// The totals of each link, by its number.
 #[derive(Debug, Drop)]
 pub(crate) struct LinkTotals {
     frames: Vec<u128>,
     octets: Vec<u128>,
 }
 
+/// So many zeros.
+fn zeros(alloc: Global, count: usize) -> Result<Vec<u128>, Memory>
+    ensures { IfOk result (λ zeros. zeros.items ≡ replicate count 0) }
+{
+    let zeros = vec![in alloc; 0; count]?;
+    Ok(zeros)
+}
+
 impl LinkTotals {
     /// The totals of links that have sent nothing.
     pub(crate) fn new(alloc: Global) -> Result<LinkTotals, Memory>
-        ensures frames { IfOk result (λ totals. totals.frames.items ≡ replicate 256 0) }
-        ensures octets { IfOk result (λ totals. totals.octets.items ≡ replicate 256 0) }
+        ensures frames { IfOk result (λ totals. totals.frames.items ≡ replicate 65536 0) }
+        ensures octets { IfOk result (λ totals. totals.octets.items ≡ replicate 65536 0) }
     {
         Ok(LinkTotals {
-            frames: vec![in alloc; 0; 256]?,
-            octets: vec![in alloc; 0; 256]?,
+            frames: zeros(alloc, 65_536)?,
+            octets: zeros(alloc, 65_536)?,
         })
     }
 
@@ -44,9 +52,9 @@ impl LinkTotals {
     }
 
     /// The totals of the link.
-    pub(crate) fn at(&self, link: u8) -> Totals
-        requires frames { length self.now.frames.items ≡ 256 }
-        requires octets { length self.now.octets.items ≡ 256 }
+    pub(crate) fn at(&self, link: u16) -> Totals
+        requires frames { length self.now.frames.items ≡ 65536 }
+        requires octets { length self.now.octets.items ≡ 65536 }
         ensures frames { result.frames ≡ slice_index self.now.frames.items link }
         ensures octets { result.octets ≡ slice_index self.now.octets.items link }
     {
@@ -58,9 +66,9 @@ impl LinkTotals {
     }
 
     /// Adds a frame of so many octets on the link.
-    fn add_frame(&mut self, link: u8, octets: u32)
-        requires all_frames { length self.old.frames.items ≡ 256 }
-        requires all_octets { length self.old.octets.items ≡ 256 }
+    fn add_frame(&mut self, link: u16, octets: u32)
+        requires all_frames { length self.old.frames.items ≡ 65536 }
+        requires all_octets { length self.old.octets.items ≡ 65536 }
         requires frames { slice_index self.old.frames.items link + 1 < 2 ^ 128 }
         requires octets { slice_index self.old.octets.items link + 2 ^ 32 < 2 ^ 128 }
         ensures frames { self.new.frames.items ≡ slice_set self.old.frames.items link (slice_index self.old.frames.items link + 1) }

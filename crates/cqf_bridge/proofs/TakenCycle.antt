@@ -1,4 +1,5 @@
 -- Frames of a cycle that are taken one after the other.
+use Rattle.cqf_model.specs.Paces.{each_cycle}
 use Rattle.std.proofs.Common.{◌≡◌, ◌+◌, ◌*◌, ◌≤◌, ◌<◌, ℕ, Bool, true, false, List, [], ◌∷◌, ◌++◌, ◌∙◌, inl, inr, sym}
 use Rattle.std.proofs.Common.{ap, refl, arith, length, map, find, take, drop, get_or, Contains, Option, Some, None}
 use Rattle.std.proofs.Common.{subst, append-nil, append_assoc, ◌-◌, ◌/◌}
@@ -36,6 +37,7 @@ use Rattle.cqf_bridge_gates.specs.Gates.{AreKept, IsKeptGate, gate_or}
 use Rattle.cqf_bridge.specs.PortRecord.{PortRecord, with_frames}
 use Rattle.cqf_bridge.specs.Taking.{AreReady, HasPoliced, IsFaultByVerdict, IsFaultByPoliced, IsWaiting, MayBeTaken}
 use Rattle.cqf_bridge.specs.Taking.{TakesFrame, policed_by, taken_in_cycle, verdict_taken, with_verdict}
+use Rattle.cqf_admission.specs.Tables.{AreOfEachCycle}
 use Rattle.cqf_bridge.proofs.Behind.{counted_behind, verdict_behind}
 use Rattle.cqf_bridge.proofs.Taking.{frames_more, frames_none}
 
@@ -51,18 +53,18 @@ fresh_takes_none false taken none = refl
 -- a gate that was called before the cycle has taken nothing of it
 none_of : (d : Domain) (cycle : ℕ) → GateCountsCycles → 0 < d.cycle_time → (reserved t : ℕ) → cycle_of d t ≡ cycle → (o : Option KeptGate) →
     ((k : KeptGate) → o ≡ Some k → IsKeptGate d.cycle_time (cycle * d.cycle_time) k) → taken_at (gate_or d.cycle_time reserved o) t ≡ 0
-none_of d cycle counts some reserved t in_cycle None each = fresh_takes_none (same_interval (stream_list d.cycle_time reserved) 0 t) 0 refl
+none_of d cycle counts some reserved t in_cycle None each = fresh_takes_none (same_interval (stream_list d.cycle_time reserved each_cycle 0) 0 t) 0 refl
 none_of d cycle counts some reserved t in_cycle (Some k) each =
     let is = each k refl in
     let before : k.gate.last / d.cycle_time < cycle = cycle_below d.cycle_time k.gate.last cycle is.sooner in
     let apart : same_interval k.gate.entries k.gate.last t ≡ false =
-    ap (λ es. same_interval es k.gate.last t) is.entries ∙ counts d.cycle_time k.reserved k.gate.last t some
+    ap (λ es. same_interval es k.gate.last t) is.entries ∙ counts d.cycle_time k.reserved each_cycle 0 k.gate.last t some
     ∙ ne_eqb (cycle_of d k.gate.last) (cycle_of d t) (λ e. omega (arith, before, e, in_cycle)) in
     either (k.reserved == reserved) (ap (λ (b : Bool). if b then k.gate.taken else 0) apart)
   where
-    either : (b : Bool) → taken_at k.gate t ≡ 0 → taken_at (if b then k.gate else fresh (stream_list d.cycle_time reserved)) t ≡ 0
+    either : (b : Bool) → taken_at k.gate t ≡ 0 → taken_at (if b then k.gate else fresh (stream_list d.cycle_time reserved each_cycle 0)) t ≡ 0
     either true e = e
-    either false e = fresh_takes_none (same_interval (stream_list d.cycle_time reserved) 0 t) 0 refl
+    either false e = fresh_takes_none (same_interval (stream_list d.cycle_time reserved each_cycle 0) 0 t) 0 refl
 
 -- nor has the gate that a stream goes by
 none_taken_yet : (d : Domain) (cycle : ℕ) → GateCountsCycles → 0 < d.cycle_time → (gs : List KeptGate) → AreKept d.cycle_time (cycle * d.cycle_time) gs →
@@ -76,14 +78,14 @@ module _ (d : Domain) (rows : List Row) (bridge cycle : ℕ) (ports_before : Lis
   abbrev policed_next : List Policed → Received → Policed
   policed_next policed x = police d (replicate (cycle + 1) rows) bridge policed x
 
-  module _ (counts : GateCountsCycles) (some : 0 < d.cycle_time) (policed : List Policed) (x : Received) (gates : List KeptGate)
-      (ports : List PortRecord) (drops : List Dropped)
+  module _ (counts : GateCountsCycles) (some : 0 < d.cycle_time) (paced : AreOfEachCycle rows) (policed : List Policed) (x : Received)
+      (gates : List KeptGate) (ports : List PortRecord) (drops : List Dropped)
       (may : MayBeTaken d bridge cycle rows x) (kept : AreKept d.cycle_time (x.at + 1) gates)
       (h : HasPoliced d rows bridge cycle ports_before drops_before policed gates ports drops) where
     -- so the verdict is the one of the definitions
     pub same_verdict : verdict_taken d rows bridge cycle gates x ≡ (policed_next policed x).verdict
     same_verdict =
-        verdict_behind d (replicate (cycle + 1) rows) rows bridge cycle counts some (table_held cycle rows) policed x gates may.in_cycle kept h.counted
+        verdict_behind d (replicate (cycle + 1) rows) rows bridge cycle counts some paced (table_held cycle rows) policed x gates may.in_cycle kept h.counted
 
     module _ (gates_after : List KeptGate) (ports_after : List PortRecord) (drops_after : List Dropped)
         (takes : TakesFrame d rows bridge cycle x gates gates_after ports ports_after drops drops_after) where
@@ -93,7 +95,7 @@ module _ (d : Domain) (rows : List Row) (bridge cycle : ℕ) (ports_before : Lis
           let v = verdict_taken d rows bridge cycle gates x in
           let p = policed_next policed x in
           record {
-            counted = counted_behind d (replicate (cycle + 1) rows) rows bridge cycle counts some (table_held cycle rows) policed x gates
+            counted = counted_behind d (replicate (cycle + 1) rows) rows bridge cycle counts some paced (table_held cycle rows) policed x gates
                 may.in_cycle kept h.counted
                 gates_after takes.counted;
             queued =
@@ -175,7 +177,7 @@ pub record IsTaking (d : Domain) (rows : List Row) (bridge cycle : ℕ) (ports_b
   pub policed : HasPoliced d rows bridge cycle ports_before drops_before (policed_by d rows bridge cycle (take count frames)) gates ports drops
 
 module _ (d : Domain) (rows : List Row) (bridge cycle : ℕ) (ports_before : List PortRecord) (drops_before : List Dropped) (frames : List Received)
-    (counts : GateCountsCycles) (some : 0 < d.cycle_time) where
+    (counts : GateCountsCycles) (some : 0 < d.cycle_time) (paced : AreOfEachCycle rows) where
   -- at first none is
   pub taking_none : (gates : List KeptGate) → AreReady d cycle (cycle * d.cycle_time) gates ports_before →
       IsTaking d rows bridge cycle ports_before drops_before frames 0 gates ports_before drops_before
@@ -220,7 +222,7 @@ module _ (d : Domain) (rows : List Row) (bridge cycle : ℕ) (ports_before : Lis
         policed =
             subst (λ (ps : List Policed). HasPoliced d rows bridge cycle ports_before drops_before ps gates_after ports_after drops_after)
             (sym (ap (policed_by d rows bridge cycle) front_more ∙ police_more d (replicate (cycle + 1) rows) bridge [] (take count frames) (x ∷ [])))
-            (policed_more d rows bridge cycle ports_before drops_before counts some done x gates ports drops (may x among) next_ready.gates_before h.policed
+            (policed_more d rows bridge cycle ports_before drops_before counts some paced done x gates ports drops (may x among) next_ready.gates_before h.policed
             gates_after ports_after drops_after takes);
       }
 
@@ -242,7 +244,7 @@ module _ (d : Domain) (rows : List Row) (bridge cycle : ℕ) (ports_before : Lis
             over = p;
             there = ap (λ (ps : List Policed). slice_get ps (length done)) parts ∙ slice_get_behind done p rest (length done) refl;
             exceeds =
-                sym (same_verdict d rows bridge cycle ports_before drops_before counts some done x gates ports drops (may x among)
+                sym (same_verdict d rows bridge cycle ports_before drops_before counts some paced done x gates ports drops (may x among)
                 next_ready.gates_before h.policed)
                 ∙ stops.0;
             is_frame = stops.1;

@@ -1,4 +1,5 @@
 -- What becomes of a frame at a bridge, and what its stream's gate counts.
+use Rattle.cqf_model.specs.Paces.{each_cycle}
 use Rattle.std.proofs.Common.{◌≡◌, ◌≢◌, ◌+◌, ◌*◌, ◌≤◌, ◌<◌, ◌%◌, ◌⊎◌, ℕ, Bool, true, false, not, List, [], ◌∷◌, ◌++◌}
 use Rattle.std.proofs.Common.{◌∙◌, inl, inr, sym, ap, refl, arith, map, find, Contains, Option, Some, None}
 use Rattle.std.proofs.Common.{subst, append-nil}
@@ -20,14 +21,16 @@ use Rattle.cqf_model.specs.Network.{IsLoss, QueuedFrame, queued_by, queued_frame
 use Rattle.cqf_model.specs.GateList.{IsOpen}
 use Rattle.cqf_model.specs.Port.{PortRules}
 use Rattle.cqf_model.specs.StreamGate.{gate_class, place_at, same_interval, stream_list, within}
-use Rattle.cqf_model.specs.Table.{begins_at, goes_on, goes_to, is_live, row_named, row_of}
+use Rattle.cqf_model.specs.Table.{begins_at, depth_behind, goes_on, goes_to, is_live, row_named, row_of}
 use Rattle.cqf_model.specs.Traffic.{AtEdge as Offering, DroppedFor, ExceedsGate, LacksRow, Queued, Received, Relayed}
-use Rattle.cqf_model.specs.Traffic.{Verdict, Way, came_by, edge_verdict, inside_verdict, is_queued_of, verdict_by}
+use Rattle.cqf_model.specs.Traffic.{Verdict, Way, came_by, edge_verdict, gate_behind, inside_verdict, is_queued_of, verdict_by}
 use Rattle.cqf_units.specs.Timing.{cycle_at}
 use Rattle.cqf_gates.specs.StreamGate.{Gate, gate_after, lets_pass, octet_max_at, taken_at, taken_behind}
 use Rattle.cqf_gates.specs.declared.streams.Passed.TheVariants.{Class, OverOctets}
 use Rattle.cqf_laws_cycle.specs.Compiled.{GateCountsCycles, GateGivesClass}
 use Rattle.cqf_laws_cycle.specs.PortCycle.{QueuedFramesWait}
+use Rattle.cqf_model.specs.declared.topology.Pace.{Pace}
+use Rattle.cqf_model.proofs.EachCycle.{gate_same}
 use Rattle.cqf_admission.specs.Tables.{AreInOrder}
 use Rattle.cqf_bridge_gates.specs.declared.gates.KeptGate.{KeptGate}
 use Rattle.cqf_bridge_gates.specs.Gates.{AreKept, IsKeptGate, gate_in, gate_or, with_gate}
@@ -37,7 +40,7 @@ use Rattle.cqf_bridge.specs.Taking.{CanRecord, HasClass, IsWaiting, MayBeTaken, 
 use Rattle.cqf_bridge.specs.Taking.{class_in, passes_by, queue_on, taken_in_cycle, verdict_as, verdict_if}
 use Rattle.cqf_bridge.specs.Taking.{verdict_taken, with_verdict}
 use Rattle.cqf_bridge.proofs.PutGates.{gate_beside, gate_put, kept_cases}
-use Rattle.cqf_model.proofs.Reservations.{max_of_reservation, within_reservation}
+use Rattle.cqf_bridge_gates.proofs.EachCycle.{most_in_each_cycle, within_each_cycle}
 use Rattle.cqf_bridge.proofs.Taking.{frames_none, not_out_of_order}
 
 -- what a gate's word tells of it
@@ -52,12 +55,12 @@ word_over false m said = refl
 
 -- a gate of kept ones goes by its reservation's list
 kept_entries : (time until reserved : ℕ) (o : Option KeptGate) → ((k : KeptGate) → o ≡ Some k → IsKeptGate time until k) →
-    (gate_or time reserved o).entries ≡ stream_list time reserved
+    (gate_or time reserved o).entries ≡ stream_list time reserved each_cycle 0
 kept_entries time until reserved None each = refl
 kept_entries time until reserved (Some k) each = elim (cases_eq k.reserved reserved) [
   | inl same ↦
       ap (λ (b : Bool). (if b then k.gate else (gate_or time reserved None)).entries) (eq-eqb k.reserved reserved same)
-      ∙ (each k refl).entries ∙ ap (stream_list time) same
+      ∙ (each k refl).entries ∙ ap (λ (n : ℕ). stream_list time n each_cycle 0) same
   | inr other ↦ ap (λ (b : Bool). (if b then k.gate else (gate_or time reserved None)).entries) (ne_eqb k.reserved reserved other)
 ]
 
@@ -74,7 +77,7 @@ kept_last time until reserved (Some k) some each = elim (cases_eq k.reserved res
 
 -- the gate that a stream goes by has the list of its reservation
 pub gate_entries : (time until : ℕ) (gates : List KeptGate) (number reserved : ℕ) → AreKept time until gates →
-    (gate_in time gates number reserved).entries ≡ stream_list time reserved
+    (gate_in time gates number reserved).entries ≡ stream_list time reserved each_cycle 0
 gate_entries time until gates number reserved kept =
     kept_entries time until reserved (find (λ (k : KeptGate). k.number == number) gates)
     (λ k e. kept k (find_member (λ (g : KeptGate). g.number == number) gates k e).0)
@@ -86,26 +89,33 @@ gate_last time until gates number reserved some kept =
     kept_last time until reserved (find (λ (k : KeptGate). k.number == number) gates) some
     (λ k e. kept k (find_member (λ (g : KeptGate). g.number == number) gates k e).0)
 
+-- the gate of a stream that is offered in each cycle is one wherever its frames come from
+pub gate_there : (d : Domain) (row : Row) (way : Option ℕ) → row.pace ≡ each_cycle → stream_list d.cycle_time row.octets each_cycle 0 ≡ gate_behind d row way
+gate_there d row way paced =
+    let depth = depth_behind row way in
+    gate_same d.cycle_time row.octets 0 ∙ sym (gate_same d.cycle_time row.octets depth)
+    ∙ ap (λ (pace : Pace). stream_list d.cycle_time row.octets pace depth) (sym paced)
+
 -- what is added by a test
 added_if : (b : Bool) (taken octets : ℕ) → (if b then taken + octets else taken) ≡ taken + (if b then octets else 0)
 added_if true taken octets = refl
 added_if false taken octets = omega arith
 
 -- a gate counts a frame that it lets pass
-gate_counts : GateCountsCycles → (n reserved s octets t : ℕ) (gate : Gate) → 0 < n → gate.entries ≡ stream_list n reserved → cycle_at n s ≡ cycle_at n t →
+gate_counts : GateCountsCycles → (n reserved s octets t : ℕ) (gate : Gate) → 0 < n → gate.entries ≡ stream_list n reserved each_cycle 0 → cycle_at n s ≡ cycle_at n t →
     taken_at (gate_after gate s octets) t ≡ taken_at gate t + (if lets_pass gate s octets then octets else 0)
 gate_counts counts n reserved s octets t gate some entries same =
     let here : same_interval gate.entries s t ≡ true =
-    ap (λ es. same_interval es s t) entries ∙ counts n reserved s t some ∙ eq-eqb (cycle_at n s) (cycle_at n t) same in
-    let most : octet_max_at gate.entries s ≡ Some reserved = ap (λ es. octet_max_at es s) entries ∙ max_of_reservation n reserved s some in
+    ap (λ es. same_interval es s t) entries ∙ counts n reserved each_cycle 0 s t some ∙ eq-eqb (cycle_at n s) (cycle_at n t) same in
+    let most : octet_max_at gate.entries s ≡ Some reserved = ap (λ es. octet_max_at es s) entries ∙ most_in_each_cycle n reserved s some in
     let before : taken_at gate s ≡ taken_at gate t =
     ap (λ (b : Bool). if b then gate.taken else 0)
-    (ap (λ es. same_interval es gate.last s) entries ∙ counts n reserved gate.last s some
+    (ap (λ es. same_interval es gate.last s) entries ∙ counts n reserved each_cycle 0 gate.last s some
     ∙ ap (λ (c : ℕ). cycle_at n gate.last == c) same
-    ∙ sym (ap (λ es. same_interval es gate.last t) entries ∙ counts n reserved gate.last t some)) in
+    ∙ sym (ap (λ es. same_interval es gate.last t) entries ∙ counts n reserved each_cycle 0 gate.last t some)) in
     let passes : lets_pass gate s octets ≡ nat_le (taken_at gate s + octets) reserved =
     ap (λ es. option_map_or (λ (entry : StreamEntry). within entry.octet_max (taken_at gate s + octets)) (slice_get es (place_at es s)) false) entries
-    ∙ within_reservation n reserved s some (taken_at gate s + octets) in
+    ∙ within_each_cycle n reserved s some (taken_at gate s + octets) in
     ap (λ (b : Bool). if b then taken_behind (octet_max_at gate.entries s) (taken_at gate s) octets else 0) here
     ∙ ap (λ (o : Option ℕ). taken_behind o (taken_at gate s) octets) most
     ∙ added_if (nat_le (taken_at gate s + octets) reserved) (taken_at gate s) octets
@@ -194,12 +204,12 @@ module _ (d : Domain) (cycle : ℕ) (x : Received) (row : Row) (gates gates_afte
     }
 
 -- the class that a stream's frame gets is 6 or 7
-pub class_of_stream : GateGivesClass → (time reserved t : ℕ) → 0 < time →
-    (gate_class (stream_list time reserved) t ≡ 6) ⊎ (gate_class (stream_list time reserved) t ≡ 7)
-class_of_stream gives time reserved t some = either (cycle_at time t % 2 == 0) (gives time reserved t some)
+pub class_of_stream : GateGivesClass → (time reserved : ℕ) (pace : Pace) (depth t : ℕ) → 0 < time →
+    (gate_class (stream_list time reserved pace depth) t ≡ 6) ⊎ (gate_class (stream_list time reserved pace depth) t ≡ 7)
+class_of_stream gives time reserved pace depth t some = either (cycle_at time t % 2 == 0) (gives time reserved pace depth t some)
   where
-    either : (b : Bool) → gate_class (stream_list time reserved) t ≡ (if b then 6 else 7) →
-        (gate_class (stream_list time reserved) t ≡ 6) ⊎ (gate_class (stream_list time reserved) t ≡ 7)
+    either : (b : Bool) → gate_class (stream_list time reserved pace depth) t ≡ (if b then 6 else 7) →
+        (gate_class (stream_list time reserved pace depth) t ≡ 6) ⊎ (gate_class (stream_list time reserved pace depth) t ≡ 7)
     either true e = inl e
     either false e = inr e
 
@@ -225,7 +235,7 @@ module _ (d : Domain) (cycle : ℕ) (x : Received) (row : Row) (ports : List Por
         (subst (λ rules. IsOpen rules frame.arrival.class late.instant) (ap (λ (rules : PortRules). rules.entries) waiting.rules)
         (subst (λ (a : Arrival). IsOpen r.port.rules.entries a.class late.instant) is late.is_open)),
     not_out_of_order r.port arrival (λ b inside same.
-        let high : 6 ≤ b.class = (elim (class_of_stream gives d.cycle_time row.octets x.at (omega (arith, short))) [
+        let high : 6 ≤ b.class = (elim (class_of_stream gives d.cycle_time row.octets row.pace (depth_behind row (came_by x.way)) x.at (omega (arith, short))) [
           | inl six ↦ omega (arith, same, ap (λ (a : Arrival). a.class) is, six)
           | inr seven ↦ omega (arith, same, ap (λ (a : Arrival). a.class) is, seven)
         ]) in

@@ -13,10 +13,10 @@ use Rattle.cqf_model.specs.Book.{drop_by, drops_in}
 use Rattle.cqf_model.specs.Domain.{Domain, cycle_of}
 use Rattle.cqf_model.specs.Network.{IsLoss, queued_by, queued_to}
 use Rattle.cqf_model.specs.Run.{Run}
-use Rattle.cqf_model.specs.StreamGate.{gate_class, stream_list}
+use Rattle.cqf_model.specs.StreamGate.{gate_class}
 use Rattle.cqf_model.specs.Table.{goes_on, goes_to, row_of}
 use Rattle.cqf_model.specs.Traffic.{AtEdge as Offering, DroppedFor, ExceedsGate, LacksRow, Policed, Queued, Received}
-use Rattle.cqf_model.specs.Traffic.{Relayed, Verdict, Way, is_queued_of, offer_received, police, police_all}
+use Rattle.cqf_model.specs.Traffic.{Relayed, Verdict, Way, came_by, gate_behind, is_queued_of, offer_received, police, police_all}
 use Rattle.cqf_model.specs.Traffic.{sent_received, verdict_by}
 use Rattle.cqf_laws_cycle.specs.Gathered.{dropped_of}
 use Rattle.cqf_gates.specs.StreamGate.{lets_pass, taken_at}
@@ -100,7 +100,7 @@ verdict_if went row = if went then Queued row else ExceedsGate
 
 -- the class in which a frame of a row's stream waits, where its gate lets it pass
 abbrev pub class_in : Domain → Received → Row → ℕ
-class_in d x row = gate_class (stream_list d.cycle_time row.octets) x.at
+class_in d x row = gate_class (gate_behind d row (came_by x.way)) x.at
 
 -- a frame goes by the gate of a row's stream, which gives it a class, or none where it doesn't pass
 pub record PassesGate (d : Domain) (cycle : ℕ) (x : Received) (row : Row) (gates gates_after : List KeptGate) (class : Option ℕ) : Type 0 where

@@ -12,7 +12,7 @@ use std::marker::Model;
 /// frame is in it, since these end with their link (profile).
 #[derive(Debug, Drop)]
 pub struct Batch {
-    link: u8,
+    link: u16,
     cycle: Cycle,
     starts: Vec<Nanos>,
     frames: Vec<u32>,
@@ -40,7 +40,7 @@ fn at<T: Copy>(column: &[T], place: usize) -> T
 
 impl Batch {
     /// The batch of a link in a cycle, with no frame yet.
-    pub(crate) fn new(alloc: Global, link: u8, cycle: Cycle) -> Batch
+    pub(crate) fn new(alloc: Global, link: u16, cycle: Cycle) -> Batch
         ensures { result ≡ record { link = link; cycle = cycle.0; frames = [] } }
     {
         Batch {
@@ -71,7 +71,7 @@ impl Batch {
     }
 
     /// The number of the link.
-    pub fn link(&self) -> u8
+    pub fn link(&self) -> u16
         ensures { result ≡ self.now.link }
     {
         self.link

@@ -28,7 +28,7 @@ use std::marker::Model;
 #[derive(Debug, Drop)]
 pub struct Bridge {
     domain: Domain,
-    number: u8,
+    number: u16,
     /// How many cycles it has sent, and received.
     sent: u32,
     received: u32,
@@ -69,7 +69,7 @@ impl Model for Bridge {
 }
 
 /// The ports of the links that leave a bridge, by number of link.
-fn ports_from(alloc: Global, plan: &Plan, number: u8) -> Result<Vec<Outgoing>, Memory>
+fn ports_from(alloc: Global, plan: &Plan, number: u16) -> Result<Vec<Outgoing>, Memory>
     ensures { IfOk result (λ ports. ports.items ≡ (new_bridge plan.now number).ports) }
 {
     let mut ports = Vec::new(alloc);
@@ -83,7 +83,7 @@ fn ports_from(alloc: Global, plan: &Plan, number: u8) -> Result<Vec<Outgoing>, M
 
 impl Bridge {
     /// The bridge of this number of a plan's domain, before cycle 0. `Memory` where a growth is refused.
-    pub fn new(alloc: Global, plan: &Plan, number: u8) -> Result<Bridge, Memory>
+    pub fn new(alloc: Global, plan: &Plan, number: u16) -> Result<Bridge, Memory>
         requires { number < length plan.now.bridges }
         ensures { IfOk result (λ bridge. bridge ≡ new_bridge plan.now number) }
     {
@@ -108,7 +108,7 @@ impl Bridge {
     }
 
     /// The number of the bridge among the domain's.
-    pub fn number(&self) -> u8
+    pub fn number(&self) -> u16
         ensures { result ≡ self.now.number }
     {
         self.number
@@ -240,7 +240,7 @@ impl Bridge {
 
     /// The next start on the link at this place among those that leave the bridge, by number, from what it has sent on, if
     /// nothing more comes to it; with the link's number. None where none would come. It takes no memory.
-    pub fn next_start(&self, place: usize) -> Option<(Nanos, u8)>
+    pub fn next_start(&self, place: usize) -> Option<(Nanos, u16)>
         requires { place < length self.now.ports }
         ensures { IsNextAt self.now.ports place result }
     {

@@ -18,7 +18,7 @@ use cqf_topology::Domain;
 use cqf_units::{Cycle, Nanos, Octets};
 
 /// Whether a frame goes on by a hop from the way that it came, and the hop's link leaves the bridge.
-pub fn leads_by(domain: &Domain, hop: &Hop, way: Option<u8>, bridge: u8) -> bool
+pub fn leads_by(domain: &Domain, hop: &Hop, way: Option<u16>, bridge: u16) -> bool
     ensures { result ≡ (same_way hop.now.from way && leaves domain.now hop.now.link bridge) }
 {
     let same = match (hop.from, way) {
@@ -30,21 +30,21 @@ pub fn leads_by(domain: &Domain, hop: &Hop, way: Option<u8>, bridge: u8) -> bool
 }
 
 /// Whether a frame that came that way goes on by some of these hops from the bridge.
-fn lead_on(domain: &Domain, hops: &[Hop], way: Option<u8>, bridge: u8) -> bool
+fn lead_on(domain: &Domain, hops: &[Hop], way: Option<u16>, bridge: u16) -> bool
     ensures { result ≡ list_any (λ hop. same_way hop.from way && leaves domain.now hop.link bridge) hops.now }
 {
     hops.iter().any(|hop| leads_by(domain, hop, way, bridge))
 }
 
 /// Whether a frame that came that way goes on from the bridge.
-pub(crate) fn leads_on(domain: &Domain, row: &Row, way: Option<u8>, bridge: u8) -> bool
+pub(crate) fn leads_on(domain: &Domain, row: &Row, way: Option<u16>, bridge: u16) -> bool
     ensures { result ≡ goes_on domain.now row.now way bridge }
 {
     lead_on(domain, row.tree.as_slice(), way, bridge)
 }
 
 /// The instant at which a frame that a link sent is whole in the next node.
-pub(crate) fn whole_in(domain: &Domain, link: u8, sent: Sent) -> Nanos
+pub(crate) fn whole_in(domain: &Domain, link: u16, sent: Sent) -> Nanos
     requires inside { link < length domain.now.links }
     requires early { sent.start.0 < end_of_starts }
     ensures { result.0 ≡ whole_at domain.now link sent }
@@ -55,7 +55,7 @@ pub(crate) fn whole_in(domain: &Domain, link: u8, sent: Sent) -> Nanos
 }
 
 /// Whether a frame that a link sent is whole in the next node within the cycle.
-fn is_whole_within(domain: &Domain, cycle: Cycle, link: u8, sent: Sent) -> bool
+fn is_whole_within(domain: &Domain, cycle: Cycle, link: u16, sent: Sent) -> bool
     requires inside { link < length domain.now.links }
     requires early { cycle.0 < most_cycles }
     ensures { result ≡ (cycle_of domain.now (whole_at domain.now link sent) == cycle.0) }
@@ -67,7 +67,14 @@ fn is_whole_within(domain: &Domain, cycle: Cycle, link: u8, sent: Sent) -> bool
 }
 
 /// Whether a frame may come to a bridge by a link in a cycle.
-fn may_come(domain: &Domain, number: u8, cycle: Cycle, table: &Table, link: u8, sent: Sent) -> bool
+fn may_come(
+    domain: &Domain,
+    number: u16,
+    cycle: Cycle,
+    table: &Table,
+    link: u16,
+    sent: Sent,
+) -> bool
     requires inside { link < length domain.now.links }
     requires early { cycle.0 < most_cycles }
     ensures yes { result ≡ true → MayCome domain.now number cycle.0 table.now.rows link sent }
@@ -83,7 +90,7 @@ fn may_come(domain: &Domain, number: u8, cycle: Cycle, table: &Table, link: u8, 
 }
 
 /// Whether a batch is of the cycle, and each of its frames may come by its link.
-fn is_batch_of(domain: &Domain, number: u8, cycle: Cycle, table: &Table, batch: &Batch) -> bool
+fn is_batch_of(domain: &Domain, number: u16, cycle: Cycle, table: &Table, batch: &Batch) -> bool
     requires inside { batch.now.link < length domain.now.links }
     requires early { cycle.0 < most_cycles }
     ensures yes { result ≡ true → IsBatchOf domain.now number cycle.0 table.now.rows batch.now }
@@ -101,7 +108,7 @@ fn is_batch_of(domain: &Domain, number: u8, cycle: Cycle, table: &Table, batch: 
 }
 
 /// Whether a link ends in a bridge.
-fn ends_in(domain: &Domain, link: u8, bridge: u8) -> bool
+fn ends_in(domain: &Domain, link: u16, bridge: u16) -> bool
     requires { link < length domain.now.links }
     ensures { result ≡ enters domain.now link bridge }
 {
@@ -112,7 +119,7 @@ fn ends_in(domain: &Domain, link: u8, bridge: u8) -> bool
 }
 
 /// The links that end in a bridge, by number. It takes no memory.
-pub fn incoming_links(domain: &Domain, number: u8) -> ArrayVec<u8, 64>
+pub fn incoming_links(domain: &Domain, number: u16) -> ArrayVec<u16, 4096>
     ensures { result.items ≡ links_into domain.now number }
 {
     let mut links = ArrayVec::new();
@@ -127,7 +134,7 @@ pub fn incoming_links(domain: &Domain, number: u8) -> ArrayVec<u8, 64>
 }
 
 /// Whether batches are of these links, one for each, in this order.
-fn are_of_links(batches: &[Batch], links: &[u8]) -> bool
+fn are_of_links(batches: &[Batch], links: &[u16]) -> bool
     ensures yes { result ≡ true → map (λ (b : LinkBatch). b.link) batches.now ≡ links.now }
     ensures no { result ≡ false → ¬ (map (λ (b : LinkBatch). b.link) batches.now ≡ links.now) }
 {
@@ -146,7 +153,7 @@ fn are_of_links(batches: &[Batch], links: &[u8]) -> bool
 /// frames that may come.
 pub(crate) fn are_batches(
     domain: &Domain,
-    number: u8,
+    number: u16,
     cycle: Cycle,
     table: &Table,
     batches: &[Batch],

@@ -18,14 +18,14 @@ use std::alloc::Global;
 #[derive(Debug, Drop)]
 pub enum Came {
     /// By the link of this number, with the number of its stream.
-    ByLink(u8, u32),
+    ByLink(u16, u32),
     /// At the edge, with the name of the stream that it claims.
     AtEdge(Name),
 }
 
 impl Came {
     /// The link by which it came, none at the edge.
-    pub fn link(&self) -> Option<u8>
+    pub fn link(&self) -> Option<u16>
         ensures { result ≡ came_by (way_taken self.now) }
     {
         match self {
@@ -47,7 +47,7 @@ pub struct Incoming {
 impl Incoming {
     /// A frame that a link sent, as it comes to the bridge in which the link ends: it is whole there when its last octet has
     /// come, after the link's delay (profile). Its start is within the 1,000,000 longest cycles.
-    pub fn by_link(domain: &Domain, link: u8, sent: Sent) -> Incoming
+    pub fn by_link(domain: &Domain, link: u16, sent: Sent) -> Incoming
         requires inside { link < length domain.now.links }
         requires early { sent.start.0 < end_of_starts }
         ensures { received_as result ≡ sent_received domain.now link sent }

@@ -11,7 +11,7 @@ use cqf_units::{Cycle, Memory};
 use std::alloc::Global;
 
 /// Whether an offer is at the bridge in the cycle.
-fn is_offered(domain: &Domain, offer: &Offer, bridge: u8, cycle: Cycle) -> bool
+fn is_offered(domain: &Domain, offer: &Offer, bridge: u16, cycle: Cycle) -> bool
     ensures { result ≡ ((offer.now.bridge == bridge) && (cycle_of domain.now offer.now.at.0 == cycle.0)) }
 {
     let here = offer.bridge == bridge;
@@ -40,7 +40,7 @@ fn listed(
     alloc: Global,
     domain: &Domain,
     offers: &[Offer],
-    bridge: u8,
+    bridge: u16,
     cycle: Cycle,
 ) -> Result<Vec<Offered>, Memory>
     requires { length offers.now < 2 ^ 32 }
@@ -61,7 +61,7 @@ pub fn offers_of(
     alloc: Global,
     domain: &Domain,
     offers: &[Offer],
-    bridge: u8,
+    bridge: u16,
     cycle: Cycle,
 ) -> Result<Vec<Offered>, Memory>
     requires few { length offers.now < 2 ^ 32 }

@@ -19,7 +19,7 @@ use std::marker::Model;
 /// The port of an outgoing link. Beside the arrivals that it took stand their streams.
 #[derive(Debug, Drop)]
 pub(crate) struct Outgoing {
-    link: u8,
+    link: u16,
     port: Port,
     /// By arrival, the number of its stream; none for a background frame.
     streams: Vec<Option<u32>>,
@@ -38,7 +38,7 @@ impl Model for Outgoing {
 
 impl Outgoing {
     /// The port of a link, which has recorded nothing.
-    pub(crate) fn new(alloc: Global, plan: &Plan, link: u8) -> Outgoing
+    pub(crate) fn new(alloc: Global, plan: &Plan, link: u16) -> Outgoing
         requires { link < length plan.now.links }
         ensures { result ≡ new_record plan.now link }
     {
@@ -54,7 +54,7 @@ impl Outgoing {
     }
 
     /// The number of the link.
-    pub(crate) fn link(&self) -> u8
+    pub(crate) fn link(&self) -> u16
         ensures link { result ≡ self.now.link }
         ensures beside { length self.now.streams ≡ length self.now.port.arrivals }
         ensures facts { IsPort self.now.port }
@@ -112,7 +112,7 @@ impl Outgoing {
     }
 
     /// The next start of its port, and the link, if nothing more is recorded; none where none would come.
-    pub(crate) fn next_start(&self) -> Option<(Nanos, u8)>
+    pub(crate) fn next_start(&self) -> Option<(Nanos, u16)>
         ensures { IsNextStartOf self.now result }
     {
         match self.port.next_start() {

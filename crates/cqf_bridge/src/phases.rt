@@ -18,7 +18,7 @@ pub(crate) struct TransmitPhase<'d, 'b> {
 pub(crate) struct ReceivePhase<'d, 't> {
     pub(crate) domain: &'d Domain,
     /// The bridge's number among the domain's.
-    pub(crate) number: u8,
+    pub(crate) number: u16,
     pub(crate) cycle: Cycle,
     pub(crate) table: &'t Table,
 }

@@ -2,6 +2,7 @@
 ghost use Rattle.std.specs.Prelude.{◌≡◌, ◌+◌, Bool, IfOk, List, OnErr, Some};
 ghost use Rattle.cqf_model.specs.declared.topology.Row.{Row as ARow};
 ghost use Rattle.cqf_model.specs.Domain.{cycle_of};
+ghost use Rattle.cqf_model.specs.Paces.{each_cycle};
 ghost use Rattle.cqf_model.specs.Table.{table_of};
 ghost use Rattle.cqf_model.specs.Traffic.{AtEdge as Offering, Policed, Relayed, edge_verdict};
 ghost use Rattle.cqf_bridge_gates.specs.Gates.{AreKept, HaveCounted};
@@ -42,6 +43,7 @@ fn pass_gate(
 ) -> Result<Option<u8>, Memory>
     requires in_cycle { cycle_of domain.now frame.now.at.0 ≡ cycle.0 }
     requires kept { AreKept domain.now.cycle_time (frame.now.at.0 + 1) gates.old }
+    requires paced { row.now.pace ≡ each_cycle }
     ensures passes { IfOk result (λ class. PassesGate domain.now cycle.0 (received_as frame.now) row.now gates.old gates.new class) }
     ensures err { OnErr result (gates.new ≡ gates.old) }
 {
@@ -55,7 +57,7 @@ fn pass_gate(
 }
 
 /// Why an offer that names a row's stream is dropped, whatever its gate has left.
-fn refused(domain: &Domain, number: u8, cycle: Cycle, row: &Row) -> Option<Reason>
+fn refused(domain: &Domain, number: u16, cycle: Cycle, row: &Row) -> Option<Reason>
     ensures { (passes : ARow → Bool) → edge_verdict domain.now number cycle.0 passes (Some row.now) ≡ verdict_unless result (passes row.now) row.now }
 {
     if !row.live(cycle) {
@@ -81,7 +83,7 @@ fn police_offer<'a>(
         (received_as frame.now) gates.old gates.new outcome) }
     ensures err { OnErr result (gates.new ≡ gates.old) }
 {
-    // the table's rows stand in order of number: a fact
+    // the table's rows stand in order of number, and their streams are offered in each cycle: facts
     let _order = phase.table.rows();
     let Some(row) = phase.table.row_named(name) else {
         return Ok(Outcome::Dropped(Reason::Unknown));
@@ -99,7 +101,7 @@ fn police_offer<'a>(
 fn police_inside<'a>(
     phase: ReceivePhase<'_, 'a>,
     frame: &Incoming,
-    link: u8,
+    link: u16,
     stream: u32,
     gates: &mut StreamGates,
 ) -> Result<Outcome<'a>, Memory>
@@ -110,7 +112,7 @@ fn police_inside<'a>(
         (received_as frame.now) gates.old gates.new outcome) }
     ensures err { OnErr result (gates.new ≡ gates.old) }
 {
-    // the table's rows stand in order of number: a fact
+    // the table's rows stand in order of number, and their streams are offered in each cycle: facts
     let _order = phase.table.rows();
     let Some(row) = phase.table.row_of(stream) else {
         return Ok(Outcome::LacksRow);
@@ -129,7 +131,7 @@ fn police_inside<'a>(
 /// cycle, and no sooner than the frames before it. `Memory` where a growth is refused; then the gates have counted nothing.
 pub fn police<'a>(
     domain: &Domain,
-    number: u8,
+    number: u16,
     cycle: Cycle,
     table: &'a Table,
     frame: &Incoming,
@@ -144,8 +146,9 @@ pub fn police<'a>(
     ensures err { OnErr result (gates.new ≡ gates.old) }
 {
     gate_counts_cycles();
-    // the domain is accepted: a fact
+    // the domain is accepted, and the table's streams are offered in each cycle: facts
     let _time = domain.cycle_time();
+    let _paced = table.rows();
     let phase = ReceivePhase {
         domain,
         number,

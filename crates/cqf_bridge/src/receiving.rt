@@ -40,8 +40,9 @@ fn take_all(
         phase.entry.cycle.0 (map received_as frames.now)) fault) }
 {
     gate_counts_cycles();
-    // the domain is accepted: a fact
+    // the domain is accepted, and the table's streams are offered in each cycle: facts
     let _time = phase.domain.cycle_time();
+    let _paced = phase.table.rows();
     for frame in frames {
         match take_frame(phase, frame, gates, ports, drops) {
             Ok(()) => {}

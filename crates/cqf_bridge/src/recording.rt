@@ -25,7 +25,7 @@ use cqf_units::{Cycle, Memory};
 fn queue_one(
     port: &mut Outgoing,
     row: &Row,
-    way: Option<u8>,
+    way: Option<u16>,
     arrival: Arrival,
 ) -> Result<(), Memory>
     requires gate { arrival.class < 8 }
@@ -43,7 +43,7 @@ fn queue_one(
 fn queue_all(
     ports: &mut Vec<Outgoing>,
     row: &Row,
-    way: Option<u8>,
+    way: Option<u16>,
     arrival: Arrival,
 ) -> Result<(), Memory>
     requires gate { arrival.class < 8 }
@@ -87,7 +87,7 @@ fn queue_frame(
 
 /// Drops an offer.
 fn drop_offer(
-    number: u8,
+    number: u16,
     cycle: Cycle,
     frame: &Incoming,
     reason: Reason,

@@ -1,4 +1,5 @@
 -- Gates that are looked up by number, and what they count.
+use Rattle.cqf_model.specs.Paces.{each_cycle}
 use Rattle.std.proofs.Common.{◌≡◌, ◌<◌, ℕ, zero, suc, Bool, true, false, List, [], ◌∷◌, ◌++◌, ◌∙◌, sym, ap, refl, arith}
 use Rattle.std.proofs.Common.{length, map, find, get_or, position, Contains, Some, None}
 use Rattle.std.specs.Prelude.{◌==◌, if◌then◌else◌, is_some, slice_set}
@@ -71,9 +72,9 @@ not_found number gates is =
 
 -- a gate that was made for a reservation is the one that it goes by
 pub own_gate : (cycle_time number reserved : ℕ) →
-    gate_or cycle_time reserved (Some (record { number = number; reserved = reserved; gate = fresh (stream_list cycle_time reserved) }))
-    ≡ fresh (stream_list cycle_time reserved)
-own_gate cycle_time number reserved = same_either (reserved == reserved) (fresh (stream_list cycle_time reserved))
+    gate_or cycle_time reserved (Some (record { number = number; reserved = reserved; gate = fresh (stream_list cycle_time reserved each_cycle 0) }))
+    ≡ fresh (stream_list cycle_time reserved each_cycle 0)
+own_gate cycle_time number reserved = same_either (reserved == reserved) (fresh (stream_list cycle_time reserved each_cycle 0))
   where
     -- either way the same
     same_either : (b : Bool) (g : Gate) → (if b then g else g) ≡ g

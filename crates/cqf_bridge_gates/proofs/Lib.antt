@@ -1,3 +1,4 @@
+pub mod EachCycle
 mod GatePlaces
 mod KeptGates
 mod Reservations

@@ -2,6 +2,7 @@
 ghost use Rattle.std.specs.Prelude.{◌≡◌, ◌==◌, ◌<◌, ◌≤◌, if◌then◌else◌};
 ghost use Rattle.cqf_gates.specs.StreamGate.{fresh, gate_after, verdict_on};
 ghost use Rattle.cqf_laws_cycle.specs.Compiled.{given_class};
+ghost use Rattle.cqf_model.specs.Paces.{each_cycle};
 ghost use Rattle.cqf_model.specs.StreamGate.{stream_list};
 
 use cqf_gates::Passed;
@@ -33,12 +34,13 @@ pub(crate) struct CycleGate {
 impl Model for CycleGate {
     ghost use Rattle.std.specs.Prelude.{◌≡◌, ◌<◌};
     ghost use Rattle.cqf_units.specs.Timing.{cycle_at};
+    ghost use Rattle.cqf_model.specs.Paces.{each_cycle};
     ghost use Rattle.cqf_model.specs.StreamGate.{stream_list};
     ghost use Rattle.cqf_gates.specs.StreamGate.{Gate};
 
     ghost Value = { Gate };
 
-    ghost view = { λ g. record { entries = stream_list g.cycle_time.0 g.reserved.0; last = g.last.0; taken = g.taken } };
+    ghost view = { λ g. record { entries = stream_list g.cycle_time.0 g.reserved.0 each_cycle 0; last = g.last.0; taken = g.taken } };
 
     ghost invariant = { λ g. (0 < g.cycle_time.0) × (g.cycle ≡ cycle_at g.cycle_time.0 g.last.0) };
 }
@@ -65,7 +67,7 @@ impl CycleGate {
     /// A gate that has seen no frame, for a cycle time in nanoseconds and a reservation in octets a cycle.
     pub(crate) fn new(cycle_time: Nanos, reserved: Octets) -> CycleGate
         requires { 0 < cycle_time.0 }
-        ensures { result ≡ fresh (stream_list cycle_time.0 reserved.0) }
+        ensures { result ≡ fresh (stream_list cycle_time.0 reserved.0 each_cycle 0) }
     {
         CycleGate {
             cycle_time,

@@ -1,6 +1,7 @@
 //! The gates, looked up by the numbers of their streams.
 ghost use Rattle.std.specs.Prelude.{◌≡◌, ◌==◌, ◌≤◌, ◌++◌, ◌∷◌, [], IfOk, None, OnErr, OnOk, Some, position};
 ghost use Rattle.cqf_gates.specs.StreamGate.{fresh, gate_after, verdict_on};
+ghost use Rattle.cqf_model.specs.Paces.{each_cycle};
 ghost use Rattle.cqf_model.specs.StreamGate.{stream_list};
 ghost use Rattle.cqf_bridge_gates.specs.Gates.{gate_in, gate_or, with_gate};
 ghost use Rattle.cqf_bridge_gates.specs.declared.gates.KeptGate.{KeptGate as Kept};
@@ -24,7 +25,7 @@ pub(crate) struct KeptGate {
 
 /// The gate of a row's reservation that has seen no frame: it counts what the gate that is compiled for the row counts.
 fn gate_of(domain: &Domain, row: &Row) -> CycleGate
-    ensures { result ≡ fresh (stream_list domain.now.cycle_time row.now.octets) }
+    ensures { result ≡ fresh (stream_list domain.now.cycle_time row.now.octets each_cycle 0) }
 {
     CycleGate::new(domain.cycle_time(), Octets(row.octets))
 }
@@ -35,7 +36,7 @@ impl KeptGate {
         ensures { result ≡ record {
           number = row.now.no;
           reserved = row.now.octets;
-          gate = fresh (stream_list domain.now.cycle_time row.now.octets);
+          gate = fresh (stream_list domain.now.cycle_time row.now.octets each_cycle 0);
         } }
     {
         KeptGate {

@@ -36,7 +36,7 @@ impl Agenda {
         domain: &Domain,
         offers: &[Offer],
         background: &[Background],
-        bridge: u8,
+        bridge: u16,
     ) -> Result<Agenda, Memory>
         requires few_offers { length offers.now < 2 ^ 32 }
         requires few_background { length background.now < 2 ^ 32 }

@@ -16,7 +16,7 @@ use cqf_units::{Cycle, Memory};
 use std::alloc::Global;
 
 /// A frame that a link sent, as a page has it.
-fn as_started(cycle: Cycle, link: u8, sent: Sent) -> Started
+fn as_started(cycle: Cycle, link: u16, sent: Sent) -> Started
     ensures { result ≡ started cycle.0 link sent }
 {
     Started {

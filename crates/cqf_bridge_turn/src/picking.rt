@@ -14,7 +14,7 @@ use cqf_units::Memory;
 use std::alloc::Global;
 
 /// The offers at a bridge, as they are listed.
-fn listed_offers(alloc: Global, offers: &[Offer], bridge: u8) -> Result<Vec<Offered>, Memory>
+fn listed_offers(alloc: Global, offers: &[Offer], bridge: u16) -> Result<Vec<Offered>, Memory>
     requires { length offers.now < 2 ^ 32 }
     ensures { IfOk result (λ list. list.items ≡ filter (is_offered_to bridge) (numbered offers.now)) }
 {
@@ -31,7 +31,7 @@ fn listed_offers(alloc: Global, offers: &[Offer], bridge: u8) -> Result<Vec<Offe
 pub(crate) fn offers_in_order(
     alloc: Global,
     offers: &[Offer],
-    bridge: u8,
+    bridge: u16,
 ) -> Result<Vec<Offered>, Memory>
     requires { length offers.now < 2 ^ 32 }
     ensures { IfOk result (λ list. IsInOrderOf instant_of_offer (filter (is_offered_to bridge) (numbered offers.now)) list.items) }
@@ -42,7 +42,7 @@ pub(crate) fn offers_in_order(
 }
 
 /// Whether the domain has the link, and it leaves the bridge.
-fn is_from(domain: &Domain, link: u8, bridge: u8) -> bool
+fn is_from(domain: &Domain, link: u16, bridge: u16) -> bool
     ensures { result ≡ leaves domain.now link bridge }
 {
     if link >= domain.links() {
@@ -67,7 +67,7 @@ fn listed_background(
     alloc: Global,
     domain: &Domain,
     background: &[Background],
-    bridge: u8,
+    bridge: u16,
 ) -> Result<Vec<Backed>, Memory>
     requires { length background.now < 2 ^ 32 }
     ensures { IfOk result (λ list. list.items ≡ filter (is_backed_from domain.now bridge) (numbered_background background.now)) }
@@ -86,7 +86,7 @@ pub(crate) fn background_in_order(
     alloc: Global,
     domain: &Domain,
     background: &[Background],
-    bridge: u8,
+    bridge: u16,
 ) -> Result<Vec<Backed>, Memory>
     requires { length background.now < 2 ^ 32 }
     ensures { IfOk result (λ list.

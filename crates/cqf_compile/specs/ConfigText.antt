@@ -1,4 +1,5 @@
 -- The configuration of a domain and its streams, as a text (profile).
+use Rattle.cqf_model.specs.Paces.{each_cycle}
 use Rattle.std.specs.Prelude.{ℕ, List, [], ◌∷◌, ◌++◌, codes, slice_index_or}
 use Rattle.std.specs.Fmt.{decimal}
 use Rattle.std.specs.List.{flat_map}
@@ -30,7 +31,7 @@ abbrev pub line_at : Domain → Row → ℕ → List ℕ
 line_at d row bridge = codes "stream " ++ decimal row.no ++ codes " " ++ row.name ++ codes " bridge " ++ name_of d (Bridge bridge)
 
 abbrev pub text_at : Domain → Row → ℕ → List ℕ
-text_at d row bridge = line_at d row bridge ++ 10 ∷ text_of_stream_entries (stream_list d.cycle_time row.octets)
+text_at d row bridge = line_at d row bridge ++ 10 ∷ text_of_stream_entries (stream_list d.cycle_time row.octets each_cycle 0)
 
 -- a stream at each bridge of its tree: each once, in the order in which the tree leaves them
 abbrev pub text_of_row : Domain → Row → List ℕ

@@ -28,7 +28,7 @@ fn name_of_node(domain: &Domain, node: Node) -> &Name
 }
 
 /// The link's line, and the gate list of its port.
-fn link_text(alloc: Global, plan: &Plan, link: u8) -> Result<Vec<u8>, Memory>
+fn link_text(alloc: Global, plan: &Plan, link: u16) -> Result<Vec<u8>, Memory>
     requires { link < length plan.now.links }
     ensures { IfOk result (λ text. option_map (text_of_link plan.now) (slice_get plan.now.links link) ≡ Some text.items) }
 {
@@ -45,7 +45,7 @@ fn link_text(alloc: Global, plan: &Plan, link: u8) -> Result<Vec<u8>, Memory>
 
 /// The bridges at which the stream has a gate: each once, in the order in which its tree leaves them. Its tree goes along links of
 /// the plan's domain.
-pub fn bridges_of(plan: &Plan, row: &Row) -> ArrayVec<u8, 64>
+pub fn bridges_of(plan: &Plan, row: &Row) -> ArrayVec<u16, 200>
     requires { All (λ l. l < length plan.now.links) (links_of row.now) }
     ensures value { result.items ≡ bridges_of plan.now row.now }
     ensures inside { All (λ bridge. bridge < length plan.now.bridges) result.items }
@@ -62,14 +62,14 @@ pub fn bridges_of(plan: &Plan, row: &Row) -> ArrayVec<u8, 64>
 }
 
 /// Whether a bridge is among some.
-fn is_among(bridges: &[u8], bridge: u8) -> bool
+fn is_among(bridges: &[u16], bridge: u16) -> bool
     ensures { result ≡ list_any (λ other. other == bridge) bridges.now }
 {
     bridges.iter().any(|other| *other == bridge)
 }
 
 /// The line of the stream at the bridge.
-fn line_at(alloc: Global, plan: &Plan, row: &Row, bridge: u8) -> Result<String, Memory>
+fn line_at(alloc: Global, plan: &Plan, row: &Row, bridge: u16) -> Result<String, Memory>
     requires { bridge < length plan.now.bridges }
     ensures { IfOk result (λ line. string_bytes line ≡ line_at plan.now row.now bridge ++ 10 ∷ []) }
 {

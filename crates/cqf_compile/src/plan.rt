@@ -41,7 +41,7 @@ impl Plan {
 
     /// The gate list of the link's port: class 7 is open in even cycles, class 6 in odd ones, classes 0 to 5 in both, and
     /// no class is in the guard time, which ends each cycle (IEEE 802.1Q, Annex T; the guard time and the classes: profile).
-    pub fn list(&self, link: u8) -> &TxList
+    pub fn list(&self, link: u16) -> &TxList
         requires { link < length self.now.links }
         ensures { result.now ≡ compiled_lists self.now link }
     {

@@ -1,13 +1,20 @@
 //! Whether two domains are the same.
 ghost use Rattle.std.specs.Prelude.{◌≡◌, ◌↔◌, true};
 
-use cqf_model::Link;
+use cqf_model::{Limits, Link};
 use cqf_topology::Domain;
 use cqf_units::Name;
 
 /// Whether two names are the same.
 fn is_same_name(one: &Name, other: &Name) -> bool
     ensures { (result ≡ true) ↔ (one.now ≡ other.now) }
+{
+    one == other
+}
+
+/// Whether two plants may have the same at most.
+fn are_same_limits(one: Limits, other: Limits) -> bool
+    ensures { (result ≡ true) ↔ (one ≡ other) }
 {
     one == other
 }
@@ -64,10 +71,13 @@ fn have_same_links(one: &Domain, other: &Domain) -> bool
     true
 }
 
-/// Whether two domains have the same times, nodes and links.
+/// Whether two domains have the same limits, times, nodes and links.
 pub(crate) fn is_same_domain(one: &Domain, other: &Domain) -> bool
     ensures { (result ≡ true) ↔ (one.now ≡ other.now) }
 {
+    if !are_same_limits(one.limits(), other.limits()) {
+        return false;
+    }
     if one.cycle_time().0 != other.cycle_time().0 {
         return false;
     }

@@ -116,6 +116,9 @@ fn is_same_row(one: &Row, other: &Row) -> bool
     if one.no != other.no || one.octets != other.octets {
         return false;
     }
+    if one.pace != other.pace {
+        return false;
+    }
     if !are_same_bytes(one.name.as_bytes(), other.name.as_bytes()) {
         return false;
     }

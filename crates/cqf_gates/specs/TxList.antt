@@ -1,5 +1,5 @@
 -- What a transmission gate control list holds, and what it is made of.
-use Rattle.std.specs.Prelude.{ℕ, IsBitSet, slice_index_or, ◌≡◌, ◌≤◌, ◌<◌, ◌==◌, List, if◌then◌else◌, nat_lt, All, length, Result, Ok, Err}
+use Rattle.std.specs.Prelude.{ℕ, ◌≡◌, ◌≤◌, ◌<◌, ◌==◌, List, if◌then◌else◌, nat_lt, All, length, Result, Ok, Err}
 use Rattle.std.specs.List.{list_any}
 use Rattle.cqf_model.specs.GateList.{Entry, states_at}
 use Rattle.cqf_gates.specs.declared.faults.ListFault.{ListFault}

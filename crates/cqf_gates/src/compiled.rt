@@ -2,6 +2,7 @@
 //! the octet maximum: profile).
 ghost use Rattle.std.specs.Prelude.{◌≡◌, ◌^◌, ◌<◌};
 ghost use Rattle.cqf_model.specs.GateList.{port_list};
+ghost use Rattle.cqf_model.specs.Paces.{each_cycle};
 ghost use Rattle.cqf_model.specs.StreamGate.{stream_list};
 
 use crate::{StreamEntry, StreamList, TxList};
@@ -45,13 +46,13 @@ pub fn compiled_list(cycle_time: Nanos, guard: Nanos) -> TxList
     }
 }
 
-/// The gate list of a stream at each bridge that it passes, for a cycle time in nanoseconds and a reservation in octets a
-/// cycle: its frames get class 6 in even cycles and class 7 in odd ones, and in each cycle as many octets pass as are
+/// The gate list of a stream that is offered in each cycle, at each bridge that it passes, for a cycle time in nanoseconds and
+/// a reservation in octets a cycle: its frames get class 6 in even cycles and class 7 in odd ones, and in each cycle as many octets pass as are
 /// reserved (IEEE 802.1Q, Annex T; the classes and the octet maximum: profile).
 pub fn gate_of_reservation(cycle_time: Nanos, reserved: Octets) -> StreamList
     requires short { cycle_time.0 < 2 ^ 32 }
     requires some { 0 < cycle_time.0 }
-    ensures { result ≡ stream_list cycle_time.0 reserved.0 }
+    ensures { result ≡ stream_list cycle_time.0 reserved.0 each_cycle 0 }
 {
     let interval = cycle_time.0 as u32;
     let entry = |ipv: u8| StreamEntry {

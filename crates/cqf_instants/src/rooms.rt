@@ -22,7 +22,7 @@ fn frames_in(link: &Link, cycle_time: u32, guard: u32) -> usize
 /// How many have room in the budgets of all links together.
 pub(crate) fn frames_in_all(links: &[Link], cycle_time: u32, guard: u32) -> usize
     requires forth { guard ≤ cycle_time }
-    requires few { length links.now ≤ 64 }
+    requires few { length links.now ≤ 4096 }
     ensures { result ≡ sum_below (frames_at links.now cycle_time guard) (length links.now) }
 {
     let mut frames = 0;

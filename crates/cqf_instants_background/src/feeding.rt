@@ -43,7 +43,7 @@ fn arrival_of_frame(frame: &Backed) -> Arrival
 }
 
 /// An empty list for each of so many links.
-fn no_arrivals(alloc: Global, links: u8) -> Result<Vec<Vec<Arrival>>, Memory>
+fn no_arrivals(alloc: Global, links: u16) -> Result<Vec<Vec<Arrival>>, Memory>
     ensures { IfOk result (λ lists. AreFed [] [] links (lists_of lists.items)) }
 {
     let mut lists = Vec::with_capacity(alloc, usize::from(links))?;
@@ -54,7 +54,7 @@ fn no_arrivals(alloc: Global, links: u8) -> Result<Vec<Vec<Arrival>>, Memory>
 }
 
 /// Puts an arrival behind those of a link.
-fn put_arrival(lists: &mut Vec<Vec<Arrival>>, link: u8, arrival: Arrival) -> Result<(), Memory>
+fn put_arrival(lists: &mut Vec<Vec<Arrival>>, link: u16, arrival: Arrival) -> Result<(), Memory>
     requires { link < length lists.old.items }
     ensures { OnOk result (AddsTo (lists_of lists.old.items) (lists_of lists.new.items) link arrival) }
 {
@@ -63,7 +63,7 @@ fn put_arrival(lists: &mut Vec<Vec<Arrival>>, link: u8, arrival: Arrival) -> Res
 }
 
 /// The background frames, link by link.
-fn feed_frames(alloc: Global, links: u8, frames: &[Backed]) -> Result<Vec<Vec<Arrival>>, Memory>
+fn feed_frames(alloc: Global, links: u16, frames: &[Backed]) -> Result<Vec<Vec<Arrival>>, Memory>
     requires { All (λ x. x.background.link < links) frames.now }
     ensures { IfOk result (λ lists. AreFed frames.now [] links (lists_of lists.items)) }
 {
@@ -90,7 +90,7 @@ fn put_start(lists: &mut Vec<Vec<Arrival>>, start: &Started) -> Result<(), Memor
 /// from the instant on at which it starts.
 pub(crate) fn feed_links(
     alloc: Global,
-    links: u8,
+    links: u16,
     frames: &[Backed],
     starts: &[Started],
 ) -> Result<Vec<Vec<Arrival>>, Memory>

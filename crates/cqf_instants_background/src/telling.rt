@@ -23,7 +23,7 @@ fn is_low(start: &Start) -> bool
 }
 
 /// The start of a background frame as a book has it.
-fn told(start: &Start, link: u8, cycle_time: Nanos) -> Started
+fn told(start: &Start, link: u16, cycle_time: Nanos) -> Started
     requires lasting { 0 < cycle_time.0 }
     requires fits { cycle_at cycle_time.0 start.now.start.0 < 2 ^ 32 }
     ensures { result ≡ told cycle_time.0 link start.now }
@@ -40,7 +40,7 @@ fn told(start: &Start, link: u8, cycle_time: Nanos) -> Started
 /// Puts the starts of background frames behind others, each as a book has it.
 fn tell_starts(
     made: &[Start],
-    link: u8,
+    link: u16,
     cycle_time: Nanos,
     starts: &mut Vec<Started>,
 ) -> Result<(), Memory>
@@ -60,7 +60,7 @@ fn tell_starts(
 fn starts_of_port(
     alloc: Global,
     domain: &Domain,
-    link: u8,
+    link: u16,
     end: Nanos,
     arrivals: Vec<Arrival>,
 ) -> Result<Vec<Start>, Memory>
@@ -80,7 +80,7 @@ fn starts_of_port(
 fn tell_link(
     alloc: Global,
     domain: &Domain,
-    link: u8,
+    link: u16,
     end: Nanos,
     arrivals: Vec<Arrival>,
     starts: &mut Vec<Started>,
@@ -105,7 +105,7 @@ pub(crate) fn tell_links(
     lists: Vec<Vec<Arrival>>,
 ) -> Result<Vec<Started>, Memory>
     requires one_each { length lists.items ≡ length domain.now.links }
-    requires few { length lists.items ≤ 64 }
+    requires few { length lists.items ≤ 4096 }
     requires early { end.0 < 2 ^ 62 }
     requires fits { cycle_at domain.now.cycle_time end.0 < 2 ^ 32 }
     requires taken { (l : ℕ) → l < length lists.items → AreTaken (slice_index_or (lists_of lists.items) l []) }

@@ -100,7 +100,7 @@ module _ (tree : List Hop) (way : Option ℕ) (before after : List Branch) (many
   short = omega (arith, lays.count, filter_short (λ (hop : Hop). same_way hop.from way) tree)
 
 -- nothing is laid yet
-pub none_behind : (tree : List Hop) (before : List Branch) (groups : List Group) → length groups ≡ 64 → AreBehind tree before before 0 groups
+pub none_behind : (tree : List Hop) (before : List Branch) (groups : List Group) → length groups ≡ 4096 → AreBehind tree before before 0 groups
 none_behind tree before groups count = record {
   count = count;
   longer = omega arith;
@@ -113,7 +113,7 @@ none_behind tree before groups count = record {
 
 -- one hop more has its group
 pub behind_more : (tree : List Hop) (before now after : List Branch) (k : ℕ) (hop : Hop) (many : ℕ) (groups : List Group) →
-    length tree ≤ 64 → hop.link < 64 → slice_get tree k ≡ Some hop → AreBehind tree before now k groups → LaysGroup tree (Some hop.link) now after many →
+    length tree ≤ 200 → hop.link < 4096 → slice_get tree k ≡ Some hop → AreBehind tree before now k groups → LaysGroup tree (Some hop.link) now after many →
     AreBehind tree before after (k + 1) (slice_set groups hop.link (record { first = length now; many = many }))
 behind_more tree before now after k hop many groups few low at b lays =
     let new : Group = record { first = length now; many = many } in
@@ -156,15 +156,15 @@ hop_of tree h b own =
     let found = any_member (λ (hop : Hop). hop.link == b.link) tree own in
     (found.0, found.1, eqb-true found.0.link b.link found.2)
 
-low_link : (tree : List Hop) (h : ℕ) (b : Branch) → All (λ (hop : Hop). hop.link < 64) tree → is_of_tree tree h b → b.link < 64
+low_link : (tree : List Hop) (h : ℕ) (b : Branch) → All (λ (hop : Hop). hop.link < 4096) tree → is_of_tree tree h b → b.link < 4096
 low_link tree h b low own =
     let found = hop_of tree h b own in
     let place = place_of_member tree found.0 found.1 in
     let here = get_or_from_slice_get tree place.0 found.0 no_hop place.1 in
     omega (arith, low place.0 no_hop (slice_get_within tree place.0 found.0 place.1), ap (λ (x : Hop). x.link) here, found.2)
 
-module _ (tree : List Hop) (before one two : List Branch) (many : ℕ) (groups : List Group) (few : length tree ≤ 64)
-    (low : All (λ (hop : Hop). hop.link < 64) tree) (lays : LaysGroup tree None before one many) (b : AreBehind tree one two (length tree) groups) where
+module _ (tree : List Hop) (before one two : List Branch) (many : ℕ) (groups : List Group) (few : length tree ≤ 200)
+    (low : All (λ (hop : Hop). hop.link < 4096) tree) (lays : LaysGroup tree None before one many) (b : AreBehind tree one two (length tree) groups) where
   front_two : (h : ℕ) → h < length one → branch_at two h ≡ branch_at one h
   front_two h inside = sym (get_or-take (length one) two h no_branch inside) ∙ ap (λ (xs : List Branch). get_or xs h no_branch) b.front
 

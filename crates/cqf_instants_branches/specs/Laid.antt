@@ -24,17 +24,17 @@ is_of_tree tree h branch = list_any (λ (hop : Hop). hop.link == branch.link) tr
 
 -- behind branches that stood there were laid, for each of the first so many hops of a tree, those that follow it
 pub record AreBehind (tree : List Hop) (before after : List Branch) (many : ℕ) (groups : List Group) : Type 0 where
-  pub count : length groups ≡ 64
+  pub count : length groups ≡ 4096
   pub longer : length before ≤ length after
-  pub short : length after ≤ length before + 64 * many
+  pub short : length after ≤ length before + 200 * many
   pub front : take (length before) after ≡ before
   pub each : (k : ℕ) (hop : Hop) → k < many → slice_get tree k ≡ Some hop → StandBehind tree (Some hop.link) after (group_at groups hop.link)
   pub beyond : (k : ℕ) (hop : Hop) → k < many → slice_get tree k ≡ Some hop → length before ≤ (group_at groups hop.link).first
   pub own : (h : ℕ) → length before ≤ h → h < length after → is_of_tree tree h (branch_at after h)
 
--- from a place on links have numbers below 64
+-- from a place on links have numbers below 4096
 abbrev pub HaveLinks : List Branch → ℕ → Type 0
-HaveLinks branches from = (h : ℕ) → from ≤ h → h < length branches → (branch_at branches h).link < 64
+HaveLinks branches from = (h : ℕ) → from ≤ h → h < length branches → (branch_at branches h).link < 4096
 
 -- the branches from a place up to another lead to the group of their link, and all else is as it was
 pub record AreTied (before after : List Branch) (from to : ℕ) (groups : List Group) : Type 0 where
@@ -52,7 +52,7 @@ behind_at branches h = let branch = branch_at branches h in record { first = bra
 -- follow its link, which are of it too
 pub record IsLaidBranch (tree : List Hop) (before after : List Branch) (edge : Group) : Type 0 where
   pub longer : length before ≤ length after
-  pub short : length after ≤ length before + 4160
+  pub short : length after ≤ length before + 40200
   pub front : (h : ℕ) → h < length before → branch_at after h ≡ branch_at before h
   pub begins : StandBehind tree None after edge
   pub from : length before ≤ edge.first

@@ -1,5 +1,5 @@
 //! A tree's hops, laid group by group.
-ghost use Rattle.std.specs.Prelude.{◌≡◌, ◌+◌, ◌<◌, ◌≤◌, ◌^◌, All, IfOk, OnOk, length};
+ghost use Rattle.std.specs.Prelude.{◌≡◌, ◌+◌, ◌<◌, ◌≤◌, ◌^◌, All, IfOk, length};
 ghost use Rattle.cqf_instants_branches.specs.Laid.{AreBehind, AreTied, HaveLinks, IsLaidBranch};
 
 use cqf_instants::{Branch, lay_group};
@@ -13,27 +13,31 @@ pub struct Group {
     pub many: u32,
 }
 
-/// Lays for each hop of a tree those that follow it, and gives by link where they stand.
-fn lay_groups(tree: &[Hop], branches: &mut Vec<Branch>) -> Result<[Group; 64], Memory>
-    requires few { length tree.now ≤ 64 }
-    requires links { All (λ hop. hop.link < 64) tree.now }
-    requires room { length branches.old.items + 4160 < 2 ^ 32 }
-    ensures { IfOk result (λ groups. AreBehind tree.now branches.old.items branches.new.items (length tree.now) groups) }
+/// Lays for each hop of a tree those that follow it, and notes by link where they stand.
+fn lay_groups(
+    tree: &[Hop],
+    groups: &mut Vec<Group>,
+    branches: &mut Vec<Branch>,
+) -> Result<(), Memory>
+    requires few { length tree.now ≤ 200 }
+    requires links { All (λ hop. hop.link < 4096) tree.now }
+    requires places { length groups.old.items ≡ 4096 }
+    requires room { length branches.old.items + 40200 < 2 ^ 32 }
+    ensures { IfOk result (λ _. AreBehind tree.now branches.old.items branches.new.items (length tree.now) groups.new.items) }
 {
-    let mut groups = [Group { first: 0, many: 0 }; 64];
     for hop in tree {
         let first = branches.len() as u32;
         let many = lay_group(tree, Some(hop.link), branches)?;
         groups[usize::from(hop.link)] = Group { first, many };
     }
-    Ok(groups)
+    Ok(())
 }
 
 /// Ties each branch from a place on to those that follow its link.
-fn tie(branches: &mut Vec<Branch>, from: usize, groups: &[Group; 64])
+fn tie(branches: &mut Vec<Branch>, from: usize, groups: &[Group])
     requires within { from ≤ length branches.old.items }
     requires links { HaveLinks branches.old.items from }
-    requires few { length groups.now ≡ 64 }
+    requires few { length groups.now ≡ 4096 }
     ensures { AreTied branches.old.items branches.new.items from (length branches.old.items) groups.now }
 {
     for place in from..branches.len() {
@@ -48,20 +52,27 @@ fn tie(branches: &mut Vec<Branch>, from: usize, groups: &[Group; 64])
 }
 
 /// Lays a tree behind the branches: first the hops from the edge, which are where the group says, and then for each hop those
-/// that follow it, to which it leads. Links have numbers below 64, and a tree has at most 64 hops.
+/// that follow it, to which it leads. Links have numbers below 4096, and a tree has at most 200 hops. The groups, a place for each link, are
+/// room to work in: what they hold before says nothing, and they may be lent again for the next tree.
 ///
 /// # Errors
 /// Where a growth is refused.
-pub fn lay_tree(tree: &[Hop], branches: &mut Vec<Branch>) -> Result<Group, Memory>
-    requires few { length tree.now ≤ 64 }
-    requires links { All (λ hop. hop.link < 64) tree.now }
-    requires room { length branches.old.items + 4224 < 2 ^ 32 }
-    ensures { IfOk result (λ group. IsLaidBranch tree.now branches.old.items branches.new.items group) }
+pub fn lay_tree(
+    tree: &[Hop],
+    groups: &mut Vec<Group>,
+    branches: &mut Vec<Branch>,
+) -> Result<Group, Memory>
+    requires few { length tree.now ≤ 200 }
+    requires links { All (λ hop. hop.link < 4096) tree.now }
+    requires places { length groups.old.items ≡ 4096 }
+    requires room { length branches.old.items + 40400 < 2 ^ 32 }
+    ensures places { IfOk result (λ _. length groups.new.items ≡ 4096) }
+    ensures laid { IfOk result (λ group. IsLaidBranch tree.now branches.old.items branches.new.items group) }
 {
     let from = branches.len();
     let first = from as u32;
     let many = lay_group(tree, None, branches)?;
-    let groups = lay_groups(tree, branches)?;
-    tie(branches, from, &groups);
+    lay_groups(tree, groups, branches)?;
+    tie(branches, from, groups.as_slice());
     Ok(Group { first, many })
 }

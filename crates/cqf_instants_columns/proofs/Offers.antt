@@ -40,11 +40,11 @@ empty_cell columns links width empty link cycle is_link =
       | inr past ↦ get_or_past (replicate width 0) cycle 0 (omega (arith, past, length-replicate {A = ℕ} width 0))
     ]
 
--- those below a place, and at most 64 frames for each on a link
+-- those below a place, and at most 200 frames for each on a link
 pub record AreCounted (d : Domain) (cycles : ℕ) (verdict : Offered → Verdict) (offers : List Offer) (place : ℕ) (before now : List Column) : Type 0 where
   pub adds : AddsFrame cycles before now (λ link. sum_of_hops d verdict (counts_frames link cycles) (take place (numbered offers)))
       (λ link cycle. sum_of_hops d verdict (counts_in link cycle) (take place (numbered offers)))
-  pub few : (link : ℕ) → link < length before → frames_by now link ≤ 64 * place
+  pub few : (link : ℕ) → link < length before → frames_by now link ≤ 200 * place
 
 -- the last offer is in no earlier cycle than another, so that no frame is under way 256 cycles behind it
 pub wide : (cycle_time cycles : ℕ) (offers : List Offer) (last : Offer) (at width : ℕ) → 10000 ≤ cycle_time →
@@ -87,7 +87,7 @@ numbered_all offers = length-map (enumerate_from 1 offers) (λ (z : ℕ × Offer
 -- one offer more
 module _ (d : Domain) (cycles : ℕ) (verdict : Offered → Verdict) (offers : List Offer) (place : ℕ) (before now : List Column)
     (counted : AreCounted d cycles verdict offers place before now) (offer : Offer) (at : slice_get offers place ≡ Some offer) (hops : List Hop)
-    (are_hops : hops ≡ hops_of (verdict (record { frame = place + 1; offer = offer }))) (few : length hops ≤ 64) (cycle : ℕ)
+    (are_hops : hops ≡ hops_of (verdict (record { frame = place + 1; offer = offer }))) (few : length hops ≤ 200) (cycle : ℕ)
     (is_cycle : cycle ≡ cycle_at d.cycle_time offer.at.0) where
   -- the offer with its number
   abbrev x : Offered
@@ -119,7 +119,7 @@ module _ (d : Domain) (cycles : ℕ) (verdict : Offered → Verdict) (offers : L
       ∙ ap (λ (c : ℕ). sum_by (λ (h : Hop). counts_in l k h.link (c + h.depth) offer.octets) (hops_of (verdict x))) is_cycle
 
   -- there is room for it
-  pub room_for_offer : (width : ℕ) → AreEmptyColumns before (length d.links) width → place < 1000000 → HaveColumnsRoom d cycles verdict (numbered offers) →
+  pub room_for_offer : (width : ℕ) → AreEmptyColumns before (length d.links) width → place < 16777215 → HaveColumnsRoom d cycles verdict (numbered offers) →
       HaveRoomFor cycles now (λ l. sum_by (λ (h : Hop). counts_frames l cycles h.link (cycle + h.depth) offer.octets) hops)
       (λ l c. sum_by (λ (h : Hop). counts_in l c h.link (cycle + h.depth) offer.octets) hops)
   room_for_offer width empty early room = record {

@@ -19,7 +19,7 @@ use std::alloc::Global;
 const DEPTHS: u32 = 256;
 
 /// Columns of so many cycles for so many links, in which nothing is counted.
-fn empty_columns(alloc: Global, links: u8, width: u32) -> Result<Vec<Column>, Memory>
+fn empty_columns(alloc: Global, links: u16, width: u32) -> Result<Vec<Column>, Memory>
     ensures { IfOk result (λ columns. AreEmptyColumns columns.items links width) }
 {
     let mut columns = Vec::with_capacity(alloc, usize::from(links))?;
@@ -46,7 +46,7 @@ fn width_of(offers: &[Offer], cycle_time: Nanos, cycles: u32) -> u32
 /// The hops by which an offer that is judged so leaves.
 fn hops_of(rows: &[Row], judgement: Judgement) -> &[Hop]
     ensures hops { (cycle : ℕ) → result.now ≡ hops_of (verdict_of rows.now cycle judgement) }
-    ensures few { length result.now ≤ 64 }
+    ensures few { length result.now ≤ 200 }
 {
     let none: &[Hop] = &[];
     match judgement {
@@ -59,7 +59,7 @@ fn hops_of(rows: &[Row], judgement: Judgement) -> &[Hop]
 }
 
 /// Counts a frame that leaves by a link in a cycle, where the domain has the link and the cycle is one of so many.
-fn add_hop(columns: &mut Vec<Column>, link: u8, cycle: u32, octets: u32, cycles: u32)
+fn add_hop(columns: &mut Vec<Column>, link: u16, cycle: u32, octets: u32, cycles: u32)
     requires width { cycle < cycles → HaveWidth columns.old.items (cycle + 1) }
     requires room { HaveRoomFor cycles columns.old.items (λ l. counts_frames l cycles link cycle octets) (λ l c. counts_in l c link cycle octets) }
     ensures { AddsFrame cycles columns.old.items columns.new.items (λ l. counts_frames l cycles link cycle octets) (λ l c. counts_in l c link cycle octets) }

@@ -17,7 +17,7 @@ use Rattle.cqf_model.specs.declared.topology.Row.{Row}
 use Rattle.cqf_model.specs.Domain.{Domain, is_text}
 use Rattle.cqf_model.specs.History.{IsLegalHistory, Recorded, seals, streams_of}
 use Rattle.cqf_model.specs.Shift.{offer_cycle, take_octets, taken_by}
-use Rattle.cqf_model.specs.Table.{begins_at, is_held, is_live}
+use Rattle.cqf_model.specs.Table.{begins_at, is_held, is_live, reserved_in}
 use Rattle.cqf_model.specs.Traffic.{numbered}
 use Rattle.cqf_laws_report.specs.Judged.{CounterOfTheRow, CountersBegin, CountersGoOn, CountersOfOthers, StandInOrder, judged_by, judged_of, used_before}
 use Rattle.cqf_laws_report.specs.Rows.{EndsBefore, OneIsInForce, RowsOfANameFollow, RowsStandAsTheyBegin, row_in_force}
@@ -133,6 +133,13 @@ module _ (d : Domain) (rows : List Row) (offers : List Offer) (p begun : ℕ) (p
         laws.goes_on d row cycle p offers x there
         ∙ ap (λ c. take_octets d row c (taken_by d row cycle (take p (numbered offers))) x) is_cycle
 
+    -- what a row reserves in the offer's cycle it reserves in this one
+    in_own_cycle : (row : Row) (n : ℕ) →
+        (if begins_at d row offer.bridge && nat_le (n + offer.octets) (reserved_in row 0 (offer_cycle d x)) then n + offer.octets else n)
+        ≡ (if begins_at d row offer.bridge && nat_le (n + offer.octets) (reserved_in row 0 cycle) then n + offer.octets else n)
+    in_own_cycle row n =
+        ap (λ (m : ℕ). if begins_at d row offer.bridge && nat_le (n + offer.octets) (reserved_in row 0 m) then n + offer.octets else n) (sym is_cycle)
+
     -- of rows that aren't in force nothing is used
     other_row : (row : Row) (k : ℕ) → slice_get rows k ≡ Some row → is_live row cycle ≡ true → cycle < seals entries →
         (row_in_force d entries cycle offer.stream ≡ Some row → ⊥) →
@@ -154,9 +161,10 @@ module _ (d : Domain) (rows : List Row) (offers : List Offer) (p begun : ℕ) (p
           step row
           ∙ laws.own d entries x row (taken_by d row cycle (take p (numbered offers)))
           (ap (λ c. row_in_force d entries c offer.stream) (sym is_cycle) ∙ force ∙ by_row.is ∙ ap Some own)
-          ∙ ap (λ n. if begins_at d row offer.bridge && nat_le (n + offer.octets) row.octets then n + offer.octets else n) (same ∙ ap (used_at used cycle) e)
+          ∙ in_own_cycle row (taken_by d row cycle (take p (numbered offers)))
+          ∙ ap (λ n. if begins_at d row offer.bridge && nat_le (n + offer.octets) (reserved_in row 0 cycle) then n + offer.octets else n) (same ∙ ap (used_at used cycle) e)
           ∙ own_counter cycle place used after judgement (is_live row cycle) (begins_at d row offer.bridge)
-          (nat_le (used_at used cycle place + offer.octets) row.octets) (used_at used cycle place + offer.octets) live
+          (nat_le (used_at used cycle place + offer.octets) (reserved_in row 0 cycle)) (used_at used cycle place + offer.octets) live
           (omega (arith, before.counters, slice_get_within rows place by_row.row by_row.is))
           (subst (λ (r : Row). JudgedFor cycle place used after judgement (used_behind d r cycle (used_at used cycle place) offer)) own by_row.judged)
           ∙ ap (used_at after cycle) (sym e))
@@ -188,9 +196,9 @@ module _ (d : Domain) (rows : List Row) (offers : List Offer) (p begun : ℕ) (p
         ap (λ c. taken_by d row c (take p (numbered offers))) is_cycle ∙ ap (λ n. taken_by d row (offer_cycle d x) (take n (numbered offers))) (sym number) in
         ap (λ c. verdict_of rows c judgement) (sym is_cycle)
         ∙ own_verdict rows cycle place row used after judgement (is_live row cycle) (begins_at d row offer.bridge)
-        (nat_le (used_at used cycle place + offer.octets) row.octets) (nat_le (used_before d offers x row + offer.octets) row.octets)
+        (nat_le (used_at used cycle place + offer.octets) (reserved_in row 0 cycle)) (nat_le (used_before d offers x row + offer.octets) (reserved_in row 0 cycle))
         (used_at used cycle place + offer.octets) by_row.is
-        (λ live. ap (λ n. nat_le (n + offer.octets) row.octets) (sym (counted_now place row by_row.is live closed) ∙ before_it)) by_row.judged
+        (λ live. ap (λ n. nat_le (n + offer.octets) (reserved_in row 0 cycle)) (sym (counted_now place row by_row.is live closed) ∙ before_it)) by_row.judged
         ∙ ap (λ c. judged_by d c (used_before d offers x) x (Some row)) is_cycle
         ∙ sym (ap (judged_by d (offer_cycle d x) (used_before d offers x) x)
         (ap (λ c. row_in_force d entries c offer.stream) (sym is_cycle) ∙ force ∙ by_row.is))

@@ -9,7 +9,7 @@ use Rattle.cqf_model.specs.declared.topology.Row.{Row}
 use Rattle.cqf_model.specs.Domain.{Domain}
 use Rattle.cqf_model.specs.History.{Recorded, seals}
 use Rattle.cqf_model.specs.Shift.{offer_cycle}
-use Rattle.cqf_model.specs.Table.{begins_at, is_live}
+use Rattle.cqf_model.specs.Table.{begins_at, is_live, reserved_in}
 use Rattle.cqf_model.specs.Traffic.{Verdict, Queued, DroppedFor, LacksRow, numbered}
 use Rattle.cqf_laws_report.specs.Judged.{judged_of}
 use Rattle.cqf_laws_report.specs.Rows.{as_of}
@@ -23,7 +23,7 @@ abbrev pub used_behind : Domain → Row → ℕ → ℕ → Offer → Result ℕ
 used_behind d row cycle used offer =
     if not (is_live row cycle) then Err Withdrawn
     else (if not (begins_at d row offer.bridge) then Err OtherBridge
-    else (if not (nat_le (used + offer.octets) row.octets) then Err Octets
+    else (if not (nat_le (used + offer.octets) (reserved_in row 0 cycle)) then Err Octets
     else Ok (used + offer.octets)))
 
 -- what is used in a cycle

@@ -11,6 +11,7 @@ use Rattle.std.proofs.lemmas.List.FromFn.{length-enumerate_from}
 use Rattle.std.proofs.lemmas.Option.{get_or_from_slice_get, same_Some, slice_get-get_or, slice_get_within}
 use Rattle.cqf_lists.proofs.Members.{any_member, contains_at}
 use Rattle.cqf_units.proofs.Cycles.{cycle_below, before_cycle}
+use Rattle.cqf_model.proofs.Represented.{few_links}
 use Rattle.cqf_model.specs.declared.frames.Background.{Background}
 use Rattle.cqf_model.specs.declared.frames.Offer.{Offer}
 use Rattle.cqf_model.specs.declared.frames.Offered.{Offered}
@@ -25,6 +26,7 @@ use Rattle.cqf_model.specs.HistoryBook.{run_of_history}
 use Rattle.cqf_model.specs.Network.{Network}
 use Rattle.cqf_model.specs.Run.{AreOffers, IsBackground, Run}
 use Rattle.cqf_model.specs.Shift.{IsUncovered, offer_cycle}
+use Rattle.cqf_model.specs.Paces.{each_cycle}
 use Rattle.cqf_model.specs.Table.{is_live, row_named, table_of}
 use Rattle.cqf_model.specs.Traffic.{DroppedFor, Queued, numbered}
 use Rattle.cqf_model.specs.Promise.{IsDecided}
@@ -56,7 +58,7 @@ use Rattle.cqf_instants_layout.proofs.Streams.{few_streams, in_table, live_as, l
 use Rattle.cqf_instants_layout.proofs.Streams.{while_live}
 
 abbrev no_row : Row
-no_row = record { no = 0; name = []; octets = 0; tree = record { items = [] }; admitted = record { 0 = 0 }; withdrawn = None }
+no_row = record { no = 0; name = []; octets = 0; pace = each_cycle; tree = record { items = [] }; admitted = record { 0 = 0 }; withdrawn = None }
 
 -- the numbered offers are as many as the offers
 numbered_count : (offers : List Offer) → length (numbered offers) ≡ length offers
@@ -150,7 +152,7 @@ module _ (d : Domain) (cycles : ℕ) (rows : List Row) (offers : List Offer) (ju
           }
 
   -- the offers stand by instant, and their hops are there
-  stand_by_instant : length judgements ≡ length offers → StandInOrder offers → length offers ≤ 1000000 → StandByInstant entering branches
+  stand_by_instant : length judgements ≡ length offers → StandInOrder offers → length offers ≤ 16777215 → StandByInstant entering branches
   stand_by_instant count ordered few = record {
     rise = λ i j le inside. elim (cases_eq i j) [
       | inl e ↦ omega (arith, ap (λ (k : ℕ). (offer_at entering k).at) e)
@@ -192,7 +194,7 @@ module _ (d : Domain) (cycles : ℕ) (rows : List Row) (offers : List Offer) (ju
           (by_time (nat_lt (get_or offers k x).at.0 end) (get_or judgements k (Dropped Unknown)))
 
   module _ (orderly : TablesAreOrderly) (counted : ThereAreSoManyTables) (say : RowsSayTheTables) (as_live : AsLive) (decide : OffersAreJudged)
-      (covers : CoveringCovers) (accepted : IsAccepted d) (offered : AreOffers d offers) (ordered : StandInOrder offers) (few : length offers ≤ 1000000)
+      (covers : CoveringCovers) (accepted : IsAccepted d) (offered : AreOffers d offers) (ordered : StandInOrder offers) (few : length offers ≤ 16777215)
       (entries : List Recorded) (is : IsLaidOutHistoryOf d cycles rows offers judgements entries) where
     -- so many branches
     few_branches : length branches < 2 ^ 32
@@ -331,12 +333,12 @@ module _ (d : Domain) (cycles : ℕ) (rows : List Row) (offers : List Offer) (ju
 pub low_links : (d : Domain) (entries : List Recorded) (rows : List Row) → IsAccepted d → IsLegalHistory d entries → streams_of d entries
     ≡ rows → HaveLowLinks rows
 low_links d entries rows accepted legal streams row inside k none below =
-    omega (arith, (tree_now d entries row legal (subst (λ (xs : List Row). Contains xs row) (sym streams) inside)).inside k none below, accepted.few_links)
+    omega (arith, (tree_now d entries row legal (subst (λ (xs : List Row). Contains xs row) (sym streams) inside)).inside k none below, few_links d accepted)
 
 -- so a layout is one of the history's run
 pub lays : (orderly : TablesAreOrderly) (counted : ThereAreSoManyTables) (say : RowsSayTheTables) (as_live : AsLive) (decide : OffersAreJudged)
     (covers : CoveringCovers) (d : Domain) (cycles : ℕ) (rows : List Row) (offers : List Offer) (judgements : List Judgement) (layout : Layout)
-    (groups : List Group) → IsAccepted d → AreOffers d offers → StandInOrder offers → length offers ≤ 1000000 →
+    (groups : List Group) → IsAccepted d → AreOffers d offers → StandInOrder offers → length offers ≤ 16777215 →
     SomeHistory d cycles rows offers judgements → d.links ≡ layout.links.items → AreLaid cycles rows (length rows) layout.branches.items groups →
     AreEntered (cycles * d.cycle_time) offers judgements groups (length offers) layout.offers.items →
     IsLayoutOf d cycles rows offers judgements layout

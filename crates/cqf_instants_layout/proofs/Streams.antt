@@ -26,7 +26,7 @@ use Rattle.cqf_instants_layout.specs.Laid.{is_live_below}
 -- a row as the tables of the cycles in which its stream is live have it: an end is not yet known
 abbrev pub while_live : Row → Row
 while_live row =
-    record { no = row.no; name = row.name; octets = row.octets; tree = row.tree; admitted = row.admitted; withdrawn = None }
+    record { no = row.no; name = row.name; octets = row.octets; pace = row.pace; tree = row.tree; admitted = row.admitted; withdrawn = None }
 
 -- an entry is a Seal, or admits one stream at most
 one_or_seal : (d : Domain) (entries : List Recorded) (effect : ℕ) (act : Act) (reply : Reply) →
@@ -80,7 +80,7 @@ no_end row cycle live = by row.withdrawn live
 pub live_as : (row : Row) (cycle : ℕ) → is_live row cycle ≡ true → as_of cycle row ≡ while_live row
 live_as row cycle live =
     ap (λ (end : Option Cycle). let made : Row =
-    record { no = row.no; name = row.name; octets = row.octets; tree = row.tree; admitted = row.admitted; withdrawn = end } in made) (no_end row cycle live)
+    record { no = row.no; name = row.name; octets = row.octets; pace = row.pace; tree = row.tree; admitted = row.admitted; withdrawn = end } in made) (no_end row cycle live)
 
 -- and what is live in one of the first cycles is so in the one in which it is admitted
 pub live_below : (row : Row) (cycle cycles : ℕ) → is_live row cycle ≡ true → cycle < cycles → is_live_below cycles row ≡ true

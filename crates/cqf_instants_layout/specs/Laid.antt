@@ -12,9 +12,9 @@ use Rattle.cqf_instants_branches.specs.Laid.{IsLaidBranch, StandBehind, behind_a
 abbrev pub is_live_below : ℕ → Row → Bool
 is_live_below cycles row = nat_lt row.admitted.0 cycles && is_live row row.admitted.0
 
--- links have numbers below 64
+-- links have numbers below 4096
 abbrev pub HaveLowLinks : List Row → Type 0
-HaveLowLinks rows = (row : Row) → Contains rows row → All (λ (hop : Hop). hop.link < 64) row.tree.items
+HaveLowLinks rows = (row : Row) → Contains rows row → All (λ (hop : Hop). hop.link < 4096) row.tree.items
 
 -- no hops
 abbrev pub no_group : Group
@@ -43,7 +43,7 @@ pub record IsHopOfRow (cycles : ℕ) (rows : List Row) (branches : List Branch) 
 -- hops from the edge stand. The row of whose tree a branch is a hop is known by its place
 pub record AreLaid (cycles : ℕ) (rows : List Row) (many : ℕ) (branches : List Branch) (groups : List Group) : Type 0 where
   pub count : length groups ≡ many
-  pub few : length branches ≤ 4160 * many
+  pub few : length branches ≤ 40200 * many
   pub row_of : ℕ → ℕ
   pub each : (h : ℕ) → h < length branches → IsHopOfRow cycles rows branches row_of h
   pub begin : (place : ℕ) (row : Row) → place < many → slice_get rows place ≡ Some row → is_live_below cycles row ≡ true →

@@ -28,9 +28,9 @@ use Rattle.cqf_model.specs.declared.topology.Row.{Row}
 use Rattle.cqf_model.specs.Domain.{Domain, bridge_of, cycle_of}
 use Rattle.cqf_model.specs.Network.{QueuedFrame, backed_at, backed_frame, backed_in, comes_before, comes_in, is_backed_at, numbered_background, queued_by}
 use Rattle.cqf_model.specs.Network.{queued_frame, queued_in, queued_to}
-use Rattle.cqf_model.specs.StreamGate.{gate_class, stream_list}
-use Rattle.cqf_model.specs.Table.{goes_to}
-use Rattle.cqf_model.specs.Traffic.{DroppedFor, ExceedsGate, LacksRow, Policed, Queued, Verdict, came_by, police, police_all, policed_before}
+use Rattle.cqf_model.specs.StreamGate.{gate_class}
+use Rattle.cqf_model.specs.Table.{depth_behind, goes_to}
+use Rattle.cqf_model.specs.Traffic.{DroppedFor, ExceedsGate, LacksRow, Policed, Queued, Verdict, came_by, gate_behind, police, police_all, policed_before}
 use Rattle.cqf_model.proofs.Coming.{policed_front}
 use Rattle.cqf_laws_cycle.proofs.GateLists.{gate_gives}
 use Rattle.cqf_laws_cycle.specs.ArrivalLaws.{AreOfOneKind, CameToPort, ComesOfBackground, ComesThroughBridge, ComesToPort, IsOriginBefore}
@@ -355,7 +355,7 @@ module _ (run : Run) (carried : Carried) (l : ℕ) where
           with_row = g.queued.with_row;
           by_link = g.queued.by_link;
           instant = sym (ap (λ (q : QueuedFrame). q.arrival.at.0) g.queued.is);
-          class = sym (ap (λ (q : QueuedFrame). q.arrival.class) g.queued.is) ∙ gate_gives run.domain.cycle_time row.octets x.at some;
+          class = sym (ap (λ (q : QueuedFrame). q.arrival.class) g.queued.is) ∙ gate_gives run.domain.cycle_time row.octets row.pace (depth_behind row (came_by x.way)) x.at some;
           octets = sym (ap (λ (q : QueuedFrame). q.arrival.octets) g.queued.is);
           frame = sym (ap (λ (q : QueuedFrame). q.arrival.frame) g.queued.is);
           of_stream = sym (ap (λ (q : QueuedFrame). q.stream) g.queued.is);
@@ -432,7 +432,8 @@ module _ (run : Run) (carried : Carried) (l : ℕ) where
         (omega (arith, cycle_upto time t some, g.instant, next)) g.is_received in
         let all = enumerate_from 0 (policed_upto cycle) in
         let there = enum_there 0 place place (policed_upto cycle) g.policed (omega arith) received in
-        let class : gate_class (stream_list time g.row.octets) x.at ≡ q.arrival.class = gate_gives time g.row.octets x.at some ∙ sym g.class in
+        let class : gate_class (gate_behind run.domain g.row (came_by x.way)) x.at ≡ q.arrival.class =
+        gate_gives time g.row.octets g.row.pace (depth_behind g.row (came_by x.way)) x.at some ∙ sym g.class in
         let same : queued_frame run.domain x g.row ≡ q =
         λ i. record {
           arrival = record { at = record { 0 = sym g.instant i }; class = class i; octets = sym g.octets i; frame = sym g.frame i };

@@ -2,18 +2,20 @@
 use Rattle.std.proofs.Common.{◌≡◌, ℕ, ◌+◌, ◌-◌, ◌*◌, ◌/◌, ◌%◌, ◌<◌, ◌≤◌, ◌↔◌, ◌⊎◌, ◌∷◌, [], Bool, true, false, ltb, inl, inr, sym, refl, ap, ap₂, ◌∙◌, subst}
 use Rattle.std.proofs.Common.{arith, lt-ltb, le-ltb, eq-eqb, ne_eqb, eqb-true}
 use Rattle.cqf_model.specs.declared.gates.StreamEntry.{StreamEntry}
-use Rattle.cqf_model.specs.StreamGate.{stream_list, place_in, place_at, round_at}
+use Rattle.cqf_model.specs.StreamGate.{gate_cycles}
+use Rattle.cqf_model.proofs.Reservations.{gate_entry, gate_place, gate_round_at, parity_again}
+use Rattle.std.proofs.Common.{Option, div-add-mod'}
 use Rattle.std.proofs.lemmas.Bool.{and_from, and_parts, agree_below, agree_below_at, cases_eq, cases_lt, false_from_ne_true, ltb-true, or_cases, or_left}
 use Rattle.std.proofs.lemmas.Bool.{or_right}
 use Rattle.std.proofs.lemmas.Nat.{and_le_l, bit_set_by_shift}
 use Rattle.std.proofs.lemmas.Nat.Bits.{bit_at_above, shr_and_one}
 use Rattle.std.specs.Int.{bit_at}
-use Rattle.std.specs.Prelude.{IsBitSet, if◌then◌else◌, ◌==◌, ◌^◌, ◌&&◌, ◌||◌, slice_get}
+use Rattle.std.specs.Prelude.{IsBitSet, if◌then◌else◌, ◌==◌, ◌^◌, ◌&&◌, ◌||◌}
 use Rattle.std.specs.Option.{option_map_or}
 use Rattle.cqf_model.specs.GateList.{states_in, states_at, round_of, port_list, IsOpenThrough}
 use Rattle.cqf_laws_cycle.specs.Compiled.{PortListIsOpen, PortListSends, GateGivesClass, GateCountsCycles, ClassesAlternate, IsSentIn, given_class, guard_from}
 use Rattle.cqf_laws_cycle.specs.Compiled.{IsIn, open_class}
-use Rattle.cqf_units.proofs.Cycles.{in_round, round_is, parity, cycle_from, cycle_upto}
+use Rattle.cqf_units.proofs.Cycles.{in_round, parity}
 
 -- the states so long after the beginning of a round
 before_guard : (w g o : ℕ) → o < w → states_in ((191, w) ∷ (0, g) ∷ (127, w) ∷ (0, g) ∷ []) o ≡ 191
@@ -178,73 +180,34 @@ port_list_sends_until n g c t end class some short inside more = (there, back)
         let s_inside : IsIn n c s = (omega (arith, inside.0), omega (arith, both.1)) in
         (port_list_opens n g c s class short s_inside).1 (both.0, omega (arith, both.1))
 
--- the round of a reservation's gate is two cycles
-whole : (n : ℕ) → 0 + n + n ≡ n + n
-whole n = omega arith
-
--- the place of the entry of a reservation's gate that is in force, and its round
-pub gate_place : (n r t : ℕ) → 0 < n → place_at (stream_list n r) t ≡ (t / n) % 2
-gate_place n r t some =
-    let place : t % (0 + n + n) ≡ (t / n) % 2 * n + (t - t / n * n) = ap (λ x. t % x) (whole n) ∙ in_round n (t / n) t (cycle_from n t) (cycle_upto n t some) in
-    let upto = cycle_upto n t some in
-    elim (parity (t / n)) [
-      | inl e ↦
-          let o : t % (0 + n + n) ≡ t - t / n * n = place ∙ even n ((t / n) % 2) (t - t / n * n) e in
-          ap (λ x. place_in (stream_list n r) x) o ∙ first n r (t - t / n * n) (omega arith) ∙ sym e
-      | inr e ↦
-          let o : t % (0 + n + n) ≡ n + (t - t / n * n) = place ∙ odd n ((t / n) % 2) (t - t / n * n) e in
-          ap (λ x. place_in (stream_list n r) x) o ∙ second n r (n + (t - t / n * n)) (omega arith) (omega arith) ∙ sym e
-    ]
-  where
-    -- in an even cycle the place in the round is that in the cycle
-    even : (n b r : ℕ) → b ≡ 0 → b * n + r ≡ r
-    even n b r e = rw e (omega arith)
-
-    -- in an odd cycle it is one cycle further
-    odd : (n b r : ℕ) → b ≡ 1 → b * n + r ≡ n + r
-    odd n b r e = rw e (omega arith)
-
-    -- in the first cycle of a round the first entry is in force
-    first : (n r o : ℕ) → o < n → place_in (stream_list n r) o ≡ 0
-    first n r o h = let e : ltb o n ≡ true = lt-ltb o n h in rw e
-
-    -- in the second cycle of a round the second entry is in force
-    second : (n r o : ℕ) → n ≤ o → o < n + n → place_in (stream_list n r) o ≡ 1
-    second n r o from upto =
-        let e : ltb o n ≡ false = le-ltb o n from in
-        let f : ltb (o - n) n ≡ true = lt-ltb (o - n) n (omega arith) in
-        rw (e, f)
-
 -- the gate gives the cycle's class
 pub gate_gives : GateGivesClass
-gate_gives n r t some = elim (parity (t / n)) [
-  | inl e ↦ ap (λ x. at_place n r x) (gate_place n r t some ∙ e) ∙ rw e
-  | inr e ↦ ap (λ x. at_place n r x) (gate_place n r t some ∙ e) ∙ rw e
-]
+gate_gives n r pace depth t some =
+    let cycle = t / n % gate_cycles pace in
+    ap (λ (z : Option StreamEntry). option_map_or (λ (entry : StreamEntry). entry.ipv) z 0) (gate_entry n r pace depth t some)
+    ∙ ap (λ z. 6 + z) (parity_again pace (t / n)) ∙ by_parity (t / n)
   where
-    -- the internal priority value of the entry at a place
-    at_place : (n r place : ℕ) → ℕ
-    at_place n r place = option_map_or (λ (entry : StreamEntry). entry.ipv) (slice_get (stream_list n r) place) 0
+    -- class 6 in even cycles and class 7 in odd ones
+    by_parity : (c : ℕ) → 6 + c % 2 ≡ given_class c
+    by_parity c = elim (parity c) [ inl e ↦ rw e | inr e ↦ rw e ]
 
 -- the gate counts by the cycle: one round and one place are one cycle
 pub gate_counts : GateCountsCycles
-gate_counts n r s t some =
-    let places = ap₂ (λ x y. x == y) (gate_place n r s some) (gate_place n r t some) in
-    let rounds = ap₂ (λ x y. x == y) (gate_round_is n r s some) (gate_round_is n r t some) in
-    ap₂ (λ x y. x && y) rounds places ∙ halves (s / n) (t / n)
+gate_counts n r pace depth s t some =
+    let count = gate_cycles pace in
+    let places = ap₂ (λ x y. x == y) (gate_place n r pace depth s some) (gate_place n r pace depth t some) in
+    let rounds = ap₂ (λ x y. x == y) (gate_round_at n r pace depth s some) (gate_round_at n r pace depth t some) in
+    ap₂ (λ x y. x && y) rounds places ∙ parts count (s / n) (t / n)
   where
-    -- the gate's round at an instant is half the number of the cycle there, rounded down
-    gate_round_is : (n r t : ℕ) → 0 < n → round_at (stream_list n r) t ≡ (t / n) / 2
-    gate_round_is n r t some = ap (λ x. t / x) (whole n) ∙ round_is n (t / n) t (cycle_from n t) (cycle_upto n t some)
-
-    -- two cycles are one exactly where their halves are one and their parities are one
-    halves : (c e : ℕ) → ((c / 2 == e / 2) && (c % 2 == e % 2)) ≡ (c == e)
-    halves c e = elim (cases_eq c e) [
-      | inl same ↦ and_from (c / 2 == e / 2) (c % 2 == e % 2) (eq-eqb (c / 2) (e / 2) (ap (λ x. x / 2) same)) (eq-eqb (c % 2) (e % 2) (ap (λ x. x % 2) same))
+    -- two cycles are one exactly where their rounds are one and their places in them are
+    parts : (m c e : ℕ) → ((c / m == e / m) && (c % m == e % m)) ≡ (c == e)
+    parts m c e = elim (cases_eq c e) [
+      | inl same ↦ and_from (c / m == e / m) (c % m == e % m) (eq-eqb (c / m) (e / m) (ap (λ x. x / m) same)) (eq-eqb (c % m) (e % m) (ap (λ x. x % m) same))
           ∙ sym (eq-eqb c e same)
-      | inr differ ↦ false_from_ne_true ((c / 2 == e / 2) && (c % 2 == e % 2)) (λ both.
-          let p = and_parts (c / 2 == e / 2) (c % 2 == e % 2) both in
-          differ (omega (arith, eqb-true (c / 2) (e / 2) p.0, eqb-true (c % 2) (e % 2) p.1))) ∙ sym (ne_eqb c e differ)
+      | inr differ ↦ false_from_ne_true ((c / m == e / m) && (c % m == e % m)) (λ both.
+          let p = and_parts (c / m == e / m) (c % m == e % m) both in
+          differ (sym (div-add-mod' c m)
+          ∙ ap₂ (λ q r. q * m + r) (eqb-true (c / m) (e / m) p.0) (eqb-true (c % m) (e % m) p.1) ∙ div-add-mod' e m)) ∙ sym (ne_eqb c e differ)
     ]
 
 -- the next cycle sends what this one gives

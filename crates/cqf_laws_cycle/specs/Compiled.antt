@@ -1,6 +1,7 @@
 -- What the compiled gate lists do in a cycle (profile).
 use Rattle.std.specs.Prelude.{ℕ, ◌≡◌, ◌⊎◌, ◌+◌, ◌-◌, ◌*◌, ◌%◌, ◌<◌, ◌≤◌, ◌↔◌, if◌then◌else◌, ◌==◌}
 use Rattle.cqf_units.specs.Timing.{cycle_at}
+use Rattle.cqf_model.specs.declared.topology.Pace.{Pace}
 use Rattle.cqf_model.specs.GateList.{IsOpen, IsOpenThrough, port_list}
 use Rattle.cqf_model.specs.StreamGate.{stream_list, gate_class, same_interval}
 
@@ -35,12 +36,13 @@ PortListSends = (cycle_time guard cycle t end class : ℕ) → 0 < guard → gua
 
 -- the gate of a reservation gives what comes in a cycle the class of streams that isn't open in it, and is in the next
 abbrev pub GateGivesClass : Type 0
-GateGivesClass = (cycle_time reserved t : ℕ) → 0 < cycle_time → gate_class (stream_list cycle_time reserved) t ≡ given_class (cycle_at cycle_time t)
+GateGivesClass = (cycle_time reserved : ℕ) (pace : Pace) (depth t : ℕ) → 0 < cycle_time →
+    gate_class (stream_list cycle_time reserved pace depth) t ≡ given_class (cycle_at cycle_time t)
 
 -- and it counts octets by the cycle
 abbrev pub GateCountsCycles : Type 0
-GateCountsCycles = (cycle_time reserved s t : ℕ) → 0 < cycle_time →
-    same_interval (stream_list cycle_time reserved) s t ≡ (cycle_at cycle_time s == cycle_at cycle_time t)
+GateCountsCycles = (cycle_time reserved : ℕ) (pace : Pace) (depth s t : ℕ) → 0 < cycle_time →
+    same_interval (stream_list cycle_time reserved pace depth) s t ≡ (cycle_at cycle_time s == cycle_at cycle_time t)
 
 -- what a cycle gives is what the next one sends
 abbrev pub ClassesAlternate : Type 0

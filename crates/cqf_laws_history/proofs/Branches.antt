@@ -4,6 +4,7 @@ use Rattle.std.proofs.Common.{subst}
 use Rattle.std.specs.Prelude.{[], ◌∷◌, ◌==◌, ◌&&◌, ◌||◌, is_none, nat_le, nat_lt, not, option_map, slice_get, take, unwrap_or, zero, suc, Contains}
 use Rattle.std.specs.Option.{option_map_or}
 use Rattle.std.proofs.lemmas.Bool.{and_from, and_parts, both_ways, cases_lt, eq-eqb, eqb-true, le-leb, lt-ltb, ltb-false, not-false, or_parts}
+use Rattle.std.proofs.Math.Nat.{min-le_right}
 use Rattle.std.proofs.lemmas.List.Quantifiers.{position-Some}
 use Rattle.std.proofs.lemmas.Option.{same_Some, slice_get-get_or, slice_get_within}
 use Rattle.cqf_units.specs.declared.timing.Rate.TheVariants.{Mb10}
@@ -19,6 +20,7 @@ use Rattle.cqf_model.specs.declared.topology.Node.{Node}
 use Rattle.cqf_model.specs.declared.topology.Node.TheVariants.{Bridge, Station}
 use Rattle.cqf_model.specs.Domain.{Domain, end_of, enters, joins, leaves, link_between, node_is, node_named, same_node}
 use Rattle.cqf_model.specs.History.{Branch, hop_to, hops_along, is_bridge, is_broken_at, is_loop_at, is_same, link_at, link_before, link_from, node_at}
+use Rattle.cqf_model.specs.Limits.{nodes_within}
 use Rattle.cqf_model.specs.Table.{Follows}
 
 -- ---- a link between two nodes
@@ -81,7 +83,7 @@ pub record NotBroken (d : Domain) (branch : Branch) (k : ℕ) : Type 0 where
   pub first : k ≡ 0 → is_bridge (node_at d branch 0) ≡ true
   pub linked : 1 ≤ k → k < length branch → is_none (link_at d branch (k - 1)) ≡ false
   pub last : k + 1 ≡ length branch → is_bridge (node_at d branch k) ≡ false
-  pub few : k ≡ 17 → length branch ≤ k
+  pub few : k ≡ nodes_within d.limits → length branch ≤ k
 
 -- what isn't broken there has each part of it
 not_broken : (d : Domain) (branch : Branch) (k : ℕ) → is_broken_at d branch k ≡ false → NotBroken d branch k
@@ -89,7 +91,7 @@ not_broken d branch k e =
     let no_bridge_first = (k == 0) && not (is_bridge (node_at d branch 0)) in
     let no_link = nat_le 1 k && nat_lt k (length branch) && is_none (link_at d branch (k - 1)) in
     let bridge_last = (k + 1 == length branch) && is_bridge (node_at d branch k) in
-    let too_many = (k == 17) && nat_lt k (length branch) in
+    let too_many = (k == nodes_within d.limits) && nat_lt k (length branch) in
     let a = or_parts (no_bridge_first || no_link || bridge_last) too_many e in
     let b = or_parts (no_bridge_first || no_link) bridge_last a.0 in
     let c = or_parts no_bridge_first no_link b.0 in
@@ -98,7 +100,7 @@ not_broken d branch k e =
       linked = λ some inside. and_then_false (nat_le 1 k && nat_lt k (length branch)) (is_none (link_at d branch (k - 1))) c.1
           (and_from (nat_le 1 k) (nat_lt k (length branch)) (le-leb 1 k some) (lt-ltb k (length branch) inside));
       last = λ z. and_then_false (k + 1 == length branch) (is_bridge (node_at d branch k)) b.1 (eq-eqb (k + 1) (length branch) z);
-      few = λ z. ltb-false k (length branch) (and_then_false (k == 17) (nat_lt k (length branch)) a.1 (eq-eqb k 17 z));
+      few = λ z. ltb-false k (length branch) (and_then_false (k == nodes_within d.limits) (nat_lt k (length branch)) a.1 (eq-eqb k (nodes_within d.limits) z));
     }
 
 -- a branch that isn't refused
@@ -179,11 +181,11 @@ module _ (d : Domain) (branch : Branch) (good : IsBranch d branch) where
     | inr g ↦ absurd (both_ways (is_bridge (node_at d branch 0)) ((good.whole 0 (omega arith)).last (omega (arith, some_node, g))) first_is_bridge)
   ]
 
-  -- and 17 at most
-  pub few_nodes : length branch ≤ 17
-  few_nodes = elim (cases_lt 17 (length branch)) [
-    | inl l ↦ absurd (omega (arith, l, (good.whole 17 (omega (arith, l))).few refl))
-    | inr g ↦ g
+  -- and 65 at most
+  pub few_nodes : length branch ≤ 65
+  few_nodes = elim (cases_lt (nodes_within d.limits) (length branch)) [
+    | inl l ↦ absurd (omega (arith, l, (good.whole (nodes_within d.limits) (omega (arith, l))).few refl))
+    | inr g ↦ omega (arith, g, min-le_right d.limits.nodes 65)
   ]
 
   linked : (k : ℕ) → k + 1 < length branch → is_none (link_at d branch k) ≡ false

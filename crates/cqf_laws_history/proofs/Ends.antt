@@ -104,12 +104,12 @@ withdrawn_so_far d entries row w c e =
     let effect : w.0 ≡ sealed_before entries member.0 = withdrawn_there (sealed_before entries member.0) made.0.no (slice_get entries member.0) w member.2 in
     omega (arith, effect, sealed_more entries member.0 n (omega (arith, member.1)) (omega arith), ap seals all)
 
--- a tree's links are at most 16 deep
-residence_few : (d : Domain) (row : Row) → IsTree d row.tree.items → residence row ≤ 16
+-- a tree's links are at most 64 deep
+residence_few : (d : Domain) (row : Row) → IsTree d row.tree.items → residence row ≤ 64
 residence_few d row tree =
     let met = (residence_met row tree.some).1 in
     let hop = met.of_tree in
-    let deep : met.hop.depth ≤ 16 = subst (λ (h : Hop). h.depth ≤ 16) hop.2 (tree.deep hop.0 met.hop hop.1) in
+    let deep : met.hop.depth ≤ 64 = subst (λ (h : Hop). h.depth ≤ 64) hop.2 (tree.deep hop.0 met.hop hop.1) in
     omega (arith, deep, met.is_depth)
 
 pub ends_are_soon : EndsAreSoon
@@ -129,24 +129,24 @@ ends_are_soon d entries rows next row w legal state c e =
 
 -- ---- the slot
 
--- of 16 numbers behind one no other stands in the slot of the next
-pub slot_tells : (cycle end : ℕ) → cycle < end → end ≤ cycle + 16 → (end == cycle + 1) ≡ (end % 32 == (cycle + 1) % 32)
+-- of 64 numbers behind one no other stands in the slot of the next
+pub slot_tells : (cycle end : ℕ) → cycle < end → end ≤ cycle + 64 → (end == cycle + 1) ≡ (end % 128 == (cycle + 1) % 128)
 slot_tells cycle end later soon = elim (cases_Bool (end == cycle + 1)) [
-  | inl t ↦ t ∙ sym (eq-eqb (end % 32) ((cycle + 1) % 32) (ap (λ (n : ℕ). n % 32) (eqb-true end (cycle + 1) t)))
-  | inr f ↦ f ∙ sym (ne_eqb (end % 32) ((cycle + 1) % 32) (λ same. eqb-false end (cycle + 1) f (omega (arith, same, later, soon))))
+  | inl t ↦ t ∙ sym (eq-eqb (end % 128) ((cycle + 1) % 128) (ap (λ (n : ℕ). n % 128) (eqb-true end (cycle + 1) t)))
+  | inr f ↦ f ∙ sym (ne_eqb (end % 128) ((cycle + 1) % 128) (λ same. eqb-false end (cycle + 1) f (omega (arith, same, later, soon))))
 ]
 
 pub ring_finds_those_that_end : RingFindsThoseThatEnd
 ring_finds_those_that_end d entries rows next legal state =
-    filter_alike (ends_in (seals entries + 1)) (is_in_slot ((seals entries + 1) % 32)) rows (λ row c. by_end row c row.withdrawn refl)
+    filter_alike (ends_in (seals entries + 1)) (is_in_slot ((seals entries + 1) % 128)) rows (λ row c. by_end row c row.withdrawn refl)
   where
     by_end : (row : Row) → Contains rows row → (o : Option Cycle) → row.withdrawn ≡ o →
-        ends_in (seals entries + 1) row ≡ is_in_slot ((seals entries + 1) % 32) row
+        ends_in (seals entries + 1) row ≡ is_in_slot ((seals entries + 1) % 128) row
     by_end row c None e =
         ap (λ (x : Option Cycle). option_map_or (λ (w : Cycle). end_from row w == seals entries + 1) x false) e
-        ∙ sym (ap (λ (x : Option Cycle). option_map_or (λ (w : Cycle). end_from row w % 32 == (seals entries + 1) % 32) x false) e)
+        ∙ sym (ap (λ (x : Option Cycle). option_map_or (λ (w : Cycle). end_from row w % 128 == (seals entries + 1) % 128) x false) e)
     by_end row c (Some w) e =
         let soon = ends_are_soon d entries rows next row w legal state c e in
         ap (λ (x : Option Cycle). option_map_or (λ (w : Cycle). end_from row w == seals entries + 1) x false) e
         ∙ slot_tells (seals entries) (end_from row w) soon.later soon.soon
-        ∙ sym (ap (λ (x : Option Cycle). option_map_or (λ (w : Cycle). end_from row w % 32 == (seals entries + 1) % 32) x false) e)
+        ∙ sym (ap (λ (x : Option Cycle). option_map_or (λ (w : Cycle). end_from row w % 128 == (seals entries + 1) % 128) x false) e)

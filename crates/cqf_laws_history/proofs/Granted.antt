@@ -1,9 +1,10 @@
 -- What a request that isn't refused has; and that its branches are a tree.
 use Rattle.std.proofs.Common.{◌≡◌, ℕ, ◌+◌, ◌<◌, ◌≤◌, Bool, true, false, List, Option, Some, None, length, sym, refl, ap, ◌∙◌, inl, inr, arith}
-use Rattle.std.specs.Prelude.{[], ◌∷◌, ◌&&◌, is_none, is_some, nat_le, not, option_map, position, Contains}
+use Rattle.std.specs.Prelude.{[], ◌∷◌, ◌&&◌, is_none, is_some, nat_le, nat_lt, not, option_map, position, Contains}
 use Rattle.std.specs.List.{flat_map, list_any}
+use Rattle.std.proofs.Math.Nat.{min-le_right}
 use Rattle.std.proofs.lemmas.Grind.{common_steps}
-use Rattle.std.proofs.lemmas.Bool.{and_parts, leb-true, not-false}
+use Rattle.std.proofs.lemmas.Bool.{and_parts, leb-true, ltb-false, not-false}
 use Rattle.cqf_units.specs.Name.{is_name}
 use Rattle.cqf_units.specs.Timing.{cost_of}
 use Rattle.cqf_lists.specs.Lists.{least, or_else}
@@ -11,16 +12,19 @@ use Rattle.cqf_lists.proofs.Any.{none_member, position_any}
 use Rattle.cqf_lists.proofs.Least.{least_none, or_else_none, unmapped_none}
 use Rattle.cqf_lists.proofs.Members.{contains_cases, contains_flat, contains_here, contains_none}
 use Rattle.cqf_model.specs.declared.history.Refused.{Refused}
+use Rattle.cqf_model.specs.declared.history.Refused.TheVariants.{BadPace}
 use Rattle.cqf_model.specs.declared.history.Refused.TheVariants.{BadName, BadOctets, UnknownNode, BrokenPath, LoopingPath, NotATree, NameHeld, TooManyStreams}
-use Rattle.cqf_model.specs.declared.history.Refused.TheVariants.{BudgetShort}
+use Rattle.cqf_model.specs.declared.history.Refused.TheVariants.{TooManyHops, BudgetShort}
 use Rattle.cqf_model.specs.declared.topology.Node.{Node}
 use Rattle.cqf_model.specs.declared.topology.Node.TheVariants.{Bridge, Station}
 use Rattle.cqf_model.specs.declared.topology.Row.{Row}
 use Rattle.cqf_model.specs.Domain.{Domain, is_text, node_named}
+use Rattle.cqf_model.specs.History.{is_pace, pace_of}
 use Rattle.cqf_model.specs.History.{Asked, Branch, broken_place, first_place, is_bridge, is_broken_at, is_loop_at, is_stray, left_on, node_at, refusal_of}
 use Rattle.cqf_model.specs.History.{refused_at, refused_if, short_link, tree_of}
+use Rattle.cqf_model.specs.Limits.{hops_within, streams_within}
 use Rattle.cqf_model.specs.Table.{IsTree}
-use Rattle.cqf_laws_history.specs.HistoryLaws.{GrantedIsATree, TreeIsItsBranches}
+use Rattle.cqf_laws_history.specs.HistoryLaws.{GrantedFitsARow, GrantedIsATree, TreeIsItsBranches}
 use Rattle.cqf_laws_history.specs.StateLaws.{GrantedFindsRoom}
 use Rattle.cqf_laws_history.proofs.Branches.{IsBranch, first_is_bridge, is_branch, no_repeat}
 use Rattle.cqf_laws_history.proofs.Trees.{MakeATree, all_make_a_tree, tree_from, tree_is_branches}
@@ -48,42 +52,54 @@ pub record IsGranted (d : Domain) (rows : List Row) (asked : Asked) : Type 0 whe
   pub whole : broken_place d asked.paths ≡ None
   pub simple : first_place (is_loop_at d) asked.paths ≡ None
   pub together : least (is_stray asked.paths) (length asked.paths) ≡ None
+  pub few_hops : length (tree_of d asked.paths) ≤ hops_within d.limits
   pub name_free : list_any (λ (row : Row). is_text row.name asked.name) rows ≡ false
-  pub room : length rows < 1024
-  pub enough : short_link d rows (cost_of asked.octets) (tree_of d asked.paths) ≡ None
+  pub room : length rows < streams_within d.limits
+  pub pace : is_pace asked.every asked.phase ≡ true
+  pub enough : short_link d rows (cost_of asked.octets) (pace_of asked) (tree_of d asked.paths) ≡ None
 
 -- a request that isn't refused meets each of its conditions
 pub granted : (d : Domain) (rows : List Row) (asked : Asked) → refusal_of d rows asked ≡ None → IsGranted d rows asked
 granted d rows asked e =
-    let budget_short = refused_at (λ l. BudgetShort l (left_on d rows l)) (short_link d rows (cost_of asked.octets) (tree_of d asked.paths)) in
-    let after_many = or_else (refused_if (nat_le 1024 (length rows)) TooManyStreams) budget_short in
+    let budget_short = refused_at (λ l. BudgetShort l (left_on d rows (tree_of d asked.paths) (pace_of asked) l))
+    (short_link d rows (cost_of asked.octets) (pace_of asked) (tree_of d asked.paths)) in
+    let after_many = or_else (refused_if (nat_le (streams_within d.limits) (length rows)) TooManyStreams) budget_short in
     let after_held = or_else (refused_if (list_any (λ (row : Row). is_text row.name asked.name) rows) NameHeld) after_many in
-    let after_stray = or_else (refused_at (λ branch. NotATree branch) (least (is_stray asked.paths) (length asked.paths))) after_held in
+    let after_hops = or_else (refused_if (nat_lt (hops_within d.limits) (length (tree_of d asked.paths))) TooManyHops) after_held in
+    let after_stray = or_else (refused_at (λ branch. NotATree branch) (least (is_stray asked.paths) (length asked.paths))) after_hops in
     let after_looping = or_else (refused_at (λ place. LoopingPath place) (first_place (is_loop_at d) asked.paths)) after_stray in
     let after_broken = or_else (refused_at (λ place. BrokenPath place) (broken_place d asked.paths)) after_looping in
     let unknown = position (λ name. is_none (node_named d name)) (flat_map (λ branch. branch) asked.paths) in
     let after_unknown = or_else (refused_at (λ place. UnknownNode place) unknown) after_broken in
+    let paced = is_pace asked.every asked.phase in
+    let after_pace = or_else (refused_if (not paced) BadPace) after_unknown in
     let in_range = nat_le 64 asked.octets && nat_le asked.octets 60000 in
-    let name = or_else_none (refused_if (not (is_name asked.name)) BadName) (or_else (refused_if (not in_range) BadOctets) after_unknown) e in
-    let octets = or_else_none (refused_if (not in_range) BadOctets) after_unknown name.1 in
-    let known = or_else_none (refused_at (λ place. UnknownNode place) unknown) after_broken octets.1 in
+    let name = or_else_none (refused_if (not (is_name asked.name)) BadName) (or_else (refused_if (not in_range) BadOctets) after_pace) e in
+    let octets = or_else_none (refused_if (not in_range) BadOctets) after_pace name.1 in
+    let pace = or_else_none (refused_if (not paced) BadPace) after_unknown octets.1 in
+    let known = or_else_none (refused_at (λ place. UnknownNode place) unknown) after_broken pace.1 in
     let broken = or_else_none (refused_at (λ place. BrokenPath place) (broken_place d asked.paths)) after_looping known.1 in
     let looping = or_else_none (refused_at (λ place. LoopingPath place) (first_place (is_loop_at d) asked.paths)) after_stray broken.1 in
-    let stray = or_else_none (refused_at (λ branch. NotATree branch) (least (is_stray asked.paths) (length asked.paths))) after_held looping.1 in
-    let held = or_else_none (refused_if (list_any (λ (row : Row). is_text row.name asked.name) rows) NameHeld) after_many stray.1 in
-    let many = or_else_none (refused_if (nat_le 1024 (length rows)) TooManyStreams) budget_short held.1 in
+    let stray = or_else_none (refused_at (λ branch. NotATree branch) (least (is_stray asked.paths) (length asked.paths))) after_hops looping.1 in
+    let hops = or_else_none (refused_if (nat_lt (hops_within d.limits) (length (tree_of d asked.paths))) TooManyHops) after_held stray.1 in
+    let held = or_else_none (refused_if (list_any (λ (row : Row). is_text row.name asked.name) rows) NameHeld) after_many hops.1 in
+    let many = or_else_none (refused_if (nat_le (streams_within d.limits) (length rows)) TooManyStreams) budget_short held.1 in
     let range = and_parts (nat_le 64 asked.octets) (nat_le asked.octets 60000) (not-false in_range (refused_if_none (not in_range) BadOctets octets.0)) in
     record {
       named = not-false (is_name asked.name) (refused_if_none (not (is_name asked.name)) BadName name.0);
       least_octets = leb-true 64 asked.octets range.0;
       most_octets = leb-true asked.octets 60000 range.1;
+      pace = not-false paced (refused_if_none (not paced) BadPace pace.0);
       known = refused_at_none (λ place. UnknownNode place) unknown known.0;
       whole = refused_at_none (λ place. BrokenPath place) (broken_place d asked.paths) broken.0;
       simple = refused_at_none (λ place. LoopingPath place) (first_place (is_loop_at d) asked.paths) looping.0;
       together = refused_at_none (λ branch. NotATree branch) (least (is_stray asked.paths) (length asked.paths)) stray.0;
+      few_hops = ltb-false (hops_within d.limits) (length (tree_of d asked.paths))
+          (refused_if_none (nat_lt (hops_within d.limits) (length (tree_of d asked.paths))) TooManyHops hops.0);
       name_free = refused_if_none (list_any (λ (row : Row). is_text row.name asked.name) rows) NameHeld held.0;
-      room = below_bound 1024 (length rows) (refused_if_none (nat_le 1024 (length rows)) TooManyStreams many.0);
-      enough = refused_at_none (λ l. BudgetShort l (left_on d rows l)) (short_link d rows (cost_of asked.octets) (tree_of d asked.paths)) many.1;
+      room = below_bound (streams_within d.limits) (length rows) (refused_if_none (nat_le (streams_within d.limits) (length rows)) TooManyStreams many.0);
+      enough = refused_at_none (λ l. BudgetShort l (left_on d rows (tree_of d asked.paths) (pace_of asked) l))
+          (short_link d rows (cost_of asked.octets) (pace_of asked) (tree_of d asked.paths)) many.1;
     }
 
 -- ---- its branches
@@ -111,34 +127,55 @@ pub first_branch : (d : Domain) (paths : List Branch) → broken_place d paths �
 first_branch d [] e = absurd cc
 first_branch d (branch ∷ paths) e = (branch, contains_here branch paths)
 
-module _ (d : Domain) (rows : List Row) (asked : Asked) (g : IsGranted d rows asked) where
+-- what some branches have that are a tree
+pub record AreOfForm (d : Domain) (paths : List Branch) : Type 0 where
+  pub known : position (λ name. is_none (node_named d name)) (flat_map (λ branch. branch) paths) ≡ None
+  pub whole : broken_place d paths ≡ None
+  pub simple : first_place (is_loop_at d) paths ≡ None
+  pub together : least (is_stray paths) (length paths) ≡ None
+
+module _ (d : Domain) (paths : List Branch) (g : AreOfForm d paths) where
   -- each name is a node's
-  none_unknown : list_any (λ name. is_none (node_named d name)) (flat_map (λ branch. branch) asked.paths) ≡ false
-  none_unknown = sym (position_any (λ name. is_none (node_named d name)) (flat_map (λ branch. branch) asked.paths)) ∙ ap (λ (o : Option ℕ). is_some o) g.known
+  none_unknown : list_any (λ name. is_none (node_named d name)) (flat_map (λ branch. branch) paths) ≡ false
+  none_unknown = sym (position_any (λ name. is_none (node_named d name)) (flat_map (λ branch. branch) paths)) ∙ ap (λ (o : Option ℕ). is_some o) g.known
 
-  -- its branches are branches of the domain
-  pub branches : (branch : Branch) → Contains asked.paths branch → IsBranch d branch
-  branches branch c = is_branch d branch
-      (λ name k. none_member (λ n. is_none (node_named d n)) (flat_map (λ b. b) asked.paths) name none_unknown
-      (contains_flat (λ b. b) asked.paths branch name c k))
-      (first_place_none (is_broken_at d) asked.paths (none_broken d asked.paths g.whole) branch c)
-      (first_place_none (is_loop_at d) asked.paths g.simple branch c)
+  -- they are branches of the domain
+  pub form_branches : (branch : Branch) → Contains paths branch → IsBranch d branch
+  form_branches branch c = is_branch d branch
+      (λ name k. none_member (λ n. is_none (node_named d n)) (flat_map (λ b. b) paths) name none_unknown
+      (contains_flat (λ b. b) paths branch name c k))
+      (first_place_none (is_broken_at d) paths (none_broken d paths g.whole) branch c)
+      (first_place_none (is_loop_at d) paths g.simple branch c)
 
-  -- any two of its branches make a tree
-  trees : (xs ys : Branch) → Contains asked.paths xs → Contains asked.paths ys → MakeATree xs ys
-  trees = all_make_a_tree asked.paths (λ branch c. no_repeat d branch (branches branch c)) (least_none (is_stray asked.paths) (length asked.paths) g.together)
+  -- any two of them make a tree
+  pub form_trees : (xs ys : Branch) → Contains paths xs → Contains paths ys → MakeATree xs ys
+  form_trees = all_make_a_tree paths (λ branch c. no_repeat d branch (form_branches branch c)) (least_none (is_stray paths) (length paths) g.together)
 
-  -- the branches of a request that isn't refused are a tree
-  pub is_tree : IsTree d (tree_of d asked.paths)
-  is_tree =
-      let one = first_branch d asked.paths g.whole in
-      let first = bridge_of_node (node_at d one.0 0) (first_is_bridge d one.0 (branches one.0 one.1)) in
-      tree_from d asked.paths branches trees one.0 one.1 first.0 first.1
+  -- so all are a tree
+  pub form_is_tree : IsTree d (tree_of d paths)
+  form_is_tree =
+      let one = first_branch d paths g.whole in
+      let first = bridge_of_node (node_at d one.0 0) (first_is_bridge d one.0 (form_branches one.0 one.1)) in
+      tree_from d paths form_branches form_trees one.0 one.1 first.0 first.1
     where
       bridge_of_node : (o : Option Node) → is_bridge o ≡ true → (bridge : ℕ) × (o ≡ Some (Bridge bridge))
       bridge_of_node None e = absurd cc
       bridge_of_node (Some (Bridge b)) e = (b, refl)
       bridge_of_node (Some (Station s)) e = absurd cc
+
+module _ (d : Domain) (rows : List Row) (asked : Asked) (g : IsGranted d rows asked) where
+  -- those of a request that isn't refused are so
+  of_form : AreOfForm d asked.paths
+  of_form = record { known = g.known; whole = g.whole; simple = g.simple; together = g.together }
+
+  pub branches : (branch : Branch) → Contains asked.paths branch → IsBranch d branch
+  branches = form_branches d asked.paths of_form
+
+  pub trees : (xs ys : Branch) → Contains asked.paths xs → Contains asked.paths ys → MakeATree xs ys
+  trees = form_trees d asked.paths of_form
+
+  pub is_tree : IsTree d (tree_of d asked.paths)
+  is_tree = form_is_tree d asked.paths of_form
 
 -- the branches of a request that isn't refused are a tree of the domain
 pub granted_is_a_tree : GrantedIsATree
@@ -150,6 +187,12 @@ branches_of_tree d rows asked hop e =
     let g = granted d rows asked e in
     tree_is_branches d asked.paths (branches d rows asked g) (trees d rows asked g) hop
 
+-- the tree fits a row
+pub granted_fits_a_row : GrantedFitsARow
+granted_fits_a_row d rows asked e =
+    omega (arith, (granted d rows asked e).few_hops, min-le_right d.limits.hops 200)
+
 -- a request that isn't refused finds room
 pub granted_finds_room : GrantedFindsRoom
-granted_finds_room d rows asked e = (granted d rows asked e).room
+granted_finds_room d rows asked e =
+    omega (arith, (granted d rows asked e).room, min-le_right d.limits.streams 16384)

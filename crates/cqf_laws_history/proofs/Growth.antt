@@ -176,7 +176,7 @@ refused_changes_nothing d entries rows next seat act refused state answer =
 pub with_no_end : (w : ℕ → Option Cycle) (row : Row) → row.withdrawn ≡ None → w row.no ≡ None → with_end w row ≡ row
 with_no_end w row none same =
     ap (λ (o : Option Cycle). let made : Row =
-    record { no = row.no; name = row.name; octets = row.octets; tree = row.tree; admitted = row.admitted; withdrawn = o } in made) (same ∙ sym none)
+    record { no = row.no; name = row.name; octets = row.octets; pace = row.pace; tree = row.tree; admitted = row.admitted; withdrawn = o } in made) (same ∙ sym none)
 
 -- what is nothing that it can be is none
 pub none_unless : (o : Option Cycle) → ((x : Cycle) → o ≡ Some x → ⊥) → o ≡ None
@@ -329,7 +329,7 @@ first_of_none front x e = ap (λ (xs : List Cycle). slice_get (xs ++ x ∷ []) 0
 
 -- a row by its end
 abbrev row_ending : Row → Option Cycle → Row
-row_ending row end = record { no = row.no; name = row.name; octets = row.octets; tree = row.tree; admitted = row.admitted; withdrawn = end }
+row_ending row end = record { no = row.no; name = row.name; octets = row.octets; pace = row.pace; tree = row.tree; admitted = row.admitted; withdrawn = end }
 
 -- a row that is held without an end is held with an end from this cycle on
 pub held_with_end : (row : Row) (cycle number : ℕ) → 0 < residence row → (row.no ≡ number → row.withdrawn ≡ None) →
@@ -458,10 +458,10 @@ held_sound d entries legal =
           let late : (get_or old j x).no ≡ j = s.numbers j (get_or old j x) (slice_get-get_or old j x m) in
           omega (arith, l, early, late));
       names = pairs_here (λ (a b : Row). a.name ≢ b.name) s.names;
-      loads = λ l.
-          let there : link_cost (filter (λ (r : Row). is_held r c) (map (with_end w) old)) l ≤ budget d l =
-          subst (λ (k : ℕ). link_cost (filter (λ (r : Row). is_held r k) (map (with_end w) old)) l ≤ budget d l) sealed (s.loads l) in
-          subst (λ (xs : List Row). link_cost xs l ≤ budget d l) held_is there;
+      loads = λ l turn.
+          let there : link_cost (filter (λ (r : Row). is_held r c) (map (with_end w) old)) l turn ≤ budget d l =
+          subst (λ (k : ℕ). link_cost (filter (λ (r : Row). is_held r k) (map (with_end w) old)) l turn ≤ budget d l) sealed (s.loads l turn) in
+          subst (λ (xs : List Row). link_cost xs l turn ≤ budget d l) held_is there;
     }
 
 -- and so is each running state

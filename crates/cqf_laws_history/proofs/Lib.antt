@@ -3,6 +3,7 @@ pub mod Trees
 pub mod Places
 pub mod Granted
 pub mod FewLinks
+pub mod Turns
 pub mod Sound
 pub mod Growth
 pub mod Orderly

@@ -202,6 +202,7 @@ module _ (d : Domain) (entries : List Recorded) (cycles : ℕ) (legal : IsLegalH
       record {
         name = ap (λ (r : Row). r.name) (sym e.is) ∙ ap (λ (r : Row). r.name) one ∙ ap (λ (r : Row). r.name) l.is;
         octets = ap (λ (r : Row). r.octets) (sym e.is) ∙ ap (λ (r : Row). r.octets) one ∙ ap (λ (r : Row). r.octets) l.is;
+        pace = ap (λ (r : Row). r.pace) (sym e.is) ∙ ap (λ (r : Row). r.pace) one ∙ ap (λ (r : Row). r.pace) l.is;
         tree = ap (λ (r : Row). r.tree.items) (sym e.is) ∙ ap (λ (r : Row). r.tree.items) one ∙ ap (λ (r : Row). r.tree.items) l.is;
       }
 
@@ -226,19 +227,19 @@ module _ (d : Domain) (entries : List Recorded) (cycles : ℕ) (legal : IsLegalH
       (with_end w r.stream, subst (λ (xs : List Row). Contains xs (with_end w r.stream)) (sym late.is) kept, ap (λ (x : Row). x.no) (sym r.is))
 
   -- what a table costs of a link is within its budget
-  loads_fit : (cycle l : ℕ) → link_cost (table_of (tables_of d entries cycles) cycle) l ≤ budget d l
-  loads_fit cycle l =
+  loads_fit : (cycle l turn : ℕ) → link_cost (table_of (tables_of d entries cycles) cycle) l turn ≤ budget d l
+  loads_fit cycle l turn =
       elim (cases_lt cycle cycles) [
         | inl h ↦ (let t = closed cycle h in
             let there : link_cost (filter (λ (row : Row). is_held row cycle)
-            (map (with_end (withdrawn_before entries t.place)) (admitted_before d entries t.place))) l ≤ budget d l =
+            (map (with_end (withdrawn_before entries t.place)) (admitted_before d entries t.place))) l turn ≤ budget d l =
             subst (λ (c : ℕ). link_cost (filter (λ (row : Row). is_held row c)
-            (map (with_end (withdrawn_before entries t.place)) (admitted_before d entries t.place))) l ≤ budget d l) t.seal.before
-            (t.sound_there.loads l) in
-            subst (λ (xs : List Row). link_cost xs l ≤ budget d l) (sym t.is) there)
+            (map (with_end (withdrawn_before entries t.place)) (admitted_before d entries t.place))) l turn ≤ budget d l) t.seal.before
+            (t.sound_there.loads l turn) in
+            subst (λ (xs : List Row). link_cost xs l turn ≤ budget d l) (sym t.is) there)
         | inr g ↦ (let none : table_of (tables_of d entries cycles) cycle ≡ [] =
             get_or_past (tables_of d entries cycles) cycle [] (omega (arith, g, length-singles (table_at d entries) cycles)) in
-            subst (λ (xs : List Row). link_cost xs l ≤ budget d l) (sym none) (omega arith))
+            subst (λ (xs : List Row). link_cost xs l turn ≤ budget d l) (sym none) (omega arith))
       ]
 
   -- the rows of a table stand by number
@@ -261,5 +262,5 @@ module _ (d : Domain) (entries : List Recorded) (cycles : ℕ) (legal : IsLegalH
         names = pairs_of_table (λ (a b : Row). a.name ≢ b.name) (λ place s. s.names);
         one_stream = same_stream;
         stays = stays_on;
-        loads = λ cycle l h. loads_fit cycle l;
+        loads = λ cycle l turn h. loads_fit cycle l turn;
       }

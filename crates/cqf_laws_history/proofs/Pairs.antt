@@ -1,11 +1,11 @@
 -- Which branches are refused as no tree, by pairs.
 use Rattle.std.proofs.Common.{◌≡◌, ℕ, ◌+◌, ◌-◌, ◌<◌, ◌≤◌, ◌⊎◌, Bool, true, false, List, Option, Some, None, length, get_or, sym, refl, ap, ◌∙◌, inl, inr, arith}
 use Rattle.std.proofs.Common.{length-append, subst}
-use Rattle.std.specs.Prelude.{[], ◌∷◌, ◌++◌, ◌&&◌, if◌then◌else◌, is_none, is_some, nat_le, not, option_map, position, slice_get, take, zero, suc}
+use Rattle.std.specs.Prelude.{[], ◌∷◌, ◌++◌, ◌&&◌, if◌then◌else◌, is_none, is_some, nat_le, nat_lt, not, option_map, position, slice_get, take, zero, suc}
 use Rattle.std.specs.Prelude.{Contains}
 use Rattle.std.specs.Option.{option_map_or}
 use Rattle.std.specs.List.{flat_map, list_any}
-use Rattle.std.proofs.lemmas.Bool.{and_from, and_parts, both_ways, cases_Bool, cases_lt, false_from_ne_true, leb-true, le-leb, not-false, not-true}
+use Rattle.std.proofs.lemmas.Bool.{and_from, and_parts, both_ways, cases_Bool, cases_lt, false_from_ne_true, leb-true, le-leb, ltb-true, not-false, not-true}
 use Rattle.std.proofs.lemmas.Bool.{not_from_false}
 use Rattle.std.proofs.lemmas.List.{length-take-le, take-take}
 use Rattle.std.proofs.lemmas.Option.{get_or_from_slice_get, same_Some, slice_get-get_or, slice_get_within}
@@ -16,20 +16,24 @@ use Rattle.cqf_lists.proofs.Any.{none_member, position_any}
 use Rattle.cqf_lists.proofs.EachBelow.{none_below}
 use Rattle.cqf_lists.proofs.Members.{any_member, contains_at, contains_flat, contains_from_flat, contains_here, contains_later, member_any, place_of_member}
 use Rattle.cqf_lists.proofs.Places.{first_stays, slice_get-take, slice_get_front}
+use Rattle.cqf_model.specs.Limits.{hops_within, streams_within}
 use Rattle.cqf_model.specs.declared.history.Refused.{Refused}
+use Rattle.cqf_model.specs.declared.history.Refused.TheVariants.{BadPace}
 use Rattle.cqf_model.specs.declared.history.Refused.TheVariants.{BadName, BadOctets, UnknownNode, BrokenPath, LoopingPath, NotATree, NameHeld, TooManyStreams}
-use Rattle.cqf_model.specs.declared.history.Refused.TheVariants.{BudgetShort}
+use Rattle.cqf_model.specs.declared.history.Refused.TheVariants.{TooManyHops, BudgetShort}
 use Rattle.cqf_model.specs.declared.topology.Node.{Node}
 use Rattle.cqf_model.specs.declared.topology.Row.{Row}
 use Rattle.cqf_model.specs.Domain.{Domain, is_text, node_named}
+use Rattle.cqf_model.specs.History.{is_pace, pace_of}
 use Rattle.cqf_model.specs.History.{Asked, Branch, are_apart, broken_place, first_place, is_bridge, is_broken_at, is_loop_at, is_stray}
 use Rattle.cqf_model.specs.History.{left_on, make_a_tree, node_at, part, refusal_of, refused_at, refused_if, short_link, tree_of}
 use Rattle.cqf_model.proofs.Texts.{is_text_itself, is_text_same}
-use Rattle.cqf_laws_history.specs.BranchLaws.{HasNoEarlierFault, HaveTheirBeginningsOnce, IsFirstStray, MakeOneTree, PairsAreTested}
+use Rattle.cqf_laws_history.specs.BranchLaws.{HasNoEarlierFault, HaveTheirBeginningsOnce, IsFirstStray, LinksBoundHops, MakeOneTree, PairsAreTested}
 use Rattle.cqf_laws_history.specs.BranchLaws.{PairsHaveTheirBeginnings, PartAt, RefusedAsNoTree, StandsFrom, TreesAreMadeOfPairs}
 use Rattle.cqf_laws_history.proofs.Branches.{IsBranch, NoRepeat, is_branch, no_repeat, stands, two_at_least}
 use Rattle.cqf_laws_history.proofs.Places.{entry_at}
-use Rattle.cqf_laws_history.proofs.Granted.{first_branch, first_place_none, none_broken, refused_at_none, refused_if_none}
+use Rattle.cqf_laws_history.proofs.FewLinks.{trees_have_few_links}
+use Rattle.cqf_laws_history.proofs.Granted.{AreOfForm, first_branch, first_place_none, form_is_tree, none_broken, refused_at_none, refused_if_none}
 use Rattle.cqf_laws_history.proofs.Trees.{make_tree}
 
 -- ---- two branches
@@ -492,19 +496,26 @@ at_place (Some k) place e = let same : k ≡ place = cc in ap (λ (i : ℕ). Som
 -- the refusals that come behind that for no tree
 abbrev later : Domain → List Row → Asked → Option Refused
 later d rows asked =
-    or_else (refused_if (list_any (λ (row : Row). is_text row.name asked.name) rows) NameHeld)
-    (or_else (refused_if (nat_le 1024 (length rows)) TooManyStreams)
-    (refused_at (λ l. BudgetShort l (left_on d rows l)) (short_link d rows (cost_of asked.octets) (tree_of d asked.paths))))
+    or_else (refused_if (nat_lt (hops_within d.limits) (length (tree_of d asked.paths))) TooManyHops)
+    (or_else (refused_if (list_any (λ (row : Row). is_text row.name asked.name) rows) NameHeld)
+    (or_else (refused_if (nat_le (streams_within d.limits) (length rows)) TooManyStreams)
+    (refused_at (λ l. BudgetShort l (left_on d rows (tree_of d asked.paths) (pace_of asked) l))
+    (short_link d rows (cost_of asked.octets) (pace_of asked) (tree_of d asked.paths)))))
 
 -- none of them is for no tree
 later_is_other : (d : Domain) (rows : List Row) (asked : Asked) (place : ℕ) → later d rows asked ≡ Some (NotATree place) → ⊥
 later_is_other d rows asked place =
-    let budget_short = refused_at (λ l. BudgetShort l (left_on d rows l)) (short_link d rows (cost_of asked.octets) (tree_of d asked.paths)) in
-    let many = refused_if (nat_le 1024 (length rows)) TooManyStreams in
-    neither (refused_if (list_any (λ (row : Row). is_text row.name asked.name) rows) NameHeld) (or_else many budget_short) (NotATree place)
+    let budget_short = refused_at (λ l. BudgetShort l (left_on d rows (tree_of d asked.paths) (pace_of asked) l))
+    (short_link d rows (cost_of asked.octets) (pace_of asked) (tree_of d asked.paths)) in
+    let many = refused_if (nat_le (streams_within d.limits) (length rows)) TooManyStreams in
+    let held = refused_if (list_any (λ (row : Row). is_text row.name asked.name) rows) NameHeld in
+    neither (refused_if (nat_lt (hops_within d.limits) (length (tree_of d asked.paths))) TooManyHops) (or_else held (or_else many budget_short)) (NotATree place)
+    (other_if (nat_lt (hops_within d.limits) (length (tree_of d asked.paths))) TooManyHops (NotATree place) (λ e. cc))
+    (neither held (or_else many budget_short) (NotATree place)
     (other_if (list_any (λ (row : Row). is_text row.name asked.name) rows) NameHeld (NotATree place) (λ e. cc))
-    (neither many budget_short (NotATree place) (other_if (nat_le 1024 (length rows)) TooManyStreams (NotATree place) (λ e. cc))
-    (other_at (λ l. BudgetShort l (left_on d rows l)) (short_link d rows (cost_of asked.octets) (tree_of d asked.paths)) (NotATree place) (λ k e. cc)))
+    (neither many budget_short (NotATree place) (other_if (nat_le (streams_within d.limits) (length rows)) TooManyStreams (NotATree place) (λ e. cc))
+    (other_at (λ l. BudgetShort l (left_on d rows (tree_of d asked.paths) (pace_of asked) l))
+    (short_link d rows (cost_of asked.octets) (pace_of asked) (tree_of d asked.paths)) (NotATree place) (λ k e. cc))))
 
 -- the refusal for no tree
 abbrev stray : Asked → Option Refused
@@ -521,6 +532,7 @@ unknown d asked = position (λ name. is_none (node_named d name)) (flat_map (λ 
 record AreNone (d : Domain) (asked : Asked) : Type 0 where
   name : refused_if (not (is_name asked.name)) BadName ≡ None
   octets : refused_if (not (in_range asked)) BadOctets ≡ None
+  pace : refused_if (not (is_pace asked.every asked.phase)) BadPace ≡ None
   known : refused_at (λ place. UnknownNode place) (unknown d asked) ≡ None
   whole : refused_at (λ place. BrokenPath place) (broken_place d asked.paths) ≡ None
   simple : refused_at (λ place. LoopingPath place) (first_place (is_loop_at d) asked.paths) ≡ None
@@ -532,33 +544,53 @@ are_left d rows asked n =
     let simple = or_else (refused_at (λ place. LoopingPath place) (first_place (is_loop_at d) asked.paths)) left in
     let whole = or_else (refused_at (λ place. BrokenPath place) (broken_place d asked.paths)) simple in
     let known = or_else (refused_at (λ place. UnknownNode place) (unknown d asked)) whole in
-    let octets = or_else (refused_if (not (in_range asked)) BadOctets) known in
+    let pace = or_else (refused_if (not (is_pace asked.every asked.phase)) BadPace) known in
+    let octets = or_else (refused_if (not (in_range asked)) BadOctets) pace in
     ap (λ (o : Option Refused). or_else o octets) n.name
-    ∙ ap (λ (o : Option Refused). or_else o known) n.octets
+    ∙ ap (λ (o : Option Refused). or_else o pace) n.octets
+    ∙ ap (λ (o : Option Refused). or_else o known) n.pace
     ∙ ap (λ (o : Option Refused). or_else o whole) n.known
     ∙ ap (λ (o : Option Refused). or_else o simple) n.whole
     ∙ ap (λ (o : Option Refused). or_else o left) n.simple
 
--- a request that is refused for no tree is refused for nothing before that
-came_to : (d : Domain) (rows : List Row) (asked : Asked) (place : ℕ) → refusal_of d rows asked ≡ Some (NotATree place) →
-    AreNone d asked × (or_else (stray asked) (later d rows asked) ≡ Some (NotATree place))
-came_to d rows asked place e =
-    let r = NotATree place in
+-- a refusal is none of those before that for no tree
+record IsLate (r : Refused) : Type 0 where
+  name : BadName ≡ r → ⊥
+  octets : BadOctets ≡ r → ⊥
+  pace : BadPace ≡ r → ⊥
+  known : (k : ℕ) → UnknownNode k ≡ r → ⊥
+  whole : (k : ℕ) → BrokenPath k ≡ r → ⊥
+  simple : (k : ℕ) → LoopingPath k ≡ r → ⊥
+
+-- a request that is refused so late is refused for nothing before that
+came_to : (d : Domain) (rows : List Row) (asked : Asked) (r : Refused) → IsLate r → refusal_of d rows asked ≡ Some r →
+    AreNone d asked × (or_else (stray asked) (later d rows asked) ≡ Some r)
+came_to d rows asked r late e =
     let left = or_else (stray asked) (later d rows asked) in
     let looping = refused_at (λ k. LoopingPath k) (first_place (is_loop_at d) asked.paths) in
     let broken = refused_at (λ k. BrokenPath k) (broken_place d asked.paths) in
     let strange = refused_at (λ k. UnknownNode k) (unknown d asked) in
+    let of_pace = refused_if (not (is_pace asked.every asked.phase)) BadPace in
     let of_octets = refused_if (not (in_range asked)) BadOctets in
     let of_name = refused_if (not (is_name asked.name)) BadName in
     let simple = or_else looping left in
     let whole = or_else broken simple in
     let known = or_else strange whole in
-    let a = passed of_name (or_else of_octets known) r (other_if (not (is_name asked.name)) BadName r (λ f. cc)) e in
-    let b = passed of_octets known r (other_if (not (in_range asked)) BadOctets r (λ f. cc)) a.1 in
-    let c = passed strange whole r (other_at (λ k. UnknownNode k) (unknown d asked) r (λ k f. cc)) b.1 in
-    let f = passed broken simple r (other_at (λ k. BrokenPath k) (broken_place d asked.paths) r (λ k g. cc)) c.1 in
-    let g = passed looping left r (other_at (λ k. LoopingPath k) (first_place (is_loop_at d) asked.paths) r (λ k h. cc)) f.1 in
-    (record { name = a.0; octets = b.0; known = c.0; whole = f.0; simple = g.0 }, g.1)
+    let paced = or_else of_pace known in
+    let a = passed of_name (or_else of_octets paced) r (other_if (not (is_name asked.name)) BadName r late.name) e in
+    let b = passed of_octets paced r (other_if (not (in_range asked)) BadOctets r late.octets) a.1 in
+    let p = passed of_pace known r (other_if (not (is_pace asked.every asked.phase)) BadPace r late.pace) b.1 in
+    let c = passed strange whole r (other_at (λ k. UnknownNode k) (unknown d asked) r late.known) p.1 in
+    let f = passed broken simple r (other_at (λ k. BrokenPath k) (broken_place d asked.paths) r late.whole) c.1 in
+    let g = passed looping left r (other_at (λ k. LoopingPath k) (first_place (is_loop_at d) asked.paths) r late.simple) f.1 in
+    (record { name = a.0; octets = b.0; pace = p.0; known = c.0; whole = f.0; simple = g.0 }, g.1)
+
+-- that for no tree is so late, and so is that for too many hops
+no_tree_is_late : (place : ℕ) → IsLate (NotATree place)
+no_tree_is_late place = record { name = λ e. cc; octets = λ e. cc; pace = λ e. cc; known = λ k e. cc; whole = λ k e. cc; simple = λ k e. cc }
+
+many_hops_are_late : IsLate TooManyHops
+many_hops_are_late = record { name = λ e. cc; octets = λ e. cc; pace = λ e. cc; known = λ k e. cc; whole = λ k e. cc; simple = λ k e. cc }
 
 -- where nothing earlier is refused, a request is in order so far
 in_order : (d : Domain) (asked : Asked) → AreNone d asked → HasNoEarlierFault d asked
@@ -575,6 +607,7 @@ in_order d asked n =
       named = not-false (is_name asked.name) (refused_if_none (not (is_name asked.name)) BadName n.name);
       least_octets = leb-true 64 asked.octets range.0;
       most_octets = leb-true asked.octets 60000 range.1;
+      paced = not-false (is_pace asked.every asked.phase) (refused_if_none (not (is_pace asked.every asked.phase)) BadPace n.pace);
       some_branch = omega (arith, (first_branch d asked.paths not_broken).1.1);
       known = λ branch name c k e. both_ways (is_none (node_named d name))
           (none_member (λ a. is_none (node_named d a)) names name none_unknown (contains_flat (λ (b : Branch). b) asked.paths branch name c k))
@@ -622,6 +655,7 @@ are_none d asked h =
     record {
       name = ap (λ (b : Bool). refused_if (not b) BadName) h.named;
       octets = ap (λ (b : Bool). refused_if (not b) BadOctets) range;
+      pace = ap (λ (b : Bool). refused_if (not b) BadPace) h.paced;
       known = ap (λ (o : Option ℕ). refused_at (λ place. UnknownNode place) o) (no_position (λ name. is_none (node_named d name)) names none_unknown);
       whole = ap (λ (o : Option ℕ). refused_at (λ place. BrokenPath place) o)
           (broken_is d asked.paths h.some_branch ∙ no_first_place (is_broken_at d) asked.paths h.whole);
@@ -642,7 +676,7 @@ stray_place d rows asked place e = at_place (least (is_stray asked.paths) (lengt
 pub refused_as_no_tree : RefusedAsNoTree
 refused_as_no_tree d rows asked place = (
   λ e.
-      let r = came_to d rows asked place e in
+      let r = came_to d rows asked (NotATree place) (no_tree_is_late place) e in
       (in_order d asked r.0, first_from asked.paths place (least_from (is_stray asked.paths) (length asked.paths) place (stray_place d rows asked place r.1))),
   λ w.
       are_left d rows asked (are_none d asked w.0)
@@ -672,3 +706,49 @@ trees_are_made_of_pairs d rows asked h = (
       (subst (λ (x : Branch). MakeOneTree (get_or asked.paths w.earlier w.branch) x) (get_or_from_slice_get asked.paths place w.branch w.branch w.here)
       (pairs w.earlier place w.branch w.before inside))),
 )
+
+-- ---- too many hops
+
+-- a request that is refused for its hops has branches of the form of a tree
+form_of_many : (d : Domain) (rows : List Row) (asked : Asked) → refusal_of d rows asked ≡ Some TooManyHops → AreOfForm d asked.paths
+form_of_many d rows asked e =
+    let r = came_to d rows asked TooManyHops many_hops_are_late e in
+    let no_stray = passed (stray asked) (later d rows asked) TooManyHops
+    (other_at (λ branch. NotATree branch) (least (is_stray asked.paths) (length asked.paths)) TooManyHops (λ k f. cc)) r.1 in
+    record {
+      known = refused_at_none (λ place. UnknownNode place) (unknown d asked) r.0.known;
+      whole = refused_at_none (λ place. BrokenPath place) (broken_place d asked.paths) r.0.whole;
+      simple = refused_at_none (λ place. LoopingPath place) (first_place (is_loop_at d) asked.paths) r.0.simple;
+      together = refused_at_none (λ branch. NotATree branch) (least (is_stray asked.paths) (length asked.paths)) no_stray.0;
+    }
+
+-- and more hops than may be
+more_than_may : (d : Domain) (rows : List Row) (asked : Asked) → refusal_of d rows asked ≡ Some TooManyHops →
+    hops_within d.limits < length (tree_of d asked.paths)
+more_than_may d rows asked e =
+    let r = came_to d rows asked TooManyHops many_hops_are_late e in
+    let budget_short = refused_at (λ l. BudgetShort l (left_on d rows (tree_of d asked.paths) (pace_of asked) l))
+    (short_link d rows (cost_of asked.octets) (pace_of asked) (tree_of d asked.paths)) in
+    let many = refused_if (nat_le (streams_within d.limits) (length rows)) TooManyStreams in
+    let held = refused_if (list_any (λ (row : Row). is_text row.name asked.name) rows) NameHeld in
+    let no_stray = passed (stray asked) (later d rows asked) TooManyHops
+    (other_at (λ branch. NotATree branch) (least (is_stray asked.paths) (length asked.paths)) TooManyHops (λ k f. cc)) r.1 in
+    due (nat_lt (hops_within d.limits) (length (tree_of d asked.paths))) refl (or_else held (or_else many budget_short))
+    (neither held (or_else many budget_short) TooManyHops
+    (other_if (list_any (λ (row : Row). is_text row.name asked.name) rows) NameHeld TooManyHops (λ f. cc))
+    (neither many budget_short TooManyHops (other_if (nat_le (streams_within d.limits) (length rows)) TooManyStreams TooManyHops (λ f. cc))
+    (other_at (λ l. BudgetShort l (left_on d rows (tree_of d asked.paths) (pace_of asked) l))
+    (short_link d rows (cost_of asked.octets) (pace_of asked) (tree_of d asked.paths)) TooManyHops (λ k f. cc)))) no_stray.1
+  where
+    -- where no later refusal is this one, its test holds
+    due : (b : Bool) → nat_lt (hops_within d.limits) (length (tree_of d asked.paths)) ≡ b → (rest : Option Refused) →
+        (rest ≡ Some TooManyHops → ⊥) → or_else (refused_if b TooManyHops) rest ≡ Some TooManyHops →
+        hops_within d.limits < length (tree_of d asked.paths)
+    due true t rest other f = ltb-true (hops_within d.limits) (length (tree_of d asked.paths)) t
+    due false t rest other f = absurd (other f)
+
+-- where a tree may have as many hops as the domain has links, none has too many
+pub links_bound_hops : LinksBoundHops
+links_bound_hops d rows asked room e =
+    let tree = form_is_tree d asked.paths (form_of_many d rows asked e) in
+    omega (arith, more_than_may d rows asked e, trees_have_few_links d (tree_of d asked.paths) tree, room)

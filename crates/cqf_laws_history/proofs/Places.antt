@@ -41,7 +41,7 @@ admitted_before d entries place = each_below (admitted_at d entries) place
 
 -- a row with the withdrawal of its number
 abbrev pub with_end : (ℕ → Option Cycle) → Row → Row
-with_end ends row = record { no = row.no; name = row.name; octets = row.octets; tree = row.tree; admitted = row.admitted; withdrawn = ends row.no }
+with_end ends row = record { no = row.no; name = row.name; octets = row.octets; pace = row.pace; tree = row.tree; admitted = row.admitted; withdrawn = ends row.no }
 
 -- a stream with its end is its row with the end that the withdrawals give it
 stream_with_end : (d : Domain) (entries : List Recorded) (effect : ℕ) (act : Act) (reply : Reply) →

@@ -1,5 +1,5 @@
 -- What the streams of a legal history have before each of its places.
-use Rattle.std.proofs.Common.{◌≡◌, ◌≢◌, ℕ, ◌+◌, ◌<◌, ◌≤◌, ◌⊎◌, Bool, true, false, cond, List, Option, Some, None, length, sym, refl, ap, ◌∙◌, inl, inr, arith}
+use Rattle.std.proofs.Common.{◌≡◌, ◌≢◌, ℕ, ◌+◌, ◌<◌, ◌≤◌, ◌⊎◌, Bool, true, false, cond, ◌%◌, List, Option, Some, None, length, sym, refl, ap, ◌∙◌, inl, inr, arith}
 use Rattle.std.proofs.Common.{subst, append-nil, length-append}
 use Rattle.std.specs.Prelude.{[], ◌∷◌, ◌++◌, ◌==◌, ◌||◌, if◌then◌else◌, filter, find, map, nat_le, nat_lt, slice_get, take, zero, suc, AllPairs, Contains}
 use Rattle.std.specs.Option.{option_map_or}
@@ -17,15 +17,18 @@ use Rattle.cqf_model.specs.declared.history.Refused.{Refused}
 use Rattle.cqf_model.specs.declared.topology.Row.{Row}
 use Rattle.cqf_model.specs.Domain.{Domain, budget, is_text}
 use Rattle.cqf_lists.specs.Lists.{each_below}
-use Rattle.cqf_model.specs.History.{Act, Admits, Asked, Recorded, Seals, Withdraws, admit_reply, held_in, left_on, refusal_of, reply_to, short_link, stream_by}
+use Rattle.cqf_model.specs.History.{Act, Admits, Asked, Recorded, Seals, Withdraws, admit_reply, held_in, left_on, pace_of, refusal_of, reply_to, short_link, stream_by}
 use Rattle.cqf_model.specs.History.{streams_of, tree_of, withdraw_reply, withdraw_row, withdrawal_by}
-use Rattle.cqf_model.specs.Table.{IsTree, cost_on, crosses, is_held, link_cost, links_of, residence, row_named}
+use Rattle.cqf_model.specs.Table.{IsTree, cost_on, is_held, link_cost, links_of, residence, row_named, uses}
 use Rattle.cqf_lists.proofs.Members.{contains_cases, contains_filter, contains_from_filter, contains_from_map, contains_here, contains_later, contains_map}
 use Rattle.cqf_lists.proofs.Members.{contains_none}
 use Rattle.cqf_lists.proofs.Pairs.{pairs_none, pairs_push, pairs_weaker}
 use Rattle.cqf_lists.proofs.Places.{first_stays, slice_get_behind, slice_get_front}
 use Rattle.cqf_model.proofs.Texts.{is_text_itself}
 use Rattle.cqf_laws_history.specs.StateLaws.{granted_row}
+use Rattle.cqf_model.specs.declared.topology.Hop.{Hop}
+use Rattle.cqf_model.specs.declared.topology.Pace.{Pace}
+use Rattle.cqf_laws_history.proofs.Turns.{IsPaced, cost_within_most, paced, used_is_crossed}
 use Rattle.cqf_laws_history.proofs.Granted.{IsGranted, granted, is_tree}
 use Rattle.cqf_laws_history.proofs.Places.{admitted_at, admitted_before, entry_at, sealed_before, sealed_more, streams_front, with_end, withdrawn_at}
 use Rattle.cqf_laws_history.proofs.Places.{withdrawn_before}
@@ -45,51 +48,51 @@ name_apart (x ∷ rows) name row e h s =
 -- ---- costs
 
 -- what rows cost is what the first costs and the rest
-link_cost-cons : (y : Row) (ys : List Row) (l : ℕ) → link_cost (y ∷ ys) l ≡ cost_on y l + link_cost ys l
-link_cost-cons y ys l = sum_by-cons (λ (row : Row). cost_on row l) y ys
+link_cost-cons : (y : Row) (ys : List Row) (l turn : ℕ) → link_cost (y ∷ ys) l turn ≡ cost_on y l turn + link_cost ys l turn
+link_cost-cons y ys l turn = sum_by-cons (λ (row : Row). cost_on row l turn) y ys
 
 -- rows that are kept of more cost no less
-cost_cond : (b c : Bool) (y z : Row) (ys zs : List Row) (l : ℕ) → (b ≡ true → c ≡ true) → cost_on y l ≡ cost_on z l → link_cost ys l ≤ link_cost zs l →
-    link_cost (cond b (y ∷ ys) ys) l ≤ link_cost (cond c (z ∷ zs) zs) l
-cost_cond true true y z ys zs l h e r =
-    let early : link_cost (y ∷ ys) l ≡ cost_on y l + link_cost ys l = link_cost-cons y ys l in
-    let late : link_cost (z ∷ zs) l ≡ cost_on z l + link_cost zs l = link_cost-cons z zs l in
-    let sums : link_cost (y ∷ ys) l ≤ link_cost (z ∷ zs) l = omega (arith, early, late, e, r) in
+cost_cond : (b c : Bool) (y z : Row) (ys zs : List Row) (l turn : ℕ) → (b ≡ true → c ≡ true) → cost_on y l turn ≡ cost_on z l turn → link_cost ys l turn ≤ link_cost zs l turn →
+    link_cost (cond b (y ∷ ys) ys) l turn ≤ link_cost (cond c (z ∷ zs) zs) l turn
+cost_cond true true y z ys zs l turn h e r =
+    let early : link_cost (y ∷ ys) l turn ≡ cost_on y l turn + link_cost ys l turn = link_cost-cons y ys l turn in
+    let late : link_cost (z ∷ zs) l turn ≡ cost_on z l turn + link_cost zs l turn = link_cost-cons z zs l turn in
+    let sums : link_cost (y ∷ ys) l turn ≤ link_cost (z ∷ zs) l turn = omega (arith, early, late, e, r) in
     sums
-cost_cond true false y z ys zs l h e r = absurd (both_ways false refl (h refl))
-cost_cond false true y z ys zs l h e r =
-    let late : link_cost (z ∷ zs) l ≡ cost_on z l + link_cost zs l = link_cost-cons z zs l in
-    let kept : link_cost ys l ≤ link_cost (z ∷ zs) l = omega (arith, late, r) in
+cost_cond true false y z ys zs l turn h e r = absurd (both_ways false refl (h refl))
+cost_cond false true y z ys zs l turn h e r =
+    let late : link_cost (z ∷ zs) l turn ≡ cost_on z l turn + link_cost zs l turn = link_cost-cons z zs l turn in
+    let kept : link_cost ys l turn ≤ link_cost (z ∷ zs) l turn = omega (arith, late, r) in
     kept
-cost_cond false false y z ys zs l h e r = r
+cost_cond false false y z ys zs l turn h e r = r
 
 -- where fewer rows are held they cost no more
-pub cost_less : (rows : List Row) (p q : Row → Bool) (v w : ℕ → Option Cycle) (l : ℕ) →
+pub cost_less : (rows : List Row) (p q : Row → Bool) (v w : ℕ → Option Cycle) (l turn : ℕ) →
     ((row : Row) → Contains rows row → p (with_end v row) ≡ true → q (with_end w row) ≡ true) →
-    link_cost (filter p (map (with_end v) rows)) l ≤ link_cost (filter q (map (with_end w) rows)) l
-cost_less [] p q v w l h = omega arith
-cost_less (x ∷ rows) p q v w l h =
-    cost_cond (p (with_end v x)) (q (with_end w x)) (with_end v x) (with_end w x) (filter p (map (with_end v) rows)) (filter q (map (with_end w) rows)) l
-    (h x (contains_here x rows)) refl (cost_less rows p q v w l (λ row k. h row (contains_later x rows row k)))
+    link_cost (filter p (map (with_end v) rows)) l turn ≤ link_cost (filter q (map (with_end w) rows)) l turn
+cost_less [] p q v w l turn h = omega arith
+cost_less (x ∷ rows) p q v w l turn h =
+    cost_cond (p (with_end v x)) (q (with_end w x)) (with_end v x) (with_end w x) (filter p (map (with_end v) rows)) (filter q (map (with_end w) rows)) l turn
+    (h x (contains_here x rows)) refl (cost_less rows p q v w l turn (λ row k. h row (contains_later x rows row k)))
 
 -- one row under a test costs no more than itself
-link_cost_one : (b : Bool) (row : Row) (l : ℕ) → link_cost (cond b (row ∷ []) []) l ≤ cost_on row l
-link_cost_one true row l = omega arith
-link_cost_one false row l = omega arith
+link_cost_one : (b : Bool) (row : Row) (l turn : ℕ) → link_cost (cond b (row ∷ []) []) l turn ≤ cost_on row l turn
+link_cost_one true row l turn = omega arith
+link_cost_one false row l turn = omega arith
 
 -- a link of a tree that has enough left takes the cost
-room_on : (d : Domain) (rows : List Row) (cost : ℕ) (links : List ℕ) (l : ℕ) → find (λ l. nat_lt (left_on d rows l) cost) links ≡ None →
-    list_any (λ k. k == l) links ≡ true → cost ≤ left_on d rows l
-room_on d rows cost [] l e t = absurd cc
-room_on d rows cost (x ∷ links) l e t =
-    room_case (nat_lt (left_on d rows x) cost) refl e (x == l) refl t (room_on d rows cost links l)
+room_on : (d : Domain) (rows : List Row) (tree : List Hop) (pace : Pace) (cost : ℕ) (links : List ℕ) (l : ℕ) → find (λ l. nat_lt (left_on d rows tree pace l) cost) links ≡ None →
+    list_any (λ k. k == l) links ≡ true → cost ≤ left_on d rows tree pace l
+room_on d rows tree pace cost [] l e t = absurd cc
+room_on d rows tree pace cost (x ∷ links) l e t =
+    room_case (nat_lt (left_on d rows tree pace x) cost) refl e (x == l) refl t (room_on d rows tree pace cost links l)
   where
     -- the link has enough left where the first link has and the others have, whichever it is
-    room_case : (short : Bool) → nat_lt (left_on d rows x) cost ≡ short → (if short then Some x else find (λ l. nat_lt (left_on d rows l) cost) links) ≡ None →
+    room_case : (short : Bool) → nat_lt (left_on d rows tree pace x) cost ≡ short → (if short then Some x else find (λ l. nat_lt (left_on d rows tree pace l) cost) links) ≡ None →
         (here : Bool) → (x == l) ≡ here → (here || list_any (λ k. k == l) links) ≡ true →
-        (find (λ l. nat_lt (left_on d rows l) cost) links ≡ None → list_any (λ k. k == l) links ≡ true → cost ≤ left_on d rows l) → cost ≤ left_on d rows l
+        (find (λ l. nat_lt (left_on d rows tree pace l) cost) links ≡ None → list_any (λ k. k == l) links ≡ true → cost ≤ left_on d rows tree pace l) → cost ≤ left_on d rows tree pace l
     room_case true s f here i u r = absurd cc
-    room_case false s f true i u r = let same : x ≡ l = eqb-true x l i in subst (λ (k : ℕ). cost ≤ left_on d rows k) same (ltb-false (left_on d rows x) cost s)
+    room_case false s f true i u r = let same : x ≡ l = eqb-true x l i in subst (λ (k : ℕ). cost ≤ left_on d rows tree pace k) same (ltb-false (left_on d rows tree pace x) cost s)
     room_case false s f false i u r = r f u
 
 -- ---- held streams
@@ -136,8 +139,9 @@ pub record Sound (d : Domain) (entries : List Recorded) (n : ℕ) : Type 0 where
   pub ends : (number : ℕ) (x : Cycle) → withdrawn_before entries n number ≡ Some x → number < length (admitted_before d entries n)
   pub begun : (row : Row) → Contains (admitted_before d entries n) row → row.admitted.0 ≤ sealed_before entries n
   pub names : AllPairs (λ (a b : Row). held_before entries n a ≡ true → held_before entries n b ≡ true → a.name ≢ b.name) (admitted_before d entries n)
-  pub loads : (l : ℕ) → link_cost
-      (filter (λ (row : Row). is_held row (sealed_before entries n)) (map (with_end (withdrawn_before entries n)) (admitted_before d entries n))) l ≤ budget d l
+  pub paces : (row : Row) → Contains (admitted_before d entries n) row → IsPaced row.pace
+  pub loads : (l turn : ℕ) → link_cost
+      (filter (λ (row : Row). is_held row (sealed_before entries n)) (map (with_end (withdrawn_before entries n)) (admitted_before d entries n))) l turn ≤ budget d l
 
 -- what is held behind an entry was held before it
 held_shrinks : (d : Domain) (entries : List Recorded) (n : ℕ) → suc n ≤ length entries → Sound d entries n → (row : Row) →
@@ -162,17 +166,18 @@ sound_kept d entries n h none ends s =
       trees = λ row k. s.trees row (back row k);
       named = λ row k. s.named row (back row k);
       least_octets = λ row k. s.least_octets row (back row k);
+      paces = λ row k. s.paces row (back row k);
       most_octets = λ row k. s.most_octets row (back row k);
       ends = λ number x e. omega (arith, ends number x e, ap (λ (xs : List Row). length xs) same);
       begun = λ row k. omega (arith, s.begun row (back row k), sealed_more entries n (suc n) (omega arith) h);
       names = subst (λ (xs : List Row). AllPairs apart_later xs) (sym same)
           (pairs_weaker apart apart_later rows (λ a b k l r t u. r (held_shrinks d entries n h s a k t) (held_shrinks d entries n h s b l u)) s.names);
-      loads = λ l.
+      loads = λ l turn.
           let less = cost_less rows (λ (row : Row). is_held row (sealed_before entries (suc n))) (λ (row : Row). is_held row (sealed_before entries n))
-          (withdrawn_before entries (suc n)) (withdrawn_before entries n) l (held_shrinks d entries n h s) in
+          (withdrawn_before entries (suc n)) (withdrawn_before entries n) l turn (held_shrinks d entries n h s) in
           subst (λ (xs : List Row). link_cost
-          (filter (λ (row : Row). is_held row (sealed_before entries (suc n))) (map (with_end (withdrawn_before entries (suc n))) xs)) l ≤ budget d l)
-          (sym same) (omega (arith, less, s.loads l));
+          (filter (λ (row : Row). is_held row (sealed_before entries (suc n))) (map (with_end (withdrawn_before entries (suc n))) xs)) l turn ≤ budget d l)
+          (sym same) (omega (arith, less, s.loads l turn));
     }
 
 -- what stands in a list with one more behind
@@ -183,25 +188,38 @@ pushed_cases rows new row h =
       | inr k ↦ elim (contains_cases new [] row k) [ inl e ↦ inr e | inr none ↦ absurd (contains_none row none) ]
     ]
 
+-- rows that are kept, with their withdrawals, have the paces of those that they are of
+kept_paced : (rows : List Row) (q : Row → Bool) (w : ℕ → Option Cycle) → ((row : Row) → Contains rows row → IsPaced row.pace) → (row : Row) →
+    Contains (filter q (map (with_end w) rows)) row → IsPaced row.pace
+kept_paced rows q w paces row k =
+    let m = contains_from_map (with_end w) rows row (contains_from_filter q (map (with_end w) rows) row k).0 in
+    subst (λ (r : Row). IsPaced r.pace) m.2 (paces m.0 m.1)
+
 -- a stream more that finds room on each link of its path
-load_more : (d : Domain) (rows : List Row) (new : Row) (p q : Row → Bool) (v w : ℕ → Option Cycle) (l : ℕ) →
-    ((row : Row) → Contains rows row → p (with_end v row) ≡ true → q (with_end w row) ≡ true) → link_cost (filter q (map (with_end w) rows)) l ≤ budget d l →
-    short_link d (filter q (map (with_end w) rows)) (cost_of new.octets) new.tree.items ≡ None →
-    link_cost (filter p (map (with_end v) (rows ++ new ∷ []))) l ≤ budget d l
-load_more d rows new p q v w l less within room =
+load_more : (d : Domain) (rows : List Row) (new : Row) (p q : Row → Bool) (v w : ℕ → Option Cycle) (l turn : ℕ) →
+    ((row : Row) → Contains rows row → p (with_end v row) ≡ true → q (with_end w row) ≡ true) →
+    ((row : Row) → Contains rows row → IsPaced row.pace) → IsPaced new.pace → link_cost (filter q (map (with_end w) rows)) l turn ≤ budget d l →
+    short_link d (filter q (map (with_end w) rows)) (cost_of new.octets) new.pace new.tree.items ≡ None →
+    link_cost (filter p (map (with_end v) (rows ++ new ∷ []))) l turn ≤ budget d l
+load_more d rows new p q v w l turn less paces own within room =
     let old = filter p (map (with_end v) rows) in
+    let kept = filter q (map (with_end w) rows) in
     let one = filter p (with_end v new ∷ []) in
-    let split : link_cost (filter p (map (with_end v) (rows ++ new ∷ []))) l ≡ link_cost old l + link_cost one l =
-    ap (λ (xs : List Row). link_cost (filter p xs) l) (map-append (with_end v) rows (new ∷ []))
-    ∙ ap (λ (xs : List Row). link_cost xs l) (filter-append p (map (with_end v) rows) (with_end v new ∷ []))
-    ∙ sum_by-append (λ (row : Row). cost_on row l) old one in
-    let shrunk = cost_less rows p q v w l less in
-    let single : link_cost one l ≤ cost_on new l = link_cost_one (p (with_end v new)) (with_end v new) l in
-    let fits : cost_on new l + link_cost (filter q (map (with_end w) rows)) l ≤ budget d l =
-    elim (cases_Bool (crosses new l)) [
-      | inl t ↦ (let cost : cost_on new l ≡ cost_of new.octets = ap (λ (b : Bool). if b then cost_of new.octets else 0) t in
-          omega (arith, cost, within, room_on d (filter q (map (with_end w) rows)) (cost_of new.octets) (links_of new) l room t))
-      | inr f ↦ (let cost : cost_on new l ≡ 0 = ap (λ (b : Bool). if b then cost_of new.octets else 0) f in omega (arith, cost, within))
+    let tree = new.tree.items in
+    let split : link_cost (filter p (map (with_end v) (rows ++ new ∷ []))) l turn ≡ link_cost old l turn + link_cost one l turn =
+    ap (λ (xs : List Row). link_cost (filter p xs) l turn) (map-append (with_end v) rows (new ∷ []))
+    ∙ ap (λ (xs : List Row). link_cost xs l turn) (filter-append p (map (with_end v) rows) (with_end v new ∷ []))
+    ∙ sum_by-append (λ (row : Row). cost_on row l turn) old one in
+    let shrunk = cost_less rows p q v w l turn less in
+    let single : link_cost one l turn ≤ cost_on new l turn = link_cost_one (p (with_end v new)) (with_end v new) l turn in
+    let fits : cost_on new l turn + link_cost kept l turn ≤ budget d l =
+    elim (cases_Bool (uses tree new.pace l turn)) [
+      | inl t ↦
+          let cost : cost_on new l turn ≡ cost_of new.octets = ap (λ (b : Bool). if b then cost_of new.octets else 0) t in
+          let enough = room_on d kept tree new.pace (cost_of new.octets) (links_of new) l room (used_is_crossed tree new.pace l turn t) in
+          let most = cost_within_most kept tree new.pace l turn (kept_paced rows q w paces) own t in
+          omega (arith, cost, within, enough, most)
+      | inr f ↦ (let cost : cost_on new l turn ≡ 0 = ap (λ (b : Bool). if b then cost_of new.octets else 0) f in omega (arith, cost, within))
     ] in
     omega (arith, split, shrunk, single, fits)
 
@@ -225,6 +243,8 @@ sound_admitted d entries n asked h is ends g s =
     let same : admitted_before d entries (suc n) ≡ rows ++ new ∷ [] = ap (λ (xs : List Row). rows ++ xs) is in
     let back : (row : Row) → Contains (admitted_before d entries (suc n)) row → Contains rows row ⊎ (new ≡ row) =
     λ row k. pushed_cases rows new row (subst (λ (xs : List Row). Contains xs row) same k) in
+    let divides = and_parts (80 % asked.every == 0) (nat_lt asked.phase asked.every) granted_here.pace in
+    let new_paced : IsPaced (pace_of asked) = paced asked.every (eqb-true (80 % asked.every) 0 divides.0) in
     let tree_good : IsTree d (tree_of d asked.paths) = is_tree d held asked granted_here in
     let apart : Row → Row → Type 0 = λ (a b : Row). held_before entries n a ≡ true → held_before entries n b ≡ true → a.name ≢ b.name in
     let apart_later : Row → Row → Type 0 = λ (a b : Row). held_before entries (suc n) a ≡ true → held_before entries (suc n) b ≡ true → a.name ≢ b.name in
@@ -239,6 +259,7 @@ sound_admitted d entries n asked h is ends g s =
           ];
       trees = λ row k. elim (back row k) [ inl m ↦ s.trees row m | inr m ↦ subst (λ (r : Row). IsTree d r.tree.items) m tree_good ];
       named = λ row k. elim (back row k) [ inl m ↦ s.named row m | inr m ↦ subst (λ (r : Row). is_name r.name ≡ true) m granted_here.named ];
+      paces = λ row k. elim (back row k) [ inl m ↦ s.paces row m | inr m ↦ subst (λ (r : Row). IsPaced r.pace) m new_paced ];
       least_octets = λ row k. elim (back row k) [ inl m ↦ s.least_octets row m | inr m ↦ subst (λ (r : Row). 64 ≤ r.octets) m granted_here.least_octets ];
       most_octets = λ row k. elim (back row k) [ inl m ↦ s.most_octets row m | inr m ↦ subst (λ (r : Row). r.octets ≤ 60000) m granted_here.most_octets ];
       ends = λ number x e. omega (arith, s.ends number x (sym (ends number) ∙ e), ap (λ (xs : List Row). length xs) same, length-append rows (new ∷ []));
@@ -250,10 +271,10 @@ sound_admitted d entries n asked h is ends g s =
           let kept = contains_filter (λ (r : Row). is_held r c) (map (with_end w) rows) (with_end w row) (contains_map (with_end w) rows row k)
           (held_shrinks d entries n h s row k t) in
           name_apart held asked.name (with_end w row) granted_here.name_free kept same_name));
-      loads = λ l.
-          subst (λ (xs : List Row). link_cost (filter (λ (row : Row). is_held row e) (map (with_end v) xs)) l ≤ budget d l) (sym same)
-          (load_more d rows new (λ (row : Row). is_held row e) (λ (row : Row). is_held row c) v w l (held_shrinks d entries n h s)
-          (s.loads l) granted_here.enough);
+      loads = λ l turn.
+          subst (λ (xs : List Row). link_cost (filter (λ (row : Row). is_held row e) (map (with_end v) xs)) l turn ≤ budget d l) (sym same)
+          (load_more d rows new (λ (row : Row). is_held row e) (λ (row : Row). is_held row c) v w l turn (held_shrinks d entries n h s)
+          s.paces new_paced (s.loads l turn) granted_here.enough);
     }
 
 -- no entry but an accepted request admits a stream
@@ -381,7 +402,8 @@ sound d entries due zero h =
       ends = λ number x e. absurd cc;
       begun = λ row k. absurd (contains_none row k);
       names = pairs_none (λ (a b : Row). held_before entries 0 a ≡ true → held_before entries 0 b ≡ true → a.name ≢ b.name);
-      loads = λ l. omega arith;
+      paces = λ row k. absurd (contains_none row k);
+      loads = λ l turn. omega arith;
     }
 sound d entries due (suc n) h =
     let e = entry_at entries n (omega (arith, h)) in

@@ -1,8 +1,8 @@
 -- Where a stream goes, and what it costs.
 use Rattle.std.proofs.Common.{◌≡◌, ℕ, Bool, true, false, List, Option, Some, None, refl, ap, ◌∙◌, inl, inr, subst, ◌≤◌}
-use Rattle.std.specs.Prelude.{[], ◌∷◌, ◌==◌, if◌then◌else◌, filter, map, Contains}
+use Rattle.std.specs.Prelude.{[], ◌∷◌, ◌==◌, ◌&&◌, if◌then◌else◌, filter, map, Contains}
 use Rattle.std.specs.List.{flat_map, list_any}
-use Rattle.std.proofs.lemmas.Bool.{cases_Bool, eq-eqb, eqb-false, eqb-true}
+use Rattle.std.proofs.lemmas.Bool.{and_from, and_parts, both_ways, cases_Bool, eq-eqb, eqb-false, eqb-true}
 use Rattle.cqf_units.specs.Timing.{cost_of}
 use Rattle.cqf_lists.proofs.EachOnce.{once_apart, once_covers, once_from}
 use Rattle.cqf_lists.proofs.Members.{any_member, contains_filter, contains_from_filter, contains_from_map, contains_map, member_any}
@@ -10,12 +10,13 @@ use Rattle.cqf_model.proofs.Links.{same_way_true}
 use Rattle.cqf_model.specs.declared.topology.Hop.{Hop}
 use Rattle.cqf_model.specs.Domain.{bridge_of, leaves}
 use Rattle.cqf_model.specs.Network.{queued_frame}
+use Rattle.cqf_model.specs.Paces.{is_turn}
 use Rattle.cqf_model.specs.Table.{IsHop, bridges_of, goes_to, links_of, residence, same_way}
 use Rattle.cqf_model.specs.Traffic.{came_by}
 use Rattle.cqf_model.proofs.Residence.{depth_within_residence, residence_met}
 use Rattle.cqf_laws_history.specs.TrafficLaws.{FramesGoToNoOtherPort}
 use Rattle.cqf_laws_history.specs.TreeLaws.{FramesGoOnByTheirTree, FramesGoOnWhereALinkLeaves, GatesStandWhereLinksLeave, LeadsOn, OneGateABridge}
-use Rattle.cqf_laws_history.specs.TreeLaws.{ResidenceIsTheGreatestDepth, StreamsCostNothingElsewhere}
+use Rattle.cqf_laws_history.specs.TreeLaws.{ResidenceIsTheGreatestDepth, StreamsCostNothingElsewhere, StreamsCostOnceALink}
 
 -- a number that is none of some isn't found among them
 not_among : (l : ℕ) (xs : List ℕ) → ¬ Contains xs l → list_any (λ k. k == l) xs ≡ false
@@ -30,9 +31,27 @@ no_other_port d received row l none =
     ap (λ (b : Bool). flat_map (λ (x : Unit {0}). if b then queued_frame d received row ∷ [] else []) (tt ∷ []))
     (not_among l (goes_to row (came_by received.way)) none)
 
--- a stream costs nothing of a link that it doesn't go by
+-- a stream costs of a link in the cycles of its turn there
+pub costs_once : StreamsCostOnceALink
+costs_once row depth link cycle is turn =
+    let hop = is.hop in
+    let here : ((hop.link == link) && is_turn row.pace hop.depth cycle) ≡ true =
+    and_from (hop.link == link) (is_turn row.pace hop.depth cycle) (eq-eqb hop.link link is.is_link) (ap (λ k. is_turn row.pace k cycle) is.is_depth ∙ turn) in
+    ap (λ (b : Bool). if b then cost_of row.octets else 0)
+    (member_any (λ (h : Hop). (h.link == link) && is_turn row.pace h.depth cycle) row.tree.items hop is.of_tree here)
+
+-- and nothing else
 pub costs_nothing : StreamsCostNothingElsewhere
-costs_nothing row link none = ap (λ (b : Bool). if b then cost_of row.octets else 0) (not_among link (links_of row) none)
+costs_nothing row link cycle none =
+    let at : Hop → Bool = λ hop. (hop.link == link) && is_turn row.pace hop.depth cycle in
+    elim (cases_Bool (list_any at row.tree.items)) [
+      | inr f ↦ ap (λ (b : Bool). if b then cost_of row.octets else 0) f
+      | inl t ↦
+          let w = any_member at row.tree.items t in
+          let both = and_parts (w.0.link == link) (is_turn row.pace w.0.depth cycle) w.2 in
+          let is : IsHop row w.0.depth link = record { hop = w.0; of_tree = w.1; is_depth = refl; is_link = eqb-true w.0.link link both.0 } in
+          absurd (both_ways (is_turn row.pace w.0.depth cycle) (none w.0.depth is) both.1)
+    ]
 
 -- a way is the same as itself
 itself : (a : Option ℕ) → same_way a a ≡ true

@@ -1,11 +1,11 @@
 -- Laws about which branches are refused as no tree, told by pairs of branches, in a planner's words.
 use Rattle.std.specs.Prelude.{ℕ, true, false, ◌≡◌, ◌≢◌, ◌≤◌, ◌<◌, ◌↔◌, List, length, take, slice_get, Some, None, AllPairs, Contains}
 use Rattle.cqf_units.specs.Name.{is_name}
-use Rattle.cqf_model.specs.declared.history.Refused.TheVariants.{NotATree}
+use Rattle.cqf_model.specs.declared.history.Refused.TheVariants.{NotATree, TooManyHops}
 use Rattle.cqf_model.specs.declared.topology.Row.{Row}
 use Rattle.cqf_model.specs.Domain.{Domain, node_named}
-use Rattle.cqf_model.specs.History.{Asked, Branch, is_broken_at, is_loop_at, make_a_tree, refusal_of}
-use Rattle.cqf_model.specs.Limits.{least_reserved, most_reserved}
+use Rattle.cqf_model.specs.History.{Asked, Branch, is_broken_at, is_loop_at, is_pace, make_a_tree, refusal_of}
+use Rattle.cqf_model.specs.Limits.{hops_within, least_reserved, most_reserved}
 
 -- two branches part at a place: they have the same nodes before it, and there both go on, each to another node
 pub record PartAt (xs ys : Branch) (place : ℕ) : Type 0 where
@@ -32,12 +32,13 @@ pub record MakeOneTree (xs ys : Branch) : Type 0 where
 abbrev pub PairsAreTested : Type 0
 PairsAreTested = (xs ys : Branch) → make_a_tree xs ys ≡ true ↔ MakeOneTree xs ys
 
--- no refusal fits a request that comes before that for branches which are no tree: its stream's name and octets are in order,
+-- no refusal fits a request that comes before that for branches which are no tree: its stream's name, octets and pace are in order,
 -- it has a branch, each node is known, and each branch is whole and has no loop
 pub record HasNoEarlierFault (d : Domain) (asked : Asked) : Type 0 where
   pub named : is_name asked.name ≡ true
   pub least_octets : least_reserved ≤ asked.octets
   pub most_octets : asked.octets ≤ most_reserved
+  pub paced : is_pace asked.every asked.phase ≡ true
   pub some_branch : 0 < length asked.paths
   pub known : (branch : Branch) (name : List ℕ) → Contains asked.paths branch → Contains branch name → node_named d name ≢ None
   pub whole : (branch : Branch) (place : ℕ) → Contains asked.paths branch → place ≤ length branch → is_broken_at d branch place ≡ false
@@ -75,3 +76,7 @@ RefusedAsNoTree = (d : Domain) (rows : List Row) (asked : Asked) (place : ℕ) �
 abbrev pub TreesAreMadeOfPairs : Type 0
 TreesAreMadeOfPairs = (d : Domain) (rows : List Row) (asked : Asked) → HasNoEarlierFault d asked →
     ((place : ℕ) → refusal_of d rows asked ≢ Some (NotATree place)) ↔ AllPairs MakeOneTree asked.paths
+
+-- where a tree may have as many hops as the domain has links, as in the profile, no request is refused for its hops
+abbrev pub LinksBoundHops : Type 0
+LinksBoundHops = (d : Domain) (rows : List Row) (asked : Asked) → length d.links ≤ hops_within d.limits → refusal_of d rows asked ≢ Some TooManyHops

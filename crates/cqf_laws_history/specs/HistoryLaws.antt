@@ -4,6 +4,7 @@ use Rattle.cqf_model.specs.declared.topology.Hop.{Hop}
 use Rattle.cqf_model.specs.declared.topology.Row.{Row}
 use Rattle.cqf_model.specs.Domain.{Domain}
 use Rattle.cqf_model.specs.History.{Asked, Branch, IsLegalHistory, Recorded, hops_along, refusal_of, seals, tables_of, tree_of}
+use Rattle.cqf_model.specs.Limits.{most_hops}
 use Rattle.cqf_model.specs.Table.{AreOrderly, IsTree, table_of}
 
 -- the tables that a legal history closes have what the laws of the network ask of tables
@@ -34,3 +35,7 @@ TreeIsItsBranches =
 -- a tree has no more links than its domain
 abbrev pub TreesHaveFewLinks : Type 0
 TreesHaveFewLinks = (d : Domain) (tree : List Hop) → IsTree d tree → length tree ≤ length d.links
+
+-- the tree of a request that isn't refused fits a row
+abbrev pub GrantedFitsARow : Type 0
+GrantedFitsARow = (d : Domain) (rows : List Row) (asked : Asked) → refusal_of d rows asked ≡ None → length (tree_of d asked.paths) ≤ most_hops

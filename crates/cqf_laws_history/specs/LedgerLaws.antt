@@ -15,9 +15,9 @@ end_from row withdrawn = withdrawn.0 + residence row
 abbrev pub ends_in : ℕ → Row → Bool
 ends_in cycle row = option_map_or (λ (w : Cycle). end_from row w == cycle) row.withdrawn false
 
--- whether a row ends, in a cycle that stands in this one of 32 slots
+-- whether a row ends, in a cycle that stands in this one of 128 slots
 abbrev pub is_in_slot : ℕ → Row → Bool
-is_in_slot slot row = option_map_or (λ (w : Cycle). end_from row w % 32 == slot) row.withdrawn false
+is_in_slot slot row = option_map_or (λ (w : Cycle). end_from row w % 128 == slot) row.withdrawn false
 
 -- of the streams that are held in a cycle those are let go that end in the next one
 abbrev pub SealLetsGoThoseThatEnd : Type 0
@@ -29,7 +29,7 @@ SealLetsGoThoseThatEnd =
 pub record IsSoon (row : Row) (cycle : ℕ) (withdrawn : Cycle) : Type 0 where
   pub begun : withdrawn.0 ≤ cycle
   pub later : cycle < end_from row withdrawn
-  pub soon : end_from row withdrawn ≤ cycle + 16
+  pub soon : end_from row withdrawn ≤ cycle + 64
 
 abbrev pub EndsAreSoon : Type 0
 EndsAreSoon =
@@ -40,4 +40,4 @@ EndsAreSoon =
 abbrev pub RingFindsThoseThatEnd : Type 0
 RingFindsThoseThatEnd =
     (d : Domain) (entries : List Recorded) (rows : List Row) (next : ℕ) → IsLegalHistory d entries → IsState d entries rows next →
-    filter (ends_in (seals entries + 1)) rows ≡ filter (is_in_slot ((seals entries + 1) % 32)) rows
+    filter (ends_in (seals entries + 1)) rows ≡ filter (is_in_slot ((seals entries + 1) % 128)) rows

@@ -8,3 +8,4 @@ pub mod TreeLaws
 pub mod BackgroundLaws
 pub mod LedgerLaws
 pub mod BranchLaws
+pub mod Example

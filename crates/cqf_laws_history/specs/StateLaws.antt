@@ -9,7 +9,7 @@ use Rattle.cqf_model.specs.declared.history.Reply.TheVariants.{Sealed, Refused a
 use Rattle.cqf_model.specs.declared.topology.Row.{Row}
 use Rattle.cqf_model.specs.Domain.{Domain, budget}
 use Rattle.cqf_model.specs.History.{Act, Admits, Asked, IsLegalHistory, Recorded, Seals, Withdraws, held_in, is_seal, next_number, refusal_of, reply_to, seals}
-use Rattle.cqf_model.specs.History.{table_at, tree_of}
+use Rattle.cqf_model.specs.History.{pace_of, table_at, tree_of}
 use Rattle.cqf_model.specs.Table.{IsTree, is_held, link_cost, row_named}
 use Rattle.cqf_model.specs.Limits.{least_reserved, most_calls, most_cycles, most_reserved, most_streams}
 
@@ -28,6 +28,7 @@ granted_row d number effect asked = record {
   no = number;
   name = asked.name;
   octets = asked.octets;
+  pace = pace_of asked;
   tree = record { items = tree_of d asked.paths };
   admitted = record { 0 = effect };
   withdrawn = None;
@@ -86,7 +87,7 @@ SealClosesTable =
     table_at d (with_entry entries seat Seals Sealed) (seals entries) ≡ rows
 
 -- what held streams have: a tree of the domain, a reservation within its limits, and names and ascending numbers of their
--- own; and what they cost of a link is within the link's budget
+-- own; and what they cost of a link in any cycle is within the link's budget
 pub record AreHeld (d : Domain) (rows : List Row) (next effect : ℕ) : Type 0 where
   pub trees : (row : Row) → Contains rows row → IsTree d row.tree.items
   pub named : (row : Row) → Contains rows row → is_name row.name ≡ true
@@ -96,7 +97,7 @@ pub record AreHeld (d : Domain) (rows : List Row) (next effect : ℕ) : Type 0 w
   pub begun : (row : Row) → Contains rows row → row.admitted.0 ≤ effect
   pub numbers : AllPairs (λ (a b : Row). a.no < b.no) rows
   pub names : AllPairs (λ (a b : Row). a.name ≢ b.name) rows
-  pub loads : (l : ℕ) → link_cost rows l ≤ budget d l
+  pub loads : (l cycle : ℕ) → link_cost rows l cycle ≤ budget d l
 
 -- the streams that are held behind a legal history are so
 abbrev pub HeldAreSound : Type 0

@@ -1,9 +1,10 @@
 -- Laws about where a stream goes and what it costs, in a planner's words.
-use Rattle.std.specs.Prelude.{ℕ, true, ◌≡◌, ◌≢◌, ◌≤◌, ◌<◌, ◌↔◌, length, Option, AllPairs, Contains}
+use Rattle.std.specs.Prelude.{ℕ, true, false, ◌≡◌, ◌≢◌, ◌≤◌, ◌<◌, ◌↔◌, length, Option, AllPairs, Contains}
 use Rattle.cqf_units.specs.Timing.{cost_of}
 use Rattle.cqf_model.specs.declared.topology.Hop.{Hop}
 use Rattle.cqf_model.specs.declared.topology.Row.{Row}
 use Rattle.cqf_model.specs.Domain.{Domain, bridge_of, leaves}
+use Rattle.cqf_model.specs.Paces.{is_turn}
 use Rattle.cqf_model.specs.Table.{IsHop, bridges_of, cost_on, goes_on, goes_to, links_of, residence}
 
 -- a hop of the row's tree, behind a link or, at the edge, behind none
@@ -41,9 +42,11 @@ pub record IsGreatestDepth (row : Row) (most : ℕ) : Type 0 where
 abbrev pub ResidenceIsTheGreatestDepth : Type 0
 ResidenceIsTheGreatestDepth = (row : Row) → IsGreatestDepth row (residence row)
 
--- a stream costs its reservation's cost of each of its links, and nothing of another
+-- a stream costs its reservation's cost of each of its links, in the cycles in which its frames are so deep on their way as the
+-- link is, and nothing of it in another cycle, nor of another link
 abbrev pub StreamsCostOnceALink : Type 0
-StreamsCostOnceALink = (row : Row) (link : ℕ) → Contains (links_of row) link → cost_on row link ≡ cost_of row.octets
+StreamsCostOnceALink = (row : Row) (depth link cycle : ℕ) → IsHop row depth link → is_turn row.pace depth cycle ≡ true → cost_on row link cycle ≡ cost_of row.octets
 
 abbrev pub StreamsCostNothingElsewhere : Type 0
-StreamsCostNothingElsewhere = (row : Row) (link : ℕ) → ¬ Contains (links_of row) link → cost_on row link ≡ 0
+StreamsCostNothingElsewhere = (row : Row) (link cycle : ℕ) → ((depth : ℕ) → IsHop row depth link → is_turn row.pace depth cycle ≡ false) →
+    cost_on row link cycle ≡ 0

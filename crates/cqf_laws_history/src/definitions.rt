@@ -9,6 +9,7 @@
 //! - Streams and tables: [`trees_say_where_streams_go`], [`streams_let_go_in_time`], [`closed_tables_stay`].
 //! - Background frames: [`background_is_told`].
 //! - Times: [`delay_counts`].
+//! - Paces and limits by an example: [`second_stream_is_judged`].
 //!
 //! ```
 //! // here on, a proof knows that an offer is dropped as unknown exactly where no row has its stream's name
@@ -16,6 +17,7 @@
 //! ```
 
 ghost use Rattle.cqf_laws_history.specs.BackgroundLaws.{BackgroundIsNumberedByPlace, BooksSayTheBackground, PortsSayTheirBackground};
+ghost use Rattle.cqf_laws_history.specs.Example.{IsSaidOfTheSecond};
 ghost use Rattle.cqf_laws_history.specs.TableLaws.{
   WithdrawnIsHeldForItsTree,
   OtherwiseItIsHeldOn,
@@ -117,3 +119,9 @@ pub fn relayed_frames_are_queued_or_lost()
 {
     verdicts_have_their_reason();
 }
+
+/// An example: where a stream of every 16 cycles takes two thirds of a link's budget, a second one is granted just where no
+/// cycle is both of the one and of the other; and where the limits are set lower, it is refused by them (profile).
+pub fn second_stream_is_judged()
+    ensures { IsSaidOfTheSecond }
+{}

@@ -16,9 +16,9 @@
 //! cqf_laws_history::tables_are_orderly();
 //! ```
 
-ghost use Rattle.cqf_laws_history.specs.BranchLaws.{PairsAreTested, PairsHaveTheirBeginnings, RefusedAsNoTree, TreesAreMadeOfPairs};
+ghost use Rattle.cqf_laws_history.specs.BranchLaws.{LinksBoundHops, PairsAreTested, PairsHaveTheirBeginnings, RefusedAsNoTree, TreesAreMadeOfPairs};
 ghost use Rattle.cqf_laws_history.specs.HistoryLaws.{TablesAreOrderly, TablesAscend, ThereAreSoManyTables};
-ghost use Rattle.cqf_laws_history.specs.HistoryLaws.{GrantedIsATree, TreeIsItsBranches, TreesHaveFewLinks};
+ghost use Rattle.cqf_laws_history.specs.HistoryLaws.{GrantedFitsARow, GrantedIsATree, TreeIsItsBranches, TreesHaveFewLinks};
 ghost use Rattle.cqf_laws_history.specs.StreamLaws.{GrantedIsLast, SealChangesNoStream, WithdrawnEnds};
 ghost use Rattle.cqf_laws_history.specs.StateLaws.{
   HistoryGoesOn,
@@ -42,11 +42,13 @@ pub fn tables_are_orderly()
 {}
 
 /// The branches of a request that isn't refused are a tree of the domain: each hop of the tree is one of a branch, and each
-/// hop of a branch is in the tree. A tree has no more links than its domain (profile).
+/// hop of a branch is in the tree. A tree has no more links than its domain, and no more than a
+/// row holds (profile).
 pub fn granted_is_a_tree()
     ensures tree { GrantedIsATree }
     ensures branches { TreeIsItsBranches }
     ensures few { TreesHaveFewLinks }
+    ensures fits { GrantedFitsARow }
 {}
 
 /// A running state tells what a whole history says: with each entry the streams that are held in the next cycle, and the
@@ -75,10 +77,12 @@ pub fn streams_follow_history()
 /// from there on have no node in common; of branches that are whole and have no loop that is to say that they begin alike,
 /// differ, and that each node of both has the same nodes before it in both. A request is refused for the first branch that
 /// makes no tree with one before it, where no earlier refusal fits; so where none fits, it is refused for no branch exactly
-/// where each two of its branches make one tree (profile).
+/// where each two of its branches make one tree. A tree of many hops is refused only where the domain has more links than a
+/// tree may have hops (profile).
 pub fn branches_make_a_tree_by_pairs()
     ensures tested { PairsAreTested }
     ensures beginnings { PairsHaveTheirBeginnings }
     ensures refused { RefusedAsNoTree }
     ensures made { TreesAreMadeOfPairs }
+    ensures hops { LinksBoundHops }
 {}

@@ -27,8 +27,8 @@ mod seals;
 
 pub use definitions::{
     background_is_told, closed_tables_stay, delay_counts, frames_go_to_each_port,
-    queued_frames_leave_their_bridge, relayed_frames_are_queued_or_lost, streams_let_go_in_time,
-    trees_say_where_streams_go, verdicts_have_their_reason,
+    queued_frames_leave_their_bridge, relayed_frames_are_queued_or_lost, second_stream_is_judged,
+    streams_let_go_in_time, trees_say_where_streams_go, verdicts_have_their_reason,
 };
 pub use histories::{
     branches_make_a_tree_by_pairs, granted_is_a_tree, state_follows_history,

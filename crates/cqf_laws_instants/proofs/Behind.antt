@@ -1,4 +1,5 @@
 -- What a cycle queues to a link, frame by frame.
+use Rattle.cqf_model.specs.Table.{reserved_in}
 use Rattle.std.proofs.Common.{◌≡◌, ℕ, ◌*◌, ◌<◌, Bool, true, false, cond, List, length, refl, sym, ap, ap₂, ◌∙◌, subst, Contains}
 use Rattle.std.proofs.Common.{le-leb, leb-true}
 use Rattle.std.specs.Prelude.{[], ◌∷◌, ◌++◌, ◌&&◌, ◌↔◌, filter, nat_le, Option, Some, None}
@@ -54,7 +55,7 @@ covering_covers run x row inside = (to, from)
     here = begins_at run.domain row x.offer.bridge
 
     fits : Bool
-    fits = nat_le (asked_with run.domain run.offers x row) row.octets
+    fits = nat_le (asked_with run.domain run.offers x row) (reserved_in row 0 (offer_cycle run.domain x))
 
     to : covering run x ≡ Some row → IsCovered run x row
     to e =
@@ -66,7 +67,7 @@ covering_covers run x row inside = (to, from)
           named = p.0;
           live = first.0;
           first_bridge = second.0;
-          within = leb-true (asked_with run.domain run.offers x row) row.octets second.1;
+          within = leb-true (asked_with run.domain run.offers x row) (reserved_in row 0 (offer_cycle run.domain x)) second.1;
         }
 
     from : IsCovered run x row → covering run x ≡ Some row
@@ -74,7 +75,7 @@ covering_covers run x row inside = (to, from)
         ap (if_passes (covers run x)) c.named
         ∙ cond-true (covers run x row) (Some row) None
         (and_from live (here && fits) c.live
-        (and_from here fits c.first_bridge (le-leb (asked_with run.domain run.offers x row) row.octets c.within)))
+        (and_from here fits c.first_bridge (le-leb (asked_with run.domain run.offers x row) (reserved_in row 0 (offer_cycle run.domain x)) c.within)))
 
 -- an offer that isn't covered has no such row
 pub uncovered_none : (run : Run) (x : Offered) (reason : Reason) → IsReason run x reason → covering run x ≡ None
@@ -83,20 +84,20 @@ uncovered_none run x Withdrawn (row, r) =
     ap (if_passes (covers run x)) r.named
     ∙ ap (λ (b : Bool). cond b (Some row) None)
     (and_left (is_live row (offer_cycle run.domain x))
-    (begins_at run.domain row x.offer.bridge && nat_le (asked_with run.domain run.offers x row) row.octets) r.not_live)
+    (begins_at run.domain row x.offer.bridge && nat_le (asked_with run.domain run.offers x row) (reserved_in row 0 (offer_cycle run.domain x))) r.not_live)
 uncovered_none run x OtherBridge (row, r) =
     ap (if_passes (covers run x)) r.named
     ∙ ap (λ (b : Bool). cond b (Some row) None)
     (and_right (is_live row (offer_cycle run.domain x))
-    (begins_at run.domain row x.offer.bridge && nat_le (asked_with run.domain run.offers x row) row.octets)
-    (and_left (begins_at run.domain row x.offer.bridge) (nat_le (asked_with run.domain run.offers x row) row.octets) r.elsewhere))
+    (begins_at run.domain row x.offer.bridge && nat_le (asked_with run.domain run.offers x row) (reserved_in row 0 (offer_cycle run.domain x)))
+    (and_left (begins_at run.domain row x.offer.bridge) (nat_le (asked_with run.domain run.offers x row) (reserved_in row 0 (offer_cycle run.domain x))) r.elsewhere))
 uncovered_none run x Octets (row, r) =
     ap (if_passes (covers run x)) r.named
     ∙ ap (λ (b : Bool). cond b (Some row) None)
     (and_right (is_live row (offer_cycle run.domain x))
-    (begins_at run.domain row x.offer.bridge && nat_le (asked_with run.domain run.offers x row) row.octets)
-    (and_right (begins_at run.domain row x.offer.bridge) (nat_le (asked_with run.domain run.offers x row) row.octets)
-    (lt-leb (asked_with run.domain run.offers x row) row.octets r.short)))
+    (begins_at run.domain row x.offer.bridge && nat_le (asked_with run.domain run.offers x row) (reserved_in row 0 (offer_cycle run.domain x)))
+    (and_right (begins_at run.domain row x.offer.bridge) (nat_le (asked_with run.domain run.offers x row) (reserved_in row 0 (offer_cycle run.domain x)))
+    (lt-leb (asked_with run.domain run.offers x row) (reserved_in row 0 (offer_cycle run.domain x)) r.short)))
 
 -- the name that an offer bears
 abbrev name_of : Way → List ℕ

@@ -19,6 +19,7 @@ use Rattle.cqf_model.specs.Network.{Network, compiled_lists}
 use Rattle.cqf_model.specs.Run.{Run}
 use Rattle.cqf_model.specs.Traffic.{Carried, Received, is_offered_at, numbered, offer_received, offered_at, received_at, relayed_at, sent_received, whole_at}
 use Rattle.cqf_model.proofs.Coming.{offered_when}
+use Rattle.cqf_model.proofs.Represented.{few_links}
 use Rattle.cqf_laws_cycle.specs.BridgeCycle.{BatchIsWholeInItsCycle, CycleBringsItsBatches, FramesKeepTheirOrder, IsCompiledNetwork, received_in}
 use Rattle.cqf_laws_cycle.specs.Gathered.{AreWholeIn, gathered_in, offered_for}
 use Rattle.cqf_laws_instants.specs.TakenLaws.{AreItsBatches, IsTakenBefore, StandAsTaken, source_of}
@@ -107,7 +108,7 @@ module _ (run : Run) (batches : Carried) (bridge cycle : ℕ) where
             (Contains-append_right (each_below (relayed_at d batches bridge (instant w.0)) links) (offered_at run.offers bridge (instant w.0)) x w.2)
       ]
 
-  module _ (few : length run.domain.links ≤ 64)
+  module _ (few : length run.domain.links ≤ 4096)
       (ordered : (m : ℕ) → enters run.domain m bridge ≡ true → AllPairs (λ (a b : Sent). whole_at run.domain m a < whole_at run.domain m b) (batches m)) where
     -- no two frames tie of what the links bring, each whole in its own order, and of offers of which no two tie
     pub with_offers : (offers : List Offered) → AllPairs (Either IsTakenBefore) (map offer_received offers) →
@@ -161,7 +162,7 @@ module _ (whole : BatchIsWholeInItsCycle) (brings : CycleBringsItsBatches) (keep
   -- what comes to a bridge in a cycle is in order
   pub cycle_in_order : AllPairs IsTakenBefore (received_in run net.carried bridge cycle)
   cycle_in_order =
-      in_one_cycle run net.carried bridge compiled.accepted.few_links
+      in_one_cycle run net.carried bridge (few_links run.domain compiled.accepted)
       (λ m. keeps run (compiled_lists run.domain) cycles m net compiled.legal) cycle
 
   module _ (batches : Carried) (are : AreItsBatches run net bridge cycle batches) where
@@ -185,7 +186,7 @@ module _ (whole : BatchIsWholeInItsCycle) (brings : CycleBringsItsBatches) (keep
         record {
           has = λ z h. taken_was_gathered run batches bridge cycle z (subst (λ (xs : List Received). Contains xs z) (sym same) h);
           only = λ z h. subst (λ (xs : List Received). Contains xs z) same (gathered_is_taken run batches bridge cycle some whole_in z h);
-          apart = gathered_apart run batches bridge cycle compiled.accepted.few_links batches_in_order;
+          apart = gathered_apart run batches bridge cycle (few_links run.domain compiled.accepted) batches_in_order;
         }
 
     -- so sorted in whatever way it is that

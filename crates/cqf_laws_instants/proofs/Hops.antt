@@ -1,5 +1,8 @@
 -- A frame stands in a lane by its stream's tree.
-use Rattle.std.proofs.Common.{◌≡◌, ℕ, ◌*◌, ◌<◌, Bool, true, false, cond, List, length, inl, inr, refl, sym, ap, ap₂, ◌∙◌, subst, Contains}
+use Rattle.cqf_model.specs.declared.topology.Pace.{Pace}
+use Rattle.std.specs.Prelude.{find}
+use Rattle.std.specs.Option.{option_map_or}
+use Rattle.std.proofs.Common.{◌≡◌, ℕ, ◌*◌, ◌<◌, Bool, true, false, cond, List, length, inl, inr, refl, sym, ap, ◌∙◌, subst, Contains}
 use Rattle.std.proofs.Common.{eqb-true}
 use Rattle.std.specs.Prelude.{[], ◌∷◌, ◌++◌, ◌==◌, map, filter, Option, Some, None}
 use Rattle.std.specs.List.{list_any}
@@ -43,12 +46,17 @@ policed_each d tables at earlier (y ∷ xs) x h =
       | inr k ↦ let r = policed_each d tables at (earlier ++ p ∷ []) xs x k in (r.0, contains_later p rest r.0 r.1, r.2)
     ]
 
--- a frame as a port sees it, by its stream's reservation and number
-abbrev frame_by : Domain → Received → ℕ → ℕ → QueuedFrame
-frame_by d x octets number = record {
-  arrival = record { at = record { 0 = x.at }; class = gate_class (stream_list d.cycle_time octets) x.at; octets = x.octets; frame = x.frame };
+-- a frame as a port sees it, by its stream's reservation, pace, depth and number
+abbrev frame_by : Domain → Received → ℕ → Pace → ℕ → ℕ → QueuedFrame
+frame_by d x octets pace depth number = record {
+  arrival = record { at = record { 0 = x.at }; class = gate_class (stream_list d.cycle_time octets pace depth) x.at; octets = x.octets; frame = x.frame };
   stream = Some number;
 }
+
+-- how deep a frame is by its stream's tree
+abbrev depth_by : List Hop → Option ℕ → ℕ
+depth_by tree None = 0
+depth_by tree (Some m) = option_map_or (λ (hop : Hop). hop.depth) (find (λ (hop : Hop). hop.link == m) tree) 0
 
 -- whether a tree has a link behind the way that a frame came
 abbrev has_behind : ℕ → Received → List Hop → Bool
@@ -64,7 +72,8 @@ goes_by_tree run l x found row is same number =
       queued =
           ap (at_port run l x) is
           ∙ ap (λ (tree : List Hop). cond (has_behind l x tree) (queued_frame d x found ∷ []) []) same.tree
-          ∙ ap (λ (frame : QueuedFrame). cond (has_behind l x row.tree.items) (frame ∷ []) []) (ap₂ (frame_by d x) same.octets number);
+          ∙ ap (λ (frame : QueuedFrame). cond (has_behind l x row.tree.items) (frame ∷ []) []) (λ i.
+          frame_by d x (same.octets i) (same.pace i) (depth_by (same.tree i) (came_by x.way)) (number i));
     }
 
 module _ (whole : BatchIsWholeInItsCycle) (brings : CycleBringsItsBatches) (keeps : FramesKeepTheirOrder) (cycles : RunIsItsCycles)
@@ -122,7 +131,7 @@ pub covered_by_tree : (run : Run) (l : ℕ) (x : Offered) (row : Row) → x.offe
     GoesByTree run l (offer_received x) row
 covered_by_tree run l x row at covered =
     goes_by_tree run l (offer_received x) row row (edge_row run l x at ∙ (covering_covers run x row covered.offered).1 covered)
-    (record { name = refl; octets = refl; tree = refl }) refl
+    (record { name = refl; octets = refl; pace = refl; tree = refl }) refl
 
 -- and one that none covers goes nowhere
 pub uncovered_nowhere : (run : Run) (l : ℕ) (x : Offered) → x.offer.bridge ≡ bridge_of run.domain l → Contains (numbered run.offers) x →

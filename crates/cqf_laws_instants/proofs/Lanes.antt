@@ -24,6 +24,7 @@ use Rattle.cqf_model.specs.Run.{Run}
 use Rattle.cqf_model.specs.Traffic.{Carried, Received, is_offered_at, numbered, offer_received, received_at, sent_received}
 use Rattle.cqf_model.specs.Promise.{MeansTheShift}
 use Rattle.cqf_model.proofs.Coming.{received_when}
+use Rattle.cqf_model.proofs.Represented.{few_links}
 use Rattle.cqf_laws_shift.proofs.Came.{numbered_member, numbers_ascend}
 use Rattle.cqf_laws_cycle.specs.BridgeCycle.{BatchIsWholeInItsCycle, CycleBringsItsBatches, FramesKeepTheirOrder, IsCompiledNetwork, received_in}
 use Rattle.cqf_laws_cycle.specs.Gathered.{is_offered_in, offered_for}
@@ -40,8 +41,8 @@ use Rattle.cqf_laws_instants.proofs.Order.{link_source, offer_source}
 -- a frame has a key of its own: it isn't sooner than the beginning, and its source and its number are small
 record HasKey (begins : ℕ) (x : Received) : Type 0 where
   from : begins ≤ x.at
-  source : source_of x.way < 128
-  number : x.frame < 1048576
+  source : source_of x.way < 8192
+  number : x.frame < 16777216
 
 -- a frame that is taken before another has the smaller key
 smaller_key : (begins : ℕ) (a b : Received) → HasKey begins a → HasKey begins b → IsTakenBefore a b → key_of begins a < key_of begins b
@@ -179,13 +180,13 @@ module _ (whole : BatchIsWholeInItsCycle) (brings : CycleBringsItsBatches) (keep
               (subst (Contains (map offer_received by_instant)) w.2
               (contains_map offer_received by_instant w.0 (from_placed run bridge cycle some w.0 w.1)))
         ]);
-        apart = with_offers run batches bridge cycle compiled.accepted.few_links
+        apart = with_offers run batches bridge cycle (few_links run.domain compiled.accepted)
             (batches_in_order whole brings keeps run cycles cycle bridge net compiled batches are) by_place (placed_apart run bridge cycle);
       }
 
-  module _ (means : MeansTheShift run net.carried) (few : length run.offers < 1048576) where
+  module _ (means : MeansTheShift run net.carried) (few : length run.offers < 16777216) where
     -- what a link carries has an offer's number
-    carried_number : (m : ℕ) (sent : Sent) → Contains (net.carried m) sent → sent.frame < 1048576
+    carried_number : (m : ℕ) (sent : Sent) → Contains (net.carried m) sent → sent.frame < 16777216
     carried_number m sent h =
         let s = means.only sent.frame m (cycle_of run.domain sent.start.0) (record { sent = sent; is_sent = h; is_frame = refl; is_cycle = refl }) in
         omega (arith, few, s.is_frame, (numbered_member run.offers s.x s.covered.offered).2)
@@ -209,7 +210,7 @@ module _ (whole : BatchIsWholeInItsCycle) (brings : CycleBringsItsBatches) (keep
               let same : s.0.frame ≡ x.frame = ap (λ (y : Received). y.frame) s.2 in
               record {
                 from = at;
-                source = omega (arith, link_source d r.0 (batches r.0) x there.1, r.1, compiled.accepted.few_links);
+                source = omega (arith, link_source d r.0 (batches r.0) x there.1, r.1, (few_links run.domain compiled.accepted));
                 number = omega (arith, same, carried_number r.0 s.0 sent.0);
               }
           | inr k ↦

@@ -59,12 +59,12 @@ link_source d m sents x h =
     sym (ap (λ (y : Received). source_of y.way) w.2)
 
 -- and what is offered stands behind every link
-pub offer_source : (offers : List Offered) (x : Received) → Contains (map offer_received offers) x → source_of x.way ≡ 64
+pub offer_source : (offers : List Offered) (x : Received) → Contains (map offer_received offers) x → source_of x.way ≡ 4096
 offer_source offers x h =
     let w = contains_from_map offer_received offers x h in
     sym (ap (λ (y : Received). source_of y.way) w.2)
 
-module _ (run : Run) (carried : Carried) (bridge : ℕ) (few : length run.domain.links ≤ 64)
+module _ (run : Run) (carried : Carried) (bridge : ℕ) (few : length run.domain.links ≤ 4096)
     (ordered : (m : ℕ) → AllPairs (λ (a b : Sent). whole_at run.domain m a < whole_at run.domain m b) (carried m)) where
   -- what a link brings at an instant has its number
   relayed_source : (t m : ℕ) (x : Received) → Contains (relayed_at run.domain carried bridge t m) x → source_of x.way ≡ m

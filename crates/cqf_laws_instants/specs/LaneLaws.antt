@@ -37,12 +37,12 @@ lane_of run batches l cycle = each_below (lane_from run batches l) (length run.d
 
 -- a frame's key in a cycle that begins at an instant: when it is whole, its source and its number, in one number
 abbrev pub key_of : ℕ → Received → ℕ
-key_of begins x = ((x.at - begins) * 128 + source_of x.way) * 1048576 + x.frame
+key_of begins x = ((x.at - begins) * 8192 + source_of x.way) * 16777216 + x.frame
 
 -- sorted by these keys in whatever way, a lane is what the cycle queues to the link
 abbrev pub LaneIsQueued : Type 0
 LaneIsQueued = (run : Run) (net : Network) (l cycle : ℕ) (batches : Carried) (sorted : List Received) →
-    IsLegalRun run net → cycle < length run.tables → length run.offers < 1048576 →
+    IsLegalRun run net → cycle < length run.tables → length run.offers < 16777216 →
     AreItsBatches run net (bridge_of run.domain l) cycle batches →
     IsPermutation (lane_of run batches l cycle) sorted → IsNonDecreasingBy (key_of (cycle * run.domain.cycle_time)) sorted →
     queued_in run net.carried l cycle ≡ flat_map (behind run l) sorted

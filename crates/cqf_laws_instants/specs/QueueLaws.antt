@@ -1,5 +1,6 @@
 -- What of the frames that come to a bridge in a cycle is queued to a link, said of each frame alone: no gate and no frame before
 -- it is asked.
+use Rattle.cqf_model.specs.Table.{reserved_in}
 use Rattle.std.specs.Prelude.{ℕ, ◌≡◌, ◌↔◌, ◌<◌, ◌==◌, ◌&&◌, Bool, false, if◌then◌else◌, nat_le, List, [], ◌∷◌, Contains, Option, Some, None, filter, length}
 use Rattle.std.specs.List.{flat_map, list_any}
 use Rattle.std.specs.List.Sorted.{IsPermutation}
@@ -20,7 +21,7 @@ use Rattle.cqf_laws_instants.specs.TakenLaws.{AreItsBatches, StandAsTaken}
 abbrev pub covers : Run → Offered → Row → Bool
 covers run x row =
     is_live row (offer_cycle run.domain x)
-    && (begins_at run.domain row x.offer.bridge && nat_le (asked_with run.domain run.offers x row) row.octets)
+    && (begins_at run.domain row x.offer.bridge && nat_le (asked_with run.domain run.offers x row) (reserved_in row 0 (offer_cycle run.domain x)))
 
 -- the row where a test of it passes
 abbrev pub if_passes : (Row → Bool) → Option Row → Option Row

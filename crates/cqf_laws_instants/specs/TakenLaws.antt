@@ -9,9 +9,9 @@ use Rattle.cqf_model.specs.Traffic.{AtEdge, Carried, Received, Relayed, Way}
 use Rattle.cqf_laws_cycle.specs.BridgeCycle.{IsCompiledNetwork, received_in}
 use Rattle.cqf_laws_cycle.specs.Gathered.{gathered_in}
 
--- the number of the link that a frame came by. An offer stands behind every link, of which a domain has at most 64
+-- the number of the link that a frame came by. An offer stands behind every link, of which a domain has at most 4096
 abbrev pub source_of : Way → ℕ
-source_of (AtEdge name) = 64
+source_of (AtEdge name) = 4096
 source_of (Relayed m number) = m
 
 -- a frame is taken before another: it is whole sooner, or at one instant it came by a link of a lower number, or by one

@@ -94,13 +94,13 @@ module _ (laws : CycleLaws) (beside : RunBesideIsRunAlone) (shift : GatesMeanThe
 
   -- by the cycle before that of its start
   within_from : (before : ℕ) → cycle_of run.domain sent.start.0 ≡ before + 1 → before + 1 < length run.tables →
-      IsWholeWithin run.domain link (before + 1) (link_cost (table_of run.tables (before + 1)) link) (whole_at run.domain link sent)
+      IsWholeWithin run.domain link (before + 1) (link_cost (table_of run.tables (before + 1)) link (before + 1)) (whole_at run.domain link sent)
   within_from before is in_run =
       let d = run.domain in
       let n = run.domain.cycle_time in
       let r = octet_time_of run.domain link in
       let queue = queued_in run net.carried link before in
-      let cost = link_cost (table_of run.tables (before + 1)) link in
+      let cost = link_cost (table_of run.tables (before + 1)) link (before + 1) in
       let due : batch d net.carried link (before + 1) ≡ in_turn_from ((before + 1) * n) r queue = alone_is_due laws run net.carried alone link before in_run in
       let member = contains_filter (λ (s : Sent). cycle_of d s.start.0 == before + 1) (net.carried link) sent c
       (eq-eqb (cycle_of d sent.start.0) (before + 1) is) in
@@ -117,14 +117,14 @@ module _ (laws : CycleLaws) (beside : RunBesideIsRunAlone) (shift : GatesMeanThe
       record { earliest = bounds.0; latest = bounds.1; some_cost = omega (arith, enough, counted, fits) }
 
   -- each frame that a link sends is whole within what is held
-  pub whole_within : IsWholeWithin run.domain link (cycle_of run.domain sent.start.0) (link_cost (table_of run.tables (cycle_of run.domain sent.start.0)) link)
+  pub whole_within : IsWholeWithin run.domain link (cycle_of run.domain sent.start.0) (link_cost (table_of run.tables (cycle_of run.domain sent.start.0)) link (cycle_of run.domain sent.start.0))
       (whole_at run.domain link sent)
   whole_within =
       let s = sent_timed laws run net.carried alone link the_link sent c in
       let before = cycle_of run.domain s.0.p.received.at in
       let is : cycle_of run.domain sent.start.0 ≡ before + 1 = s.1.cycle in
       let early = cycle_below run.domain.cycle_time (whole_at run.domain link sent) (length run.tables) s.1.in_run in
-      subst (λ (cycle : ℕ). IsWholeWithin run.domain link cycle (link_cost (table_of run.tables cycle) link) (whole_at run.domain link sent)) (sym is)
+      subst (λ (cycle : ℕ). IsWholeWithin run.domain link cycle (link_cost (table_of run.tables cycle) link cycle) (whole_at run.domain link sent)) (sym is)
       (within_from before is (omega (arith, early, s.1.whole, is)))
 
 -- of frames in turn, what they take is what was queued
@@ -143,7 +143,7 @@ in_turn_takes t r (x ∷ xs) of_streams =
 module _ (laws : CycleLaws) (beside : RunBesideIsRunAlone) (run : Run) (net : Network) (legal : IsLegalRun run net) (link before : ℕ) (sent : Sent)
     (c : Contains (net.carried link) sent) (is : cycle_of run.domain sent.start.0 ≡ before + 1) where
   -- each frame that a link sends is whole within what is held in the cycle before
-  pub whole_within_before : IsWholeWithin run.domain link (before + 1) (link_cost (table_of run.tables before) link) (whole_at run.domain link sent)
+  pub whole_within_before : IsWholeWithin run.domain link (before + 1) (link_cost (table_of run.tables before) link (before + 1)) (whole_at run.domain link sent)
   whole_within_before =
       let alone = beside run net legal in
       let carried = net.carried in
@@ -151,7 +151,7 @@ module _ (laws : CycleLaws) (beside : RunBesideIsRunAlone) (run : Run) (net : Ne
       let n = run.domain.cycle_time in
       let r = octet_time_of run.domain link in
       let queue = queued_in run carried link before in
-      let cost = link_cost (table_of run.tables before) link in
+      let cost = link_cost (table_of run.tables before) link (before + 1) in
       let is_link = the_link_of laws run carried alone link sent c in
       let s = sent_timed laws run carried alone link is_link sent c in
       let early = cycle_below run.domain.cycle_time (whole_at run.domain link sent) (length run.tables) s.1.in_run in
@@ -172,7 +172,7 @@ module _ (laws : CycleLaws) (beside : RunBesideIsRunAlone) (run : Run) (net : Ne
         in_turn_takes ((before + 1) * n) r queue streams,
         now_within laws run carried alone link is_link before sooner,
         load_within_cost d run.tables bridge (came run carried (end_of_run run) bridge) (policed run carried (end_of_run run) bridge)
-            (facts laws run carried alone.planned bridge) link short before,
+            (facts laws run carried alone.planned bridge) link alone.planned.orderly.trees short before,
       ) in
       let enough = sent_least laws run carried alone link sent c in
       let bounds = whole_by n r (delay_of d link) (before + 1) cost sent.start.0 sent.octets wires enough turn.0 turn.1 fits in

@@ -1,4 +1,6 @@
 -- What the gates of a bridge decide on an offer is what the reservations decide, by the offers before it alone.
+use Rattle.cqf_model.specs.Table.{depth_behind, reserved_in}
+use Rattle.cqf_model.specs.Traffic.{came_by}
 use Rattle.std.proofs.Common.{◌≡◌, ℕ, ◌+◌, ◌<◌, ◌∷◌, [], ◌++◌, List, Bool, true, false, Some, None, inl, inr, sym, ap, ap₂, ◌∙◌, subst, arith, refl, Contains}
 use Rattle.std.proofs.Common.{filter, map, fold, eqb-true, eq-eqb, ◌==◌, ◌&&◌, nat_le, if◌then◌else◌, append_assoc, append-nil}
 use Rattle.std.proofs.lemmas.Bool.{cases_Bool, cond-false, and_parts, and_from, false≢true}
@@ -58,7 +60,7 @@ is_offered (Relayed m number) = false
 -- what a frame that comes to a bridge takes of a row's reservation, behind what was taken
 abbrev take_by : Domain → ℕ → Row → ℕ → ℕ → ℕ → ℕ → Way → ℕ
 take_by d bridge row c so_far at octets (AtEdge name) =
-    if ((cycle_of d at == c) && is_text row.name name && begins_at d row bridge) && nat_le (so_far + octets) row.octets then so_far + octets else so_far
+    if ((cycle_of d at == c) && is_text row.name name && begins_at d row bridge) && nat_le (so_far + octets) (reserved_in row 0 c) then so_far + octets else so_far
 take_by d bridge row c so_far at octets (Relayed m number) = so_far
 
 module _ (reserves : GateIsReservation) (d : Domain) (some : 0 < d.cycle_time) (tables : List (List Row)) (orderly : AreOrderly d tables) (bridge c : ℕ)
@@ -99,8 +101,11 @@ module _ (reserves : GateIsReservation) (d : Domain) (some : 0 < d.cycle_time) (
       pushed : octets_before d row.no c (earlier ++ p ∷ []) ≡ so_far + taken d row.no c p
       pushed = sum_by_push (taken d row.no c) earlier p
 
-      fits : (q : Row) → q ≡ row → cx ≡ c → passes q ≡ nat_le (so_far + x.octets) row.octets
-      fits q same cycle = reserves d earlier q x some ∙ ap₂ (λ (z : Row) k. nat_le (octets_before d z.no k earlier + x.octets) z.octets) same cycle
+      fits : (name : List ℕ) → x.way ≡ AtEdge name → (q : Row) → q ≡ row → cx ≡ c → passes q ≡ nat_le (so_far + x.octets) (reserved_in row 0 c)
+      fits name way q same cycle =
+          reserves d earlier q x some
+          ∙ ap (λ (w : Way). nat_le (octets_before d q.no cx earlier + x.octets) (reserved_in q (depth_behind q (came_by w)) cx)) way
+          ∙ ap₂ (λ (z : Row) k. nat_le (octets_before d z.no k earlier + x.octets) (reserved_in z 0 k)) same cycle
 
       relayed : (m number : ℕ) → x.way ≡ Relayed m number → (is_queued_of row.no p.verdict && (cx == c)) ≡ false
       relayed m number way = elim (cases_Bool (is_queued_of row.no p.verdict && (cx == c))) [
@@ -119,12 +124,12 @@ module _ (reserves : GateIsReservation) (d : Domain) (some : 0 < d.cycle_time) (
 
       offered : (name : List ℕ) → x.way ≡ AtEdge name →
           (is_queued_of row.no p.verdict && (cx == c)) ≡ (((cx == c) && is_text row.name name && begins_at d row bridge) && nat_le
-          (so_far + x.octets) row.octets)
+          (so_far + x.octets) (reserved_in row 0 c))
       offered name way = same_tests (is_queued_of row.no p.verdict && (cx == c))
-          (((cx == c) && is_text row.name name && begins_at d row bridge) && nat_le (so_far + x.octets) row.octets) to from
+          (((cx == c) && is_text row.name name && begins_at d row bridge) && nat_le (so_far + x.octets) (reserved_in row 0 c)) to from
         where
           to : (is_queued_of row.no p.verdict && (cx == c)) ≡ true →
-              (((cx == c) && is_text row.name name && begins_at d row bridge) && nat_le (so_far + x.octets) row.octets) ≡ true
+              (((cx == c) && is_text row.name name && begins_at d row bridge) && nat_le (so_far + x.octets) (reserved_in row 0 c)) ≡ true
           to t =
               let both = and_parts (is_queued_of row.no p.verdict) (cx == c) t in
               let cycle = eqb-true cx c both.1 in
@@ -133,14 +138,14 @@ module _ (reserves : GateIsReservation) (d : Domain) (some : 0 < d.cycle_time) (
               let by : IsQueuedBy d (table_of tables cx) bridge cx (AtEdge name) q.0 = subst (λ z. IsQueuedBy d (table_of tables cx) bridge cx z q.0) way s.0 in
               let found = find_member (λ (r : Row). is_text r.name name) (table_of tables cx) q.0 by.is in
               let same = one_row q.0 (subst (λ z. Contains (table_of tables z) q.0) cycle found.0) q.2 in
-              and_from ((cx == c) && is_text row.name name && begins_at d row bridge) (nat_le (so_far + x.octets) row.octets)
+              and_from ((cx == c) && is_text row.name name && begins_at d row bridge) (nat_le (so_far + x.octets) (reserved_in row 0 c))
               (three_and (cx == c) (is_text row.name name) (begins_at d row bridge) both.1 (ap (λ (z : Row). is_text z.name name) (sym same) ∙ found.1) here)
-              (sym (fits q.0 same cycle) ∙ s.1)
+              (sym (fits name way q.0 same cycle) ∙ s.1)
 
-          from : (((cx == c) && is_text row.name name && begins_at d row bridge) && nat_le (so_far + x.octets) row.octets) ≡ true →
+          from : (((cx == c) && is_text row.name name && begins_at d row bridge) && nat_le (so_far + x.octets) (reserved_in row 0 c)) ≡ true →
               (is_queued_of row.no p.verdict && (cx == c)) ≡ true
           from t =
-              let both = and_parts ((cx == c) && is_text row.name name && begins_at d row bridge) (nat_le (so_far + x.octets) row.octets) t in
+              let both = and_parts ((cx == c) && is_text row.name name && begins_at d row bridge) (nat_le (so_far + x.octets) (reserved_in row 0 c)) t in
               let three = and_three (cx == c) (is_text row.name name) (begins_at d row bridge) both.0 in
               let cycle = eqb-true cx c three.0 in
               let is : row_named (table_of tables cx) name ≡ Some row = ap (λ z. row_named (table_of tables z) name) cycle
@@ -148,7 +153,7 @@ module _ (reserves : GateIsReservation) (d : Domain) (some : 0 < d.cycle_time) (
               let q : QueuedAtEdge d bridge cx (row_named (table_of tables cx) name) row =
               record { is = is; live = ap (is_live row) cycle ∙ live; here = here } in
               let verdict : p.verdict ≡ Queued row = ap (verdict_by d (table_of tables cx) bridge cx passes) way
-              ∙ edge_passes d bridge cx passes (row_named (table_of tables cx) name) row q (fits row refl cycle ∙ both.1) in
+              ∙ edge_passes d bridge cx passes (row_named (table_of tables cx) name) row q (fits name way row refl cycle ∙ both.1) in
               and_from (is_queued_of row.no p.verdict) (cx == c) (ap (is_queued_of row.no) verdict ∙ eq-eqb row.no row.no refl) three.0
 
       go : (way : Way) → x.way ≡ way → octets_before d row.no c (earlier ++ p ∷ []) ≡ take_by d bridge row c so_far x.at x.octets way
@@ -173,23 +178,23 @@ module _ (reserves : GateIsReservation) (d : Domain) (some : 0 < d.cycle_time) (
       (filter (λ (y : Offered). y.offer.bridge == bridge) offers)
   taken_here offers =
       fold_filter (take_octets d row c) at_bridge 0 offers
-      (λ so_far y m other. cond-false (claims d row c y && nat_le (so_far + y.offer.octets) row.octets) (so_far + y.offer.octets) so_far
+      (λ so_far y m other. cond-false (claims d row c y && nat_le (so_far + y.offer.octets) (reserved_in row 0 c)) (so_far + y.offer.octets) so_far
       (none so_far y other))
       ∙ fold_same (take_octets d row c) (λ so_far (y : Offered). take_by d bridge row c so_far y.offer.at.0 y.offer.octets (AtEdge y.offer.stream)) 0
       (filter at_bridge offers)
       (λ so_far y m. ap (λ z. if ((cycle_of d y.offer.at.0 == c) && is_text row.name y.offer.stream && begins_at d row z) && nat_le
-      (so_far + y.offer.octets) row.octets then so_far + y.offer.octets else so_far)
+      (so_far + y.offer.octets) (reserved_in row 0 c) then so_far + y.offer.octets else so_far)
       (eqb-true y.offer.bridge bridge (contains_from_filter at_bridge offers y m).1))
     where
       at_bridge : Offered → Bool
       at_bridge y = y.offer.bridge == bridge
 
-      none : (so_far : ℕ) (y : Offered) → at_bridge y ≡ false → (claims d row c y && nat_le (so_far + y.offer.octets) row.octets) ≡ false
-      none so_far y other = elim (cases_Bool (claims d row c y && nat_le (so_far + y.offer.octets) row.octets)) [
+      none : (so_far : ℕ) (y : Offered) → at_bridge y ≡ false → (claims d row c y && nat_le (so_far + y.offer.octets) (reserved_in row 0 c)) ≡ false
+      none so_far y other = elim (cases_Bool (claims d row c y && nat_le (so_far + y.offer.octets) (reserved_in row 0 c))) [
         | inr f ↦ f
         | inl t ↦
             let there = (and_three (offer_cycle d y == c) (is_text row.name y.offer.stream) (begins_at d row y.offer.bridge)
-            (and_parts (claims d row c y) (nat_le (so_far + y.offer.octets) row.octets) t).0).2 in
+            (and_parts (claims d row c y) (nat_le (so_far + y.offer.octets) (reserved_in row 0 c)) t).0).2 in
             absurd (false≢true (sym other ∙ eq-eqb y.offer.bridge bridge (one_beginning d row (orderly.trees c row inside) y.offer.bridge bridge there here)))
       ]
 

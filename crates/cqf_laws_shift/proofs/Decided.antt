@@ -1,4 +1,5 @@
 -- Each offer comes to its bridge behind the offers before it, so the gates there decide on it what the reservations do.
+use Rattle.cqf_model.specs.Table.{reserved_in}
 use Rattle.std.proofs.Common.{◌≡◌, ℕ, ◌+◌, ◌<◌, ◌≤◌, ◌∷◌, [], ◌++◌, List, Bool, true, false, not, Option, Some, None, inl, inr, sym, ap, ap₂, ◌∙◌, subst, arith}
 use Rattle.std.proofs.Common.{refl, AllPairs, Contains, filter, map, sum_by, length, get_or, eq-eqb, ◌==◌, nat_le, nat_lt, lt-ltb, le-ltb, leb-true, le-leb}
 use Rattle.std.proofs.Common.{if◌then◌else◌, append_assoc, append-nil}
@@ -218,7 +219,7 @@ comes_behind run carried end x inside early = record {
 
 -- the first reason that fits, or that the offer goes on, by the offers before it alone
 abbrev pub judged : Run → Offered → Verdict
-judged run x = edge_verdict run.domain x.offer.bridge (offer_cycle run.domain x) (λ row. nat_le (asked_with run.domain run.offers x row) row.octets)
+judged run x = edge_verdict run.domain x.offer.bridge (offer_cycle run.domain x) (λ row. nat_le (asked_with run.domain run.offers x row) (reserved_in row 0 (offer_cycle run.domain x)))
     (row_for run.domain run.tables x)
 
 -- the verdict at the edge by a row, by whether it is live, begins here and has the octets left
@@ -250,7 +251,7 @@ module _ (run : Run) (x : Offered) where
 
   -- whether a row has the octets left that the offer asks for
   abbrev fits : Row → Bool
-  fits row = nat_le (asked_with run.domain run.offers x row) row.octets
+  fits row = nat_le (asked_with run.domain run.offers x row) (reserved_in row 0 (offer_cycle run.domain x))
 
   -- so says a verdict by which an offer goes on
   pub judged_queued : (row : Row) → Contains (numbered run.offers) x → judged run x ≡ Queued row → IsCovered run x row
@@ -261,7 +262,7 @@ module _ (run : Run) (x : Offered) where
         named = q.0.is;
         live = q.0.live;
         first_bridge = q.0.here;
-        within = leb-true (asked_with d run.offers x row) row.octets q.1;
+        within = leb-true (asked_with d run.offers x row) (reserved_in row 0 cycle) q.1;
       }
 
   -- and a covered offer has it
@@ -269,7 +270,7 @@ module _ (run : Run) (x : Offered) where
   covered_judged row covered =
       edge_passes d x.offer.bridge cycle fits (row_for d run.tables x) row
       (record { is = covered.named; live = covered.live; here = covered.first_bridge })
-      (le-leb (asked_with d run.offers x row) row.octets covered.within)
+      (le-leb (asked_with d run.offers x row) (reserved_in row 0 cycle) covered.within)
 
   -- so says a verdict by which it is dropped
   pub judged_dropped : (reason : Reason) → Contains (numbered run.offers) x → judged run x ≡ DroppedFor reason → IsUncovered run x reason
@@ -281,7 +282,7 @@ module _ (run : Run) (x : Offered) where
       choice row true true true named a b c e = absurd (cc)
       choice row true true false named a b c e =
           let is : Octets ≡ reason = cc in
-          subst (IsReason run x) is (row, record { named = named; live = a; first_bridge = b; short = leb-false (asked_with d run.offers x row) row.octets c })
+          subst (IsReason run x) is (row, record { named = named; live = a; first_bridge = b; short = leb-false (asked_with d run.offers x row) (reserved_in row 0 cycle) c })
       choice row true false short named a b c e =
           let is : OtherBridge ≡ reason = cc in
           subst (IsReason run x) is (row, record { named = named; live = a; elsewhere = b })
@@ -308,7 +309,7 @@ module _ (run : Run) (x : Offered) where
       go Withdrawn (row, r) = at_row row r.named ∙ ap (λ z. edge_by row z (begins_at d row x.offer.bridge) (fits row)) r.not_live
       go OtherBridge (row, r) = at_row row r.named ∙ ap₂ (λ y z. edge_by row y z (fits row)) r.live r.elsewhere
       go Octets (row, r) = at_row row r.named ∙ ap₂ (λ y z. edge_by row y z (fits row)) r.live r.first_bridge
-          ∙ ap (edge_by row true true) (lt-leb (asked_with d run.offers x row) row.octets r.short)
+          ∙ ap (edge_by row true true) (lt-leb (asked_with d run.offers x row) (reserved_in row 0 cycle) r.short)
 
 -- so the verdict is what the definitions say of the offer
 pub is_decided : (run : Run) (x : Offered) → Contains (numbered run.offers) x → IsDecided run x (judged run x)
@@ -316,7 +317,7 @@ is_decided run x inside = go (judged run x) refl
   where
     -- the verdict on an offer is no loss
     no_loss : IsLoss (judged run x) → ⊥
-    no_loss = edge_no_loss run.domain x.offer.bridge (offer_cycle run.domain x) (λ row. nat_le (asked_with run.domain run.offers x row) row.octets)
+    no_loss = edge_no_loss run.domain x.offer.bridge (offer_cycle run.domain x) (λ row. nat_le (asked_with run.domain run.offers x row) (reserved_in row 0 (offer_cycle run.domain x)))
         (row_for run.domain run.tables x)
 
     -- each verdict that the offer may have is what the definitions say
@@ -357,12 +358,12 @@ module _ (reserves : GateIsReservation) (run : Run) (carried : Carried) (end : �
       p = police d run.tables bridge earlier (offer_received x)
 
       same : p.verdict ≡ judged run x
-      same = edge_same d bridge cycle (λ row. within_gate d earlier row (offer_received x)) (λ row. nat_le (asked_with d run.offers x row) row.octets)
+      same = edge_same d bridge cycle (λ row. within_gate d earlier row (offer_received x)) (λ row. nat_le (asked_with d run.offers x row) (reserved_in row 0 cycle))
           (row_for d run.tables x)
           (λ row found live here.
           let member = (find_member (λ (r : Row). is_text r.name x.offer.stream) (table_of run.tables cycle) row found).0 in
           reserves d earlier row (offer_received x) some
-          ∙ ap (λ z. nat_le (z + x.offer.octets) row.octets)
+          ∙ ap (λ z. nat_le (z + x.offer.octets) (reserved_in row 0 cycle))
           (octets_are_taken reserves d some run.tables orderly bridge cycle row member live here b.before (offers_before run.offers x) b.offers))
 
   -- and no other frame there is that offer

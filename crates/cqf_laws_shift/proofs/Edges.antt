@@ -1,26 +1,25 @@
 -- The gate of a reservation lets pass what the reservation has left.
-use Rattle.std.proofs.Common.{◌≡◌, ℕ, ◌+◌, ◌%◌, ◌<◌, ◌⊎◌, ◌∷◌, [], List, Bool, true, false, inl, inr, sym, ap, ap₂, ◌∙◌, arith, refl, filter, map}
-use Rattle.std.proofs.Common.{sum_by, zero-add, mod-lt, slice_get, ◌==◌, ◌&&◌, nat_le, if◌then◌else◌}
-use Rattle.std.specs.Option.{option_map_or}
+use Rattle.std.proofs.Common.{◌≡◌, ℕ, ◌+◌, ◌<◌, ◌∷◌, [], List, Bool, true, false, sym, ap, ap₂, ◌∙◌, refl, filter, map}
+use Rattle.std.proofs.Common.{sum_by, zero-add, ◌==◌, ◌&&◌, nat_le, if◌then◌else◌}
 use Rattle.std.proofs.lemmas.Bool.{cond-true, cond-false}
 use Rattle.std.proofs.lemmas.List.Sums.{sum_by-cons}
-use Rattle.cqf_model.specs.declared.gates.StreamEntry.{StreamEntry}
 use Rattle.cqf_model.specs.declared.topology.Row.{Row}
-use Rattle.cqf_model.specs.StreamGate.{Call, stream_list, octets_in, same_interval, place_at, within}
+use Rattle.cqf_model.specs.StreamGate.{Call, stream_list, octets_in, same_interval}
 use Rattle.cqf_model.specs.Domain.{Domain, cycle_of}
-use Rattle.cqf_model.specs.Traffic.{Policed, calls_of, is_queued_of}
-use Rattle.cqf_model.proofs.Reservations.{in_two}
+use Rattle.cqf_model.specs.Traffic.{Policed, came_by, calls_of, is_queued_of}
+use Rattle.cqf_model.specs.Table.{depth_behind, reserved_in}
+use Rattle.cqf_model.proofs.Reservations.{within_reservation}
 use Rattle.cqf_laws_cycle.specs.Compiled.{GateCountsCycles}
 use Rattle.cqf_laws_shift.specs.Edge.{GateIsReservation, octets_before}
 
-module _ (counts : GateCountsCycles) (d : Domain) (row : Row) (t : ℕ) (some : 0 < d.cycle_time) where
+module _ (counts : GateCountsCycles) (d : Domain) (row : Row) (depth t : ℕ) (some : 0 < d.cycle_time) where
   -- the cycle time
   abbrev n : ℕ
   n = d.cycle_time
 
   -- what the gate counts of a call
   abbrev counted : Call → ℕ
-  counted call = if same_interval (stream_list n row.octets) call.0 t then call.1 else 0
+  counted call = if same_interval (stream_list n row.octets row.pace depth) call.0 t then call.1 else 0
 
   -- what the reservation counts of a frame
   abbrev reserved : Policed → ℕ
@@ -41,7 +40,7 @@ module _ (counts : GateCountsCycles) (d : Domain) (row : Row) (t : ℕ) (some : 
       let kept_here : filter kept (p ∷ earlier) ≡ p ∷ filter kept earlier = cond-true (kept p) (p ∷ filter kept earlier) (filter kept earlier) e in
       let here : counted (call_of p) ≡ reserved p =
       ap (λ z. if z then p.received.octets else 0)
-      (counts n row.octets p.received.at t some ∙ sym (ap (λ z. z && (cycle_of d p.received.at == cycle_of d t)) e)) in
+      (counts n row.octets row.pace depth p.received.at t some ∙ sym (ap (λ z. z && (cycle_of d p.received.at == cycle_of d t)) e)) in
       ap (λ z. sum_by counted (map call_of z)) kept_here
       ∙ sum_by-cons counted (call_of p) (map call_of (filter kept earlier))
       ∙ ap₂ (λ a b. a + b) here rest
@@ -55,32 +54,14 @@ module _ (counts : GateCountsCycles) (d : Domain) (row : Row) (t : ℕ) (some : 
 
   -- the octets that the gate counts are those of the cycle's frames that went on
   octets_counted : (earlier : List Policed) →
-      octets_in (stream_list d.cycle_time row.octets) (calls_of row.no earlier) t ≡ octets_before d row.no (cycle_of d t) earlier
+      octets_in (stream_list d.cycle_time row.octets row.pace depth) (calls_of row.no earlier) t ≡ octets_before d row.no (cycle_of d t) earlier
   octets_counted [] = refl
   octets_counted (p ∷ earlier) = one_more p earlier (kept p) refl (octets_counted earlier)
 
 -- the gate tests what the reservation has left
 pub gate_is_reservation : GateCountsCycles → GateIsReservation
 gate_is_reservation counts d earlier row x some =
-    at_place (place_at (stream_list n row.octets) x.at)
-    (in_two n row.octets (x.at % (0 + n + n)) (omega (arith, mod-lt x.at {m = 0 + n + n} (omega (arith, some)))))
-    ∙ ap (λ z. nat_le (z + x.octets) row.octets) (octets_counted counts d row x.at some earlier)
-  where
-    -- the time of a cycle
-    n : ℕ
-    n = d.cycle_time
-
-    -- the octets that the gate counted in the frame's interval, with the frame's own
-    sum : ℕ
-    sum = octets_in (stream_list n row.octets) (calls_of row.no earlier) x.at + x.octets
-
-    -- whether so many are within the octet maximum of the entry at a place
-    by_place : ℕ → Bool
-    by_place place = option_map_or (λ (entry : StreamEntry). within entry.octet_max sum) (slice_get (stream_list n row.octets) place) false
-
-    -- by either of the two entries, that is whether they are within the reservation's octets
-    at_place : (place : ℕ) → (place ≡ 0) ⊎ (place ≡ 1) → by_place place ≡ nat_le sum row.octets
-    at_place place e = elim e [
-      | inl z ↦ ap by_place z
-      | inr o ↦ ap by_place o
-    ]
+    let depth = depth_behind row (came_by x.way) in
+    within_reservation d.cycle_time row.octets row.pace depth x.at some
+    (octets_in (stream_list d.cycle_time row.octets row.pace depth) (calls_of row.no earlier) x.at + x.octets)
+    ∙ ap (λ z. nat_le (z + x.octets) (reserved_in row depth (cycle_of d x.at))) (octets_counted counts d row depth x.at some earlier)

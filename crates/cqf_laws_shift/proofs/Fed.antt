@@ -1,5 +1,6 @@
 -- Where each link sends only what was queued to it, and no sooner: no frame is shorter than Ethernet's shortest, so what
 -- comes to each port in a cycle is within the link's budget.
+use Rattle.std.proofs.Common.{◌+◌}
 use Rattle.std.proofs.Common.{◌≡◌, ℕ, zero, suc, ◌<◌, ◌≤◌, inl, inr, ap, arith, All, AllPairs, Contains, length, le_trans, mul-le-mul_right, sym, ◌∙◌}
 use Rattle.std.specs.Option.{option_map_or}
 use Rattle.std.proofs.lemmas.List.Elements.{All-contains}
@@ -115,8 +116,9 @@ module _ (laws : CycleLaws) (run : Run) (carried : Carried) (planned : IsPlanned
         load run.domain.cycle_time cycle (arrivals_of (queued run carried (end_of_run run) m)) ≤ budget run.domain m
     within_budget m cycle is_link =
         let bridge = bridge_of d m in
-        le_trans (load_within_cost d run.tables bridge (came run carried end bridge) (policed run carried end bridge) (facts bridge) m (least bridge) cycle)
-        (planned.orderly.loads cycle m is_link)
+        le_trans (load_within_cost d run.tables bridge (came run carried end bridge) (policed run carried end bridge) (facts bridge) m
+        planned.orderly.trees (least bridge) cycle)
+        (planned.orderly.loads cycle m (cycle + 1) is_link)
 
   -- what is queued is in order
   pub queue_sorted : (m : ℕ) → AllPairs (λ (a b : QueuedFrame). a.arrival.at.0 ≤ b.arrival.at.0) (queued run carried (end_of_run run) m)

@@ -1,4 +1,11 @@
 -- The gates mean the shift.
+use Rattle.std.proofs.Common.{ap₂}
+use Rattle.cqf_model.specs.Table.{uses}
+use Rattle.cqf_model.specs.Paces.{is_turn}
+use Rattle.cqf_model.specs.declared.topology.Pace.{Pace}
+use Rattle.cqf_model.proofs.Paces.{turn_along}
+use Rattle.cqf_laws_shift.proofs.Trees.{hop_uses}
+use Rattle.cqf_laws_shift.proofs.Ways.{covered_turn}
 use Rattle.std.proofs.Common.{◌≡◌, ℕ, zero, suc, ◌+◌, ◌*◌, ◌/◌, ◌<◌, ◌≤◌, ◌⊎◌, ◌∷◌, [], ◌++◌, List, Bool, true, false, Option, Some, None, inl, inr, sym, ap}
 use Rattle.std.proofs.Common.{◌∙◌, subst, arith, refl, All, AllPairs, Contains, sum_by, length, eq-eqb, eqb-true, ◌==◌}
 use Rattle.std.proofs.Common.{◌&&◌, if◌then◌else◌, le_trans, le_of_eq, ne_eqb}
@@ -10,7 +17,7 @@ use Rattle.cqf_model.specs.declared.frames.Sent.{Sent}
 use Rattle.cqf_model.specs.declared.topology.Row.{Row}
 use Rattle.cqf_model.specs.Domain.{Domain, cycle_of, bridge_of}
 use Rattle.cqf_model.specs.Run.{Run, end_of_run}
-use Rattle.cqf_model.specs.Table.{crosses, table_of, row_of, row_named, link_cost}
+use Rattle.cqf_model.specs.Table.{table_of, row_of, row_named, link_cost}
 use Rattle.cqf_model.specs.Traffic.{Way, AtEdge, Carried, Received, Policed, police_all, verdict_by, whole_at, within_gate, came_by, offer_received}
 use Rattle.cqf_model.specs.Network.{IsLost, IsLoss}
 use Rattle.cqf_model.specs.Shift.{InShift}
@@ -35,7 +42,7 @@ use Rattle.cqf_laws_shift.proofs.Apart.{sents_apart}
 use Rattle.cqf_laws_shift.proofs.Octets.{sent_octets}
 use Rattle.cqf_laws_shift.proofs.Shifts.{sent_in_shift, shift_is_sent}
 use Rattle.cqf_laws_shift.proofs.Singles.{sent_once}
-use Rattle.cqf_laws_shift.proofs.Trees.{hop_crosses, hop_within, same_hop}
+use Rattle.cqf_laws_shift.proofs.Trees.{hop_within, same_hop}
 use Rattle.cqf_laws_shift.proofs.Verdicts.{edge_no_loss, queued_no_loss}
 use Rattle.cqf_laws_shift.proofs.Ways.{covered_member, on_way, queued_member, relayed_goes_on, row_stays, same_stream}
 
@@ -52,7 +59,7 @@ module _ (laws : CycleLaws) (run : Run) (carried : Carried) (alone : IsRunAlone 
   ]
 
   -- what a link sends in a cycle is within what the streams held in it cost
-  loads : (link cycle : ℕ) → link < length d.links → cycle < length run.tables → wire_in_cycle d carried link cycle ≤ link_cost (table_of run.tables cycle) link
+  loads : (link cycle : ℕ) → link < length d.links → cycle < length run.tables → wire_in_cycle d carried link cycle ≤ link_cost (table_of run.tables cycle) link cycle
   loads link cycle is_link in_run = sum_grouped added of_row bound (carried link) (table_of run.tables cycle) has within
     where
       added : Sent → ℕ
@@ -61,11 +68,14 @@ module _ (laws : CycleLaws) (run : Run) (carried : Carried) (alone : IsRunAlone 
       counts : Row → Sent → Bool
       counts row sent = (cycle_of d sent.start.0 == cycle) && (sent.stream == row.no)
 
+      used_by : Row → Bool
+      used_by row = uses row.tree.items row.pace link cycle
+
       of_row : Sent → Row → ℕ
-      of_row sent row = if crosses row link then (if counts row sent then wire_of sent.octets else 0) else 0
+      of_row sent row = if used_by row then (if counts row sent then wire_of sent.octets else 0) else 0
 
       bound : Row → ℕ
-      bound row = if crosses row link then cost_of row.octets else 0
+      bound row = if used_by row then cost_of row.octets else 0
 
       has : (sent : Sent) → Contains (carried link) sent →
           ((row : Row) × Contains (table_of run.tables cycle) row × (added sent ≤ of_row sent row)) ⊎ (added sent ≡ 0)
@@ -77,12 +87,15 @@ module _ (laws : CycleLaws) (run : Run) (carried : Carried) (alone : IsRunAlone 
             let late = row_stays laws run carried alone way.x way.first_row cycle way.covered (omega (arith, is))
             (omega (arith, is, hop_within way.first_row way.depth link way.at_depth)) in_run in
             let row = late.0 in
-            let tree = (same_stream laws run carried alone cycle (cycle_of d way.x.offer.at.0) row way.first_row late.2
-            (covered_member laws run carried alone way.x way.first_row way.covered) late.3).tree in
-            let on = hop_crosses row way.depth link (same_hop way.first_row row way.depth link (sym tree) way.at_depth) in
+            let one = same_stream laws run carried alone cycle (cycle_of d way.x.offer.at.0) row way.first_row late.2
+            (covered_member laws run carried alone way.x way.first_row way.covered) late.3 in
+            let turn = ap₂ (λ (p : Pace) z. is_turn p way.depth z) one.pace is
+            ∙ turn_along way.first_row.pace way.depth (cycle_of d way.x.offer.at.0)
+            (covered_turn laws run carried alone way.x way.first_row way.covered) in
+            let on = hop_uses row way.depth link cycle (same_hop way.first_row row way.depth link (sym one.tree) way.at_depth) turn in
             let number : sent.stream ≡ row.no = s.0.stream ∙ way.number ∙ sym late.3 in
             let counted = and_from (cycle_of d sent.start.0 == cycle) (sent.stream == row.no) t (eq-eqb sent.stream row.no number) in
-            let value : of_row sent row ≡ wire_of sent.octets = cond-true (crosses row link) (if counts row sent then wire_of sent.octets else 0) 0 on
+            let value : of_row sent row ≡ wire_of sent.octets = cond-true (used_by row) (if counts row sent then wire_of sent.octets else 0) 0 on
             ∙ cond-true (counts row sent) (wire_of sent.octets) 0 counted in
             inl (row, late.2, le_of_eq (cond-true (cycle_of d sent.start.0 == cycle) (wire_of sent.octets) 0 t ∙ sym value))
         | inr u ↦ inr (cond-false (cycle_of d sent.start.0 == cycle) (wire_of sent.octets) 0 u)
@@ -151,19 +164,19 @@ module _ (laws : CycleLaws) (run : Run) (carried : Carried) (alone : IsRunAlone 
           in_cycle (suc before) is = no_row before (omega (arith, is)) (row_of (table_of run.tables before) row.no) refl
 
       within : (row : Row) → Contains (table_of run.tables cycle) row → sum_by (λ sent. of_row sent row) (carried link) ≤ bound row
-      within row c = elim (cases_Bool (crosses row link)) [
+      within row c = elim (cases_Bool (used_by row)) [
         | inl t ↦
             let inner = sum_le_members (λ sent. of_row sent row) (λ sent. if counts row sent then wire_of sent.octets else 0) (carried link)
-            (λ sent m. le_of_eq (cond-true (crosses row link) (if counts row sent then wire_of sent.octets else 0) 0 t)) in
+            (λ sent m. le_of_eq (cond-true (used_by row) (if counts row sent then wire_of sent.octets else 0) 0 t)) in
             let flat = sum_le_members (λ sent. if counts row sent then sent.octets else 0)
             (sent_counts laws run carried alone link is_link (of_stream row.no) cycle) (carried link)
             (λ sent m. nested (cycle_of d sent.start.0 == cycle) (sent.stream == row.no) sent.octets) in
             let cost = tested_wire_within_cost (counts row) (λ (sent : Sent). sent.octets) (carried link) row.octets none_short
             (le_trans flat (octets_within row c)) in
-            omega (arith, inner, cost, cond-true (crosses row link) (cost_of row.octets) 0 t)
+            omega (arith, inner, cost, cond-true (used_by row) (cost_of row.octets) 0 t)
         | inr u ↦
             let none = sum_none (λ sent. of_row sent row) (carried link)
-            (λ sent m. cond-false (crosses row link) (if counts row sent then wire_of sent.octets else 0) 0 u) in
+            (λ sent m. cond-false (used_by row) (if counts row sent then wire_of sent.octets else 0) 0 u) in
             omega (arith, none)
       ]
         where
@@ -259,7 +272,7 @@ module _ (laws : CycleLaws) (run : Run) (carried : Carried) (alone : IsRunAlone 
     octets = λ link sent x c inside frames. sent_octets laws run carried alone link (the_link link sent c) sent c x inside frames;
     none_lost = none_lost;
     loads = loads;
-    costs = λ link cycle is_link. alone.planned.orderly.loads cycle link is_link;
+    costs = λ link cycle turn is_link. alone.planned.orderly.loads cycle link turn is_link;
     in_turn = in_turn;
     whole = λ link sent c. (sent_timed laws run carried alone link (the_link link sent c) sent c).1.whole;
     latency = latency;

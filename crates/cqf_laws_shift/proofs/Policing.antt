@@ -6,7 +6,9 @@ use Rattle.std.proofs.lemmas.List.Sums.{sum_by_push}
 use Rattle.cqf_model.specs.declared.topology.Row.{Row}
 use Rattle.cqf_model.specs.Domain.{Domain, cycle_of}
 use Rattle.cqf_model.specs.Run.{Run}
-use Rattle.cqf_model.specs.Table.{AreOrderly, goes_on, table_of}
+use Rattle.cqf_model.specs.Table.{AreOrderly, depth_behind, goes_on, reserved_in, table_of}
+use Rattle.cqf_model.specs.Paces.{is_turn}
+use Rattle.cqf_model.proofs.Paces.{reserved_turn, reserved_within}
 use Rattle.cqf_model.specs.Traffic.{Carried, Received, Policed, Queued, came_by, is_queued_of, police, police_all, received_before, policed_before, within_gate}
 use Rattle.cqf_model.proofs.Policing.{IsBehind, behind_those_before}
 use Rattle.cqf_laws_shift.specs.Edge.{GateIsReservation, octets_before}
@@ -50,9 +52,10 @@ module _ (reserves : GateIsReservation) (d : Domain) (some : 0 < d.cycle_time) (
           let says = queued_says d (table_of tables c) bridge c (λ r. within_gate d earlier r x) x.way q.0 q.1 in
           let member = queued_row d (table_of tables c) bridge c x.way q.0 says.0 in
           let one = orderly.one_stream c cycle q.0 row member inside q.2 in
-          let bound : octets_before d q.0.no c earlier + x.octets ≤ q.0.octets =
-          leb-true (octets_before d q.0.no c earlier + x.octets) q.0.octets (sym (reserves d earlier q.0 x some) ∙ says.1) in
-          omega (arith, bound, one.octets, ap₂ (λ a b. octets_before d a b earlier) q.2 in_cycle)
+          let depth = depth_behind q.0 (came_by x.way) in
+          let bound : octets_before d q.0.no c earlier + x.octets ≤ reserved_in q.0 depth c =
+          leb-true (octets_before d q.0.no c earlier + x.octets) (reserved_in q.0 depth c) (sym (reserves d earlier q.0 x some) ∙ says.1) in
+          omega (arith, bound, reserved_within q.0 depth c, one.octets, ap₂ (λ a b. octets_before d a b earlier) q.2 in_cycle)
 
   -- the same for all that comes
   passes_within : (cycle : ℕ) (row : Row) (earlier : List Policed) (xs : List Received) → Contains (table_of tables cycle) row →
@@ -67,11 +70,29 @@ module _ (reserves : GateIsReservation) (d : Domain) (some : 0 < d.cycle_time) (
       subst (λ z. octets_before d row.no cycle z ≤ row.octets) (append_assoc earlier (p ∷ []) (police_all d tables bridge more xs))
       (passes_within cycle row more xs inside grown)
 
+-- what passes does so in its stream's turn
+turn_of : GateIsReservation → (d : Domain) (tables : List (List Row)) (bridge : ℕ) (xs : List Received) → 0 < d.cycle_time → (p : Policed) (row : Row) →
+    Contains (police_all d tables bridge [] xs) p → p.verdict ≡ Queued row → 0 < p.received.octets →
+    is_turn row.pace (depth_behind row (came_by p.received.way)) (cycle_of d p.received.at) ≡ true
+turn_of reserves d tables bridge xs some p row c e positive =
+    let b = behind_those_before d tables bridge [] xs p c in
+    let earlier = [] ++ police_all d tables bridge [] b.before in
+    let t = cycle_of d b.x.at in
+    let depth = depth_behind row (came_by b.x.way) in
+    subst (λ (q : Policed). q.verdict ≡ Queued row → 0 < q.received.octets →
+    is_turn row.pace (depth_behind row (came_by q.received.way)) (cycle_of d q.received.at) ≡ true) (sym b.is)
+    (λ e positive.
+    let passes = (queued_says d (table_of tables t) bridge t (λ r. within_gate d earlier r b.x) b.x.way row e).1 in
+    let bound = leb-true (octets_before d row.no t earlier + b.x.octets) (reserved_in row depth t) (sym (reserves d earlier row b.x some) ∙ passes) in
+    reserved_turn row depth t (omega (arith, bound, positive))) e positive
+
 -- the facts about what a bridge polices
 pub record Polices (d : Domain) (tables : List (List Row)) (bridge : ℕ) (xs : List Received) (policed : List Policed) : Type 0 where
   pub in_turn : map (λ (p : Policed). p.received) policed ≡ xs
   pub behind : (p : Policed) → Contains policed p → IsBehind d tables bridge [] xs p
   pub reserved : (cycle : ℕ) (row : Row) → Contains (table_of tables cycle) row → sum_by (taken d row.no cycle) policed ≤ row.octets
+  pub turns : (p : Policed) (row : Row) → Contains policed p → p.verdict ≡ Queued row → 0 < p.received.octets →
+      is_turn row.pace (depth_behind row (came_by p.received.way)) (cycle_of d p.received.at) ≡ true
 
 -- the facts hold of what is decided on any frames
 pub polices_all : GateIsReservation → (d : Domain) (tables : List (List Row)) (bridge : ℕ) (xs : List Received) → 0 < d.cycle_time → AreOrderly d tables →
@@ -80,6 +101,7 @@ polices_all reserves d tables bridge xs some orderly = record {
   in_turn = received_list d tables bridge [] xs;
   behind = behind_those_before d tables bridge [] xs;
   reserved = λ cycle row inside. passes_within reserves d some tables orderly bridge cycle row [] xs inside zero-le;
+  turns = turn_of reserves d tables bridge xs some;
 }
 
 -- so they hold at each bridge

@@ -1,5 +1,5 @@
 -- What is queued to a port: whence it comes, its order and classes, and how much it is in a cycle.
-use Rattle.std.proofs.Common.{◌≡◌, ℕ, ◌/◌, ◌%◌, ◌<◌, ◌≤◌, ◌⊎◌, ◌∷◌, [], List, Bool, true, false, Option, inl, inr, sym, ap, ◌∙◌, subst, arith, refl, All}
+use Rattle.std.proofs.Common.{◌≡◌, ℕ, ◌+◌, ◌/◌, ◌%◌, ◌<◌, ◌≤◌, ◌⊎◌, ◌∷◌, [], List, Bool, true, false, Option, inl, inr, sym, ap, ◌∙◌, subst, arith, refl, All}
 use Rattle.std.proofs.Common.{AllPairs, Contains, sum_by, eq-eqb, eqb-true, ◌==◌, ◌&&◌, if◌then◌else◌, le_trans, le_of_eq, zero-add}
 use Rattle.std.specs.List.{list_any}
 use Rattle.std.proofs.lemmas.Bool.{cases_Bool, cond-true, cond-false, and_from}
@@ -8,7 +8,9 @@ use Rattle.cqf_model.specs.declared.ports.Arrival.{Arrival}
 use Rattle.cqf_model.specs.declared.topology.Hop.{Hop}
 use Rattle.cqf_model.specs.declared.topology.Row.{Row}
 use Rattle.cqf_model.specs.Domain.{Domain, cycle_of}
-use Rattle.cqf_model.specs.Table.{crosses, goes_to, table_of, link_cost}
+use Rattle.cqf_model.specs.Table.{IsTree, crosses, depth_behind, goes_to, table_of, link_cost, uses}
+use Rattle.cqf_model.specs.Paces.{is_turn}
+use Rattle.std.proofs.lemmas.List.Elements.{All-contains}
 use Rattle.cqf_model.specs.Traffic.{Received, Policed, Verdict, Queued, DroppedFor, LacksRow, ExceedsGate, came_by, is_queued_of}
 use Rattle.cqf_model.specs.Network.{QueuedFrame, queued_frame, queued_by, queued_to, arrivals_of}
 use Rattle.cqf_model.specs.Turn.{is_streams, load, wire_in}
@@ -19,7 +21,7 @@ use Rattle.cqf_lists.proofs.Made.{pairs_of_flat}
 use Rattle.cqf_lists.proofs.Sums.{sum_map, sum_flat, sum_none, sum_le_members, sum_grouped}
 use Rattle.cqf_laws_shift.proofs.Costs.{tested_wire_within_cost}
 use Rattle.cqf_laws_shift.proofs.Policing.{Polices, row_of_queued}
-use Rattle.cqf_laws_shift.proofs.Trees.{GoesBy, goes_by, by_goes}
+use Rattle.cqf_laws_shift.proofs.Trees.{GoesBy, goes_by, by_goes, uses_next}
 
 -- a frame is queued to the ports by whose links its stream goes on
 tested_goes : (row : Row) (way : Option ℕ) (l : ℕ) → list_any (λ next. next == l) (goes_to row way) ≡ true → GoesBy row way l
@@ -169,7 +171,7 @@ module _ (d : Domain) (tables : List (List Row)) (bridge : ℕ) (xs : List Recei
   class_given gives some q c =
       let from = queued_from d l policed q c in
       subst (λ (z : QueuedFrame). z.arrival.class ≡ given_class (z.arrival.at.0 / d.cycle_time)) from.is
-      (gives d.cycle_time from.row.octets from.p.received.at some)
+      (gives d.cycle_time from.row.octets from.row.pace (depth_behind from.row (came_by from.p.received.way)) from.p.received.at some)
 
   -- what a frame adds to the port's load of a cycle
   adds : (cycle : ℕ) (x : Received) (v : Verdict) →
@@ -190,10 +192,11 @@ module _ (d : Domain) (tables : List (List Row)) (bridge : ℕ) (xs : List Recei
       ]
 
   -- what comes to the port in a cycle is within what the streams of the cycle's table cost
-  pub load_within_cost : All (λ (p : Policed). 64 ≤ p.received.octets) policed → (cycle : ℕ) →
-      load d.cycle_time cycle arrivals ≤ link_cost (table_of tables cycle) l
-  load_within_cost least cycle =
-      subst (λ z. z ≤ link_cost (table_of tables cycle) l) (sym whole) (sum_grouped added of_row bound policed (table_of tables cycle) has within)
+  pub load_within_cost : ((cycle : ℕ) (row : Row) → Contains (table_of tables cycle) row → IsTree d row.tree.items) →
+      All (λ (p : Policed). 64 ≤ p.received.octets) policed → (cycle : ℕ) →
+      load d.cycle_time cycle arrivals ≤ link_cost (table_of tables cycle) l (cycle + 1)
+  load_within_cost trees least cycle =
+      subst (λ z. z ≤ link_cost (table_of tables cycle) l (cycle + 1)) (sym whole) (sum_grouped added of_row bound policed (table_of tables cycle) has within)
     where
       added : Policed → ℕ
       added p = sum_by (λ (q : QueuedFrame). wire_in d.cycle_time cycle q.arrival) (queued_by d l p.received p.verdict)
@@ -205,11 +208,14 @@ module _ (d : Domain) (tables : List (List Row)) (bridge : ℕ) (xs : List Recei
       passes : Row → Policed → Bool
       passes row p = is_queued_of row.no p.verdict && (cycle_of d p.received.at == cycle)
 
+      used_by : Row → Bool
+      used_by row = uses row.tree.items row.pace l (cycle + 1)
+
       of_row : Policed → Row → ℕ
-      of_row p row = if crosses row l then (if passes row p then wire_of p.received.octets else 0) else 0
+      of_row p row = if used_by row then (if passes row p then wire_of p.received.octets else 0) else 0
 
       bound : Row → ℕ
-      bound row = if crosses row l then cost_of row.octets else 0
+      bound row = if used_by row then cost_of row.octets else 0
 
       has : (p : Policed) → Contains policed p → ((row : Row) × Contains (table_of tables cycle) row × (added p ≤ of_row p row)) ⊎ (added p ≡ 0)
       has p c = elim (adds cycle p.received p.verdict) [
@@ -220,21 +226,24 @@ module _ (d : Domain) (tables : List (List Row)) (bridge : ℕ) (xs : List Recei
             let passed : passes row p ≡ true =
             and_from (is_queued_of row.no p.verdict) (cycle_of d p.received.at == cycle) (ap (is_queued_of row.no) a.1 ∙ eq-eqb row.no row.no refl)
             (eq-eqb (cycle_of d p.received.at) cycle a.3) in
+            let positive : 0 < p.received.octets = omega (arith, All-contains (λ (q : Policed). 64 ≤ q.received.octets) policed p least c) in
+            let turn = ap (is_turn row.pace (depth_behind row (came_by p.received.way))) (sym a.3) ∙ facts.turns p row c a.1 positive in
+            let used = uses_next d row (trees cycle row member) (came_by p.received.way) l cycle a.2 turn in
             let value : of_row p row ≡ wire_of p.received.octets =
-            cond-true (crosses row l) (if passes row p then wire_of p.received.octets else 0) 0 (goes_crosses row (came_by p.received.way) l a.2)
+            cond-true (used_by row) (if passes row p then wire_of p.received.octets else 0) 0 used
             ∙ cond-true (passes row p) (wire_of p.received.octets) 0 passed in
             inl (row, member, le_trans a.4 (le_of_eq (sym value)))
         | inr z ↦ inr z
       ]
 
       within : (row : Row) → Contains (table_of tables cycle) row → sum_by (λ p. of_row p row) policed ≤ bound row
-      within row c = elim (cases_Bool (crosses row l)) [
+      within row c = elim (cases_Bool (used_by row)) [
         | inl t ↦
             let inner = sum_le_members (λ p. of_row p row) (λ p. if passes row p then wire_of p.received.octets else 0) policed
-            (λ p m. le_of_eq (cond-true (crosses row l) (if passes row p then wire_of p.received.octets else 0) 0 t)) in
+            (λ p m. le_of_eq (cond-true (used_by row) (if passes row p then wire_of p.received.octets else 0) 0 t)) in
             let cost = tested_wire_within_cost (passes row) (λ (p : Policed). p.received.octets) policed row.octets least (facts.reserved cycle row c) in
-            omega (arith, inner, cost, cond-true (crosses row l) (cost_of row.octets) 0 t)
+            omega (arith, inner, cost, cond-true (used_by row) (cost_of row.octets) 0 t)
         | inr u ↦
-            let none = sum_none (λ p. of_row p row) policed (λ p m. cond-false (crosses row l) (if passes row p then wire_of p.received.octets else 0) 0 u) in
+            let none = sum_none (λ p. of_row p row) policed (λ p m. cond-false (used_by row) (if passes row p then wire_of p.received.octets else 0) 0 u) in
             omega (arith, none)
       ]

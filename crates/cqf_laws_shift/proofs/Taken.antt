@@ -1,4 +1,5 @@
 -- What is taken of a reservation is the octets of the covered offers.
+use Rattle.cqf_model.specs.Table.{reserved_in}
 use Rattle.std.proofs.Common.{◌≡◌, ℕ, ◌+◌, ◌<◌, ◌≤◌, ◌∷◌, [], ◌++◌, List, Bool, true, false, inl, inr, sym, ap, ◌∙◌, subst, arith, refl, AllPairs, Contains}
 use Rattle.std.proofs.Common.{filter, fold, sum_by, ◌==◌, ◌&&◌, eq-eqb, eqb-true, nat_le, nat_lt, leb-true, le-leb, if◌then◌else◌, append_assoc, append-nil}
 use Rattle.std.proofs.lemmas.Bool.{cond-true, and_from, and_parts, false≢true}
@@ -119,12 +120,12 @@ taken_is_covered run row cycle x counts orderly inside live here counted =
 
     -- whether an offer asks for octets of the row in the cycle, and for no more than are left
     tests : Offered → ℕ → Bool
-    tests z taken = claims d row cycle z && nat_le (taken + z.offer.octets) row.octets
+    tests z taken = claims d row cycle z && nat_le (taken + z.offer.octets) (reserved_in row 0 cycle)
 
     -- an offer that passes, behind what those before it take, is covered by the row in the cycle
     covers : (z : Offered) → Contains (numbered run.offers) z → tests z (taken_by d row cycle (offers_before run.offers z)) ≡ true → IsCoveredIn run row cycle z
     covers z member t =
-        let both = and_parts (claims d row cycle z) (nat_le (taken_by d row cycle (offers_before run.offers z) + z.offer.octets) row.octets) t in
+        let both = and_parts (claims d row cycle z) (nat_le (taken_by d row cycle (offers_before run.offers z) + z.offer.octets) (reserved_in row 0 cycle)) t in
         let three = and_three (offer_cycle d z == cycle) (is_text row.name z.offer.stream) (begins_at d row z.offer.bridge) both.0 in
         let same = eqb-true (offer_cycle d z) cycle three.0 in
         record {
@@ -134,8 +135,8 @@ taken_is_covered run row cycle x counts orderly inside live here counted =
                 ∙ found_by_name d run.tables orderly cycle row z.offer.stream inside three.1;
             live = ap (is_live row) same ∙ live;
             first_bridge = three.2;
-            within = subst (λ c. taken_by d row c (offers_before run.offers z) + z.offer.octets ≤ row.octets) (sym same)
-                (leb-true (taken_by d row cycle (offers_before run.offers z) + z.offer.octets) row.octets both.1);
+            within = subst (λ c. taken_by d row c (offers_before run.offers z) + z.offer.octets ≤ reserved_in row 0 c) (sym same)
+                (leb-true (taken_by d row cycle (offers_before run.offers z) + z.offer.octets) (reserved_in row 0 cycle) both.1);
           };
           in_cycle = same;
         }
@@ -144,11 +145,11 @@ taken_is_covered run row cycle x counts orderly inside live here counted =
     tested : (z : Offered) → IsCoveredIn run row cycle z → tests z (taken_by d row cycle (offers_before run.offers z)) ≡ true
     tested z c =
         let named = (find_member (λ (r : Row). is_text r.name z.offer.stream) (table_of run.tables (offer_cycle d z)) row c.covered.named).1 in
-        and_from (claims d row cycle z) (nat_le (taken_by d row cycle (offers_before run.offers z) + z.offer.octets) row.octets)
+        and_from (claims d row cycle z) (nat_le (taken_by d row cycle (offers_before run.offers z) + z.offer.octets) (reserved_in row 0 cycle))
         (three_and (offer_cycle d z == cycle) (is_text row.name z.offer.stream) (begins_at d row z.offer.bridge)
         (eq-eqb (offer_cycle d z) cycle c.in_cycle) named c.covered.first_bridge)
-        (le-leb (taken_by d row cycle (offers_before run.offers z) + z.offer.octets) row.octets
-        (subst (λ c. taken_by d row c (offers_before run.offers z) + z.offer.octets ≤ row.octets) c.in_cycle c.covered.within))
+        (le-leb (taken_by d row cycle (offers_before run.offers z) + z.offer.octets) (reserved_in row 0 cycle)
+        (subst (λ c. taken_by d row c (offers_before run.offers z) + z.offer.octets ≤ reserved_in row 0 c) c.in_cycle c.covered.within))
 
     -- where the count is the octets if the test passes, and else 0, what is taken grows by the count
     by_test : (b : Bool) (taken octets count : ℕ) → (b ≡ true → count ≡ octets) → (b ≡ false → count ≡ 0) →

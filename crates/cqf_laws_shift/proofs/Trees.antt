@@ -1,8 +1,8 @@
 -- Links along a tree: which follows which, and how deep each stands.
 use Rattle.std.proofs.Common.{◌≡◌, ℕ, zero, suc, ◌+◌, ◌<◌, ◌≤◌, ◌∷◌, [], List, true, false, Option, Some, None, option_map, inl, inr, sym, ap, ◌∙◌, subst}
-use Rattle.std.proofs.Common.{arith, refl, max, fold, filter, take, slice_get, length, eq-eqb, eqb-true, ◌==◌, Contains}
+use Rattle.std.proofs.Common.{arith, refl, max, fold, filter, take, slice_get, length, eq-eqb, eqb-true, ◌==◌, ◌&&◌, Contains}
 use Rattle.std.specs.Option.{option_map_or}
-use Rattle.std.proofs.lemmas.Bool.{false≢true}
+use Rattle.std.proofs.lemmas.Bool.{and_from, false≢true}
 use Rattle.std.proofs.lemmas.List.Elements.{All-contains}
 use Rattle.std.proofs.lemmas.Option.{slice_get_read}
 use Rattle.cqf_model.proofs.Links.{same_way_true}
@@ -12,9 +12,11 @@ use Rattle.cqf_model.specs.declared.topology.Node.{Node}
 use Rattle.cqf_model.specs.declared.topology.Node.TheVariants.{Bridge, Station}
 use Rattle.cqf_model.specs.declared.topology.Row.{Row}
 use Rattle.cqf_model.specs.Domain.{Domain, bridge_of, end_of, enters, joins, leaves, node_is}
-use Rattle.cqf_model.specs.Table.{Follows, IsHop, IsTree, crosses, goes_on, goes_to, residence, same_way}
+use Rattle.cqf_model.specs.Table.{Follows, IsHop, IsTree, crosses, depth_behind, goes_on, goes_to, residence, same_way, uses}
+use Rattle.cqf_model.specs.Paces.{is_turn}
+use Rattle.cqf_model.proofs.Paces.{turn_on}
 use Rattle.cqf_lists.proofs.Members.{any_member, member_any, contains_map, contains_from_map, contains_filter, contains_from_filter, contains_here}
-use Rattle.cqf_lists.proofs.Members.{contains_later, contains_cases, contains_none}
+use Rattle.cqf_lists.proofs.Members.{contains_later, contains_cases, contains_none, find_member, find_some}
 use Rattle.cqf_lists.proofs.Pairs.{one_of_pairs}
 
 -- a link leaves one bridge
@@ -159,6 +161,13 @@ hop_crosses row depth l at =
     let on = contains_map (λ (hop : Hop). hop.link) row.tree.items at.hop at.of_tree in
     member_any (λ k. k == l) _ at.hop.link on (eq-eqb at.hop.link l at.is_link)
 
+-- and in its turn used
+pub hop_uses : (row : Row) (depth l cycle : ℕ) → IsHop row depth l → is_turn row.pace depth cycle ≡ true → uses row.tree.items row.pace l cycle ≡ true
+hop_uses row depth l cycle at turn =
+    member_any (λ (hop : Hop). (hop.link == l) && is_turn row.pace hop.depth cycle) row.tree.items at.hop at.of_tree
+    (and_from (at.hop.link == l) (is_turn row.pace at.hop.depth cycle) (eq-eqb at.hop.link l at.is_link)
+    (ap (λ k. is_turn row.pace k cycle) at.is_depth ∙ turn))
+
 -- and is no deeper than the residence
 pub hop_within : (row : Row) (depth l : ℕ) → IsHop row depth l → depth ≤ residence row
 hop_within row depth l at = omega (arith, within_deepest 0 row.tree.items at.hop at.of_tree, at.is_depth)
@@ -295,3 +304,25 @@ module _ (d : Domain) (row : Row) (good : IsTree d row.tree.items) where
   -- and a tree begins at one bridge
   pub one_beginning : (one two : ℕ) → goes_on d row None one ≡ true → goes_on d row None two ≡ true → one ≡ two
   one_beginning one two a b = sym (begins_first one a) ∙ begins_first two b
+
+  -- behind a link of the tree a frame is as deep as the link
+  pub depth_is : (k m : ℕ) → IsHop row k m → depth_behind row (Some m) ≡ k
+  depth_is k m at =
+      let found = find_some (λ (hop : Hop). hop.link == m) row.tree.items at.hop at.of_tree (eq-eqb at.hop.link m at.is_link) in
+      let member = find_member (λ (hop : Hop). hop.link == m) row.tree.items found.0 found.1 in
+      let same = one_hop found.0 at.hop member.0 at.of_tree (eqb-true found.0.link m member.1 ∙ sym at.is_link) in
+      ap (λ (o : Option Hop). option_map_or (λ (hop : Hop). hop.depth) o 0) found.1 ∙ ap (λ (hop : Hop). hop.depth) same ∙ at.is_depth
+
+  -- so the link by which it goes on is one deeper
+  pub goes_deeper : (way : Option ℕ) (l : ℕ) → GoesBy row way l → IsHop row (depth_behind row way + 1) l
+  goes_deeper None l by = first_hops_begin l by
+  goes_deeper (Some m) l by =
+      let r = followed m by.hop by.of_tree by.from in
+      let at : IsHop row r.0.depth m = record { hop = r.0; of_tree = r.1; is_depth = refl; is_link = r.2 } in
+      subst (λ k. IsHop row (k + 1) l) (sym (depth_is r.0.depth m at)) (hops_follow r.0.depth m l at by)
+
+  -- and what passes in its turn uses that link in the next cycle
+  pub uses_next : (way : Option ℕ) (l cycle : ℕ) → GoesBy row way l → is_turn row.pace (depth_behind row way) cycle ≡ true →
+      uses row.tree.items row.pace l (cycle + 1) ≡ true
+  uses_next way l cycle by turn =
+      hop_uses row (depth_behind row way + 1) l (cycle + 1) (goes_deeper way l by) (turn_on row.pace (depth_behind row way) cycle 1 turn)

@@ -1,4 +1,13 @@
 -- Each frame inside is on the way of a covered offer, and none is lost.
+use Rattle.cqf_laws_shift.proofs.Came.{numbered_member}
+use Rattle.cqf_model.specs.Table.{depth_behind}
+use Rattle.cqf_model.specs.Paces.{is_turn}
+use Rattle.cqf_model.specs.declared.topology.Pace.{Pace}
+use Rattle.cqf_model.proofs.Paces.{reserved_turn, reserved_whole, turn_along}
+use Rattle.cqf_model.specs.Run.{IsOffer}
+use Rattle.std.proofs.lemmas.List.Elements.{All-contains}
+use Rattle.std.specs.Prelude.{nat_le}
+use Rattle.cqf_laws_shift.proofs.Trees.{depth_is, same_hop}
 use Rattle.std.proofs.Common.{◌≡◌, ℕ, zero, suc, ◌+◌, ◌/◌, ◌<◌, ◌≤◌, ◌∷◌, [], ◌++◌, List, true, Some, None, inl, inr, sym, ap, ap₂, ◌∙◌, subst, arith, refl}
 use Rattle.std.proofs.Common.{Contains, sum_by, length, eq-eqb, eqb-true, ◌==◌, ◌&&◌, le-leb, if◌then◌else◌}
 use Rattle.std.proofs.lemmas.Bool.{cases_Bool, cond-true, cond-false, and_parts}
@@ -63,6 +72,12 @@ module _ (laws : CycleLaws) (run : Run) (carried : Carried) (alone : IsRunAlone 
   -- and its links are a tree
   pub covered_tree : (x : Offered) (row : Row) → IsCovered run x row → IsTree run.domain row.tree.items
   covered_tree x row covered = alone.planned.orderly.trees (offer_cycle run.domain x) row (covered_member x row covered)
+
+  -- and its offer is made in the stream's turn
+  pub covered_turn : (x : Offered) (row : Row) → IsCovered run x row → is_turn row.pace 0 (offer_cycle run.domain x) ≡ true
+  covered_turn x row covered =
+      let offer = All-contains (IsOffer d) run.offers x.offer alone.planned.offered (numbered_member run.offers x covered.offered).0 in
+      reserved_turn row 0 (offer_cycle d x) (omega (arith, covered.within, offer.least))
 
   -- rows of one number have one tree
   pub same_stream : (c e : ℕ) (early late : Row) → Contains (table_of run.tables c) early → Contains (table_of run.tables e) late → early.no ≡ late.no →
@@ -257,8 +272,17 @@ module _ (laws : CycleLaws) (run : Run) (carried : Carried) (alone : IsRunAlone 
       let earlier = police_all d run.tables bridge [] b.before in
       let fits = relayed_fits bridge r.m r.sent.stream cycle r.is_link row s.0.row b.before b.after b.x late.2 (late.3 ∙ sym stream) here
       (queued_member before s.0.p s.0.row s.0.inside s.0.verdict) (sym s.0.stream) b.parts y_way y_cycle in
+      let at = same_hop way.first_row row way.depth r.m (sym one.tree) way.at_depth in
+      let tree = alone.planned.orderly.trees (cycle + 1) row late.2 in
+      let turn_there = turn_along row.pace way.depth (offer_cycle d way.x)
+      (ap (λ (p : Pace). is_turn p 0 (offer_cycle d way.x)) one.pace ∙ covered_turn way.x way.first_row way.covered) in
+      let turn : is_turn row.pace (depth_behind row (came_by b.x.way)) (cycle_of d b.x.at) ≡ true =
+      ap₂ (is_turn row.pace) (ap (λ (w : Way). depth_behind row (came_by w)) y_way ∙ depth_is d row tree way.depth r.m at) (y_cycle ∙ way.cycle)
+      ∙ turn_there in
+      let reserved = reserved_whole row (depth_behind row (came_by b.x.way)) (cycle_of d b.x.at) turn in
       let passes : within_gate d earlier row b.x ≡ true =
       gate_is_reservation laws.counts d earlier row b.x some
+      ∙ ap (nat_le (octets_before d row.no (cycle_of d b.x.at) earlier + b.x.octets)) reserved
       ∙ le-leb (octets_before d row.no (cycle_of d b.x.at) earlier + b.x.octets) row.octets
       (subst (λ z. octets_before d row.no z earlier + b.x.octets ≤ row.octets) (sym y_cycle) fits) in
       let leads : QueuedInside d bridge r.m (row_of (table_of run.tables (cycle + 1)) r.sent.stream) row =

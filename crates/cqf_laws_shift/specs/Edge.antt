@@ -4,8 +4,8 @@ use Rattle.cqf_model.specs.declared.frames.Offered.{Offered}
 use Rattle.cqf_model.specs.declared.topology.Row.{Row}
 use Rattle.cqf_model.specs.Domain.{Domain, cycle_of}
 use Rattle.cqf_model.specs.Run.{Run}
-use Rattle.cqf_model.specs.Table.{AreOrderly, is_live, table_of}
-use Rattle.cqf_model.specs.Traffic.{Carried, Received, Policed, Verdict, is_queued_of, numbered}
+use Rattle.cqf_model.specs.Table.{AreOrderly, depth_behind, is_live, reserved_in, table_of}
+use Rattle.cqf_model.specs.Traffic.{came_by, Carried, Received, Policed, Verdict, is_queued_of, numbered}
 use Rattle.cqf_model.specs.Traffic.{within_gate}
 use Rattle.cqf_model.specs.Promise.{IsPolicedAs}
 use Rattle.cqf_model.specs.Shift.{IsCovered, offer_cycle, offers_before, taken_by}
@@ -16,10 +16,11 @@ octets_before d number cycle earlier =
     sum_by (λ (p : Policed). if is_queued_of number p.verdict && (cycle_of d p.received.at == cycle) then p.received.octets else 0) earlier
 
 -- behind whatever came before, the gate of a reservation lets a frame pass exactly where so many octets are left of the
--- reservation in the frame's cycle
+-- reservation in the frame's cycle, where frames that came its way have their turn in it
 abbrev pub GateIsReservation : Type 0
 GateIsReservation = (d : Domain) (earlier : List Policed) (row : Row) (x : Received) → 0 < d.cycle_time →
-    within_gate d earlier row x ≡ nat_le (octets_before d row.no (cycle_of d x.at) earlier + x.octets) row.octets
+    within_gate d earlier row x
+    ≡ nat_le (octets_before d row.no (cycle_of d x.at) earlier + x.octets) (reserved_in row (depth_behind row (came_by x.way)) (cycle_of d x.at))
 
 -- at any bridge, whatever the links bring, what becomes of each offer is what the reservations decide, reasons included
 abbrev pub EdgeIsCovered : Type 0

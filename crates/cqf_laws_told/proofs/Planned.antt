@@ -20,6 +20,7 @@ planned_front d before after row of = record {
   stands = slice_get_front before after row.no (slice_get_within before row.no of.asked of.stands) ∙ of.stands;
   name = of.name;
   octets = of.octets;
+  pace = of.pace;
   tree = of.tree;
 }
 
@@ -31,6 +32,7 @@ planned_last d before asked next effect is = record {
   stands = slice_get_behind before asked [] next is;
   name = refl;
   octets = refl;
+  pace = refl;
   tree = refl;
 }
 

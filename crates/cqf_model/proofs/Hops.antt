@@ -1,14 +1,17 @@
 -- The hops of a tree are by links of the domain.
-use Rattle.std.proofs.Common.{◌≡◌, ℕ, ◌+◌, ◌-◌, ◌<◌, List, Option, Some, None, [], ◌∷◌, ◌==◌, length, get_or, refl}
-use Rattle.std.specs.Prelude.{All, zero, suc}
+use Rattle.std.proofs.Common.{◌≡◌, ◌≢◌, ℕ, ◌+◌, ◌-◌, ◌<◌, List, Option, Some, None, [], ◌∷◌, ◌==◌, length, get_or, refl}
+use Rattle.std.specs.Prelude.{All, AllPairs, zero, suc}
 use Rattle.std.specs.List.{flat_map}
+use Rattle.std.proofs.lemmas.Bool.{eqb-false}
 use Rattle.std.proofs.lemmas.List.Elements.{All-append, All-contains, All-nil, All-push, Contains-get_or}
 use Rattle.cqf_lists.specs.Lists.{each_below}
-use Rattle.cqf_lists.proofs.EachOnce.{once_from}
+use Rattle.cqf_lists.proofs.EachOnce.{once_apart, once_from}
+use Rattle.cqf_lists.proofs.Pairs.{pairs_map}
 use Rattle.cqf_model.proofs.Links.{link_inside}
 use Rattle.cqf_model.specs.declared.topology.Hop.{Hop}
 use Rattle.cqf_model.specs.Domain.{Domain}
 use Rattle.cqf_model.specs.History.{Branch, node_at, tree_of, hop_to, hops_along, link_before, link_at}
+use Rattle.cqf_model.specs.Table.{links_in}
 
 -- a hop that is made of a link of the domain is by one
 hop_inside : (d : Domain) (depth : ℕ) (from o : Option ℕ) → ((l : ℕ) → o ≡ Some l → l < length d.links) →
@@ -40,3 +43,11 @@ hops_inside d paths k e h =
     let tree = tree_of d paths in
     let there = once_from (λ (a b : Hop). a.link == b.link) (flat_map (hops_along d) paths) (get_or tree k e) (Contains-get_or tree k e h) in
     All-contains (λ (hop : Hop). hop.link < length d.links) (flat_map (hops_along d) paths) (get_or tree k e) (all_inside d paths) there
+
+-- and each is there once
+pub hops_apart : (d : Domain) (paths : List Branch) → AllPairs (λ (a b : ℕ). a ≢ b) (links_in (tree_of d paths))
+hops_apart d paths =
+    let tree = tree_of d paths in
+    pairs_map (λ (a b : ℕ). a ≢ b) (λ (hop : Hop). hop.link) tree (λ i j e l m.
+    eqb-false (get_or tree i e).link (get_or tree j e).link
+    (once_apart (λ (a b : Hop). a.link == b.link) (flat_map (hops_along d) paths) i j e l m))

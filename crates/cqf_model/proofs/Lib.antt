@@ -2,13 +2,16 @@ pub mod Arrivals
 pub mod ByCycle
 pub mod Coming
 pub mod Drops
+pub mod EachCycle
 pub mod Hops
 pub mod InCycle
 pub mod Legal
 pub mod LinkEnds
+pub mod Represented
 pub mod Links
 pub mod Policing
 pub mod Reservations
+pub mod Paces
 pub mod Residence
 pub mod Sending
 pub mod Starts

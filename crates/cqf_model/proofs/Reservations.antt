@@ -1,47 +1,128 @@
 -- The stream gate control list of a reservation.
-use Rattle.std.proofs.Common.{◌≡◌, ◌+◌, ◌-◌, ◌%◌, ◌<◌, ◌⊎◌, ◌∙◌, ℕ, Bool, false, suc, inl, inr, ap, arith, mod-lt}
-use Rattle.std.proofs.Common.{nat_lt, lt-ltb, le-ltb, if◌then◌else◌, Option, Some}
+use Rattle.std.proofs.Common.{◌≡◌, ◌+◌, ◌-◌, ◌*◌, ◌/◌, ◌%◌, ◌<◌, ◌∙◌, ℕ, Bool, true, false, suc, zero, inl, inr, ap, arith, mod-lt, sym, List, ◌∷◌, [], length}
+use Rattle.std.proofs.Common.{nat_lt, lt-ltb, le-ltb, if◌then◌else◌, Option, Some, ◌==◌, subst, refl}
 use Rattle.std.specs.Prelude.{nat_le, slice_get}
+use Rattle.std.proofs.lemmas.List.Sums.{sum_by_push}
+use Rattle.std.proofs.lemmas.Nat.{div-mul-add}
 use Rattle.std.specs.Option.{option_and_then, option_map_or}
-use Rattle.std.proofs.lemmas.Bool.{cases_lt, cond-false, cond-true}
+use Rattle.std.proofs.lemmas.Bool.{cases_lt, cond-false, cond-true, eqb-true}
+use Rattle.std.proofs.lemmas.Option.{slice_get-get_or}
+use Rattle.std.proofs.Math.Nat.{mod-mod_of_dvd, div-eq_of_lt, div-eq-sub-div, div-div-eq-div-mul, mul_comm, mod_self, mul-mod_left, mul-mod_right}
+use Rattle.std.proofs.Math.Arith.{mod-mul}
+use Rattle.std.proofs.lemmas.Nat.Gcd.{dvd_of_mod-eq-zero}
+use Rattle.cqf_lists.specs.Lists.{each_below}
+use Rattle.cqf_lists.proofs.EachBelow.{first_below, get_or-singles, length-singles}
 use Rattle.cqf_model.specs.declared.gates.StreamEntry.{StreamEntry}
-use Rattle.cqf_model.specs.StreamGate.{place_at, place_in, stream_list, within}
+use Rattle.cqf_model.specs.declared.topology.Pace.{Pace}
+use Rattle.cqf_model.specs.Paces.{is_turn}
+use Rattle.cqf_model.specs.StreamGate.{gate_cycles, gate_round, place_at, place_in, round_at, stream_entry, stream_list, within}
 
--- of the two entries of a reservation's list one is in force
-pub in_two : (n reserved offset : ℕ) → offset < n + n → (place_in (stream_list n reserved) offset ≡ 0) ⊎ (place_in (stream_list n reserved) offset ≡ 1)
-in_two n reserved offset inside = elim (cases_lt offset n) [
-  | inl first ↦ inl (cond-true (nat_lt offset n) 0 (suc (if nat_lt (offset - n) n then 0 else 1)) (lt-ltb offset n first))
-  | inr second ↦ inr (
-      cond-false (nat_lt offset n) 0 (suc (if nat_lt (offset - n) n then 0 else 1)) (le-ltb offset n second)
-      ∙ ap suc (cond-true (nat_lt (offset - n) n) 0 1 (lt-ltb (offset - n) n (omega (arith, inside, second))))
-      )
-]
+-- of entries that all take so long the one in force is told by a division
+equal_place : (n : ℕ) (e : ℕ → StreamEntry) (count offset : ℕ) → 0 < n → ((k : ℕ) → (e k).interval ≡ n) → offset < count * n →
+    place_in (each_below (λ k. e k ∷ []) count) offset ≡ offset / n
+equal_place n e zero offset some same inside = absurd (omega (arith, inside))
+equal_place n e (suc count) offset some same inside =
+    let more = each_below (λ k. e (k + 1) ∷ []) count in
+    ap (λ (xs : List StreamEntry). place_in xs offset) (first_below (λ k. e k ∷ []) count)
+    ∙ ap (λ z. if nat_lt offset z then 0 else suc (place_in more (offset - z))) (same 0)
+    ∙ elim (cases_lt offset n) [
+      | inl first ↦ cond-true (nat_lt offset n) 0 (suc (place_in more (offset - n))) (lt-ltb offset n first) ∙ sym (div-eq_of_lt first)
+      | inr later ↦
+          let less : offset - n < count * n = omega (arith, inside, later) in
+          cond-false (nat_lt offset n) 0 (suc (place_in more (offset - n))) (le-ltb offset n later)
+          ∙ ap suc (equal_place n (λ k. e (k + 1)) count (offset - n) some (λ k. same (k + 1)) less)
+          ∙ omega (arith, div-eq-sub-div some later)
+    ]
+
+-- and they take so long together
+equal_round : (n : ℕ) (e : ℕ → StreamEntry) (count : ℕ) → ((k : ℕ) → (e k).interval ≡ n) → gate_round (each_below (λ k. e k ∷ []) count) ≡ count * n
+equal_round n e zero same = omega arith
+equal_round n e (suc count) same =
+    let before = equal_round n e count same in
+    let last = same count in
+    let pushed = sum_by_push (λ (entry : StreamEntry). entry.interval) (each_below (λ k. e k ∷ []) count) (e count) in
+    omega (arith, before, last, pushed)
+
+-- the round of a list of two numbers' product, in the second
+turn_of : (n count t : ℕ) → 0 < n → 0 < count → t % (count * n) / n ≡ t / n % count
+turn_of n count t some more =
+    ap (λ z. z / n) (mod-mul t more some) ∙ div-mul-add (t / n % count) n (t % n) (mod-lt t some)
+
+-- a reservation's list repeats behind a number of cycles that is a multiple of the pace's
+of_pace : (pace : Pace) → gate_cycles pace % (pace.pause + 1) ≡ 0
+of_pace pace = by_test ((pace.pause + 1) % 2 == 0)
+  where
+    -- whether it is that number or its double
+    by_test : (b : Bool) → (if b then pace.pause + 1 else 2 * (pace.pause + 1)) % (pace.pause + 1) ≡ 0
+    by_test true = mod_self (pace.pause + 1)
+    by_test false = mul-mod_left 2 (pace.pause + 1)
+
+-- and of two
+of_two : (pace : Pace) → gate_cycles pace % 2 ≡ 0
+of_two pace = by_test ((pace.pause + 1) % 2 == 0) refl
+  where
+    -- it is the double of a number that isn't even
+    by_test : (b : Bool) → ((pace.pause + 1) % 2 == 0) ≡ b → (if b then pace.pause + 1 else 2 * (pace.pause + 1)) % 2 ≡ 0
+    by_test true e = eqb-true ((pace.pause + 1) % 2) 0 e
+    by_test false e = mul-mod_right 2 (pace.pause + 1)
+
+-- there are some
+pub some_cycles : (pace : Pace) → 0 < gate_cycles pace
+some_cycles pace = by_test ((pace.pause + 1) % 2 == 0)
+  where
+    by_test : (b : Bool) → 0 < (if b then pace.pause + 1 else 2 * (pace.pause + 1))
+    by_test true = omega arith
+    by_test false = omega arith
+
+-- a stream's turn comes again with the list's round
+pub turn_again : (pace : Pace) (depth cycle : ℕ) → is_turn pace depth (cycle % gate_cycles pace) ≡ is_turn pace depth cycle
+turn_again pace depth cycle =
+    ap (λ z. (pace.phase + depth) % (pace.pause + 1) == z)
+    (mod-mod_of_dvd (pace.pause + 1) cycle (dvd_of_mod-eq-zero (pace.pause + 1) (of_pace pace)))
+
+-- and so do even cycles and odd ones
+pub parity_again : (pace : Pace) (cycle : ℕ) → cycle % gate_cycles pace % 2 ≡ cycle % 2
+parity_again pace cycle = mod-mod_of_dvd 2 cycle (dvd_of_mod-eq-zero 2 (of_two pace))
 
 -- at an instant
-module _ (n reserved t : ℕ) (some : 0 < n) where
-  -- one of the two is
-  place_two : (place_at (stream_list n reserved) t ≡ 0) ⊎ (place_at (stream_list n reserved) t ≡ 1)
-  place_two = in_two n reserved (t % (0 + n + n)) (omega (arith, mod-lt t {m = 0 + n + n} (omega (arith, some))))
+module _ (n reserved : ℕ) (pace : Pace) (depth t : ℕ) (some : 0 < n) where
+  -- how long it takes
+  round_is : gate_round (stream_list n reserved pace depth) ≡ gate_cycles pace * n
+  round_is = equal_round n (stream_entry n reserved pace depth) (gate_cycles pace) (λ k. refl)
 
-  -- the octet maximum of a reservation's gate is the reservation
+  -- the place of the entry in force
+  pub gate_place : place_at (stream_list n reserved pace depth) t ≡ t / n % gate_cycles pace
+  gate_place =
+      let rounds = gate_cycles pace * n in
+      let positive : 0 < rounds = grind (arith, some, some_cycles pace) in
+      ap (λ z. place_in (stream_list n reserved pace depth) (t % z)) round_is
+      ∙ equal_place n (stream_entry n reserved pace depth) (gate_cycles pace) (t % rounds) some (λ k. refl) (mod-lt t positive)
+      ∙ turn_of n (gate_cycles pace) t some (some_cycles pace)
+
+  -- its round
+  pub gate_round_at : round_at (stream_list n reserved pace depth) t ≡ t / n / gate_cycles pace
+  gate_round_at = ap (λ z. t / z) (round_is ∙ mul_comm (gate_cycles pace) n) ∙ sym (div-div-eq-div-mul t n (gate_cycles pace))
+
+  -- the entry in force
+  pub gate_entry : slice_get (stream_list n reserved pace depth) (place_at (stream_list n reserved pace depth) t) ≡ Some (stream_entry n reserved pace depth (t / n % gate_cycles pace))
+  gate_entry =
+      let e = stream_entry n reserved pace depth in
+      let place = t / n % gate_cycles pace in
+      let below : place < gate_cycles pace = mod-lt (t / n) (some_cycles pace) in
+      let inside : place < length (stream_list n reserved pace depth) = subst (λ z. place < z) (sym (length-singles e (gate_cycles pace))) below in
+      ap (slice_get (stream_list n reserved pace depth)) gate_place ∙ slice_get-get_or (stream_list n reserved pace depth) place (e 0) inside ∙ ap Some (get_or-singles e (gate_cycles pace) place (e 0) below)
+
+  -- its octet maximum is what the stream reserves in the cycle
   pub max_of_reservation :
-      option_and_then (λ (entry : StreamEntry). entry.octet_max) (slice_get (stream_list n reserved) (place_at (stream_list n reserved) t)) ≡ Some reserved
-  max_of_reservation = at_place (place_at (stream_list n reserved) t) place_two
-    where
-      by_place : ℕ → Option ℕ
-      by_place place = option_and_then (λ (entry : StreamEntry). entry.octet_max) (slice_get (stream_list n reserved) place)
+      option_and_then (λ (entry : StreamEntry). entry.octet_max) (slice_get (stream_list n reserved pace depth) (place_at (stream_list n reserved pace depth) t)) ≡ Some (if is_turn pace depth (t / n) then reserved else 0)
+  max_of_reservation =
+      ap (λ (z : Option StreamEntry). option_and_then (λ (entry : StreamEntry). entry.octet_max) z) gate_entry
+      ∙ ap (λ (b : Bool). Some (if b then reserved else 0)) (turn_again pace depth (t / n))
 
-      at_place : (place : ℕ) → (place ≡ 0) ⊎ (place ≡ 1) → by_place place ≡ Some reserved
-      at_place place e = elim e [ inl z ↦ ap by_place z | inr o ↦ ap by_place o ]
-
-  -- what it lets pass is within the reservation
+  -- what it lets pass is within what the stream reserves in the cycle
   pub within_reservation : (sum : ℕ) →
-      option_map_or (λ (entry : StreamEntry). within entry.octet_max sum) (slice_get (stream_list n reserved) (place_at (stream_list n reserved) t)) false
-      ≡ nat_le sum reserved
-  within_reservation sum = at_place (place_at (stream_list n reserved) t) place_two
-    where
-      by_place : ℕ → Bool
-      by_place place = option_map_or (λ (entry : StreamEntry). within entry.octet_max sum) (slice_get (stream_list n reserved) place) false
-
-      at_place : (place : ℕ) → (place ≡ 0) ⊎ (place ≡ 1) → by_place place ≡ nat_le sum reserved
-      at_place place e = elim e [ inl z ↦ ap by_place z | inr o ↦ ap by_place o ]
+      option_map_or (λ (entry : StreamEntry). within entry.octet_max sum) (slice_get (stream_list n reserved pace depth) (place_at (stream_list n reserved pace depth) t)) false
+      ≡ nat_le sum (if is_turn pace depth (t / n) then reserved else 0)
+  within_reservation sum =
+      ap (λ (z : Option StreamEntry). option_map_or (λ (entry : StreamEntry). within entry.octet_max sum) z false) gate_entry
+      ∙ ap (λ (b : Bool). nat_le sum (if b then reserved else 0)) (turn_again pace depth (t / n))

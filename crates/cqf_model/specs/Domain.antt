@@ -6,10 +6,13 @@ use Rattle.cqf_units.specs.Timing.{nanos_of_octet, budget_of, cycle_at}
 use Rattle.cqf_model.specs.declared.topology.Link.{Link}
 use Rattle.cqf_model.specs.declared.topology.Node.{Node}
 use Rattle.cqf_model.specs.declared.topology.Node.TheVariants.{Bridge, Station}
-use Rattle.cqf_model.specs.Limits.{longest_cycle}
+use Rattle.cqf_model.specs.declared.limits.Limits.{Limits}
+use Rattle.cqf_model.specs.Limits.{bridges_within, links_within, longest_cycle, stations_within}
 
--- a domain: times in nanoseconds, the names of its bridges and stations, and its directed links, each by its place
+-- a domain: the limits that are set for it, times in nanoseconds, the names of its bridges and stations, and its directed links,
+-- each by its place
 pub record Domain : Type 0 where
+  pub limits : Limits
   pub cycle_time : ℕ
   pub guard : ℕ
   pub bridges : List (List ℕ)
@@ -38,9 +41,9 @@ pub record IsAccepted (d : Domain) : Type 0 where
   pub guard_some : 0 < d.guard
   pub guard_short : d.guard < d.cycle_time
   pub some_bridge : 0 < length d.bridges
-  pub few_bridges : length d.bridges ≤ 32
-  pub few_stations : length d.stations ≤ 64
-  pub few_links : length d.links ≤ 64
+  pub few_bridges : length d.bridges ≤ bridges_within d.limits
+  pub few_stations : length d.stations ≤ stations_within d.limits
+  pub few_links : length d.links ≤ links_within d.limits
   pub links_good : (l : ℕ) (link : Link) → slice_get d.links l ≡ Some link → IsAcceptedLink d link
 
 -- the cycle of an instant

@@ -11,6 +11,7 @@
 --   `Domain`: bridges, stations and links, and which domain is accepted (`IsAccepted`)
 --   `Run`: what a run is given, of tables, offers and background frames (`Run`, `IsOffer`, `IsBackground`)
 --   `Table`: a stream's row with its tree, by whose depths frames go, and what it costs of a link (`is_live`, `is_held`, `link_cost`)
+--   `Paces`: in which cycles a stream's frames are so deep on their way (`is_turn`)
 --   `History`: calls, the one answer that is due to each, and the table of each cycle (`reply_to`, `IsLegalHistory`, `tables_of`); the
 --     row of a stream, whose tree has each branch's k-th link at depth k (`stream_by`, `tree_of`, and `NotATree`, which refuses others)
 --   `Calls`: the history of what was asked at each seat (`acts_of`, `calls_by`, `IsHistoryOf`)

@@ -1,6 +1,6 @@
 -- The history of admission control: calls with the answers that they got, the streams that it accepted, and the table of
 -- each cycle. All of it is said of the whole list of entries, with no running state (profile).
-use Rattle.std.specs.Prelude.{ℕ, ◌≡◌, ◌+◌, ◌-◌, ◌≤◌, List, [], ◌∷◌, Bool, true, false, not, ◌==◌, ◌&&◌, ◌||◌, if◌then◌else◌, nat_le, nat_lt, filter, find}
+use Rattle.std.specs.Prelude.{ℕ, ◌≡◌, ◌+◌, ◌-◌, ◌≤◌, List, [], ◌∷◌, Bool, true, false, not, ◌==◌, ◌&&◌, ◌||◌, ◌%◌, if◌then◌else◌, fold, max, nat_le, nat_lt, filter, find}
 use Rattle.std.specs.Prelude.{length, take, Option, Some, None, is_none, option_map, slice_get, slice_index_or, count_by, position, suc, zero}
 use Rattle.std.specs.Option.{option_map_or}
 use Rattle.std.specs.List.{flat_map, list_any}
@@ -9,26 +9,31 @@ use Rattle.cqf_units.specs.Name.{is_name}
 use Rattle.cqf_units.specs.Timing.{cost_of}
 use Rattle.cqf_units.specs.declared.reservations.Cycle.{Cycle}
 use Rattle.cqf_model.specs.declared.history.Refused.{Refused}
-use Rattle.cqf_model.specs.declared.history.Refused.TheVariants.{BadName, BadOctets, UnknownNode, BrokenPath, LoopingPath, NotATree, NameHeld, TooManyStreams}
-use Rattle.cqf_model.specs.declared.history.Refused.TheVariants.{BudgetShort, NotHeld, AlreadyWithdrawn}
+use Rattle.cqf_model.specs.declared.history.Refused.TheVariants.{BadName, BadOctets, BadPace, UnknownNode, BrokenPath, LoopingPath, NotATree, NameHeld, TooManyStreams}
+use Rattle.cqf_model.specs.declared.history.Refused.TheVariants.{TooManyHops, BudgetShort, NotHeld, AlreadyWithdrawn}
 use Rattle.cqf_model.specs.declared.history.Reply.{Reply}
 use Rattle.cqf_model.specs.declared.history.Reply.TheVariants.{Accepted, Sealed, Refused as RefusedFor}
 use Rattle.cqf_model.specs.declared.topology.Hop.{Hop}
 use Rattle.cqf_model.specs.declared.topology.Node.{Node}
 use Rattle.cqf_model.specs.declared.topology.Node.TheVariants.{Bridge, Station}
+use Rattle.cqf_model.specs.declared.topology.Pace.{Pace}
 use Rattle.cqf_model.specs.declared.topology.Row.{Row}
 use Rattle.cqf_model.specs.Domain.{Domain, budget, is_text, node_named, link_between, same_node}
-use Rattle.cqf_model.specs.Table.{is_held, link_cost, links_in, row_named}
-use Rattle.cqf_model.specs.Limits.{least_reserved, most_calls, most_cycles, most_reserved, most_streams}
+use Rattle.cqf_model.specs.Table.{is_held, link_cost, links_in, row_named, uses}
+use Rattle.cqf_model.specs.Limits.{least_reserved, most_calls, most_cycles, most_every, most_reserved}
+use Rattle.cqf_model.specs.Limits.{hops_within, nodes_within, streams_within}
 
 -- a branch of a stream's tree, by names: its bridges in order, and then the listener's station
 abbrev pub Branch : Type 0
 Branch = List (List ℕ)
 
--- a stream that is asked for: its name, its octets a cycle, and the branches of its tree
+-- a stream that is asked for: its name, its octets in each cycle of its own, in one of how many cycles its frames are offered and
+-- which is the first of these, and the branches of its tree
 pub record Asked : Type 0 where
   pub name : List ℕ
   pub octets : ℕ
+  pub every : ℕ
+  pub phase : ℕ
   pub paths : List Branch
 
 -- what is called for: to admit a stream, to withdraw the one of a name, or to close the next cycle to changes
@@ -101,6 +106,10 @@ withdrawal_by effect number (Withdraws name) Sealed = []
 abbrev pub withdrawals : List Recorded → ℕ → List Cycle
 withdrawals entries number = each_entry (λ place e. withdrawal_by (seals (take place entries)) number e.act e.reply) entries
 
+-- the pace of a stream that is asked for
+abbrev pub pace_of : Asked → Pace
+pace_of asked = record { pause = asked.every - 1; phase = asked.phase }
+
 -- the stream of an entry that admits one, where so many Seals stand before it. It is withdrawn from the effect of the
 -- first accepted withdrawal of its number on
 abbrev pub stream_by : Domain → List Recorded → ℕ → Act → Reply → List Row
@@ -112,6 +121,7 @@ stream_by d entries effect (Admits asked) (Accepted receipt) = record {
   no = receipt.no;
   name = asked.name;
   octets = asked.octets;
+  pace = pace_of asked;
   tree = record { items = tree_of d asked.paths };
   admitted = record { 0 = effect };
   withdrawn = slice_get (withdrawals entries receipt.no) 0;
@@ -144,14 +154,14 @@ abbrev pub ends_at_bridge : Domain → Branch → ℕ → Bool
 ends_at_bridge d branch place = (place + 1 == length branch) && is_bridge (node_at d branch place)
 
 -- whether a place is that of the first node behind the most that a branch may have
-abbrev pub is_beyond_most : Branch → ℕ → Bool
-is_beyond_most branch place = (place == 17) && nat_lt place (length branch)
+abbrev pub is_beyond_most : Domain → Branch → ℕ → Bool
+is_beyond_most d branch place = (place == nodes_within d.limits) && nat_lt place (length branch)
 
 -- where a branch is broken: it is empty or begins with no bridge; no link goes from the node before to this one; its last
--- node is a bridge; or the place is 17, so that 17 nodes stand before it
+-- node is a bridge; or as many nodes stand before the place as a branch may have
 abbrev pub is_broken_at : Domain → Branch → ℕ → Bool
 is_broken_at d branch place =
-    begins_elsewhere d branch place || lacks_link d branch place || ends_at_bridge d branch place || is_beyond_most branch place
+    begins_elsewhere d branch place || lacks_link d branch place || ends_at_bridge d branch place || is_beyond_most d branch place
 
 -- whether both nodes are there and the same
 abbrev pub is_same : Option Node → Option Node → Bool
@@ -199,13 +209,22 @@ abbrev pub is_stray : List Branch → ℕ → Bool
 is_stray paths place =
     option_map_or (λ branch. list_any (λ before. not (make_a_tree before branch)) (take place paths)) (slice_get paths place) false
 
--- what a link has left of its budget, in octets, beside these streams
-abbrev pub left_on : Domain → List Row → ℕ → ℕ
-left_on d rows l = budget d l - link_cost rows l
+-- whether frames may be offered in one of so many cycles: a divisor of 80, and the first cycle is one of so many
+abbrev pub is_pace : ℕ → ℕ → Bool
+is_pace every phase = (most_every % every == 0) && nat_lt phase every
+
+-- the most that these streams cost of a link in a cycle in which another's frames go by it
+abbrev pub most_beside : List Row → List Hop → Pace → ℕ → ℕ
+most_beside rows tree pace l =
+    fold max 0 (each_below (λ cycle. if uses tree pace l cycle then link_cost rows l cycle ∷ [] else []) most_every)
+
+-- what a link has left of its budget for that other, in octets, beside these streams: the least in a cycle of its own
+abbrev pub left_on : Domain → List Row → List Hop → Pace → ℕ → ℕ
+left_on d rows tree pace l = budget d l - most_beside rows tree pace l
 
 -- the first link of a tree, in its order, that has less left than a stream costs
-abbrev pub short_link : Domain → List Row → ℕ → List Hop → Option ℕ
-short_link d rows cost tree = find (λ l. nat_lt (left_on d rows l) cost) (links_in tree)
+abbrev pub short_link : Domain → List Row → ℕ → Pace → List Hop → Option ℕ
+short_link d rows cost pace tree = find (λ l. nat_lt (left_on d rows tree pace l) cost) (links_in tree)
 
 -- a refusal that is due, for a cause and for a number
 abbrev pub refused_if : Bool → Refused → Option Refused
@@ -221,14 +240,17 @@ abbrev pub refusal_of : Domain → List Row → Asked → Option Refused
 refusal_of d rows asked =
     or_else (refused_if (not (is_name asked.name)) BadName)
     (or_else (refused_if (not (nat_le least_reserved asked.octets && nat_le asked.octets most_reserved)) BadOctets)
+    (or_else (refused_if (not (is_pace asked.every asked.phase)) BadPace)
     (or_else (refused_at (λ place. UnknownNode place)
     (position (λ name. is_none (node_named d name)) (flat_map (λ branch. branch) asked.paths)))
     (or_else (refused_at (λ place. BrokenPath place) (broken_place d asked.paths))
     (or_else (refused_at (λ place. LoopingPath place) (first_place (is_loop_at d) asked.paths))
     (or_else (refused_at (λ branch. NotATree branch) (least (is_stray asked.paths) (length asked.paths)))
+    (or_else (refused_if (nat_lt (hops_within d.limits) (length (tree_of d asked.paths))) TooManyHops)
     (or_else (refused_if (list_any (λ (row : Row). is_text row.name asked.name) rows) NameHeld)
-    (or_else (refused_if (nat_le most_streams (length rows)) TooManyStreams)
-    (refused_at (λ l. BudgetShort l (left_on d rows l)) (short_link d rows (cost_of asked.octets) (tree_of d asked.paths))))))))))
+    (or_else (refused_if (nat_le (streams_within d.limits) (length rows)) TooManyStreams)
+    (refused_at (λ l. BudgetShort l (left_on d rows (tree_of d asked.paths) (pace_of asked) l))
+    (short_link d rows (cost_of asked.octets) (pace_of asked) (tree_of d asked.paths))))))))))))
 
 -- the number of the next stream
 abbrev pub next_number : Domain → List Recorded → ℕ

@@ -12,11 +12,11 @@ use Rattle.cqf_model.specs.declared.ports.Start.{Start}
 use Rattle.cqf_model.specs.declared.topology.Row.{Row}
 use Rattle.cqf_model.specs.GateList.{Entry, port_list}
 use Rattle.cqf_model.specs.Port.{Transmission, AreLegal, no_arrival}
-use Rattle.cqf_model.specs.StreamGate.{stream_list, gate_class}
+use Rattle.cqf_model.specs.StreamGate.{gate_class}
 use Rattle.cqf_model.specs.Domain.{Domain, bridge_of, cycle_of, octet_time_of}
 use Rattle.cqf_model.specs.Run.{Run}
 use Rattle.cqf_model.specs.Table.{goes_to}
-use Rattle.cqf_model.specs.Traffic.{Carried, Policed, Received, Verdict, Queued, DroppedFor, LacksRow, ExceedsGate, came_by, policed_before}
+use Rattle.cqf_model.specs.Traffic.{Carried, Policed, Received, Verdict, Queued, DroppedFor, LacksRow, ExceedsGate, came_by, gate_behind, policed_before}
 
 -- a frame that waits at a port: the arrival that the port sees, with the frame's number as its label, and the number of
 -- its stream, none for a background frame
@@ -27,7 +27,7 @@ pub record QueuedFrame : Type 0 where
 -- a stream's frame, with the class that its stream's gate gives it
 abbrev pub queued_frame : Domain → Received → Row → QueuedFrame
 queued_frame d x row = record {
-  arrival = record { at = record { 0 = x.at }; class = gate_class (stream_list d.cycle_time row.octets) x.at; octets = x.octets; frame = x.frame };
+  arrival = record { at = record { 0 = x.at }; class = gate_class (gate_behind d row (came_by x.way)) x.at; octets = x.octets; frame = x.frame };
   stream = Some row.no;
 }
 

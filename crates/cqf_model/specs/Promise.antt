@@ -69,8 +69,8 @@ pub record MeansTheShift (run : Run) (carried : Carried) : Type 0 where
   pub none_lost : (bridge : ℕ) (policed : Policed) → ¬ IsLost run carried (length run.tables) bridge policed
   -- what a link sends of streams' frames in a cycle is within what the streams held in it cost, and that is within its budget
   pub loads : (link cycle : ℕ) → link < length run.domain.links → cycle < length run.tables →
-      wire_in_cycle run.domain carried link cycle ≤ link_cost (table_of run.tables cycle) link
-  pub costs : (link cycle : ℕ) → link < length run.domain.links → link_cost (table_of run.tables cycle) link ≤ budget run.domain link
+      wire_in_cycle run.domain carried link cycle ≤ link_cost (table_of run.tables cycle) link cycle
+  pub costs : (link cycle turn : ℕ) → link < length run.domain.links → link_cost (table_of run.tables cycle) link turn ≤ budget run.domain link
   -- each frame starts behind those that came before it in their cycle, and is whole in the next node in its cycle
   pub in_turn : (link : ℕ) (sent : Sent) → Contains (carried link) sent →
       LeavesInTurn run.domain link (queued_before run carried link (end_of_run run)) sent

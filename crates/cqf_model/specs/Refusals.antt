@@ -1,17 +1,19 @@
 -- Refusals of an admission as texts have them (profile): the refusal's name, and then its values, each after a space.
 use Rattle.std.specs.Prelude.{ℕ, ◌++◌, List, codes, decimal}
 use Rattle.cqf_model.specs.declared.history.Refused.{Refused}
-use Rattle.cqf_model.specs.declared.history.Refused.TheVariants.{BadName, BadOctets, UnknownNode, BrokenPath, LoopingPath, NotATree, NameHeld, TooManyStreams}
-use Rattle.cqf_model.specs.declared.history.Refused.TheVariants.{BudgetShort, NotHeld, AlreadyWithdrawn, HistoryFull, Memory}
+use Rattle.cqf_model.specs.declared.history.Refused.TheVariants.{BadName, BadOctets, BadPace, UnknownNode, BrokenPath, LoopingPath, NotATree, TooManyHops}
+use Rattle.cqf_model.specs.declared.history.Refused.TheVariants.{NameHeld, TooManyStreams, BudgetShort, NotHeld, AlreadyWithdrawn, HistoryFull, Memory}
 
 -- the text of a refusal
 abbrev pub text_of_refusal : Refused → List ℕ
 text_of_refusal BadName = codes "BadName"
 text_of_refusal BadOctets = codes "BadOctets"
+text_of_refusal BadPace = codes "BadPace"
 text_of_refusal (UnknownNode place) = codes "UnknownNode " ++ decimal place
 text_of_refusal (BrokenPath place) = codes "BrokenPath " ++ decimal place
 text_of_refusal (LoopingPath place) = codes "LoopingPath " ++ decimal place
 text_of_refusal (NotATree branch) = codes "NotATree " ++ decimal branch
+text_of_refusal TooManyHops = codes "TooManyHops"
 text_of_refusal NameHeld = codes "NameHeld"
 text_of_refusal TooManyStreams = codes "TooManyStreams"
 text_of_refusal (BudgetShort link left) = codes "BudgetShort " ++ (decimal link ++ (codes " " ++ decimal left))

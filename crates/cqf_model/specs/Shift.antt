@@ -10,7 +10,7 @@ use Rattle.cqf_model.specs.declared.frames.Reason.TheVariants.{Unknown, Withdraw
 use Rattle.cqf_model.specs.declared.topology.Row.{Row}
 use Rattle.cqf_model.specs.Domain.{Domain, cycle_of, is_text}
 use Rattle.cqf_model.specs.Run.{Run}
-use Rattle.cqf_model.specs.Table.{IsHop, begins_at, is_live, row_named, table_of}
+use Rattle.cqf_model.specs.Table.{IsHop, begins_at, is_live, reserved_in, row_named, table_of}
 use Rattle.cqf_model.specs.Traffic.{numbered}
 
 -- the offers at an instant, by place
@@ -34,7 +34,7 @@ claims d row cycle x = (offer_cycle d x == cycle) && is_text row.name x.offer.st
 -- no more than is left takes its octets, and the others take none
 abbrev pub take_octets : Domain → Row → ℕ → ℕ → Offered → ℕ
 take_octets d row cycle taken x =
-    if claims d row cycle x && nat_le (taken + x.offer.octets) row.octets then taken + x.offer.octets else taken
+    if claims d row cycle x && nat_le (taken + x.offer.octets) (reserved_in row 0 cycle) then taken + x.offer.octets else taken
 
 abbrev pub taken_by : Domain → Row → ℕ → List Offered → ℕ
 taken_by d row cycle offers = fold (take_octets d row cycle) 0 offers
@@ -53,7 +53,7 @@ pub record IsCovered (run : Run) (x : Offered) (row : Row) : Type 0 where
   pub named : row_for run.domain run.tables x ≡ Some row
   pub live : is_live row (offer_cycle run.domain x) ≡ true
   pub first_bridge : begins_at run.domain row x.offer.bridge ≡ true
-  pub within : asked_with run.domain run.offers x row ≤ row.octets
+  pub within : asked_with run.domain run.offers x row ≤ reserved_in row 0 (offer_cycle run.domain x)
 
 -- the row that an offer names lacks what it needs: it isn't live in the offer's cycle
 pub record IsNotLive (run : Run) (x : Offered) (row : Row) : Type 0 where
@@ -71,7 +71,7 @@ pub record IsShort (run : Run) (x : Offered) (row : Row) : Type 0 where
   pub named : row_for run.domain run.tables x ≡ Some row
   pub live : is_live row (offer_cycle run.domain x) ≡ true
   pub first_bridge : begins_at run.domain row x.offer.bridge ≡ true
-  pub short : row.octets < asked_with run.domain run.offers x row
+  pub short : reserved_in row 0 (offer_cycle run.domain x) < asked_with run.domain run.offers x row
 
 -- the first reason that fits, for an offer that isn't covered
 abbrev pub IsReason : Run → Offered → Reason → Type 0

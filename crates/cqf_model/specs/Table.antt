@@ -7,8 +7,10 @@ use Rattle.cqf_lists.specs.Lists.{each_once}
 use Rattle.cqf_units.specs.Timing.{cost_of}
 use Rattle.cqf_units.specs.declared.reservations.Cycle.{Cycle}
 use Rattle.cqf_model.specs.declared.topology.Hop.{Hop}
+use Rattle.cqf_model.specs.declared.topology.Pace.{Pace}
 use Rattle.cqf_model.specs.declared.topology.Row.{Row}
 use Rattle.cqf_model.specs.Domain.{Domain, bridge_of, budget, end_of, enters, is_text, joins, leaves}
+use Rattle.cqf_model.specs.Paces.{is_turn}
 
 -- the links of a tree, in its order
 abbrev pub links_in : List Hop → List ℕ
@@ -25,9 +27,23 @@ crosses row l = list_any (λ k. k == l) (links_of row)
 abbrev pub bridges_of : Domain → Row → List ℕ
 bridges_of d row = each_once (λ a b. a == b) (map (bridge_of d) (links_of row))
 
--- what it costs of a link, in octets a cycle: its reservation's cost once, however many listeners are behind the link
-abbrev pub cost_on : Row → ℕ → ℕ
-cost_on row l = if crosses row l then cost_of row.octets else 0
+-- whether a stream's frames go by the link in the cycle
+abbrev pub uses : List Hop → Pace → ℕ → ℕ → Bool
+uses tree pace l cycle = list_any (λ (hop : Hop). (hop.link == l) && is_turn pace hop.depth cycle) tree
+
+-- what it costs of a link in a cycle, in octets: its reservation's cost once, however many listeners are behind the link, where its
+-- frames go by the link in that cycle
+abbrev pub cost_on : Row → ℕ → ℕ → ℕ
+cost_on row l cycle = if uses row.tree.items row.pace l cycle then cost_of row.octets else 0
+
+-- how deep a frame is on its way: not at all at the edge, and behind a link as deep as the link
+abbrev pub depth_behind : Row → Option ℕ → ℕ
+depth_behind row None = 0
+depth_behind row (Some m) = option_map_or (λ (hop : Hop). hop.depth) (find (λ (hop : Hop). hop.link == m) row.tree.items) 0
+
+-- what it reserves in a cycle for frames that are so deep, in octets: in the cycles that aren't its own, nothing
+abbrev pub reserved_in : Row → ℕ → ℕ → ℕ
+reserved_in row depth cycle = if is_turn row.pace depth cycle then row.octets else 0
 
 -- for how many cycles after its own a frame of it may be under way: the depth of the deepest link
 abbrev pub residence : Row → ℕ
@@ -65,14 +81,14 @@ pub record Follows (d : Domain) (before hop : Hop) : Type 0 where
   pub joined : joins d before.link hop.link ≡ true
   pub deeper : hop.depth ≡ before.depth + 1
 
--- a tree of at most 16 links in a row: from one first bridge, each hop stands behind the one that it follows, no node is
+-- a tree of at most 64 links in a row: from one first bridge, each hop stands behind the one that it follows, no node is
 -- reached twice (so no link stands twice), and what nothing follows ends in a station. The order may be any such one; a
 -- request's is that of its branches (`tree_of`)
 pub record IsTree (d : Domain) (tree : List Hop) : Type 0 where
   pub first : ℕ
   pub some : 0 < length tree
   pub inside : All (λ (hop : Hop). hop.link < length d.links) tree
-  pub deep : All (λ (hop : Hop). hop.depth ≤ 16) tree
+  pub deep : All (λ (hop : Hop). hop.depth ≤ 64) tree
   pub begins : (hop : Hop) → Contains tree hop → hop.from ≡ None → (hop.depth ≡ 1) × (leaves d hop.link first ≡ true)
   pub follows : (place m : ℕ) (hop : Hop) → slice_get tree place ≡ Some hop → hop.from ≡ Some m →
       (before : Hop) × Contains (take place tree) before × Follows d before hop
@@ -103,19 +119,21 @@ row_of rows number = find (λ (row : Row). row.no == number) rows
 abbrev pub table_of : List (List Row) → ℕ → List Row
 table_of tables cycle = slice_index_or tables cycle []
 
--- what the streams of a table cost of a link, in octets a cycle
-abbrev pub link_cost : List Row → ℕ → ℕ
-link_cost rows l = sum_by (λ (row : Row). cost_on row l) rows
+-- what the streams of a table cost of a link in a cycle, in octets
+abbrev pub link_cost : List Row → ℕ → ℕ → ℕ
+link_cost rows l cycle = sum_by (λ (row : Row). cost_on row l cycle) rows
 
 -- one stream in two tables: it may have been withdrawn between them
 pub record SameStream (early late : Row) : Type 0 where
   pub name : early.name ≡ late.name
   pub octets : early.octets ≡ late.octets
+  pub pace : early.pace ≡ late.pace
   pub tree : early.tree.items ≡ late.tree.items
 
 -- what the tables of a history have: each row goes along a tree; no two rows of one table have one number or one name; a
 -- number means one stream in all tables, while a name may be used again later; a live stream stays until its last frame has
--- left the last bridge of its deepest branch; and what the streams of a table cost of a link is within the link's budget
+-- left the last bridge of its deepest branch; and what the streams of a table cost of a link, in whatever cycle, is within the
+-- link's budget
 pub record AreOrderly (d : Domain) (tables : List (List Row)) : Type 0 where
   pub trees : (cycle : ℕ) (row : Row) → Contains (table_of tables cycle) row → IsTree d row.tree.items
   pub numbers : (cycle : ℕ) → AllPairs (λ (a b : Row). a.no ≢ b.no) (table_of tables cycle)
@@ -125,4 +143,4 @@ pub record AreOrderly (d : Domain) (tables : List (List Row)) : Type 0 where
   pub stays : (cycle later : ℕ) (row : Row) → Contains (table_of tables cycle) row → is_live row cycle ≡ true →
       cycle ≤ later → later ≤ cycle + residence row → later < length tables →
       (late : Row) × Contains (table_of tables later) late × (row.no ≡ late.no)
-  pub loads : (cycle l : ℕ) → l < length d.links → link_cost (table_of tables cycle) l ≤ budget d l
+  pub loads : (cycle l turn : ℕ) → l < length d.links → link_cost (table_of tables cycle) l turn ≤ budget d l

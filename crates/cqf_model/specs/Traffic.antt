@@ -12,7 +12,8 @@ use Rattle.cqf_model.specs.declared.frames.Sent.{Sent}
 use Rattle.cqf_model.specs.declared.topology.Row.{Row}
 use Rattle.cqf_model.specs.Domain.{Domain, cycle_of, octet_time_of, delay_of, enters}
 use Rattle.cqf_model.specs.Run.{Run}
-use Rattle.cqf_model.specs.Table.{begins_at, goes_on, is_live, row_named, row_of, table_of}
+use Rattle.cqf_model.specs.Table.{begins_at, depth_behind, goes_on, is_live, row_named, row_of, table_of}
+use Rattle.cqf_model.specs.declared.gates.StreamEntry.{StreamEntry}
 use Rattle.cqf_model.specs.StreamGate.{Call, gate_passes, stream_list}
 
 -- how a frame comes to a bridge: offered at the edge with the name of the stream that it claims, or relayed by a link
@@ -60,9 +61,13 @@ abbrev pub calls_of : ℕ → List Policed → List Call
 calls_of number earlier =
     map (λ (p : Policed). (p.received.at, p.received.octets)) (filter (λ (p : Policed). is_queued_of number p.verdict) earlier)
 
+-- the gate that a stream's frames meet behind a link, or at the edge
+abbrev pub gate_behind : Domain → Row → Option ℕ → List StreamEntry
+gate_behind d row way = stream_list d.cycle_time row.octets row.pace (depth_behind row way)
+
 -- whether the stream's gate at this bridge lets a frame pass, behind the frames before it
 abbrev pub within_gate : Domain → List Policed → Row → Received → Bool
-within_gate d earlier row x = gate_passes (stream_list d.cycle_time row.octets) (calls_of row.no earlier) x.at x.octets
+within_gate d earlier row x = gate_passes (gate_behind d row (came_by x.way)) (calls_of row.no earlier) x.at x.octets
 
 -- a frame at the edge, by the row of its name: the first reason that fits, of no row, a row that is not live, a tree that
 -- begins at another bridge, and more octets than are left (profile)

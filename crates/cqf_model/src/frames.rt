@@ -7,7 +7,7 @@ use cqf_units::{Cycle, Name, Nanos};
 pub struct Offer {
     pub at: Nanos,
     /// The number of the bridge at which it is offered.
-    pub bridge: u8,
+    pub bridge: u16,
     /// The name of the stream that it claims.
     pub stream: Name,
     /// Its size from the destination address to the FCS.
@@ -29,7 +29,7 @@ pub struct Background {
     /// The instant from which it waits.
     pub at: Nanos,
     /// The number of its link.
-    pub link: u8,
+    pub link: u16,
     /// Its traffic class, 0 to 5.
     pub class: u8,
     /// Its size from the destination address to the FCS, 64 to 1,522.
@@ -59,7 +59,7 @@ pub struct Sent {
 pub struct Started {
     /// The cycle of the start.
     pub cycle: Cycle,
-    pub link: u8,
+    pub link: u16,
     pub frame: u32,
     pub octets: u32,
     pub start: Nanos,
@@ -83,7 +83,7 @@ pub enum Reason {
 pub struct Dropped {
     /// The offer's cycle.
     pub cycle: Cycle,
-    pub bridge: u8,
+    pub bridge: u16,
     pub frame: u32,
     pub octets: u32,
     pub reason: Reason,
@@ -92,7 +92,7 @@ pub struct Dropped {
 /// What one bridge sent and dropped in one cycle.
 #[derive(Debug, Drop)]
 pub struct Page {
-    pub bridge: u8,
+    pub bridge: u16,
     pub cycle: Cycle,
     /// The starts of streams' frames, by link, then start instant.
     pub starts: Vec<Started>,

@@ -19,6 +19,8 @@ pub enum Refused {
     BadName,
     /// The reservation isn't 64 to 60,000 octets.
     BadOctets,
+    /// The stream is offered in one cycle of a number that doesn't divide 80, or has no such phase.
+    BadPace,
     /// The domain lacks the node at this place.
     UnknownNode(usize),
     /// At this place the nodes of a branch are no path: none at all or a station first, no link from the node before, a
@@ -29,12 +31,14 @@ pub enum Refused {
     /// The branch of this number, from 0, makes no tree with those before it: it begins at another bridge, is one of them
     /// again, or has a node of one of them behind another beginning.
     NotATree(usize),
+    /// The tree has more hops than may be.
+    TooManyHops,
     /// A held stream has the name.
     NameHeld,
     /// As many streams are held as may be.
     TooManyStreams,
     /// The first link of the tree, in its order, whose budget has fewer octets left than the stream costs, and how many.
-    BudgetShort { link: u8, left: u32 },
+    BudgetShort { link: u16, left: u32 },
     /// No held stream has the name.
     NotHeld,
     /// The stream of the name was withdrawn before.

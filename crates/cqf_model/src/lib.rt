@@ -23,8 +23,9 @@ pub use frames::{Backed, Background, Book, Dropped, Offer, Offered, Page, Reason
 pub use gates::{OpenFor, StreamEntry};
 pub use history::{Receipt, Refused, Reply};
 pub use limits::{
-    LAST_UNTIL, LEAST_OCTETS, LONGEST_CYCLE, MOST_CALLS, MOST_CYCLES, MOST_OCTETS, MOST_ROWS,
-    MOST_SEALS, MOST_STREAMS,
+    LARGE, LAST_UNTIL, LEAST_OCTETS, LONGEST_CYCLE, Limits, MOST_BRIDGES, MOST_CALLS, MOST_CYCLES,
+    MOST_HOPS, MOST_LINKS, MOST_NODES, MOST_OCTETS, MOST_ROWS, MOST_SEALS, MOST_STATIONS,
+    MOST_STREAMS, PROFILE,
 };
 pub use ports::{Arrival, Start};
-pub use topology::{Hop, Link, Node, Row};
+pub use topology::{EACH_CYCLE, Hop, Link, Node, Pace, Row};

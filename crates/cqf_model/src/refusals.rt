@@ -12,10 +12,12 @@ impl fmt::Display for Refused {
         match self {
             Refused::BadName => f.write_str("BadName"),
             Refused::BadOctets => f.write_str("BadOctets"),
+            Refused::BadPace => f.write_str("BadPace"),
             Refused::UnknownNode(place) => write!(f, "UnknownNode {place}"),
             Refused::BrokenPath(place) => write!(f, "BrokenPath {place}"),
             Refused::LoopingPath(place) => write!(f, "LoopingPath {place}"),
             Refused::NotATree(branch) => write!(f, "NotATree {branch}"),
+            Refused::TooManyHops => f.write_str("TooManyHops"),
             Refused::NameHeld => f.write_str("NameHeld"),
             Refused::TooManyStreams => f.write_str("TooManyStreams"),
             Refused::BudgetShort { link, left } => write!(f, "BudgetShort {link} {left}"),

@@ -8,7 +8,7 @@ use arrayvec::ArrayVec;
 use cqf_units::Cycle;
 
 /// The same hops again.
-fn copied_tree(tree: &ArrayVec<Hop, 64>) -> ArrayVec<Hop, 64>
+fn copied_tree(tree: &ArrayVec<Hop, 200>) -> ArrayVec<Hop, 200>
     ensures { result.items ≡ tree.now.items }
 {
     let mut copied = ArrayVec::new();
@@ -17,7 +17,7 @@ fn copied_tree(tree: &ArrayVec<Hop, 64>) -> ArrayVec<Hop, 64>
 }
 
 /// Whether a frame comes the same way: from the edge, or by the same link.
-fn is_same_way(from: Option<u8>, way: Option<u8>) -> bool
+fn is_same_way(from: Option<u16>, way: Option<u16>) -> bool
     ensures { result ≡ same_way from way }
 {
     match (from, way) {
@@ -28,14 +28,14 @@ fn is_same_way(from: Option<u8>, way: Option<u8>) -> bool
 }
 
 /// Whether one of some hops is by the link.
-fn has_link(hops: &[Hop], link: u8) -> bool
+fn has_link(hops: &[Hop], link: u16) -> bool
     ensures { result ≡ list_any (λ hop. hop.link == link) hops.now }
 {
     hops.iter().any(|hop| hop.link == link)
 }
 
 /// Whether one of some hops leads from that way on by the link.
-fn leads_on(hops: &[Hop], way: Option<u8>, link: u8) -> bool
+fn leads_on(hops: &[Hop], way: Option<u16>, link: u16) -> bool
     ensures { result ≡ list_any (λ hop. same_way hop.from way && (hop.link == link)) hops.now }
 {
     hops.iter()
@@ -85,21 +85,21 @@ impl Row {
     }
 
     /// Whether the stream goes by the link.
-    pub fn crosses(&self, link: u8) -> bool
+    pub fn crosses(&self, link: u16) -> bool
         ensures { result ≡ crosses self.now link }
     {
         has_link(self.tree.as_slice(), link)
     }
 
     /// Whether a frame goes on by the link: from the edge, where `way` is none, or from the link that it came by.
-    pub fn goes_on_by(&self, way: Option<u8>, link: u8) -> bool
+    pub fn goes_on_by(&self, way: Option<u16>, link: u16) -> bool
         ensures { result ≡ list_any (λ next. next == link) (goes_to self.now way) }
     {
         leads_on(self.tree.as_slice(), way, link)
     }
 
     /// The links by which the stream goes, in the order of its tree.
-    pub fn links(&self) -> ArrayVec<u8, 64>
+    pub fn links(&self) -> ArrayVec<u16, 200>
         ensures { result.items ≡ links_of self.now }
     {
         let mut links = ArrayVec::new();
@@ -117,6 +117,7 @@ impl Row {
             no: self.no,
             name: self.name.copied(),
             octets: self.octets,
+            pace: self.pace,
             tree: copied_tree(&self.tree),
             admitted: self.admitted,
             withdrawn: self.withdrawn,

@@ -6,15 +6,15 @@ use cqf_units::{Cycle, Name, Rate};
 /// A node of a domain, by its number among the bridges or among the stations.
 #[derive(Clone, Copy, Debug, PartialEq, Eq)]
 pub enum Node {
-    Bridge(u8),
-    Station(u8),
+    Bridge(u16),
+    Station(u16),
 }
 
 /// A directed link.
 #[derive(Clone, Copy, Debug, PartialEq, Eq)]
 pub struct Link {
     /// The number of the bridge that it leaves.
-    pub from: u8,
+    pub from: u16,
     /// The node that it ends in.
     pub to: Node,
     pub rate: Rate,
@@ -26,12 +26,24 @@ pub struct Link {
 #[derive(Clone, Copy, Debug, Default, PartialEq, Eq)]
 pub struct Hop {
     /// The link's number.
-    pub link: u8,
+    pub link: u16,
     /// How many links it is from the stream's first bridge to the link's end, from 1.
     pub depth: u8,
     /// The link before it, by which frames come to the bridge that this one leaves; none at depth 1.
-    pub from: Option<u8>,
+    pub from: Option<u16>,
 }
+
+/// In which cycles a stream's frames are offered: in one, and then in none for as many as the pause is long (profile).
+#[derive(Clone, Copy, Debug, Default, PartialEq, Eq)]
+pub struct Pace {
+    /// How many cycles lie between two of its own; 0 where each is.
+    pub pause: u8,
+    /// The first of its own cycles, at most the pause.
+    pub phase: u8,
+}
+
+/// The pace of a stream that is offered in each cycle.
+pub const EACH_CYCLE: Pace = Pace { pause: 0, phase: 0 };
 
 /// A stream that is held in a cycle (profile).
 #[derive(Debug, Drop)]
@@ -39,10 +51,11 @@ pub struct Row {
     /// The stream's number, from 0, in the order of accepted admissions.
     pub no: u32,
     pub name: Name,
-    /// The reservation, in octets a cycle.
+    /// The reservation, in octets in each cycle of its own.
     pub octets: u32,
+    pub pace: Pace,
     /// The hops of its tree, in the order in which their links first stand in the branches.
-    pub tree: ArrayVec<Hop, 64>,
+    pub tree: ArrayVec<Hop, 200>,
     /// The first cycle in which the stream is live.
     pub admitted: Cycle,
     /// The first cycle in which it is live no more, where it was withdrawn.

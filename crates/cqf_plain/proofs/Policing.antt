@@ -1,4 +1,5 @@
 -- The frames of a cycle are policed at a bridge, one after the other, until one is lost.
+use Rattle.cqf_model.specs.Paces.{each_cycle}
 use Rattle.std.proofs.Common.{◌≡◌, ℕ, ◌+◌, ◌≤◌, ◌<◌, ◌++◌, Bool, true, false, List, [], ◌∷◌, sym, refl, ap, ◌∙◌, inl}
 use Rattle.std.proofs.Common.{inr, arith, subst, length, get_or, take, drop, Contains}
 use Rattle.std.specs.Prelude.{if◌then◌else◌, slice_get}
@@ -29,7 +30,7 @@ pub record IsPolicing (d : Domain) (bridge cycle : ℕ) (rows : List Row) (frame
 
 -- gates that have seen no frame have counted none
 none_counted : (cycle_time cycle : ℕ) (rows : List Row) → HaveCounted cycle_time cycle rows [] []
-none_counted cycle_time cycle rows row held t in_cycle = nothing (same_interval (stream_list cycle_time row.octets) 0 t) 0 refl
+none_counted cycle_time cycle rows row held t in_cycle = nothing (same_interval (stream_list cycle_time row.octets each_cycle 0) 0 t) 0 refl
   where
     -- either way nothing
     nothing : (b : Bool) (n : ℕ) → n ≡ 0 → (if b then n else 0) ≡ 0

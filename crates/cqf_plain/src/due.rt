@@ -12,9 +12,9 @@ use std::collections::BTreeMap;
 
 /// Notes a next start, where there is one, with the number of its bridge.
 fn note(
-    next: Option<(Nanos, u8)>,
-    bridge: u8,
-    due: &mut BTreeMap<(Nanos, u8), u8>,
+    next: Option<(Nanos, u16)>,
+    bridge: u16,
+    due: &mut BTreeMap<(Nanos, u16), u16>,
 ) -> Result<(), Memory>
     ensures { OnOk result ((ports : List PortRecord) (r : PortRecord) → AreNextStarts due.old.entries ports → IsNextStartOf r next →
         AreNextStarts due.new.entries (ports ++ r ∷ [])) }
@@ -29,7 +29,7 @@ fn note(
 }
 
 /// Notes when each port of a bridge starts next: by instant, then link, with the bridge's number.
-fn note_starts(bridge: &Bridge, due: &mut BTreeMap<(Nanos, u8), u8>) -> Result<(), Memory>
+fn note_starts(bridge: &Bridge, due: &mut BTreeMap<(Nanos, u16), u16>) -> Result<(), Memory>
     ensures { OnOk result ((ports : List PortRecord) → AreNextStarts due.old.entries ports → AreNextStarts due.new.entries (ports ++ bridge.now.ports)) }
 {
     for place in 0..bridge.links() {
@@ -42,7 +42,7 @@ fn note_starts(bridge: &Bridge, due: &mut BTreeMap<(Nanos, u8), u8>) -> Result<(
 pub(crate) fn next_starts(
     alloc: Global,
     bridges: &[Driven],
-) -> Result<BTreeMap<(Nanos, u8), u8>, Memory>
+) -> Result<BTreeMap<(Nanos, u16), u16>, Memory>
     ensures { IfOk result (λ due. AreNextStarts due.entries (ports_of bridges.now)) }
 {
     let mut due = BTreeMap::new(alloc);
@@ -53,7 +53,7 @@ pub(crate) fn next_starts(
 }
 
 /// Whether no port starts a frame before an instant: the least of their next starts isn't before it.
-pub(crate) fn none_before(due: &BTreeMap<(Nanos, u8), u8>, end: Nanos) -> bool
+pub(crate) fn none_before(due: &BTreeMap<(Nanos, u16), u16>, end: Nanos) -> bool
     ensures { result ≡ true → NoneBefore end.0 due.now.entries }
 {
     match due.first_key_value() {

@@ -19,7 +19,7 @@ use cqf_units::Memory;
 use std::alloc::Global;
 
 /// The bridge in which a link ends, where the domain has the link and it does end in one.
-fn bridge_at_end(domain: &Domain, link: u8) -> Option<u8>
+fn bridge_at_end(domain: &Domain, link: u16) -> Option<u16>
     ensures some { IfSome result (λ bridge. (enters domain.now link bridge ≡ true) × (bridge < length domain.now.bridges)) }
     ensures only { IfSome result (λ bridge. (other : ℕ) → enters domain.now link other ≡ true → other ≡ bridge) }
     ensures none { IfNone result ((bridge : ℕ) → enters domain.now link bridge ≡ false) }

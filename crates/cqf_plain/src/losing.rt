@@ -60,7 +60,7 @@ fn in_order(
 /// Whether a frame is lost, behind those that the gates have counted.
 fn is_lost(
     domain: &Domain,
-    number: u8,
+    number: u16,
     table: &Table,
     frame: &Incoming,
     gates: &mut StreamGates,
@@ -91,7 +91,7 @@ fn is_lost(
 fn lost_among(
     alloc: Global,
     domain: &Domain,
-    number: u8,
+    number: u16,
     table: &Table,
     frames: &[Incoming],
 ) -> Result<Option<u32>, Memory>

@@ -31,7 +31,7 @@ pub(crate) struct RunSoFar {
     /// By number.
     bridges: Vec<Driven>,
     /// By instant, then link: the number of the bridge whose port starts a frame on the link then, if nothing more comes to it.
-    due: BTreeMap<(Nanos, u8), u8>,
+    due: BTreeMap<(Nanos, u16), u16>,
     book: Book,
 }
 

@@ -17,6 +17,7 @@ use Rattle.cqf_topology_fields.specs.Fields.{and_first}
 use Rattle.cqf_topology.specs.declared.faults.DomainFault.{DomainFault}
 use Rattle.cqf_topology.specs.declared.faults.DomainFault.TheVariants as fault
 use Rattle.cqf_topology.specs.DomainText.{DomainText, IsDomain, NoLinkTwice, apart, checked, first_long_delay, first_long_gap, first_twice, if_so}
+use Rattle.cqf_model.specs.Limits.{bridges_within, links_within, stations_within}
 use Rattle.cqf_topology.specs.DomainText.{is_too_many, joined, joined_link, place_of, with_links, with_these}
 use Rattle.cqf_topology.specs.FirstFaults.{HasTwin, IsFirstTwin}
 use Rattle.cqf_topology.proofs.Told.{twice-told}
@@ -26,6 +27,7 @@ use Rattle.cqf_plants.proofs.NamesApart.{AreApart, apart_across, behind_apart, f
 -- a domain's text with some links, each by the names of its ends
 abbrev pub told_links : Domain → List Link → DomainText
 told_links d links = record {
+  limits = d.limits;
   cycle_time = d.cycle_time;
   guard = d.guard;
   bridges = d.bridges;
@@ -131,11 +133,11 @@ module _ (d : Domain) (good : IsDomain d) where
   guard_is_short : nat_le d.cycle_time d.guard ≡ false
   guard_is_short = let short : d.guard < d.cycle_time = good.accepted.guard_short in grind (arith, nat_tests)
 
-  are_few : is_too_many d.bridges d.stations d.links ≡ false
+  are_few : is_too_many d.limits d.bridges d.stations d.links ≡ false
   are_few =
-      let one : nat_lt 32 (length d.bridges) ≡ false = few (length d.bridges) 32 good.accepted.few_bridges in
-      let two : nat_lt 64 (length d.stations) ≡ false = few (length d.stations) 64 good.accepted.few_stations in
-      let three : nat_lt 64 (length d.links) ≡ false = few (length d.links) 64 good.accepted.few_links in
+      let one : nat_lt (bridges_within d.limits) (length d.bridges) ≡ false = few (length d.bridges) (bridges_within d.limits) good.accepted.few_bridges in
+      let two : nat_lt (stations_within d.limits) (length d.stations) ≡ false = few (length d.stations) (stations_within d.limits) good.accepted.few_stations in
+      let three : nat_lt (links_within d.limits) (length d.links) ≡ false = few (length d.links) (links_within d.limits) good.accepted.few_links in
       (λ i. one i || two i || three i)
     where
       few : (n most : ℕ) → n ≤ most → nat_lt most n ≡ false

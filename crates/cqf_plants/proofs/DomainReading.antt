@@ -103,7 +103,7 @@ module _ (d : Domain) (good : IsDomain d) where
       ∙ links_read d.links good.accepted.links_good
 
   -- what a domain's table says
-  pub domain_reads : (streams : Data) → domain_from (domain_members d streams) ≡ Ok (told_domain d)
+  pub domain_reads : (streams : Data) → domain_from d.limits (domain_members d streams) ≡ Ok (told_domain d)
   domain_reads streams =
       let cycle_is = number_reads 10000 10000000 d.cycle_time good.accepted.cycle_least good.accepted.cycle_most in
       let guard_is = number_reads 1 10000000 d.guard good.accepted.guard_some (omega (arith, good.accepted.guard_short, good.accepted.cycle_most)) in
@@ -117,4 +117,4 @@ module _ (d : Domain) (good : IsDomain d) where
       and_then (bridges_are i) (λ (bridges : List (List ℕ)).
       and_then (stations_are i) (λ (stations : List (List ℕ)).
       and_then (links_are i) (λ links.
-      let text : DomainText = record { cycle_time = cycle_time; guard = guard; bridges = bridges; stations = stations; links = links } in Ok text))))))
+      let text : DomainText = record { limits = d.limits; cycle_time = cycle_time; guard = guard; bridges = bridges; stations = stations; links = links } in Ok text))))))

@@ -12,7 +12,7 @@ use Rattle.cqf_topology_fields.specs.declared.faults.TomlFault.{TomlFault}
 use Rattle.cqf_topology_fields.specs.declared.faults.TomlFault.TheVariants.{BadValue, Missing, NotToml}
 use Rattle.cqf_topology_fields.specs.Fields.{and_first, are_tables, document_of, each_from, first_absent_within, first_missing, tables_from, tables_of_key}
 use Rattle.cqf_topology_fields.specs.Fields.{whole_document}
-use Rattle.cqf_topology.specs.DomainText.{IsDomain, as_domain_fault, checked, domain_from, domain_keys, domain_of_text, link_keys, read_text}
+use Rattle.cqf_topology.specs.DomainText.{IsDomain, as_domain_fault, checked, domain_from, domain_keys, domain_within, link_keys, read_text}
 use Rattle.cqf_topology.specs.PlannedText.{planned_from}
 use Rattle.cqf_topology.specs.StreamsText.{request_from, stream_keys, streams_keys}
 use Rattle.cqf_traffic.specs.declared.faults.FlowsFault.{FlowsFault}
@@ -68,10 +68,10 @@ module _ (d : Domain) (flows : List FlowText) (text : List ℕ) (told : IsToldPl
       ∙ ap (λ o. refuse o Missing (Ok (plant_members d flows))) none
 
   -- the domain
-  domain_reads_back : IsDomain d → domain_of_text text ≡ Ok d
+  domain_reads_back : IsDomain d → domain_within d.limits text ≡ Ok d
   domain_reads_back good =
       let whole = whole_is domain_keys key.Links link_keys (domain_lacks_nothing d (streams_data flows)) in
-      let read : read_text text ≡ Ok (told_domain d) = ap (λ r. and_then r domain_from) whole ∙ domain_reads d good (streams_data flows) in
+      let read : read_text d.limits text ≡ Ok (told_domain d) = ap (λ r. and_then r (domain_from d.limits)) whole ∙ domain_reads d good (streams_data flows) in
       ap (λ r. and_then (as_domain_fault r) checked) read ∙ domain_passes d good
 
   -- the streams, by a reader of their tables

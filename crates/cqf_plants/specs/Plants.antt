@@ -5,7 +5,7 @@ use Rattle.toml.specs.Data.{Members}
 use Rattle.toml.specs.Parse.{parse_document}
 use Rattle.toml.specs.Text.{IsDocumentText}
 use Rattle.cqf_model.specs.Domain.{Domain}
-use Rattle.cqf_topology.specs.DomainText.{IsDomain, domain_of_text}
+use Rattle.cqf_topology.specs.DomainText.{IsDomain, domain_within}
 use Rattle.cqf_topology.specs.PlannedText.{planned_of_text}
 use Rattle.cqf_topology.specs.StreamsText.{streams_of_text}
 use Rattle.cqf_traffic.specs.FlowsText.{FlowText, flows_of_text}
@@ -31,7 +31,7 @@ pub record IsTellable (flow : FlowText) : Type 0 where
 
 -- a text reads as a plant: as its domain, and as its streams by each reader, with traffic, with deadlines alone, and as requests
 pub record ReadsAsPlant (d : Domain) (flows : List FlowText) (text : List ℕ) : Type 0 where
-  pub domain_is : domain_of_text text ≡ Ok d
+  pub domain_is : domain_within d.limits text ≡ Ok d
   pub flows_are : flows_of_text text ≡ Ok flows
   pub planned_are : planned_of_text text ≡ Ok (map (λ flow. flow.0) flows)
   pub requests_are : streams_of_text text ≡ Ok (map (λ flow. flow.0.0) flows)

@@ -18,7 +18,7 @@ use cqf_topology::Domain;
 use cqf_units::octet_time;
 
 /// A link's octet time. A link that the domain lacks has none.
-fn octet_time_of(domain: &Domain, link: u8) -> u64
+fn octet_time_of(domain: &Domain, link: u16) -> u64
     ensures value { result ≡ octet_time_of domain.now link }
 {
     if link >= domain.links() {
@@ -28,7 +28,7 @@ fn octet_time_of(domain: &Domain, link: u8) -> u64
 }
 
 /// A link's delay. A link that the domain lacks has none.
-fn delay_of(domain: &Domain, link: u8) -> u64
+fn delay_of(domain: &Domain, link: u16) -> u64
     ensures { result ≡ delay_of domain.now link }
 {
     if link >= domain.links() {

@@ -15,7 +15,7 @@ pub enum Leg {
 }
 
 /// By what legs are put in order: the frame, the instant of its start, and the link. A drop has neither of the last two.
-fn key_of(leg: &Leg) -> (u32, u64, u8)
+fn key_of(leg: &Leg) -> (u32, u64, u16)
     ensures { result ≡ (frame_of leg.now, instant_of leg.now, link_of leg.now) }
 {
     match leg {

@@ -1,7 +1,7 @@
 -- What a script admits is told of, so each row that covers an offer is that of a stream of which is told.
-use Rattle.std.proofs.Common.{◌≡◌, ◌∙◌, ℕ, Bool, true, List, Some, None, Option, Result, Ok, ap, filter, refl, subst, sym, take}
+use Rattle.std.proofs.Common.{◌≡◌, ◌∙◌, ℕ, Bool, true, List, Some, None, Option, Result, Ok, ap, filter, length, refl, subst, sym, take}
 use Rattle.std.specs.Prelude.{◌&&◌, is_none, nat_le, not}
-use Rattle.std.proofs.lemmas.Bool.{le-leb}
+use Rattle.std.proofs.lemmas.Bool.{le-leb, le-ltb}
 use Rattle.cqf_lists.specs.Lists.{or_else}
 use Rattle.cqf_lists.specs.Results.{and_then}
 use Rattle.cqf_lists.proofs.Members.{contains_filter, place_of_member}
@@ -10,11 +10,12 @@ use Rattle.cqf_model.specs.declared.frames.Background.{Background}
 use Rattle.cqf_model.specs.declared.frames.Offer.{Offer}
 use Rattle.cqf_model.specs.declared.history.Receipt.{Receipt}
 use Rattle.cqf_model.specs.declared.history.Refused.{Refused}
-use Rattle.cqf_model.specs.declared.history.Refused.TheVariants.{BadName, BadOctets, UnknownNode, BrokenPath, LoopingPath, NotATree}
+use Rattle.cqf_model.specs.declared.history.Refused.TheVariants.{BadName, BadOctets, BadPace, UnknownNode, BrokenPath, LoopingPath, NotATree, TooManyHops}
 use Rattle.cqf_model.specs.declared.history.Reply.TheVariants.{Accepted}
 use Rattle.cqf_model.specs.declared.topology.Row.{Row}
 use Rattle.cqf_model.specs.Domain.{Domain}
-use Rattle.cqf_model.specs.History.{Asked, IsLegalHistory, Recorded, admit_reply, held_in, next_number, refusal_of, refused_at, refused_if, reply_to, seals}
+use Rattle.cqf_model.specs.History.{Asked, IsLegalHistory, Recorded, admit_reply, held_in, next_number, refusal_of, refused_at, refused_if, reply_to, seals, tree_of}
+use Rattle.cqf_model.specs.Limits.{hops_within}
 use Rattle.cqf_laws_history.proofs.Granted.{granted}
 use Rattle.cqf_laws_latency.specs.Streams.{AdmitsOnly}
 use Rattle.cqf_text.specs.Lines.{lines_of}
@@ -102,13 +103,17 @@ good_granted d rows asked none =
     λ i. le-leb 64 asked.octets g.least_octets i && le-leb asked.octets 60000 g.most_octets i in
     let name = ap {B = Option Refused} (λ (b : Bool). refused_if (not b) BadName) g.named in
     let octets = ap {B = Option Refused} (λ (b : Bool). refused_if (not b) BadOctets) in_range in
+    let pace = ap {B = Option Refused} (λ (b : Bool). refused_if (not b) BadPace) g.pace in
     let unknown = ap (refused_at (λ place. UnknownNode place)) g.known in
     let broken = ap (refused_at (λ place. BrokenPath place)) g.whole in
     let looping = ap (refused_at (λ place. LoopingPath place)) g.simple in
-    let stray = ap (refused_at (λ branch. NotATree branch)) g.together in (
+    let stray = ap (refused_at (λ branch. NotATree branch)) g.together in
+    let hops = ap {B = Option Refused} (λ (b : Bool). refused_if b TooManyHops)
+    (le-ltb (hops_within d.limits) (length (tree_of d asked.paths)) g.few_hops) in (
       g.named,
       ap {B = Bool} (λ (o : Option Refused). is_none o)
-          (both_none _ _ name (both_none _ _ octets (both_none _ _ unknown (both_none _ _ broken (both_none _ _ looping stray))))),
+          (both_none _ _ name (both_none _ _ octets (both_none _ _ pace (both_none _ _ unknown
+          (both_none _ _ broken (both_none _ _ looping (both_none _ _ stray hops))))))),
     )
 
 -- so a legal history that admits the first streams of their names alone admits the good ones of which is told alone

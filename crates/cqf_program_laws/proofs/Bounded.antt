@@ -1,29 +1,37 @@
 -- What frames took that came is within the bounds of their row.
 use Rattle.std.proofs.Common.{◌≡◌, ◌≢◌, ◌∙◌, ◌∷◌, ◌≤◌, [], ℕ, Bool, true, false, Contains, List, Some, None, Option, ap, arith, filter, if◌then◌else◌, length, refl, subst, subst₂, sym}
-use Rattle.std.specs.Prelude.{fold, max, min}
+use Rattle.std.specs.Prelude.{◌&&◌, fold, max, min, nat_le, not}
 use Rattle.std.proofs.Math.Nat.{le-min, max-le}
+use Rattle.std.proofs.lemmas.Bool.{not-false}
 use Rattle.std.proofs.lemmas.Option.{same_Some}
+use Rattle.cqf_lists.specs.Lists.{each_below, or_else}
+use Rattle.cqf_lists.proofs.Least.{or_else_none}
 use Rattle.cqf_lists.proofs.Members.{contains_from_filter, contains_from_flat, contains_from_map, contains_here, contains_later, contains_none, contains_one, find_member}
 use Rattle.cqf_lists.proofs.Pairs.{one_of_pairs}
+use Rattle.cqf_units.specs.Name.{is_name}
 use Rattle.cqf_units.specs.declared.timing.Nanos.{Nanos}
 use Rattle.cqf_model.specs.declared.frames.Offered.{Offered}
 use Rattle.cqf_model.specs.declared.topology.Hop.{Hop}
 use Rattle.cqf_model.specs.declared.topology.Row.{Row}
 use Rattle.cqf_model.specs.Book.{Contents}
 use Rattle.cqf_model.specs.Domain.{Domain, end_of, is_text}
-use Rattle.cqf_model.specs.History.{Asked}
+use Rattle.cqf_model.specs.History.{Asked, is_pace, refused_if}
+use Rattle.cqf_model.specs.Limits.{least_reserved, most_every, most_reserved}
 use Rattle.cqf_model.specs.Run.{Run}
 use Rattle.cqf_model.specs.declared.history.Refused.{Refused}
+use Rattle.cqf_model.specs.declared.history.Refused.TheVariants.{BadName, BadOctets, BadPace}
 use Rattle.cqf_model.specs.Shift.{InShift, offer_cycle, row_for}
-use Rattle.cqf_model.specs.Table.{IsTree, table_of}
+use Rattle.cqf_model.specs.Table.{IsTree, table_of, uses}
 use Rattle.cqf_model.specs.Traffic.{numbered}
 use Rattle.cqf_model.proofs.Texts.{is_text_same}
 use Rattle.cqf_laws_history.specs.HistoryLaws.{TablesAreOrderly}
 use Rattle.cqf_laws_history.specs.StateLaws.{granted_row}
+use Rattle.cqf_laws_history.proofs.Granted.{refused_if_none}
 use Rattle.cqf_laws_latency.specs.Latency.{IsTimely, least_of, most_of, whole_of}
-use Rattle.cqf_laws_latency.specs.Streams.{AdmitsOnly, HistoryIsTimely, RowsAreOfList, cost_of_all}
+use Rattle.cqf_laws_latency.specs.Streams.{AdmitsOnly, ArePaced, HistoryIsTimely, IsOfList, RowsAreOfList, cost_of_all, most_beside_all}
 use Rattle.cqf_laws_shift.proofs.Came.{one_number}
 use Rattle.cqf_topology.specs.PlannedText.{PlannedText}
+use Rattle.cqf_admission_trees.specs.Branches.{tree_refusal}
 use Rattle.cqf_admission.specs.Judging.{form_refusal}
 use Rattle.cqf_program_scenario.specs.Calls.{history_of}
 use Rattle.cqf_program_scenario.specs.Scenario.{Scenario}
@@ -47,7 +55,7 @@ use Rattle.cqf_program_summary.specs.Summary.{Fare, deliveries_named, fare_of, l
 use Rattle.cqf_program_laws.specs.SummaryLaws.{IsReadRun, LatenciesAreBounded}
 use Rattle.cqf_program_summary.specs.Tallies.{latencies_to, latency_by, latency_on, reaches, taken_of}
 use Rattle.cqf_program_summary.specs.Told.{is_good, row_of_stream, row_unless, told_cost, told_streams}
-use Rattle.cqf_program_laws.proofs.RowLaws.{IsOwnRow, admits_told, own_row}
+use Rattle.cqf_program_laws.proofs.RowLaws.{IsOwnRow, admits_told, no_refusal, own_row}
 
 -- the least of some is no less, and the most no more, than what holds of each
 least_of_all : (low m : ℕ) (ns : List ℕ) → low ≤ m → ((n : ℕ) → Contains ns n → low ≤ n) → low ≤ fold min m ns
@@ -98,6 +106,19 @@ taken_by listener y n (passage.Goes journey) goes true there c = by journey.whol
 -- what goes somewhere goes one way
 one_journey : (a b : Journey) → passage.Goes a ≡ passage.Goes b → a ≡ b
 one_journey a b e = cc
+
+-- good streams have a pace
+goods_paced : (d : Domain) (told : List Asked) → ArePaced (filter (is_good d) told)
+goods_paced d told asked among =
+    let good = contains_from_filter (is_good d) told asked among in
+    let named = refused_if (not (is_name asked.name)) BadName in
+    let sized = refused_if (not (nat_le least_reserved asked.octets && nat_le asked.octets most_reserved)) BadOctets in
+    let paced = refused_if (not (is_pace asked.every asked.phase)) BadPace in
+    let behind = or_else paced (tree_refusal d asked.paths) in
+    let a = or_else_none named (or_else sized behind) (no_refusal (form_refusal d asked) good.1) in
+    let b = or_else_none sized behind a.1 in
+    let c = or_else_none paced (tree_refusal d asked.paths) b.1 in
+    not-false (is_pace asked.every asked.phase) (refused_if_none (not (is_pace asked.every asked.phase)) BadPace c.0)
 
 -- where there is no listener nothing is taken
 none_taken : (ds : List Delivery) → latencies_to None ds ≡ []
@@ -169,17 +190,27 @@ module _ (rows : RowsAreOfList) (timely : HistoryIsTimely) (orderly : TablesAreO
       one_link : a.start.link ≡ hop.link
       one_link = at.2 ∙ ap (λ (h : Hop). h.link) one_hop
 
+      -- the bound is by the cycles of the stream's own
+      one_cost : (of : IsOfList d goods shift.row) → most_beside_all d goods of.asked hop.link ≡ most_beside_all d goods asked hop.link
+      one_cost of =
+          let items = sym of.tree ∙ ap (λ (r : Row). r.tree.items) one_row ∙ row.tree in
+          let pace = sym of.pace ∙ ap (λ (r : Row). r.pace) one_row ∙ row.pace in
+          (λ i. fold max 0 (each_below (λ cycle. if uses (items i) (pace i) hop.link cycle then cost_of_all d goods hop.link cycle ∷ [] else []) most_every))
+
       -- is within the bounds
-      is_timely : IsTimely d hop.link hop.depth (cost_of_all d goods hop.link) a.x.offer.at.0 (whole_of d a.start)
+      is_timely : IsTimely d hop.link hop.depth (most_beside_all d goods asked hop.link) a.x.offer.at.0 (whole_of d a.start)
       is_timely =
           let found = timely d (history_of cycles s) s.offers s.background cycles book goods is.domain.accepted (legal_of cycles s is.short is.may.room)
-          is.may.offers is.may.background is.is_book.is_book only a.start at.0 shift in
-          subst (λ (x : Offered). IsTimely d hop.link hop.depth (cost_of_all d goods hop.link) x.offer.at.0 (whole_of d a.start)) one_offer
-          (subst₂ (λ (link depth : ℕ). IsTimely d link depth (cost_of_all d goods link) shift.x.offer.at.0 (whole_of d a.start)) one_link one_depth found.1)
+          is.may.offers is.may.background is.is_book.is_book only (goods_paced d told) a.start at.0 shift in
+          let there : IsTimely d hop.link hop.depth (most_beside_all d goods found.0.asked hop.link) shift.x.offer.at.0 (whole_of d a.start) =
+          subst₂ (λ (link depth : ℕ). IsTimely d link depth (most_beside_all d goods found.0.asked link) shift.x.offer.at.0 (whole_of d a.start)) one_link one_depth
+          found.1 in
+          let own = subst (λ (cost : ℕ). IsTimely d hop.link hop.depth cost shift.x.offer.at.0 (whole_of d a.start)) (one_cost found.0) there in
+          subst (λ (x : Offered). IsTimely d hop.link hop.depth (most_beside_all d goods asked hop.link) x.offer.at.0 (whole_of d a.start)) one_offer own
 
     -- so is each latency there
     latency_within : (n : ℕ) → Contains (latencies_to (Some (name_of_end d hop.link)) (deliveries_named asked.name (deliveries_of run streams book))) n →
-        (least_of d hop.link hop.depth ≤ n) × (n ≤ most_of d hop.link hop.depth (told_cost d told hop.link))
+        (least_of d hop.link hop.depth ≤ n) × (n ≤ most_of d hop.link hop.depth (told_cost d told asked hop.link))
     latency_within n c =
         let from = contains_from_flat (λ (x : Delivery). if reaches (Some (name_of_end d hop.link)) x.passage then latency_on x.at.0 x.passage else [])
         (deliveries_named asked.name (deliveries_of run streams book)) n c in
@@ -204,10 +235,10 @@ module _ (rows : RowsAreOfList) (timely : HistoryIsTimely) (orderly : TablesAreO
 
   -- so is what is taken of them at a listener of which is told
   bounded_to : (asked : Asked) → Contains told asked → (o : Option Refused) → (to : Option Listener) →
-      Contains (listeners_by d (told_cost d told) (row_unless d asked o)) to → (taken : Taken) →
+      Contains (listeners_by d (told_cost d told asked) (row_unless d asked o)) to → (taken : Taken) →
       taken_of (latencies_to (name_of_listener to) (deliveries_named asked.name (deliveries_of run streams book))) ≡ Some taken →
-      (hop : Hop) × Contains (listeners_of d (granted_row d 0 0 asked)) hop × (to ≡ Some (listener_to d (told_cost d told) hop))
-      × (least_of d hop.link hop.depth ≤ taken.least) × (taken.most ≤ most_of d hop.link hop.depth (told_cost d told hop.link))
+      (hop : Hop) × Contains (listeners_of d (granted_row d 0 0 asked)) hop × (to ≡ Some (listener_to d (told_cost d told asked) hop))
+      × (least_of d hop.link hop.depth ≤ taken.least) × (taken.most ≤ most_of d hop.link hop.depth (told_cost d told asked hop.link))
   bounded_to asked listed (Some refused) to among taken took =
       let nowhere : None ≡ to = contains_one {X = Option Listener} None to among in
       let none : taken_of (latencies_to (name_of_listener to) (deliveries_named asked.name (deliveries_of run streams book))) ≡ None =
@@ -215,11 +246,11 @@ module _ (rows : RowsAreOfList) (timely : HistoryIsTimely) (orderly : TablesAreO
       ∙ ap taken_of (none_taken (deliveries_named asked.name (deliveries_of run streams book))) in
       absurd (let both : ◌≡◌ {A = Option Taken} None (Some taken) = sym none ∙ took in cc)
   bounded_to asked listed None to among taken took =
-      let found = contains_from_map (λ (hop : Hop). Some (listener_to d (told_cost d told) hop)) (listeners_of d (granted_row d 0 0 asked)) to among in
+      let found = contains_from_map (λ (hop : Hop). Some (listener_to d (told_cost d told asked) hop)) (listeners_of d (granted_row d 0 0 asked)) to among in
       let hop : Hop = found.0 in
       let there : taken_of (latencies_to (Some (name_of_end d hop.link)) (deliveries_named asked.name (deliveries_of run streams book))) ≡ Some taken =
       ap (λ (o : Option Listener). taken_of (latencies_to (name_of_listener o) (deliveries_named asked.name (deliveries_of run streams book)))) found.2 ∙ took in
-      let bounds = taken_within (least_of d hop.link hop.depth) (most_of d hop.link hop.depth (told_cost d told hop.link))
+      let bounds = taken_within (least_of d hop.link hop.depth) (most_of d hop.link hop.depth (told_cost d told asked hop.link))
       (latencies_to (Some (name_of_end d hop.link)) (deliveries_named asked.name (deliveries_of run streams book))) taken there
       (λ n c. latency_within asked listed hop found.1 n c) in
       (hop, found.1, sym found.2, bounds.0, bounds.1)
@@ -236,9 +267,9 @@ latencies_are_bounded rows timely orderly arrivals asks histories legal_of cycle
     let offers = offers_within d (length run.tables) (numbered run.offers) in
     let stream = contains_from_map (fare_of d cost (deadline_named streams) offers ds) told fare of.0 in
     let asked : Asked = stream.0 in
-    let of_it : Contains (ways_of d cost (deliveries_named asked.name ds) (row_of_stream d asked)) way =
+    let of_it : Contains (ways_of d (cost asked) (deliveries_named asked.name ds) (row_of_stream d asked)) way =
     subst (λ (f : Fare). Contains f.ways way) (sym stream.2) of.1 in
-    let listener = contains_from_map (way_to (deliveries_named asked.name ds)) (listeners_by d cost (row_of_stream d asked)) way of_it in
+    let listener = contains_from_map (way_to (deliveries_named asked.name ds)) (listeners_by d (cost asked) (row_of_stream d asked)) way of_it in
     let counted : taken_of (latencies_to (name_of_listener listener.0) (deliveries_named asked.name ds)) ≡ Some taken =
     ap (λ (w : Way). w.tally.taken) listener.2 ∙ took in
     let b = bounded_to rows timely orderly arrivals asks histories legal_of cycles input s streams book is asked stream.1 (form_refusal d asked) listener.0
@@ -249,7 +280,7 @@ latencies_are_bounded rows timely orderly arrivals asks histories legal_of cycle
       stream = ap (λ (f : Fare). f.name) stream.2;
       hop = b.0;
       among = b.1;
-      listener = listener_to d cost b.0;
+      listener = listener_to d (cost asked) b.0;
       to = sym (ap (λ (w : Way). w.to) listener.2) ∙ b.2;
       named = refl;
       least = b.3;

@@ -14,11 +14,11 @@ use Rattle.cqf_model.specs.declared.topology.Hop.{Hop}
 use Rattle.cqf_model.specs.declared.topology.Row.{Row}
 use Rattle.cqf_model.specs.Book.{Contents}
 use Rattle.cqf_model.specs.Domain.{Domain, end_of, is_text}
-use Rattle.cqf_model.specs.History.{Asked, IsLegalHistory, Recorded, held_in, refusal_of, seals, tables_of}
+use Rattle.cqf_model.specs.History.{Asked, IsLegalHistory, Recorded, held_in, most_beside, refusal_of, seals, tables_of}
 use Rattle.cqf_model.specs.HistoryBook.{IsBookOfHistory, run_of_history}
 use Rattle.cqf_model.specs.Run.{AreBackground, AreOffers, Run}
 use Rattle.cqf_model.specs.Shift.{InShift, offer_cycle}
-use Rattle.cqf_model.specs.Table.{SameStream, link_cost, table_of}
+use Rattle.cqf_model.specs.Table.{SameStream, table_of}
 use Rattle.cqf_model.proofs.Texts.{is_text_same}
 use Rattle.cqf_laws_history.specs.HistoryLaws.{TablesAreOrderly}
 use Rattle.cqf_laws_shift.specs.BookOfHistory.{BookOfHistorySaysTheShift}
@@ -26,7 +26,7 @@ use Rattle.cqf_laws_shift.proofs.Came.{one_number}
 use Rattle.cqf_laws_latency.specs.Latency.{whole_of}
 use Rattle.cqf_laws_latency.specs.Streams.{AdmitsOnly, AdmittedHaveNames, AreGranted, with_all}
 use Rattle.cqf_laws_latency.specs.Verdicts.{InTime, IsAsSaid, Late, MayBeLate, Sure, sure_of}
-use Rattle.cqf_laws_told.specs.Told.{IsAsToldAt, NamesTellStreams, RowsArePlanned, ToldHolds, planned_rows}
+use Rattle.cqf_laws_told.specs.Told.{IsAsToldAt, NamesTellStreams, RowsArePlanned, ToldHolds, planned_rows, told_cost}
 use Rattle.cqf_topology.specs.DomainText.{IsDomain}
 use Rattle.cqf_topology.specs.PlannedText.{PlannedText}
 use Rattle.cqf_program_scenario.specs.Calls.{history_of}
@@ -176,14 +176,14 @@ module _ (planned : RowsArePlanned) (names : NamesTellStreams) (holds : ToldHold
         (subst (λ (items : List Hop). Contains items hop) same.tree other.0) (λ differ. differ ends) (λ differ. differ (sym ends))
 
     -- so the start there is as it's told of the hop
-    as_told : IsAsToldAt d (asked_in streams) hop a.x.offer.at.0 (whole_of d a.start)
+    as_told : IsAsToldAt d (asked_in streams) row hop a.x.offer.at.0 (whole_of d a.start)
     as_told =
         let at = at_start book.starts a.x.frame a.hop.link a.start a.starts in
         let shift : InShift run (length run.tables) a.start.frame a.start.link a.start.cycle.0 =
         subst₂ (λ (frame link : ℕ). InShift run (length run.tables) frame link a.start.cycle.0) (sym at.1) (sym at.2) a.in_shift in
         let one : shift.x ≡ a.x = one_number offers shift.x a.x shift.covered.offered a.covered.offered (sym shift.is_frame ∙ at.1) in
         let other = contains_from_filter (λ (h : Hop). is_station (end_of d h.link)) row.tree.items hop among in
-        subst (λ (x : Offered). IsAsToldAt d (asked_in streams) hop x.offer.at.0 (whole_of d a.start)) one
+        subst (λ (x : Offered). IsAsToldAt d (asked_in streams) row hop x.offer.at.0 (whole_of d a.start)) one
         (holds d (asked_in streams) entries offers background cycles book row hop domain.accepted granted legal only offered behind is c other.0 a.start at.0
         (at.2 ∙ ap (λ (h : Hop). h.link) one_hop) shift (ap (λ (x : Offered). x.offer.stream) one ∙ stream))
 
@@ -193,7 +193,7 @@ module _ (planned : RowsArePlanned) (names : NamesTellStreams) (holds : ToldHold
         let p = planned d (asked_in streams) row granted c in
         deadline_is streams row.no p.asked a.x.offer.stream (apart d (asked_in streams) granted) p.stands (stream ∙ p.name)
 
-    has_bounds : HasBounds (latency_to d (link_cost (planned_rows d (asked_in streams)) hop.link) row (deadline_of (deadlines_in streams) row.no) hop) delivery
+    has_bounds : HasBounds (latency_to d (told_cost d (asked_in streams) row hop.link) row (deadline_of (deadlines_in streams) row.no) hop) delivery
     has_bounds = record {
       at = a.x.offer.at.0;
       whole = whole_instant d a.start;
@@ -219,7 +219,7 @@ verdicts_hold_of_deliveries planned names holds apart orderly says arrivals d st
     subst (λ (p : List Recorded). Contains (latencies_told d p streams) latency) g.1 listed in
     let r = contains_from_flat (λ (row : Row). latencies_of_row d rows row (deadline_of deadlines row.no)) rows latency told_of in
     let row : Row = r.0 in
-    let to_hop : Hop → Latency = λ hop. latency_to d (link_cost rows hop.link) row (deadline_of deadlines row.no) hop in
+    let to_hop : Hop → Latency = λ hop. latency_to d (most_beside rows row.tree.items row.pace hop.link) row (deadline_of deadlines row.no) hop in
     let h = contains_from_map to_hop (listeners_of d row) latency r.2 in
     let shift = arrivals run streams book
     (says d entries offers background cycles book domain.accepted legal offered behind is).says in

@@ -7,7 +7,7 @@ use Rattle.std.proofs.lemmas.Option.{same_Some}
 use Rattle.cqf_lists.proofs.Members.{contains_at, contains_here, contains_none}
 use Rattle.cqf_model.specs.declared.topology.Row.{Row}
 use Rattle.cqf_model.specs.Domain.{Domain}
-use Rattle.cqf_model.specs.History.{Admits, Asked, IsLegalHistory, Recorded, held_in, refusal_of, reply_to, seals, tree_of}
+use Rattle.cqf_model.specs.History.{Admits, Asked, IsLegalHistory, Recorded, held_in, pace_of, refusal_of, reply_to, seals, tree_of}
 use Rattle.cqf_laws_history.specs.StateLaws.{GrantedFindsRoom, GrantedIsHeld, HistoryGoesOn, IsState, SealsAreCounted, granted_row, with_entry}
 use Rattle.cqf_laws_latency.specs.Streams.{AreGranted, with_all}
 use Rattle.cqf_laws_told.specs.Told.{planned_rows}
@@ -18,6 +18,7 @@ pub record HasItsRow (d : Domain) (rows : List Row) (number : ℕ) (asked : Aske
   pub among : Contains rows row
   pub is_number : row.no ≡ number
   pub name : row.name ≡ asked.name
+  pub pace : row.pace ≡ pace_of asked
   pub tree : row.tree.items ≡ tree_of d asked.paths
   pub beside : List Row
   pub free : refusal_of d beside asked ≡ None
@@ -74,7 +75,7 @@ module _ (held : GrantedIsHeld) (goes_on : HistoryGoesOn) (counted : SealsAreCou
       let among = stays more (with_entry entries 0 (Admits first) (reply_to d entries (Admits first))) (rows ++ new ∷ []) (next + 1)
       (one_more entries rows next first holds free) granted.1 new (Contains-append_right rows (new ∷ []) new (contains_here new [])) in
       subst (HasItsRow d (held_in d (with_all d entries (first ∷ more)) 0) (next + 0)) (same_Some first asked is)
-      (record { row = new; among = among; is_number = omega arith; name = refl; tree = refl; beside = rows; free = free })
+      (record { row = new; among = among; is_number = omega arith; name = refl; pace = refl; tree = refl; beside = rows; free = free })
   has_row (first ∷ more) entries rows next holds granted (suc place) asked is =
       let free = is_free entries rows next first holds granted.0 in
       let new = granted_row d next (seals entries) first in

@@ -1,12 +1,13 @@
 -- A plan that was told keeps its word.
 use Rattle.std.proofs.Common.{◌≡◌, ◌≢◌, ◌∙◌, ◌+◌, ◌-◌, ◌*◌, ◌<◌, ◌≤◌, ◌∷◌, [], ◌==◌, ◌&&◌, ℕ, Bool, true, false, List, Option, Some, None, Result, Ok, Err, inl, inr}
-use Rattle.std.proofs.Common.{arith, ap, sym, subst, subst₂, refl, All, Contains, eq-eqb, if◌then◌else◌, map, mul-le-mul_right, nat_lt}
+use Rattle.std.proofs.Common.{arith, ap, sym, subst, subst₂, refl, All, Contains, eq-eqb, fold, if◌then◌else◌, map, max, mul-le-mul_right, nat_lt}
 use Rattle.std.specs.Prelude.{option_map, slice_get}
 use Rattle.std.specs.Option.{ForSome, option_map_or}
 use Rattle.std.proofs.lemmas.Bool.{ltb-true}
 use Rattle.std.proofs.lemmas.List.Elements.{All-contains}
 use Rattle.std.proofs.lemmas.Option.{get_or_from_slice_get, same_Some, slice_get-map}
-use Rattle.cqf_lists.proofs.Members.{contains_filter, contains_flat, contains_map, find_member, place_of_member}
+use Rattle.cqf_lists.specs.Lists.{each_below}
+use Rattle.cqf_lists.proofs.Members.{contains_filter, contains_flat, contains_from_map, contains_map, find_member, place_of_member}
 use Rattle.cqf_lists.proofs.Pairs.{one_of_pairs}
 use Rattle.cqf_units.specs.Timing.{nanos_of_octet}
 use Rattle.cqf_model.specs.declared.frames.Background.{Background}
@@ -17,21 +18,23 @@ use Rattle.cqf_model.specs.declared.topology.Node.TheVariants.{Station}
 use Rattle.cqf_model.specs.declared.topology.Row.{Row}
 use Rattle.cqf_model.specs.Book.{Contents}
 use Rattle.cqf_model.specs.Domain.{Domain, end_of, is_text}
-use Rattle.cqf_model.specs.History.{Asked, Branch, Recorded, held_in, tables_of, tree_of}
+use Rattle.cqf_model.specs.History.{Asked, Branch, Recorded, held_in, is_pace, most_beside, pace_of, tables_of, tree_of}
+use Rattle.cqf_model.specs.Limits.{most_every}
+use Rattle.cqf_model.proofs.EachCycle.{reserved_same}
 use Rattle.cqf_model.specs.HistoryBook.{run_of_history}
 use Rattle.cqf_model.specs.Run.{Run}
 use Rattle.cqf_model.specs.Shift.{IsCovered, offer_cycle}
-use Rattle.cqf_model.specs.Table.{IsHop, begins_at, is_live, link_cost, table_of}
+use Rattle.cqf_model.specs.Table.{IsHop, begins_at, is_live, reserved_in, table_of, uses}
 use Rattle.cqf_laws_history.specs.StateLaws.{GrantedFindsRoom, GrantedIsHeld, HistoryGoesOn, SealsAreCounted, granted_row}
 use Rattle.cqf_laws_shift.proofs.Came.{numbered_member}
 use Rattle.cqf_laws_shift.proofs.Covered.{three_and}
 use Rattle.cqf_laws_shift.proofs.Trees.{same_hop}
 use Rattle.cqf_laws_latency.specs.Latency.{least_of, most_of, whole_of}
 use Rattle.cqf_laws_latency.specs.Listeners.{BranchesEnd}
-use Rattle.cqf_laws_latency.specs.Streams.{AdmittedHaveNames, AreGranted, IsOfList, ListCostsItsTable, RowsAreOfList}
+use Rattle.cqf_laws_latency.specs.Streams.{AdmittedHaveNames, AreGranted, ArePaced, IsOfList, ListCostsItsTable, RowsAreOfList, most_beside_all}
 use Rattle.cqf_laws_latency.specs.Verdicts.{InTime, Late, MayBeLate, Sure, sure_of, sure_on}
 use Rattle.cqf_laws_traffic.specs.Covered.{ConformingOwnIsCovered, ConformingStreamIsCovered, is_own, own_offers}
-use Rattle.cqf_laws_traffic.specs.InTime.{ComesThrough, ConformingOwnIsInTime, ConformingStreamIsInTime, IsBookOverList}
+use Rattle.cqf_laws_traffic.specs.InTime.{ArrivesInTime, ComesThrough, ConformingOwnIsInTime, ConformingStreamIsInTime, IsBookOverList}
 use Rattle.cqf_laws_traffic.specs.Traffic.{Conforms, needed, offers_named}
 use Rattle.cqf_laws_told.specs.Told.{planned_rows}
 use Rattle.cqf_sketch.specs.declared.domain.TalkerLink.{TalkerLink}
@@ -129,19 +132,24 @@ module _ (costs : ListCostsItsTable) (d : Domain) (flows : List FlowText) (plan 
       ∙ get_or_from_slice_get deadlines place (Some most) None
       (slice_get-map (λ (f : FlowText). f.0.1) flows place ∙ ap (λ (o : Option FlowText). option_map (λ (f : FlowText). f.0.1) o) there ∙ ap Some deadline)
 
+  -- the most that the rows cost of a link in the cycles of its own is the most that the list does
+  same_most : (link : ℕ) → most_beside rows has.row.tree.items has.row.pace link ≡ most_beside_all d streams (asked_in flow) link
+  same_most link =
+      λ i. fold max 0 (each_below (λ k. if uses (has.tree i) (has.pace i) link k then costs d streams link k granted i ∷ [] else []) most_every)
+
   pub is_sure : (bridges link station : ℕ) → IsHop has.row bridges link → end_of d link ≡ Some (Station station) → (most : ℕ) →
-      flow.0.1 ≡ Some most → sure_on d streams link bridges most ≡ InTime
+      flow.0.1 ≡ Some most → sure_on d streams (asked_in flow) link bridges most ≡ InTime
   is_sure bridges link station at ends most deadline =
       let row = has.row in
-      let to_hop : Hop → Latency = λ hop. latency_to d (link_cost rows hop.link) row (deadline_of deadlines row.no) hop in
+      let to_hop : Hop → Latency = λ hop. latency_to d (most_beside rows row.tree.items row.pace hop.link) row (deadline_of deadlines row.no) hop in
       let at_station : is_station (end_of d at.hop.link) ≡ true = ap (λ (l : ℕ). is_station (end_of d l)) at.is_link ∙ ap is_station ends in
       let among = contains_filter (λ (hop : Hop). is_station (end_of d hop.link)) row.tree.items at.hop at.of_tree at_station in
       let of_row = contains_map to_hop (listeners_of d row) at.hop among in
       let told = contains_flat (λ (r : Row). latencies_of_row d rows r (deadline_of deadlines r.no)) rows row (to_hop at.hop) has.among of_row in
       let kept = All-contains (λ (latency : Latency). is_not_sure latency ≡ false) (latencies_of d rows deadlines) (to_hop at.hop) all_sure told in
       let sure = keeps_deadline (to_hop at.hop) most kept (is_deadline most deadline) in
-      subst (λ (cost : ℕ). sure_of (least_of d link bridges) (most_of d link bridges cost) most ≡ InTime) (costs d streams link granted)
-      (subst₂ (λ (l k : ℕ). sure_of (least_of d l k) (most_of d l k (link_cost rows l)) most ≡ InTime) at.is_link at.is_depth sure)
+      subst (λ (cost : ℕ). sure_of (least_of d link bridges) (most_of d link bridges cost) most ≡ InTime) (same_most link)
+      (subst₂ (λ (l k : ℕ). sure_of (least_of d l k) (most_of d l k (most_beside rows row.tree.items row.pace l)) most ≡ InTime) at.is_link at.is_depth sure)
 
 -- ---- a frame that is promised to come
 
@@ -179,10 +187,12 @@ module _ (held : GrantedIsHeld) (goes_on : HistoryGoesOn) (counted : SealsAreCou
         one_of_pairs (λ (a b : Asked). a.name ≢ b.name) all of.asked (asked_in flow) (names d all granted) of.listed
         (contains_map asked_in flows flow promised.listed) (λ differ. differ alike) (λ differ. differ (sym alike))
 
-    enough : needed d.cycle_time (promise_of t) ≤ row.octets
+    enough : needed d.cycle_time (promise_of t) ≤ reserved_in row 0 (offer_cycle d x)
     enough =
         let of = of_list d entries all cycles (offer_cycle d x) row over.only member.0 in
-        let same : row.octets ≡ flow.0.0.octets = of.octets ∙ ap (λ (a : Asked). a.octets) (one_asked of) in
+        let octets : row.octets ≡ flow.0.0.octets = of.octets ∙ ap (λ (a : Asked). a.octets) (one_asked of) in
+        let same : reserved_in row 0 (offer_cycle d x) ≡ flow.0.0.octets =
+        reserved_same row 0 (offer_cycle d x) (of.pace ∙ ap pace_of (one_asked of)) ∙ octets in
         let needs : needed d.cycle_time (promise_of t) ≤ flow.0.0.octets =
         All-contains (λ (f : FlowText). ForSome f.1 (λ (u : TrafficText). needed d.cycle_time (promise_of u) ≤ f.0.0.octets)) flows flow plan.enough
         promised.listed t promised.has in
@@ -236,7 +246,7 @@ module _ (held : GrantedIsHeld) (goes_on : HistoryGoesOn) (counted : SealsAreCou
 
     -- at each listener
     heard : (since : ℕ) (deadline : Option ℕ) → IsKeptWith since deadline → (branch : Branch) → Contains flow.0.0.paths branch →
-        IsHeardWithin d all cycles book x branch since deadline
+        IsHeardWithin d all (asked_in flow) cycles book x branch since deadline
     heard since deadline kept branch c =
         let through = comes_through.1 in
         let listener = ends d its_row.beside (asked_in flow) branch its_row.free c in
@@ -250,7 +260,8 @@ module _ (held : GrantedIsHeld) (goes_on : HistoryGoesOn) (counted : SealsAreCou
           station = listener.station;
           ends_at = listener.ends_at;
           arrives = λ lasts.
-              let arrival = through.arrives listener.bridges listener.link in_run lasts in
+              let arrival = subst (λ (a : Asked). ArrivesInTime d all a book x listener.bridges listener.link) (one_asked through.of_list)
+              (through.arrives listener.bridges listener.link in_run lasts) in
               record {
                 arrival = arrival;
                 within = λ wished is.
@@ -299,6 +310,12 @@ plans_keep_their_word held goes_on counted room of_list names costs ends covers 
           over flow t x row promised talker wished sent behind came;
     }
 
+-- the streams of a plan are offered in each cycle
+flows_paced : (flows : List FlowText) → ArePaced (map asked_in flows)
+flows_paced flows asked among =
+    let (flow, listed, same) = contains_from_map asked_in flows asked among in
+    subst (λ (a : Asked). is_pace a.every a.phase ≡ true) same refl
+
 -- the streams of a plan, with their traffic and without
 asked_without : (flows : List FlowText) → asked_in_plan (map (λ (flow : FlowText). flow.0) flows) ≡ map asked_in flows
 asked_without [] = refl
@@ -313,6 +330,7 @@ plans_keep_their_word_to_scripts keep asks histories legal cycles input s flows 
       accepted = accepted;
       legal = legal cycles s short may.room;
       only = histories cycles s (map asked_in flows) only;
+      paced = flows_paced flows;
       offered = may.offers;
       beside = may.background;
       is_book = is.is_book;
@@ -327,6 +345,7 @@ plans_keep_their_word_on_threads keep asks accounts cycles input s flows entries
       accepted = accepted;
       legal = account.history.legal;
       only = accounts cycles s (map asked_in flows) asked entries only commands account.history;
+      paced = flows_paced flows;
       offered = may.offers;
       beside = may.background;
       is_book = record { sealed = account.sealed; is_book = account.keeps.is_book };

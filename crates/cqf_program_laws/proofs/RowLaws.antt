@@ -9,7 +9,7 @@ use Rattle.cqf_model.specs.declared.topology.Hop.{Hop}
 use Rattle.cqf_model.specs.declared.topology.Row.{Row}
 use Rattle.cqf_model.specs.Book.{Contents}
 use Rattle.cqf_model.specs.Domain.{Domain, end_of, is_text}
-use Rattle.cqf_model.specs.History.{Asked, tree_of}
+use Rattle.cqf_model.specs.History.{Asked, pace_of, tree_of}
 use Rattle.cqf_model.specs.Run.{Run}
 use Rattle.cqf_model.specs.Shift.{IsCovered, offer_cycle}
 use Rattle.cqf_model.specs.Table.{table_of}
@@ -39,18 +39,20 @@ use Rattle.cqf_program_laws.proofs.Balance.{four_counts, row_adds_up}
 use Rattle.cqf_program_laws.proofs.Firsts.{firsts}
 use Rattle.cqf_program_summary.proofs.OneMore.{told_apart}
 
+-- where there is none, nothing is refused
+pub no_refusal : (o : Option Refused) → is_none o ≡ true → o ≡ None
+no_refusal None e = refl
+no_refusal (Some refused) e = absurd cc
+
 -- a good stream has its row
 good_row : (d : Domain) (asked : Asked) → is_good d asked ≡ true → row_of_stream d asked ≡ Some (granted_row d 0 0 asked)
-good_row d asked good = ap (row_unless d asked) (none (form_refusal d asked) good)
-  where
-    none : (o : Option Refused) → is_none o ≡ true → o ≡ None
-    none None e = refl
-    none (Some refused) e = absurd cc
+good_row d asked good = ap (row_unless d asked) (no_refusal (form_refusal d asked) good)
 
 -- the row that covers an offer of a stream of which is told is that stream's
 pub record IsOwnRow (d : Domain) (asked : Asked) (row : Row) : Type 0 where
   pub good : is_good d asked ≡ true
   pub tree : row.tree.items ≡ tree_of d asked.paths
+  pub pace : row.pace ≡ pace_of asked
 
 -- streams of one name are one
 clash : (m n : List ℕ) → m ≡ n → is_text m n ≡ false → ⊥
@@ -84,14 +86,15 @@ module _ (rows : RowsAreOfList) (cycles : ℕ) (s : Scenario) (requests : List A
       record {
         good = ap (is_good d) (sym one) ∙ listed.1;
         tree = of.tree ∙ ap (λ (a : Asked). tree_of d a.paths) one;
+        pace = of.pace ∙ ap pace_of one;
       }
 
   -- so it leads to each listener of which is told
   leads_by : (asked : Asked) (row : Row) (to : Option Listener) → IsOwnRow d asked row →
-      Contains (listeners_by d (told_cost d (told_streams requests)) (row_of_stream d asked)) to →
+      Contains (listeners_by d (told_cost d (told_streams requests) asked) (row_of_stream d asked)) to →
       (hop : Hop) × Contains (listeners_of d row) hop × (name_of_listener to ≡ Some (name_of_end d hop.link))
   leads_by asked row to own among =
-      let cost = told_cost d (told_streams requests) in
+      let cost = told_cost d (told_streams requests) asked in
       let there : Contains (listeners_by d cost (Some (granted_row d 0 0 asked))) to =
       subst (λ (o : Option Row). Contains (listeners_by d cost o) to) (good_row d asked own.good) among in
       let found = contains_from_map (λ (hop : Hop). Some (listener_to d cost hop)) (listeners_of d (granted_row d 0 0 asked)) to there in (
@@ -121,9 +124,9 @@ module _ (asks : ScriptsAskOnly) (histories : HistoriesAdmitOnly) (legal_of : Hi
       let only = admits_told cycles input s streams book is in
       let stream = contains_from_map (fare_of d cost (deadline_named streams) offers ds) told fare of.0 in
       let asked : Asked = stream.0 in
-      let of_it : Contains (ways_of d cost (deliveries_named asked.name ds) (row_of_stream d asked)) way =
+      let of_it : Contains (ways_of d (cost asked) (deliveries_named asked.name ds) (row_of_stream d asked)) way =
       subst (λ (f : Fare). Contains f.ways way) (sym stream.2) of.1 in
-      let listener = contains_from_map (way_to (deliveries_named asked.name ds)) (listeners_by d cost (row_of_stream d asked)) way of_it in
+      let listener = contains_from_map (way_to (deliveries_named asked.name ds)) (listeners_by d (cost asked) (row_of_stream d asked)) way of_it in
       let to : Option Listener = listener.0 in
       let whole = row_adds_up run streams book is.is_book.promise.says is.domain
       (orderly d entries cycles (legal_of cycles s is.short is.may.room) is.is_book.is_book.sealed) once listeners asked.name (name_of_listener to)

@@ -41,7 +41,7 @@ module _ (sketch : SketchDomain) (d : Domain) where
   -- behind its way
   abbrev behind_way : List (List ℕ) → StreamText → SettledWay → Result SettledStream PlanFault
   behind_way before stream way =
-      refuse (refusal_behind before stream.name) fault.Refused
+      refuse (refusal_behind d before stream.name) fault.Refused
       (with_deadline stream.name stream.octets way stream.traffic (deadline_of_stream sketch d stream))
 
   -- with what is left of its deadline
@@ -55,7 +55,7 @@ module _ (sketch : SketchDomain) (d : Domain) where
       let a = not_refused (if_so (not (are_reservable stream.octets))) (λ _. fault.Refused refused.BadOctets)
       (and_then (settled_way sketch d stream.way) (behind_way before stream)) settled h in
       let b = stepped (settled_way sketch d stream.way) (behind_way before stream) settled a in
-      let c = not_refused (refusal_behind before stream.name) fault.Refused
+      let c = not_refused (refusal_behind d before stream.name) fault.Refused
       (with_deadline stream.name stream.octets b.0 stream.traffic (deadline_of_stream sketch d stream)) settled b.2 in
       let e = stepped (deadline_of_stream sketch d stream) (with_left stream b.0) settled c in
       let made : SettledStream = record { name = stream.name; octets = stream.octets; way = b.0; deadline = e.0; traffic = stream.traffic } in

@@ -56,19 +56,19 @@ pub record IsPromised (run : Run) (flows : List FlowText) (flow : FlowText) (t :
 
 -- the frame leaves on a link of this depth as many cycles after its own, and is whole at the link's end within the plan's bounds, and
 -- within a deadline that runs from an instant, where there is one
-pub record ArrivesWithin (d : Domain) (streams : List Asked) (book : Contents) (x : Offered) (depth link since : ℕ) (deadline : Option ℕ) : Type 0 where
-  pub arrival : ArrivesInTime d streams book x depth link
+pub record ArrivesWithin (d : Domain) (streams : List Asked) (asked : Asked) (book : Contents) (x : Offered) (depth link since : ℕ) (deadline : Option ℕ) : Type 0 where
+  pub arrival : ArrivesInTime d streams asked book x depth link
   pub within : ForSome deadline (λ (most : ℕ). whole_of d arrival.start ≤ since + most)
 
 -- the last link of a branch, so many bridges on, ends in its listener's station, and the frame arrives there within the deadline, where
 -- the run lasts so long
-pub record IsHeardWithin (d : Domain) (streams : List Asked) (cycles : ℕ) (book : Contents) (x : Offered) (branch : Branch) (since : ℕ)
-    (deadline : Option ℕ) : Type 0 where
+pub record IsHeardWithin (d : Domain) (streams : List Asked) (asked : Asked) (cycles : ℕ) (book : Contents) (x : Offered) (branch : Branch)
+    (since : ℕ) (deadline : Option ℕ) : Type 0 where
   pub bridges : ℕ
   pub link : ℕ
   pub station : ℕ
   pub ends_at : EndsAtListener d branch bridges link station
-  pub arrives : offer_cycle d x + bridges < cycles → ArrivesWithin d streams book x bridges link since deadline
+  pub arrives : offer_cycle d x + bridges < cycles → ArrivesWithin d streams asked book x bridges link since deadline
 
 -- the frame is covered, so it isn't dropped and leaves on each link of its row's tree; and it arrives within the deadline at each
 -- listener that the plan has for its stream
@@ -76,7 +76,8 @@ pub record ComesAsPromised (run : Run) (flows : List FlowText) (flow : FlowText)
     (deadline : Option ℕ) : Type 0 where
   pub covered : IsCovered run x row
   pub through : ComesThrough run.domain (map asked_in flows) cycles book x row
-  pub heard : (branch : Branch) → Contains flow.0.0.paths branch → IsHeardWithin run.domain (map asked_in flows) cycles book x branch since deadline
+  pub heard : (branch : Branch) → Contains flow.0.0.paths branch →
+      IsHeardWithin run.domain (map asked_in flows) (asked_in flow) cycles book x branch since deadline
 
 -- a plan keeps its word in the book of a run over so many cycles: each frame that is promised to come does so within the plan's deadline
 -- from its offer on. And where that is what is over of a wished deadline when the longest frame that the traffic allows is whole at its

@@ -10,9 +10,9 @@ ghost use Rattle.cqf_program_plans.specs.Listing.{Lists};
 ghost use Rattle.cqf_program_plans.specs.LoadOutput.{listed_from};
 ghost use Rattle.cqf_program_stop.specs.Stops.{IsRefused};
 
-use cqf_admission::{Judged, MOST_STREAMS, judge};
+use cqf_admission::{Judged, judge};
 use cqf_admission_trees::count_places;
-use cqf_model::{Refused, Row};
+use cqf_model::{EACH_CYCLE, Refused, Row};
 use cqf_program_plans::stream_stop;
 use cqf_program_stop::Stop;
 use cqf_topology::{Domain, Request};
@@ -35,7 +35,7 @@ fn look_over(domain: &Domain, rows: &[Row], request: &Request) -> Result<Row, Re
     if has_name(rows, &judged.name) {
         return Err(Refused::NameHeld);
     }
-    if rows.len() >= MOST_STREAMS {
+    if rows.len() >= domain.limits().streams_within() {
         return Err(Refused::TooManyStreams);
     }
     let Judged { name, tree, .. } = judged;
@@ -43,6 +43,7 @@ fn look_over(domain: &Domain, rows: &[Row], request: &Request) -> Result<Row, Re
         no: rows.len() as u32,
         name,
         octets: request.octets,
+        pace: EACH_CYCLE,
         tree,
         admitted: Cycle(0),
         withdrawn: None,

@@ -28,7 +28,7 @@ fn first_name(paths: &[Vec<String>]) -> Option<&str>
 }
 
 /// The bridge with which some branches begin.
-fn edge_of(domain: &Domain, paths: &[Vec<String>]) -> u8
+fn edge_of(domain: &Domain, paths: &[Vec<String>]) -> u16
     ensures { result ≡ edge_of domain.now (branches_of paths.now) }
 {
     let Some(name) = first_name(paths) else {

@@ -9,7 +9,7 @@ use cqf_units::Memory;
 use std::alloc::Global;
 
 /// The name of a bridge. A bridge that the domain lacks has none.
-fn name_of_bridge(domain: &Domain, bridge: u8) -> &str
+fn name_of_bridge(domain: &Domain, bridge: u16) -> &str
     ensures { result.now ≡ name_of_bridge domain.now bridge }
 {
     if bridge < domain.bridges() {

@@ -5,14 +5,15 @@ use Rattle.cqf_lists.proofs.Members.{contains_from_map, find_member}
 use Rattle.cqf_model.proofs.Hops.{hops_inside}
 use Rattle.cqf_model.specs.declared.history.Receipt.{Receipt}
 use Rattle.cqf_model.specs.declared.history.Refused.{Refused}
-use Rattle.cqf_model.specs.declared.history.Refused.TheVariants.{BadName, BadOctets, UnknownNode, BrokenPath, LoopingPath, NotATree, NameHeld, TooManyStreams}
+use Rattle.cqf_model.specs.declared.history.Refused.TheVariants.{BadName, BadOctets, BadPace, UnknownNode, BrokenPath, LoopingPath, NotATree, TooManyHops, NameHeld, TooManyStreams}
 use Rattle.cqf_model.specs.declared.history.Refused.TheVariants.{BudgetShort, NotHeld, AlreadyWithdrawn, HistoryFull, Memory}
 use Rattle.cqf_model.specs.declared.history.Reply.TheVariants.{Accepted, Refused as RefusedFor}
 use Rattle.cqf_model.specs.declared.topology.Hop.{Hop}
+use Rattle.cqf_model.specs.declared.topology.Pace.{Pace}
 use Rattle.cqf_model.specs.declared.topology.Row.{Row}
 use Rattle.cqf_model.specs.Domain.{Domain}
 use Rattle.cqf_units.specs.Timing.{cost_of}
-use Rattle.cqf_model.specs.History.{Admits, Asked, admit_reply, held_in, left_on, next_number, refusal_of, refused_at, refused_if, seals, short_link, tree_of}
+use Rattle.cqf_model.specs.History.{Admits, Asked, admit_reply, held_in, left_on, next_number, pace_of, refusal_of, refused_at, refused_if, seals, short_link, tree_of}
 use Rattle.cqf_laws_history.specs.StateLaws.{with_entry}
 use Rattle.cqf_admission.specs.Admission.{Administration, Answers, is_entered}
 use Rattle.cqf_program_plans.specs.CompileOutput.{with_asked}
@@ -32,10 +33,12 @@ refused_so number effect refused (Some other) h = cc
 pub refusal_entered : (refused : Refused) → refused ≢ HistoryFull → refused ≢ Memory → is_entered (Err refused) ≡ true
 refusal_entered BadName full memory = refl
 refusal_entered BadOctets full memory = refl
+refusal_entered BadPace full memory = refl
 refusal_entered (UnknownNode place) full memory = refl
 refusal_entered (BrokenPath place) full memory = refl
 refusal_entered (LoopingPath place) full memory = refl
 refusal_entered (NotATree branch) full memory = refl
+refusal_entered TooManyHops full memory = refl
 refusal_entered NameHeld full memory = refl
 refusal_entered TooManyStreams full memory = refl
 refusal_entered (BudgetShort link left) full memory = refl
@@ -88,9 +91,10 @@ skip_at l left refused None later other e = e
 skip_at l left refused (Some k) later other e = absurd (other k cc)
 
 -- it names the first link that lacks room
-short_at : (d : Domain) (rows : List Row) (l left : ℕ) (o : Option ℕ) → refused_at (λ k. BudgetShort k (left_on d rows k)) o ≡ Some (BudgetShort l left) → o ≡ Some l
-short_at d rows l left None e = absurd cc
-short_at d rows l left (Some k) e = cc
+short_at : (d : Domain) (rows : List Row) (tree : List Hop) (pace : Pace) (l left : ℕ) (o : Option ℕ) →
+    refused_at (λ k. BudgetShort k (left_on d rows tree pace k)) o ≡ Some (BudgetShort l left) → o ≡ Some l
+short_at d rows tree pace l left None e = absurd cc
+short_at d rows tree pace l left (Some k) e = cc
 
 -- which is a link of the domain
 pub short_is_there : (d : Domain) (rows : List Row) (asked : Asked) (l left : ℕ) → refusal_of d rows asked ≡ Some (BudgetShort l left) → l < length d.links
@@ -98,14 +102,18 @@ short_is_there d rows asked l left e =
     let tree : List Hop = tree_of d asked.paths in
     let a = skip_if l left _ BadName _ (λ h. cc) e in
     let b = skip_if l left _ BadOctets _ (λ h. cc) a in
-    let f = skip_at l left (λ place. UnknownNode place) _ _ (λ k h. cc) b in
+    let c = skip_if l left _ BadPace _ (λ h. cc) b in
+    let f = skip_at l left (λ place. UnknownNode place) _ _ (λ k h. cc) c in
     let g = skip_at l left (λ place. BrokenPath place) _ _ (λ k h. cc) f in
     let i = skip_at l left (λ place. LoopingPath place) _ _ (λ k h. cc) g in
     let j = skip_at l left (λ branch. NotATree branch) _ _ (λ k h. cc) i in
-    let k = skip_if l left _ NameHeld _ (λ h. cc) j in
+    let o = skip_if l left _ TooManyHops _ (λ h. cc) j in
+    let k = skip_if l left _ NameHeld _ (λ h. cc) o in
     let m = skip_if l left _ TooManyStreams _ (λ h. cc) k in
-    let short : short_link d rows (cost_of asked.octets) tree ≡ Some l = short_at d rows l left _ m in
-    let member : Contains (map (λ (hop : Hop). hop.link) tree) l = (find_member (λ x. nat_lt (left_on d rows x) (cost_of asked.octets)) _ l short).0 in
+    let pace : Pace = pace_of asked in
+    let short : short_link d rows (cost_of asked.octets) pace tree ≡ Some l = short_at d rows tree pace l left _ m in
+    let member : Contains (map (λ (hop : Hop). hop.link) tree) l =
+    (find_member (λ x. nat_lt (left_on d rows tree pace x) (cost_of asked.octets)) _ l short).0 in
     let (hop, among, same) = contains_from_map (λ (hop : Hop). hop.link) tree l member in
     let inside : hop.link < length d.links =
     subst (λ (x : Hop). x.link < length d.links) among.2 (hops_inside d asked.paths among.0 hop among.1) in

@@ -67,7 +67,7 @@ one_row d names name entries after one behind legal none few is held =
 
 module _ (goes_on : HistoryGoesOn) (counted : SealsAreCounted) (grants : GrantedIsHeld) (refused : RefusedChangesNothing) (d : Domain) where
   -- a stream of this name is asked for
-  asked_behind : (names : List (List ℕ)) (entries after : List Recorded) (asked : Asked) → IsBehind d names entries → length names < 1024 →
+  asked_behind : (names : List (List ℕ)) (entries after : List Recorded) (asked : Asked) → IsBehind d names entries → length names < 16384 →
       after ≡ with_asked d entries asked → IsBehind d (names ++ asked.name ∷ []) after
   asked_behind names entries after asked behind few is =
       subst (IsBehind d (names ++ asked.name ∷ [])) (sym is) (by (refusal_of d rows asked) refl)
@@ -99,7 +99,7 @@ module _ (goes_on : HistoryGoesOn) (counted : SealsAreCounted) (grants : Granted
 
   -- a stream more is placed behind the others
   pub one_behind : (names : List (List ℕ)) (entries after : List Recorded) (stream : SettledStream) (become : PlacedOr) → IsBehind d names entries →
-      length names < 1024 → IsPlacing d entries stream become after → IsBehind d (names ++ stream.name ∷ []) after
+      length names < 16384 → IsPlacing d entries stream become after → IsBehind d (names ++ stream.name ∷ []) after
   one_behind names entries after stream become behind few placed = by_reserved (reserved_on d.cycle_time stream) placed
     where
       unchanged : after ≡ entries → IsBehind d (names ++ stream.name ∷ []) after
@@ -110,7 +110,7 @@ module _ (goes_on : HistoryGoesOn) (counted : SealsAreCounted) (grants : Granted
           IsBehind d (names ++ stream.name ∷ []) after
       by_routed octets (Err found) is = unchanged is.1
       by_routed octets (Ok paths) is =
-          asked_behind names entries after (record { name = stream.name; octets = octets; paths = paths }) behind few is.1
+          asked_behind names entries after (record { name = stream.name; octets = octets; every = 1; phase = 0; paths = paths }) behind few is.1
 
       by_reserved : (reserved : Result ℕ PlanFault) → IsPlacedBy d entries stream reserved become after → IsBehind d (names ++ stream.name ∷ []) after
       by_reserved (Err found) is = unchanged is.1

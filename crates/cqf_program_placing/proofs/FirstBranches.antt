@@ -1,10 +1,13 @@
 -- The branches of first ways are those of a tree, and each of its links has room.
 use Rattle.std.proofs.Common.{◌≡◌, ◌≢◌, ◌∙◌, ◌+◌, ◌-◌, ◌<◌, ◌≤◌, ◌++◌, ℕ, zero, suc, Bool, true, false, ◌==◌, List, [], ◌∷◌, Option, Some, None}
-use Rattle.std.proofs.Common.{AllPairs, Contains, cond, get_or, is_some, length, map, not, option_map, position, take, refl, ap, subst, sym, arith}
+use Rattle.std.proofs.Common.{AllPairs, Contains, cond, eqb, get_or, is_some, length, map, not, option_map, position, take, refl, ap, subst, sym, arith}
 use Rattle.std.specs.Prelude.{is_none, nat_le, nat_lt, slice_get}
 use Rattle.std.specs.Option.{option_map_or}
 use Rattle.std.specs.List.{flat_map, list_all, list_any}
-use Rattle.std.proofs.lemmas.Bool.{and_from, and_parts, both_ways, false_from_ne_true, leb-true, ltb-true, not-true, not_from_false}
+use Rattle.std.proofs.lemmas.Bool.{and_from, and_parts, both_ways, eq-eqb, eqb-true, false_from_ne_true, leb-true, ltb-true, ne_eqb, not-true, not_from_false}
+use Rattle.std.proofs.lemmas.List.Elements.{All-contains}
+use Rattle.std.proofs.lemmas.Map.Keys.{IsDistinct-from_apart}
+use Rattle.std.proofs.lemmas.Map.Steps.{length-le_from_distinct_below}
 use Rattle.std.proofs.lemmas.List.{length-map, length-take-le}
 use Rattle.std.proofs.lemmas.Option.{get_or_from_slice_get, same_Some, slice_get-get_or, slice_get-map, slice_get_within}
 use Rattle.cqf_lists.specs.Lists.{least, or_else}
@@ -12,16 +15,19 @@ use Rattle.cqf_lists.proofs.Any.{position_any}
 use Rattle.cqf_lists.proofs.EachBelow.{contains_from_below, none_below}
 use Rattle.cqf_lists.proofs.EachOnce.{once_from}
 use Rattle.cqf_lists.proofs.Members.{any_member, contains_from_flat, contains_from_map, contains_here, contains_later, contains_none, contains_one}
-use Rattle.cqf_lists.proofs.Members.{find_member, place_of_member}
+use Rattle.cqf_lists.proofs.Members.{find_member, member_any, place_of_member}
 use Rattle.cqf_lists.proofs.Places.{slice_get-take}
 use Rattle.cqf_model.specs.declared.topology.Hop.{Hop}
 use Rattle.cqf_model.specs.declared.topology.Node.{Node}
 use Rattle.cqf_model.specs.declared.topology.Node.TheVariants.{Bridge, Station}
 use Rattle.cqf_model.specs.declared.topology.Row.{Row}
-use Rattle.cqf_model.specs.Domain.{Domain, is_text, node_named}
+use Rattle.cqf_model.specs.Domain.{Domain, budget, is_text, node_named}
 use Rattle.cqf_model.specs.History.{Branch, are_apart, broken_place, first_place, hop_to, hops_along, is_broken_at, is_loop_at, is_stray, left_on}
 use Rattle.cqf_model.specs.History.{link_at, link_before, make_a_tree, part, short_link, tree_of}
+use Rattle.cqf_model.specs.Limits.{hops_within, nodes_within}
+use Rattle.cqf_model.specs.Paces.{each_cycle}
 use Rattle.cqf_model.specs.Table.{links_in}
+use Rattle.cqf_model.proofs.Hops.{hops_apart, hops_inside}
 use Rattle.cqf_model.proofs.Texts.{is_text_itself, is_text_same}
 use Rattle.cqf_topology.specs.DomainText.{IsDomain}
 use Rattle.cqf_ways.specs.Steps.{led_along}
@@ -30,6 +36,8 @@ use Rattle.cqf_ways.specs.Ways.{IsFirstWay, has_room, led_to}
 use Rattle.cqf_ways.proofs.PartLemmas.{leads_on}
 use Rattle.cqf_report.specs.Books.{name_of_node}
 use Rattle.cqf_program_plans.specs.EndNames.{name_of_end}
+use Rattle.cqf_admission.specs.Costs.{left_beside}
+use Rattle.cqf_admission.proofs.CostLemmas.{beside_is_most}
 use Rattle.cqf_program_placing.specs.Placing.{lefts_on, names_along}
 use Rattle.cqf_program_placing.specs.Room.{HaveRoom}
 use Rattle.cqf_program_placing.proofs.RouteLemmas.{left_there, lefts_many}
@@ -41,6 +49,26 @@ pub record AreBranches (d : Domain) (paths : List Branch) : Type 0 where
   pub whole : broken_place d paths ≡ None
   pub simple : first_place (is_loop_at d) paths ≡ None
   pub together : least (is_stray paths) (length paths) ≡ None
+  pub few : nat_lt (hops_within d.limits) (length (tree_of d paths)) ≡ false
+
+-- a branch may have as many nodes as a way and a tree as many hops as there are links, as where no limits are set
+pub record HasRoomForWays (d : Domain) : Type 0 where
+  pub nodes : 17 ≤ nodes_within d.limits
+  pub hops : length d.links ≤ hops_within d.limits
+
+-- so no tree has too many
+pub few_hops : (d : Domain) (paths : List Branch) → HasRoomForWays d → nat_lt (hops_within d.limits) (length (tree_of d paths)) ≡ false
+few_hops d paths room =
+    let tree = tree_of d paths in
+    let links : List ℕ = links_in tree in
+    let count : length links ≡ length tree = length-map tree (λ (hop : Hop). hop.link) in
+    let apart : AllPairs (λ (a b : ℕ). eqb a b ≡ false) links = λ i j e l m. ne_eqb (get_or links i e) (get_or links j e) (hops_apart d paths i j e l m) in
+    let few = length-le_from_distinct_below links (length d.links) (IsDistinct-from_apart eqb links apart) (λ q h.
+    let (x, among, same) = any_member (eqb q) links h in
+    let (hop, there, is) = contains_from_map (λ (h : Hop). h.link) tree x among in
+    omega (arith, All-contains (λ (h : Hop). h.link < length d.links) tree hop (hops_inside d paths) there, is, eqb-true q x same)) in
+    false_from_ne_true (nat_lt (hops_within d.limits) (length tree)) (λ t.
+    omega (arith, ltb-true (hops_within d.limits) (length tree) t, few, count, room.hops))
 
 -- ---- what no branch fails
 
@@ -127,24 +155,35 @@ tree_link d paths l c =
 
 -- where each link of it has left what a stream costs, none is short
 pub none_short : (d : Domain) (rows : List Row) (cost : ℕ) (paths : List Branch) →
-    ((l : ℕ) → Contains (links_in (tree_of d paths)) l → cost ≤ left_on d rows l) → short_link d rows cost (tree_of d paths) ≡ None
-none_short d rows cost paths enough = by (short_link d rows cost (tree_of d paths)) refl
+    ((l : ℕ) → Contains (links_in (tree_of d paths)) l → cost ≤ left_on d rows (tree_of d paths) each_cycle l) →
+    short_link d rows cost each_cycle (tree_of d paths) ≡ None
+none_short d rows cost paths enough = by (short_link d rows cost each_cycle (tree_of d paths)) refl
   where
-    by : (o : Option ℕ) → short_link d rows cost (tree_of d paths) ≡ o → o ≡ None
+    left : ℕ → ℕ
+    left = left_on d rows (tree_of d paths) each_cycle
+
+    by : (o : Option ℕ) → short_link d rows cost each_cycle (tree_of d paths) ≡ o → o ≡ None
     by None e = refl
     by (Some l) e =
-        let found = find_member (λ k. nat_lt (left_on d rows k) cost) (links_in (tree_of d paths)) l e in
-        absurd (omega (arith, ltb-true (left_on d rows l) cost found.1, enough l found.0))
+        let found = find_member (λ k. nat_lt (left k) cost) (links_in (tree_of d paths)) l e in
+        absurd (omega (arith, ltb-true (left l) cost found.1, enough l found.0))
+
+-- what a link of it has left beside some rows is what it has left for a stream of each cycle
+left_of_tree : (d : Domain) (rows : List Row) (paths : List Branch) (l : ℕ) → Contains (links_in (tree_of d paths)) l →
+    left_on d rows (tree_of d paths) each_cycle l ≡ left_beside d rows l
+left_of_tree d rows paths l among =
+    ap (λ (most : ℕ). budget d l - most)
+    (beside_is_most rows (tree_of d paths) l (member_any (λ k. k == l) (links_in (tree_of d paths)) l among (eq-eqb l l refl)))
 
 -- a link with room has it left
-has_left : (d : Domain) (rows : List Row) (cost l : ℕ) → has_room (lefts_on d rows) cost l ≡ true → cost ≤ left_on d rows l
+has_left : (d : Domain) (rows : List Row) (cost l : ℕ) → has_room (lefts_on d rows) cost l ≡ true → cost ≤ left_beside d rows l
 has_left d rows cost l h = by (slice_get (lefts_on d rows) l) refl h
   where
-    by : (o : Option ℕ) → slice_get (lefts_on d rows) l ≡ o → option_map_or (λ octets. nat_le cost octets) o false ≡ true → cost ≤ left_on d rows l
+    by : (o : Option ℕ) → slice_get (lefts_on d rows) l ≡ o → option_map_or (λ octets. nat_le cost octets) o false ≡ true → cost ≤ left_beside d rows l
     by None at e = absurd cc
     by (Some octets) at e =
         let inside : l < length d.links = omega (arith, slice_get_within (lefts_on d rows) l octets at, lefts_many d rows) in
-        let same : octets ≡ left_on d rows l = sym (get_or_from_slice_get (lefts_on d rows) l octets 0 at) ∙ left_there d rows l inside in
+        let same : octets ≡ left_beside d rows l = sym (get_or_from_slice_get (lefts_on d rows) l octets 0 at) ∙ left_there d rows l inside in
         omega (arith, leb-true cost octets e, same)
 
 -- each link of a way with room has it
@@ -236,9 +275,9 @@ module _ (d : Domain) (good : IsDomain d) where
         let (way, is, same) = branch_at k branch at in (k, way, is, same)
 
     -- so they are branches of a tree, where there is a station and no two are the same
-    pub first_branches : 0 < length stations → AllPairs (λ a b. a ≢ b) stations → FirstWaysHaveNoLoop → FirstWaysPartForGood →
+    pub first_branches : 0 < length stations → AllPairs (λ a b. a ≢ b) stations → HasRoomForWays d → FirstWaysHaveNoLoop → FirstWaysPartForGood →
         AreBranches d (map (names_along d bridge) ways)
-    first_branches some apart no_loop parts =
+    first_branches some apart room no_loop parts =
         let paths = map (names_along d bridge) ways in
         let many : length paths ≡ length ways = length-map ways (names_along d bridge) in
         record {
@@ -251,7 +290,7 @@ module _ (d : Domain) (good : IsDomain d) where
               let (k, way, at, same) = way_of branch c in
               let w = way_there k way at in
               subst (λ (b : Branch). is_broken_at d b place ≡ false) same
-              (whole_there d good bridge inside way (get_or stations k 0) place w.is_way.leads w.is_way.few)));
+              (whole_there d good bridge inside way (get_or stations k 0) place w.is_way.leads w.is_way.few room.nodes)));
           simple = no_place_fails (is_loop_at d) paths (λ branch place c below.
               let (k, way, at, same) = way_of branch c in
               let w = way_there k way at in
@@ -271,10 +310,11 @@ module _ (d : Domain) (good : IsDomain d) where
               (λ k. make_a_tree (sym same k) (sym same_other k))
               ∙ make_one (Bridge bridge) (Station s) (Station t) way other one.is_way.leads two.is_way.leads
               (parts d.links (has_room (lefts_on d rows) cost) (Bridge bridge) s t way other (apart i j 0 before low) one two));
+          few = few_hops d paths room;
         }
 
     -- and each link of that tree has left what the stream costs
-    pub first_enough : short_link d rows cost (tree_of d (map (names_along d bridge) ways)) ≡ None
+    pub first_enough : short_link d rows cost each_cycle (tree_of d (map (names_along d bridge) ways)) ≡ None
     first_enough = none_short d rows cost (map (names_along d bridge) ways) (λ l c.
         let stands = tree_link d (map (names_along d bridge) ways) l c in
         let (k, way, at, same) = way_of stands.branch stands.among in
@@ -282,4 +322,5 @@ module _ (d : Domain) (good : IsDomain d) where
         let here : slice_get way stands.place ≡ Some l =
         sym (link_there d good (Bridge bridge) (Station (get_or stations k 0)) way stands.place inside w.is_way.leads)
         ∙ ap (λ (b : Branch). link_at d b stands.place) same ∙ stands.stands in
-        has_left d rows cost l (room_there (has_room (lefts_on d rows) cost) way stands.place l w.is_way.roomy here))
+        let enough : cost ≤ left_beside d rows l = has_left d rows cost l (room_there (has_room (lefts_on d rows) cost) way stands.place l w.is_way.roomy here) in
+        omega (arith, enough, left_of_tree d rows (map (names_along d bridge) ways) l c))

@@ -113,5 +113,5 @@ found_is_led links left from to None everywhere same none = sym (none_is_not_led
 found_is_led links left from to (Some way) everywhere same first = sym (first_is_led links (has_room left 0) from to way.items first)
 
 -- some of sixty-four zeros
-pub some_zeros : (k : ℕ) → k ≤ 64 → length (take k (replicate {A = ℕ} 64 0)) ≡ k
-some_zeros k few = length-take-le k (replicate {A = ℕ} 64 0) (omega (arith, few, length-replicate {A = ℕ} 64 0))
+pub some_zeros : (n k : ℕ) → k ≤ n → length (take k (replicate {A = ℕ} n 0)) ≡ k
+some_zeros n k few = length-take-le k (replicate {A = ℕ} n 0) (omega (arith, few, length-replicate {A = ℕ} n 0))

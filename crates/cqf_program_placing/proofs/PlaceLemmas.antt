@@ -3,7 +3,7 @@ use Rattle.std.proofs.Common.{◌≡◌, ◌∙◌, ◌+◌, ◌-◌, ◌*◌, �
 use Rattle.std.proofs.Math.Nat.{mul-le-mul_right}
 use Rattle.std.proofs.lemmas.Bool.{and_parts, leb-true}
 use Rattle.std.proofs.lemmas.Bool.Decides.{nat_tests}
-use Rattle.std.proofs.lemmas.List.{get_or-map, length-map, map_more, map_push}
+use Rattle.std.proofs.lemmas.List.{get_or-map, length-map, map_more, map_push, take_all}
 use Rattle.cqf_model.specs.Domain.{Domain}
 use Rattle.cqf_model.specs.History.{Admits, Asked, Branch, IsLegalHistory, Recorded, held_in, next_number, refusal_of, reply_to, seals}
 use Rattle.cqf_model.specs.declared.topology.Row.{Row}
@@ -85,7 +85,7 @@ few_placed d entries stream become after counted none placed = by_reserved (rese
   where
     by_routed : (octets : ℕ) (routed : Result (List Branch) PlanFault) → IsAnswered d entries stream.name octets routed become after → AreFew entries after
     by_routed octets (Err found) is = few_same entries after none is.1
-    by_routed octets (Ok paths) is = few_asked d entries after (record { name = stream.name; octets = octets; paths = paths }) counted none is.1
+    by_routed octets (Ok paths) is = few_asked d entries after (record { name = stream.name; octets = octets; every = 1; phase = 0; paths = paths }) counted none is.1
 
     by_reserved : (reserved : Result ℕ PlanFault) → IsPlacedBy d entries stream reserved become after → AreFew entries after
     by_reserved (Err found) is = few_same entries after none is.1
@@ -142,22 +142,23 @@ unrouted_so d entries stream octets cost found is routed = record {
   is_answered = (refl, refl);
 }
 
+-- a request for a stream with these branches
+abbrev request_by : List ℕ → ℕ → List Branch → Asked
+request_by name octets paths = record { name = name; octets = octets; every = 1; phase = 0; paths = paths }
+
 -- one with branches is asked for
-pub routed_so : (d : Domain) (entries : List Recorded) (stream : SettledStream) (octets cost : ℕ) (asked : Asked) (become : PlacedOr) (after : List Recorded) →
-    cost ≡ cost_of octets → IsRouted d (held_in d entries (seals entries)) cost stream.way (Ok asked.paths) → asked.name ≡ stream.name →
-    asked.octets ≡ octets → become ≡ answered d asked (refusal_of d (held_in d entries (seals entries)) asked) → after ≡ with_asked d entries asked →
-    IsRoutedAndAnswered d entries stream octets become after
-routed_so d entries stream octets cost asked become after is routed named reserves answer entered =
-    let one : Asked = record { name = stream.name; octets = octets; paths = asked.paths } in
-    let same : asked ≡ one = λ i. record { name = named i; octets = reserves i; paths = asked.paths } in
-    record {
-      routed = Ok asked.paths;
-      is_routed = subst (λ (c : ℕ). IsRouted d (held_in d entries (seals entries)) c stream.way (Ok asked.paths)) is routed;
-      is_answered = (
-        answer ∙ ap (λ (a : Asked). answered d a (refusal_of d (held_in d entries (seals entries)) a)) same,
-        entered ∙ ap (with_asked d entries) same,
-      );
-    }
+pub routed_so : (d : Domain) (entries : List Recorded) (stream : SettledStream) (octets cost : ℕ) (name : List ℕ) (paths : List Branch) (become : PlacedOr)
+    (after : List Recorded) → cost ≡ cost_of octets → IsRouted d (held_in d entries (seals entries)) cost stream.way (Ok paths) → name ≡ stream.name →
+    become ≡ answered d (request_by name octets paths) (refusal_of d (held_in d entries (seals entries)) (request_by name octets paths)) →
+    after ≡ with_asked d entries (request_by name octets paths) → IsRoutedAndAnswered d entries stream octets become after
+routed_so d entries stream octets cost name paths become after is routed named answer entered = record {
+  routed = Ok paths;
+  is_routed = subst (λ (c : ℕ). IsRouted d (held_in d entries (seals entries)) c stream.way (Ok paths)) is routed;
+  is_answered = (
+    answer ∙ ap (λ (n : List ℕ). answered d (request_by n octets paths) (refusal_of d (held_in d entries (seals entries)) (request_by n octets paths))) named,
+    entered ∙ ap (λ (n : List ℕ). with_asked d entries (request_by n octets paths)) named,
+  );
+}
 
 -- a stream of a slice can be placed as all can
 pub placeable_there : (d : Domain) (streams : List Settled) (k : ℕ) (stream : Settled) → k < length streams → stream ≡ get_or streams k stream →
@@ -166,6 +167,11 @@ placeable_there d streams k stream inside at all =
     let there : get_or (map settled_value streams) k (settled_value stream) ≡ settled_value stream =
     get_or-map settled_value streams k stream (settled_value stream) inside ∙ ap settled_value (sym at) in
     subst (IsPlaceable d) there (all k (settled_value stream) (omega (arith, inside, length-map streams settled_value)))
+
+-- what is made of each element, once the last is reached
+pub all_made : {X Y : Type 0} (items : List X) (value : X → Y) (k : ℕ) (done rows : List Y) → done ≡ map value (take k items) → length items ≤ k →
+    map value items ≡ rows → done ≡ rows
+all_made items value k done rows so_far past are = so_far ∙ ap (λ xs. map value xs) (take_all k items past) ∙ are
 
 -- the rows of the streams that are held, where no cycle is closed, are what held streams are in cycle 0
 pub sound_rows : (a : Administration) (rows : List Row) → HeldAreSound → IsLegalHistory a.domain a.entries → seals a.entries ≡ 0 → rows ≡ held_of a →

@@ -18,7 +18,8 @@ use Rattle.cqf_model.specs.declared.topology.Node.{Node}
 use Rattle.cqf_model.specs.declared.topology.Node.TheVariants.{Bridge, Station}
 use Rattle.cqf_model.specs.Domain.{Domain, node_named}
 use Rattle.cqf_model.specs.History.{Branch, begins_elsewhere, broken_place, ends_at_bridge, first_place, is_beyond_most, is_broken_at, is_loop_at, is_stray}
-use Rattle.cqf_model.specs.History.{link_from, node_at, refused_at}
+use Rattle.cqf_model.specs.History.{link_from, node_at, refused_at, refused_if, tree_of}
+use Rattle.cqf_model.specs.Limits.{hops_within}
 use Rattle.cqf_model.proofs.Texts.{named_once}
 use Rattle.cqf_topology.proofs.Refusals.{and_then-Ok, ok_or-Ok, refuse-Ok}
 use Rattle.cqf_sketch.specs.SketchDomain.{HasTalkerLinks, SketchDomain, domain_at}
@@ -29,7 +30,7 @@ use Rattle.cqf_program_placing.specs.declared.faults.PlanFault.TheVariants as fa
 use Rattle.cqf_program_placing.specs.Placing.{if_enough, reserved_by, reserved_on}
 use Rattle.cqf_program_placing.specs.Settled.{Along, Between, SettledStream, SettledWay, are_reservable, entrance_at, first_apart, settled_next, settled_way}
 use Rattle.cqf_program_placing.specs.Settled.{station_by_name, stations_by_name}
-use Rattle.cqf_program_placing.proofs.FirstBranches.{AreBranches}
+use Rattle.cqf_program_placing.proofs.FirstBranches.{AreBranches, HasRoomForWays, few_hops}
 use Rattle.cqf_program_placing.proofs.SettledLemmas.{and_first-Ok, entrance_there, settled_by, station_named_by}
 
 -- some listeners, all different
@@ -171,39 +172,43 @@ module _ (sketch : SketchDomain) (cycle other : ℕ) where
       let d : Domain = domain_at sketch other in
       (λ i. begins_elsewhere d branch place
       || (nat_le 1 place && nat_lt place (length branch) && is_none (same_link (node_at d branch (place - 1)) (node_at d branch (place - 1 + 1)) i))
-      || ends_at_bridge d branch place || is_beyond_most branch place)
+      || ends_at_bridge d branch place || is_beyond_most d branch place)
 
   same_place : (paths : List Branch) → broken_place (domain_at sketch cycle) paths ≡ broken_place (domain_at sketch other) paths
   same_place [] = refl
   same_place (branch ∷ paths) = (λ i. first_place (λ b place. same_broken b place i) (branch ∷ paths))
 
   -- and branches that are a tree of it are one
-  pub same_branches : (paths : List Branch) → tree_refusal (domain_at sketch cycle) paths ≡ None → AreBranches (domain_at sketch other) paths
-  same_branches paths e =
+  pub same_branches : (paths : List Branch) → HasRoomForWays (domain_at sketch other) → tree_refusal (domain_at sketch cycle) paths ≡ None →
+      AreBranches (domain_at sketch other) paths
+  same_branches paths room e =
       let d : Domain = domain_at sketch cycle in
       let unknown = position (λ name. is_none (node_named d name)) (flat_map (λ branch. branch) paths) in
-      let stray = refused_at (λ branch. refused.NotATree branch) (least (is_stray paths) (length paths)) in
+      let hops = refused_if (nat_lt (hops_within d.limits) (length (tree_of d paths))) refused.TooManyHops in
+      let stray = or_else (refused_at (λ branch. refused.NotATree branch) (least (is_stray paths) (length paths))) hops in
       let looping = or_else (refused_at (λ place. refused.LoopingPath place) (first_place (is_loop_at d) paths)) stray in
       let broken = or_else (refused_at (λ place. refused.BrokenPath place) (broken_place d paths)) looping in
       let a = or_else_none (refused_at (λ place. refused.UnknownNode place) unknown) broken e in
       let b = or_else_none (refused_at (λ place. refused.BrokenPath place) (broken_place d paths)) looping a.1 in
       let c = or_else_none (refused_at (λ place. refused.LoopingPath place) (first_place (is_loop_at d) paths)) stray b.1 in
+      let s = or_else_none (refused_at (λ branch. refused.NotATree branch) (least (is_stray paths) (length paths))) hops c.1 in
       record {
         known = refused_at_none (λ place. refused.UnknownNode place) unknown a.0;
         whole = sym (same_place paths) ∙ refused_at_none (λ place. refused.BrokenPath place) (broken_place d paths) b.0;
         simple = refused_at_none (λ place. refused.LoopingPath place) (first_place (is_loop_at d) paths) c.0;
-        together = refused_at_none (λ branch. refused.NotATree branch) (least (is_stray paths) (length paths)) c.1;
+        together = refused_at_none (λ branch. refused.NotATree branch) (least (is_stray paths) (length paths)) s.0;
+        few = few_hops (domain_at sketch other) paths room;
       }
 
   -- ---- the stream
 
-  way_ready : (wanted : WantedText) (way : SettledWay) → HasTalkerLinks sketch → AreListeners wanted →
+  way_ready : (wanted : WantedText) (way : SettledWay) → HasTalkerLinks sketch → HasRoomForWays (domain_at sketch other) → AreListeners wanted →
       settled_way sketch (domain_at sketch cycle) wanted ≡ Ok way → IsGoodWay (domain_at sketch other) way
-  way_ready (AlongText paths) way talkers listeners e =
+  way_ready (AlongText paths) way talkers room listeners e =
       let parts = refuse-Ok (tree_refusal (domain_at sketch cycle) paths) fault.Refused (Ok (Along paths)) way e in
       let is : Along paths ≡ way = let h = parts.1 in cc in
-      subst (IsGoodWay (domain_at sketch other)) is (same_branches paths parts.0)
-  way_ready (BetweenText from to) way talkers listeners e =
+      subst (IsGoodWay (domain_at sketch other)) is (same_branches paths room parts.0)
+  way_ready (BetweenText from to) way talkers room listeners e =
       let d : Domain = domain_at sketch cycle in
       let (entrance, entered, rest) = and_then-Ok (ok_or (entrance_at sketch (node_named d from)) fault.NoTalker) _ way e in
       let (stations, named, more) = and_then-Ok (stations_by_name d to) _ way rest in
@@ -218,14 +223,15 @@ module _ (sketch : SketchDomain) (cycle other : ℕ) where
       subst (IsGoodWay (domain_at sketch other)) is good
 
   -- a stream that was read, and is settled behind others, is ready
-  pub next_ready : (before : List (List ℕ)) (text : StreamText) (one : SettledStream) → HasTalkerLinks sketch → IsReadStream text →
+  pub next_ready : (before : List (List ℕ)) (text : StreamText) (one : SettledStream) → HasTalkerLinks sketch → HasRoomForWays (domain_at sketch other) →
+      IsReadStream text →
       settled_next sketch (domain_at sketch cycle) before text ≡ Ok one → IsReady (domain_at sketch other) one
-  next_ready before text one talkers read e =
+  next_ready before text one talkers room read e =
       let so = settled_by sketch (domain_at sketch cycle) before text one e in
       record {
         named = subst (λ (n : List ℕ). is_name n ≡ true) so.name_is so.named;
         reservable = so.reservable;
         reserves = λ none_asked none_needed. read.reserves (so.octets_are ∙ none_asked) (so.traffic_is ∙ none_needed);
         traffic = subst (λ (t : Option TrafficText). IfSome t IsTrafficText) so.traffic_is read.traffic;
-        good_way = way_ready text.way one.way talkers read.listeners so.way_is;
+        good_way = way_ready text.way one.way talkers room read.listeners so.way_is;
       }

@@ -3,8 +3,7 @@ use Rattle.std.proofs.Common.{◌≡◌, ◌∙◌, ◌<◌, ◌≤◌, ◌++◌
 use Rattle.std.proofs.Common.{All, Contains, ext_get_or, get_or, length, map, not, option_map, ap, arith, inl, inr, refl, subst, sym}
 use Rattle.std.specs.Prelude.{nat_le}
 use Rattle.std.specs.List.{list_any}
-use Rattle.std.proofs.lemmas.Bool.{both_ways, false_from_ne_true, le-leb}
-use Rattle.std.proofs.lemmas.Bool.Decides.{nat_tests}
+use Rattle.std.proofs.lemmas.Bool.{both_ways, false_from_ne_true, le-leb, lt-leb}
 use Rattle.std.proofs.lemmas.List.Elements.{All-contains}
 use Rattle.std.proofs.lemmas.Option.{slice_get-get_or, slice_get_within}
 use Rattle.cqf_lists.specs.Lists.{or_else}
@@ -19,7 +18,9 @@ use Rattle.cqf_model.specs.declared.history.Refused.TheVariants as refused
 use Rattle.cqf_model.specs.declared.topology.Node.TheVariants.{Bridge, Station}
 use Rattle.cqf_model.specs.declared.topology.Row.{Row}
 use Rattle.cqf_model.specs.Domain.{Domain, bridge_of, is_text}
-use Rattle.cqf_model.specs.History.{Asked, Branch, Recorded, held_in, left_on, refusal_of, refused_at, refused_if, seals, short_link, tree_of}
+use Rattle.cqf_model.specs.History.{Asked, Branch, Recorded, held_in, is_pace, left_on, refusal_of, refused_at, refused_if, seals, short_link, tree_of}
+use Rattle.cqf_model.specs.Limits.{streams_within}
+use Rattle.cqf_model.specs.Paces.{each_cycle}
 use Rattle.cqf_topology.specs.DomainText.{IsDomain, is_among}
 use Rattle.cqf_sketch.specs.SketchDomain.{IsSketch, SketchDomain, domain_at, open_cycle}
 use Rattle.cqf_sketch_streams.specs.StreamsText.{StreamText}
@@ -35,7 +36,7 @@ use Rattle.cqf_program_placing.specs.Room.{ArePlacedByRoomFrom, HasNoRoom, HaveR
 use Rattle.cqf_program_placing.specs.Room.{PlacedWhereThereIsRoom}
 use Rattle.cqf_program_placing.specs.Settled.{Along, Between, SettledStream, SettledWay, settled_behind, settled_next}
 use Rattle.cqf_program_placing.proofs.Behind.{IsBehind, none_behind, one_behind}
-use Rattle.cqf_program_placing.proofs.FirstBranches.{AreBranches, first_branches, first_enough, none_short, way_there}
+use Rattle.cqf_program_placing.proofs.FirstBranches.{AreBranches, HasRoomForWays, first_branches, first_enough, none_short, way_there}
 use Rattle.cqf_program_placing.proofs.PlaceLemmas.{reserved_few}
 use Rattle.cqf_program_placing.proofs.ReadyStreams.{IsGoodWay, IsReadStream, IsReady, IsToStations, next_ready, reserved_least}
 use Rattle.cqf_program_placing.proofs.StreamsRead.{streams_read}
@@ -44,56 +45,56 @@ use Rattle.cqf_program_placing.proofs.SettledLemmas.{and_first-Ok, next_stands}
 -- ---- what admission answers
 
 -- nothing is to be said against a request of this name and with these octets, whatever its branches
-pub record MayAsk (rows : List Row) (name : List ℕ) (octets : ℕ) : Type 0 where
+pub record MayAsk (d : Domain) (rows : List Row) (name : List ℕ) (octets : ℕ) : Type 0 where
   pub named : is_name name ≡ true
   pub least_octets : 64 ≤ octets
   pub most_octets : octets ≤ 60000
   pub name_free : list_any (λ (row : Row). is_text row.name name) rows ≡ false
-  pub few : length rows < 1024
+  pub few : length rows < streams_within d.limits
 
-not_many : (n : ℕ) → n < 1024 → nat_le 1024 n ≡ false
-not_many n few = grind (arith, nat_tests)
-
-module _ (d : Domain) (rows : List Row) (name : List ℕ) (octets : ℕ) (paths : List Branch) (may : MayAsk rows name octets) (branches : AreBranches d paths) where
+module _ (d : Domain) (rows : List Row) (name : List ℕ) (octets : ℕ) (paths : List Branch) (may : MayAsk d rows name octets) (branches : AreBranches d paths) where
   -- the request
   abbrev asked : Asked
-  asked = record { name = name; octets = octets; paths = paths }
+  asked = record { name = name; octets = octets; every = 1; phase = 0; paths = paths }
 
   abbrev lacks_room : ℕ → Refused
-  lacks_room l = refused.BudgetShort l (left_on d rows l)
+  lacks_room l = refused.BudgetShort l (left_on d rows (tree_of d paths) each_cycle l)
 
   -- where its branches are those of a tree it is refused for want of room, or for nothing
-  refused_for_room : refusal_of d rows asked ≡ refused_at lacks_room (short_link d rows (cost_of octets) (tree_of d paths))
+  refused_for_room : refusal_of d rows asked ≡ refused_at lacks_room (short_link d rows (cost_of octets) each_cycle (tree_of d paths))
   refused_for_room =
       let named = may.named in
       let least_is : nat_le 64 octets ≡ true = le-leb 64 octets may.least_octets in
       let most_is : nat_le octets 60000 ≡ true = le-leb octets 60000 may.most_octets in
-      let many = not_many (length rows) may.few in
-      let short = refused_at lacks_room (short_link d rows (cost_of octets) (tree_of d paths)) in
+      let many : nat_le (streams_within d.limits) (length rows) ≡ false = lt-leb (streams_within d.limits) (length rows) may.few in
+      let short = refused_at lacks_room (short_link d rows (cost_of octets) each_cycle (tree_of d paths)) in
       (λ i. or_else (refused_if (not (named i)) refused.BadName)
       (or_else (refused_if (not (least_is i && most_is i)) refused.BadOctets)
+      (or_else (refused_if (not (is_pace 1 0)) refused.BadPace)
       (or_else (refused_at (λ place. refused.UnknownNode place) (branches.known i))
       (or_else (refused_at (λ place. refused.BrokenPath place) (branches.whole i))
       (or_else (refused_at (λ place. refused.LoopingPath place) (branches.simple i))
       (or_else (refused_at (λ branch. refused.NotATree branch) (branches.together i))
+      (or_else (refused_if (branches.few i) refused.TooManyHops)
       (or_else (refused_if (may.name_free i) refused.NameHeld)
-      (or_else (refused_if (many i) refused.TooManyStreams) short))))))))
+      (or_else (refused_if (many i) refused.TooManyStreams) short))))))))))
 
   -- where no link lacks room it is granted
-  granted_so : (become : PlacedOr) → short_link d rows (cost_of octets) (tree_of d paths) ≡ None →
-      become ≡ answered d (record { name = name; octets = octets; paths = paths }) (refusal_of d rows (record { name = name; octets = octets; paths = paths })) →
-      become ≡ Placed (record { name = name; octets = octets; paths = paths })
+  granted_so : (become : PlacedOr) → short_link d rows (cost_of octets) each_cycle (tree_of d paths) ≡ None →
+      become ≡ answered d (record { name = name; octets = octets; every = 1; phase = 0; paths = paths }) (refusal_of d rows (record { name = name; octets = octets; every = 1; phase = 0; paths = paths })) →
+      become ≡ Placed (record { name = name; octets = octets; every = 1; phase = 0; paths = paths })
   granted_so become enough is = is ∙ ap (answered d asked) (refused_for_room ∙ ap (refused_at lacks_room) enough)
 
   -- and where one does, it is refused for the first
-  short_so : (become : PlacedOr) (l : ℕ) → short_link d rows (cost_of octets) (tree_of d paths) ≡ Some l →
-      become ≡ answered d (record { name = name; octets = octets; paths = paths }) (refusal_of d rows (record { name = name; octets = octets; paths = paths })) →
-      become ≡ Unplaced (fault.Short (name_of_bridge d (bridge_of d l)) (name_of_end d l) (left_on d rows l))
+  short_so : (become : PlacedOr) (l : ℕ) → short_link d rows (cost_of octets) each_cycle (tree_of d paths) ≡ Some l →
+      become ≡ answered d (record { name = name; octets = octets; every = 1; phase = 0; paths = paths }) (refusal_of d rows (record { name = name; octets = octets; every = 1; phase = 0; paths = paths })) →
+      become ≡ Unplaced (fault.Short (name_of_bridge d (bridge_of d l)) (name_of_end d l) (left_on d rows (tree_of d paths) each_cycle l))
   short_so become l short is = is ∙ ap (answered d asked) (refused_for_room ∙ ap (refused_at lacks_room) short)
 
 -- ---- one stream
 
-module _ (one_way : FirstWayIsOne) (no_loop : FirstWaysHaveNoLoop) (parts : FirstWaysPartForGood) (d : Domain) (good : IsDomain d) (entries : List Recorded) where
+module _ (one_way : FirstWayIsOne) (no_loop : FirstWaysHaveNoLoop) (parts : FirstWaysPartForGood) (d : Domain) (good : IsDomain d) (room : HasRoomForWays d)
+    (entries : List Recorded) where
   -- the rows beside which it is placed
   abbrev rows : List Row
   rows = held_in d entries (seals entries)
@@ -120,22 +121,22 @@ module _ (one_way : FirstWayIsOne) (no_loop : FirstWaysHaveNoLoop) (parts : Firs
 
   -- a stream between a bridge and stations
   between_so : (name : List ℕ) (octets bridge : ℕ) (stations : List ℕ) (routed : Result (List Branch) PlanFault) (become : PlacedOr) (after : List Recorded) →
-      MayAsk rows name octets → IsToStations d bridge stations → IsRouted d rows (cost_of octets) (Between bridge stations) routed →
+      MayAsk d rows name octets → IsToStations d bridge stations → IsRouted d rows (cost_of octets) (Between bridge stations) routed →
       IsAnswered d entries name octets routed become after → IsPlacedBetween d rows name octets bridge stations become
   between_so name octets bridge stations (Ok paths) become after may to found is =
       let cost : ℕ = cost_of octets in
       let first : HaveRoom d rows cost bridge stations found.ways = found.first in
       let branches : AreBranches d paths = subst (AreBranches d) (sym found.are)
-      (first_branches d good rows cost bridge to.inside stations found.ways first to.some to.apart no_loop parts) in
-      let enough : short_link d rows cost (tree_of d paths) ≡ None =
-      subst (λ (ps : List Branch). short_link d rows cost (tree_of d ps) ≡ None) (sym found.are)
+      (first_branches d good rows cost bridge to.inside stations found.ways first to.some to.apart room no_loop parts) in
+      let enough : short_link d rows cost each_cycle (tree_of d paths) ≡ None =
+      subst (λ (ps : List Branch). short_link d rows cost each_cycle (tree_of d ps) ≡ None) (sym found.are)
       (first_enough d good rows cost bridge to.inside stations found.ways first) in
       let is_placed = granted_so d rows name octets paths may branches become enough is.0 in
       record {
         placed = λ ways also.
             let same : paths ≡ map (names_along d bridge) ways =
             found.are ∙ ap (map (names_along d bridge)) (same_ways cost bridge stations found.ways ways to.inside first also) in
-            is_placed ∙ ap (λ (ps : List Branch). Placed (record { name = name; octets = octets; paths = ps })) same;
+            is_placed ∙ ap (λ (ps : List Branch). Placed (record { name = name; octets = octets; every = 1; phase = 0; paths = ps })) same;
         unplaced = λ place without. absurd (not_both cost bridge stations found.ways place first without);
         either = inl (found.ways, first);
       }
@@ -147,7 +148,7 @@ module _ (one_way : FirstWayIsOne) (no_loop : FirstWaysHaveNoLoop) (parts : Firs
 
   -- one along given branches
   along_so : (name : List ℕ) (octets : ℕ) (paths : List Branch) (routed : Result (List Branch) PlanFault) (become : PlacedOr) (after : List Recorded) →
-      MayAsk rows name octets → AreBranches d paths → routed ≡ Ok paths → IsAnswered d entries name octets routed become after →
+      MayAsk d rows name octets → AreBranches d paths → routed ≡ Ok paths → IsAnswered d entries name octets routed become after →
       IsPlacedAlong d rows name octets paths become
   along_so name octets paths routed become after may branches given is =
       let answer = subst (λ (r : Result (List Branch) PlanFault). IsAnswered d entries name octets r become after) given is in
@@ -157,14 +158,15 @@ module _ (one_way : FirstWayIsOne) (no_loop : FirstWaysHaveNoLoop) (parts : Firs
       }
 
   on_way_so : (name : List ℕ) (octets : ℕ) (way : SettledWay) (routed : Result (List Branch) PlanFault) (become : PlacedOr) (after : List Recorded) →
-      MayAsk rows name octets → IsGoodWay d way → IsRouted d rows (cost_of octets) way routed → IsAnswered d entries name octets routed become after →
+      MayAsk d rows name octets → IsGoodWay d way → IsRouted d rows (cost_of octets) way routed → IsAnswered d entries name octets routed become after →
       IsPlacedOnWay d rows name octets way become
   on_way_so name octets (Along paths) routed become after may branches given is = along_so name octets paths routed become after may branches given is
   on_way_so name octets (Between bridge stations) routed become after may to found is = between_so name octets bridge stations routed become after may to found is
 
   -- a stream that is ready, under a name that isn't held, beside few rows
   pub placed_so : (stream : SettledStream) (become : PlacedOr) (after : List Recorded) → IsReady d stream →
-      list_any (λ (row : Row). is_text row.name stream.name) (held_in d entries (seals entries)) ≡ false → length (held_in d entries (seals entries)) < 1024 →
+      list_any (λ (row : Row). is_text row.name stream.name) (held_in d entries (seals entries)) ≡ false →
+      length (held_in d entries (seals entries)) < streams_within d.limits →
       IsPlacing d entries stream become after → IsPlacedByRoom d (held_in d entries (seals entries)) stream become
   placed_so stream become after ready free few placed = by (reserved_on d.cycle_time stream) refl placed
     where
@@ -175,7 +177,7 @@ module _ (one_way : FirstWayIsOne) (no_loop : FirstWaysHaveNoLoop) (parts : Firs
           IsPlacedWith d rows stream reserved become
       by (Err found) e is = is.0
       by (Ok octets) e is =
-          let may : MayAsk rows stream.name octets = record {
+          let may : MayAsk d rows stream.name octets = record {
             named = ready.named;
             least_octets = reserved_least d stream d.cycle_time octets some_time ready e;
             most_octets = reserved_few stream.octets (option_map (λ (t : TrafficText). needed d.cycle_time (promise_of t)) stream.traffic) octets ready.reservable e;
@@ -205,6 +207,10 @@ module _ (goes_on : HistoryGoesOn) (counted : SealsAreCounted) (grants : Granted
   abbrev d : Domain
   d = domain_at sketch cycle
 
+  -- it has room for ways, since no limits are set
+  room : HasRoomForWays d
+  room = record { nodes = omega arith; hops = omega (arith, good.accepted.few_links) }
+
   -- a stream, and then the others
   one_stream : (names : List (List ℕ)) (text : StreamText) (one : SettledStream) (streams : List SettledStream) (entries end : List Recorded)
       (outcomes : List PlacedOr) → IsBehind d names entries → IsReadStream text → settled_next sketch (domain_at sketch (open_cycle sketch)) names text ≡ Ok one →
@@ -213,14 +219,14 @@ module _ (goes_on : HistoryGoesOn) (counted : SealsAreCounted) (grants : Granted
   one_stream names text one streams entries end [] behind read settled rest placed = absurd placed
   one_stream names text one streams entries end (become ∷ more) behind read settled rest placed =
       let stands = next_stands sketch (domain_at sketch (open_cycle sketch)) names text one settled in
-      let ready = next_ready sketch (open_cycle sketch) cycle names text one is_sketch.has_talkers read settled in
+      let ready = next_ready sketch (open_cycle sketch) cycle names text one is_sketch.has_talkers room read settled in
       let rows : List Row = held_in d entries (seals entries) in
       let free = free_name names rows text.name one.name stands.own_name stands.not_held behind.named in
-      let few : length rows < 1024 = omega (arith, behind.few_rows, stands.few) in
+      let few : length rows < streams_within d.limits = omega (arith, behind.few_rows, stands.few_set) in
       let after = placed.0 in
       let longer = one_behind goes_on counted grants refuses d names entries after one become behind stands.few placed.1 in
       let next : IsBehind d (names ++ text.name ∷ []) after = subst (λ (n : List ℕ). IsBehind d (names ++ n ∷ []) after) stands.own_name longer in
-      (after, placed.1, placed_so one_way no_loop parts d good entries one become after ready free few placed.1, rest after more next placed.2)
+      (after, placed.1, placed_so one_way no_loop parts d good room entries one become after ready free few placed.1, rest after more next placed.2)
 
   -- all of them
   pub all_streams : (names : List (List ℕ)) (texts : List StreamText) (streams : List SettledStream) (entries end : List Recorded) (outcomes : List PlacedOr) →

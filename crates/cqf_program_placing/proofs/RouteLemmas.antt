@@ -1,5 +1,5 @@
 -- Ways of a domain as branches, and links that lack room.
-use Rattle.std.proofs.Common.{◌≡◌, ◌∙◌, ◌+◌, ◌<◌, ◌++◌, ℕ, Bool, true, List, [], ◌∷◌, Option, Some, None, Contains, inl, inr, length, get_or, map, take, arith, ap, refl, subst, sym, append_assoc}
+use Rattle.std.proofs.Common.{◌≡◌, ◌∙◌, ◌+◌, ◌-◌, ◌<◌, ◌++◌, ℕ, Bool, true, List, [], ◌∷◌, Option, Some, None, Contains, inl, inr, length, get_or, map, take, arith, ap, refl, subst, sym, append_assoc}
 use Rattle.std.specs.Prelude.{not, option_and_then, option_map, slice_get}
 use Rattle.std.specs.List.{list_all}
 use Rattle.std.specs.Option.{option_map_or}
@@ -12,13 +12,17 @@ use Rattle.cqf_model.specs.declared.topology.Link.{Link}
 use Rattle.cqf_model.specs.declared.topology.Node.{Node}
 use Rattle.cqf_model.specs.declared.topology.Node.TheVariants.{Bridge, Station}
 use Rattle.cqf_model.specs.declared.topology.Row.{Row}
-use Rattle.cqf_model.specs.Domain.{Domain, IsAccepted, IsNode, bridge_of}
-use Rattle.cqf_model.specs.History.{Branch, left_on}
+use Rattle.cqf_model.specs.Domain.{Domain, IsAccepted, IsNode, bridge_of, budget}
+use Rattle.cqf_model.specs.History.{Branch}
+use Rattle.cqf_model.specs.Table.{link_cost}
+use Rattle.cqf_model.proofs.Represented.{few_links, few_bridges}
+use Rattle.cqf_admission.specs.Costs.{left_beside}
+use Rattle.cqf_admission.proofs.CostLemmas.{most_from_each}
 use Rattle.arrayvec.specs.ArrayVec.{ArrayVec}
 use Rattle.cqf_ways.specs.Listeners.{AreFirstWays, IsFirstWithout}
 use Rattle.cqf_ways.specs.WayLaws.{FullWaysHaveAShortLink, NothingHasRoomEverywhere}
 use Rattle.cqf_ways.specs.Steps.{led_along}
-use Rattle.cqf_ways.specs.Ways.{IsFirstWay, NoWay, has_room, led_by, led_to, most_links, short_link}
+use Rattle.cqf_ways.specs.Ways.{AreLinks, IsFirstWay, NoWay, has_room, led_by, led_to, most_links, short_link}
 use Rattle.cqf_report.specs.Books.{name_of_bridge, name_of_node}
 use Rattle.cqf_program_plans.specs.EndNames.{name_of_end}
 use Rattle.cqf_program_placing.specs.declared.faults.PlanFault.{PlanFault}
@@ -80,12 +84,26 @@ pub short_inside : (links : List Link) (left : List ℕ) (cost : ℕ) (from to :
 short_inside links left cost from to way l leads short =
     way_inside links from to way leads l (find_member (λ k. not (has_room left cost k)) way l short).0
 
+-- the links of an accepted domain are no more than are represented, and leave no more bridges
+pub are_links : (d : Domain) (links : List Link) → links ≡ d.links → IsAccepted d → AreLinks links
+are_links d links same accepted = subst AreLinks (sym same) (record {
+  few = few_links d accepted;
+  from_bridges = λ k e inside.
+      let good = accepted.links_good k (get_or d.links k e) (slice_get-get_or d.links k e inside) in
+      omega (arith, good.from_bridge, few_bridges d accepted);
+})
+
 -- what a link has left stands at its place
 pub lefts_many : (d : Domain) (rows : List Row) → length (lefts_on d rows) ≡ length d.links
-lefts_many d rows = length-singles (left_on d rows) (length d.links)
+lefts_many d rows = length-singles (left_beside d rows) (length d.links)
 
-pub left_there : (d : Domain) (rows : List Row) (l : ℕ) → l < length d.links → get_or (lefts_on d rows) l 0 ≡ left_on d rows l
-left_there d rows l inside = get_or-singles (left_on d rows) (length d.links) l 0 inside
+pub left_there : (d : Domain) (rows : List Row) (l : ℕ) → l < length d.links → get_or (lefts_on d rows) l 0 ≡ left_beside d rows l
+left_there d rows l inside = get_or-singles (left_beside d rows) (length d.links) l 0 inside
+
+-- where its streams cost as much in each cycle, a link has left what is over of its budget
+pub left_of_each : (d : Domain) (rows : List Row) (l most held : ℕ) → most ≡ budget d l → ((cycle : ℕ) → held ≡ link_cost rows l cycle) →
+    most - held ≡ left_beside d rows l
+left_of_each d rows l most held is each = let same = sym (most_from_each rows l held each) in (λ i. is i - same i)
 
 -- a way asks for nothing where each link has room
 all_pass : (way : List ℕ) → list_all (λ l. true) way ≡ true

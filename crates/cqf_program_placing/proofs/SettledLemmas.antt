@@ -13,7 +13,8 @@ use Rattle.cqf_model.specs.declared.history.Refused.TheVariants as refused
 use Rattle.cqf_model.specs.declared.topology.Node.{Node}
 use Rattle.cqf_model.specs.declared.topology.Node.TheVariants.{Bridge, Station}
 use Rattle.cqf_model.specs.Domain.{Domain, node_named, node_or}
-use Rattle.cqf_model.specs.Limits.{most_streams}
+use Rattle.cqf_model.specs.Limits.{most_streams, streams_within}
+use Rattle.std.proofs.Math.Nat.{min-le_right}
 use Rattle.cqf_ways.specs.Ways.{most_links}
 use Rattle.cqf_topology_fields.specs.Fields.{Gives, and_first}
 use Rattle.cqf_topology.specs.DomainText.{if_so, is_among, place_of, with_front}
@@ -164,7 +165,7 @@ pub record IsSettledBy (sketch : SketchDomain) (d : Domain) (before : List (List
   pub named : is_name stream.name ≡ true
   pub reservable : are_reservable one.octets ≡ true
   pub way_is : settled_way sketch d stream.way ≡ Ok one.way
-  pub stands : refusal_behind before stream.name ≡ None
+  pub stands : refusal_behind d before stream.name ≡ None
   pub deadline_is : deadline_of_stream sketch d stream ≡ Ok one.deadline
   pub name_is : stream.name ≡ one.name
   pub octets_are : stream.octets ≡ one.octets
@@ -178,7 +179,7 @@ settled_by sketch d before stream one e =
     let e2 = or_unsettled-Ok stream.name (settled_stream sketch d before stream) one e1 in
     let (reservable, e3) = refuse-Ok (if_so (not (are_reservable stream.octets))) (λ _. fault.Refused refused.BadOctets) _ one e2 in
     let (way, way_is, e4) = and_then-Ok (settled_way sketch d stream.way) _ one e3 in
-    let (stands, e5) = refuse-Ok (refusal_behind before stream.name) fault.Refused _ one e4 in
+    let (stands, e5) = refuse-Ok (refusal_behind d before stream.name) fault.Refused _ one e4 in
     let (deadline, deadline_is, e6) = and_then-Ok (deadline_of_stream sketch d stream) _ one e5 in
     let made : SettledStream = record { name = stream.name; octets = stream.octets; way = way; deadline = deadline; traffic = stream.traffic } in
     let same : made ≡ one = cc in
@@ -195,22 +196,29 @@ settled_by sketch d before stream one e =
     }
 
 -- a stream of this name stands behind those of other names: it isn't one of theirs, and there are fewer than there may be
-pub record StandsNext (before : List (List ℕ)) (name own : List ℕ) : Type 0 where
+pub record StandsNext (d : Domain) (before : List (List ℕ)) (name own : List ℕ) : Type 0 where
   pub own_name : own ≡ name
   pub not_held : is_among name before ≡ false
   pub few : length before < most_streams
+  pub few_set : length before < streams_within d.limits
 
 -- so it stands
 pub next_stands : (sketch : SketchDomain) (d : Domain) (before : List (List ℕ)) (stream : StreamText) (one : SettledStream) →
-    settled_next sketch d before stream ≡ Ok one → StandsNext before stream.name one.name
+    settled_next sketch d before stream ≡ Ok one → StandsNext d before stream.name one.name
 next_stands sketch d before stream one e =
     let by_name = settled_by sketch d before stream one e in
-    let tests = by (is_among stream.name before) (nat_le most_streams (length before)) refl refl by_name.stands in
-    record { own_name = sym by_name.name_is; not_held = tests.0; few = leb-false most_streams (length before) tests.1 }
+    let tests = by (is_among stream.name before) (nat_le (streams_within d.limits) (length before)) refl refl by_name.stands in
+    let below = leb-false (streams_within d.limits) (length before) tests.1 in
+    record {
+      own_name = sym by_name.name_is;
+      not_held = tests.0;
+      few = omega (arith, below, min-le_right d.limits.streams most_streams);
+      few_set = omega (arith, below);
+    }
   where
-    by : (held full : Bool) → is_among stream.name before ≡ held → nat_le most_streams (length before) ≡ full →
+    by : (held full : Bool) → is_among stream.name before ≡ held → nat_le (streams_within d.limits) (length before) ≡ full →
         (if held then Some refused.NameHeld else (if full then Some refused.TooManyStreams else None)) ≡ None →
-        (is_among stream.name before ≡ false) × (nat_le most_streams (length before) ≡ false)
+        (is_among stream.name before ≡ false) × (nat_le (streams_within d.limits) (length before) ≡ false)
     by true full is more h = absurd cc
     by false true is more h = absurd cc
     by false false is more h = (is, more)

@@ -15,6 +15,7 @@ use Rattle.cqf_model.specs.declared.topology.Node.TheVariants.{Bridge, Station}
 use Rattle.cqf_model.specs.Domain.{Domain, IsNode, node_named, node_or, same_node}
 use Rattle.cqf_model.specs.History.{Branch, begins_elsewhere, ends_at_bridge, is_beyond_most, is_bridge, is_broken_at, is_loop_at, is_same, lacks_link}
 use Rattle.cqf_model.specs.History.{link_at, link_from, node_at}
+use Rattle.cqf_model.specs.Limits.{nodes_within}
 use Rattle.cqf_model.proofs.Links.{same_node_true}
 use Rattle.cqf_topology.specs.DomainText.{IsDomain, place_of}
 use Rattle.cqf_topology.proofs.Refusals.{and_then-Some}
@@ -227,17 +228,17 @@ module _ (d : Domain) (good : IsDomain d) where
           (false_from_ne_true (k + 1 == length branch) (λ t. other (omega (arith, eqb-true (k + 1) (length branch) t, long))))
     ]
 
-    -- it has seventeen nodes at most
-    few_there : (k : ℕ) → length way ≤ 16 → is_beyond_most branch k ≡ false
-    few_there k few = false_from_ne_true (is_beyond_most branch k) (λ t.
-        let parts = and_parts (k == 17) (nat_lt k (length branch)) t in
-        omega (arith, eqb-true k 17 parts.0, ltb-true k (length branch) parts.1, long, few))
+    -- it has seventeen nodes at most, which are as many as may be
+    few_there : (k : ℕ) → length way ≤ 16 → 17 ≤ nodes_within d.limits → is_beyond_most d branch k ≡ false
+    few_there k few most = false_from_ne_true (is_beyond_most d branch k) (λ t.
+        let parts = and_parts (k == nodes_within d.limits) (nat_lt k (length branch)) t in
+        omega (arith, eqb-true k (nodes_within d.limits) parts.0, ltb-true k (length branch) parts.1, long, few, most))
 
     -- so it is broken nowhere
     pub whole_there : (station k : ℕ) → led_along (led_to d.links) (Bridge bridge) way ≡ Some (Station station) → length way ≤ 16 →
-        is_broken_at d (branch_from d (Bridge bridge) way) k ≡ false
-    whole_there station k e few =
-        (λ i. begins_there (Station station) k e i || linked_there (Station station) k e i || ends_there station k e i || few_there k few i)
+        17 ≤ nodes_within d.limits → is_broken_at d (branch_from d (Bridge bridge) way) k ≡ false
+    whole_there station k e few most =
+        (λ i. begins_there (Station station) k e i || linked_there (Station station) k e i || ends_there station k e i || few_there k few most i)
 
     -- and where no node stands twice on the way, none does in it
     pub simple_there : (to : Node) (k : ℕ) → led_along (led_to d.links) (Bridge bridge) way ≡ Some to → EndsOnce d.links (Bridge bridge) way →

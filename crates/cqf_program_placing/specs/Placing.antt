@@ -7,7 +7,7 @@ use Rattle.cqf_model.specs.declared.history.Refused.TheVariants as refused
 use Rattle.cqf_model.specs.declared.topology.Node.TheVariants.{Bridge, Station}
 use Rattle.cqf_model.specs.declared.topology.Row.{Row}
 use Rattle.cqf_model.specs.Domain.{Domain, bridge_of}
-use Rattle.cqf_model.specs.History.{Asked, Branch, Recorded, held_in, left_on, refusal_of, seals}
+use Rattle.cqf_model.specs.History.{Asked, Branch, Recorded, held_in, refusal_of, seals}
 use Rattle.cqf_model.specs.Limits.{most_reserved}
 use Rattle.cqf_laws_traffic.specs.Traffic.{needed}
 use Rattle.cqf_ways.specs.Listeners.{AreFirstWays, IsFirstWithout}
@@ -15,6 +15,7 @@ use Rattle.cqf_ways.specs.Ways.{IsFirstWay, has_room, short_link}
 use Rattle.cqf_admission.specs.Asking.{asked_of}
 use Rattle.cqf_report.specs.Books.{name_of_bridge, name_of_node}
 use Rattle.cqf_traffic.specs.TrafficText.{TrafficText, promise_of}
+use Rattle.cqf_admission.specs.Costs.{left_beside}
 use Rattle.cqf_program_plans.specs.CompileOutput.{with_asked}
 use Rattle.cqf_program_plans.specs.EndNames.{name_of_end}
 use Rattle.cqf_program_placing.specs.declared.faults.PlanFault.{PlanFault}
@@ -47,7 +48,7 @@ reserved_on cycle_time stream = reserved_by stream.octets (option_map (λ (t : T
 
 -- what each link has left beside some rows, by number
 abbrev pub lefts_on : Domain → List Row → List ℕ
-lefts_on d rows = each_below (λ l. left_on d rows l ∷ []) (length d.links)
+lefts_on d rows = each_below (λ l. left_beside d rows l ∷ []) (length d.links)
 
 -- a way from a bridge by the names of its nodes
 abbrev pub names_along : Domain → ℕ → List ℕ → Branch
@@ -59,7 +60,7 @@ pub record IsFullTo (d : Domain) (rows : List Row) (cost bridge station : ℕ) (
   pub is_first : IsFirstWay d.links (λ _. true) (Bridge bridge) (Station station) way
   pub link : ℕ
   pub lacks : short_link (lefts_on d rows) cost way ≡ Some link
-  pub is : found ≡ fault.Full (name_of_node d (Station station)) cost (name_of_bridge d (bridge_of d link)) (name_of_end d link) (left_on d rows link)
+  pub is : found ≡ fault.Full (name_of_node d (Station station)) cost (name_of_bridge d (bridge_of d link)) (name_of_end d link) (left_beside d rows link)
 
 -- that listener is the first of its listeners to which no way has room
 pub record IsFull (d : Domain) (rows : List Row) (cost bridge : ℕ) (stations : List ℕ) (found : PlanFault) : Type 0 where
@@ -93,7 +94,7 @@ answered d asked (Some refusal) = Unplaced (fault_of_refusal d refusal)
 abbrev pub IsAnswered : Domain → List Recorded → List ℕ → ℕ → Result (List Branch) PlanFault → PlacedOr → List Recorded → Type 0
 IsAnswered d entries name octets (Err found) become after = (become ≡ Unplaced found) × (after ≡ entries)
 IsAnswered d entries name octets (Ok paths) become after =
-    let asked : Asked = record { name = name; octets = octets; paths = paths } in
+    let asked : Asked = record { name = name; octets = octets; every = 1; phase = 0; paths = paths } in
     (become ≡ answered d asked (refusal_of d (held_in d entries (seals entries)) asked)) × (after ≡ with_asked d entries asked)
 
 -- of one with this reservation

@@ -5,6 +5,7 @@ use Rattle.cqf_model.specs.declared.topology.Node.TheVariants.{Bridge}
 use Rattle.cqf_model.specs.declared.topology.Row.{Row}
 use Rattle.cqf_model.specs.Domain.{Domain, bridge_of}
 use Rattle.cqf_model.specs.History.{Branch, Recorded, held_in, left_on, seals, short_link, tree_of}
+use Rattle.cqf_model.specs.Paces.{each_cycle}
 use Rattle.cqf_model.specs.Table.{links_in}
 use Rattle.cqf_report.specs.Books.{name_of_bridge}
 use Rattle.cqf_sketch.specs.SketchDomain.{IsOpenCycle, IsSketch, SketchDomain, domain_at}
@@ -30,7 +31,7 @@ HasNoRoom d rows cost bridge stations place = IsFirstWithout d.links (has_room (
 -- name, its octets, its branches or its tree, for its number among the streams, or for a link that lacks room
 pub record IsPlacedBetween (d : Domain) (rows : List Row) (name : List ℕ) (octets bridge : ℕ) (stations : List ℕ) (become : PlacedOr) : Type 0 where
   pub placed : (ways : List (List ℕ)) → HaveRoom d rows (cost_of octets) bridge stations ways →
-      become ≡ Placed (record { name = name; octets = octets; paths = map (names_along d bridge) ways })
+      become ≡ Placed (record { name = name; octets = octets; every = 1; phase = 0; paths = map (names_along d bridge) ways })
   pub unplaced : (place : ℕ) → HasNoRoom d rows (cost_of octets) bridge stations place →
       (found : PlanFault) × (become ≡ Unplaced found) × IsFull d rows (cost_of octets) bridge stations found
   pub either : ((ways : List (List ℕ)) × HaveRoom d rows (cost_of octets) bridge stations ways)
@@ -39,10 +40,10 @@ pub record IsPlacedBetween (d : Domain) (rows : List Row) (name : List ℕ) (oct
 -- one along given branches: where each link of their tree has left what it costs it is placed by them, and else it isn't, for the first
 -- link, in the tree's order, that has less left
 pub record IsPlacedAlong (d : Domain) (rows : List Row) (name : List ℕ) (octets : ℕ) (paths : List Branch) (become : PlacedOr) : Type 0 where
-  pub placed : ((l : ℕ) → Contains (links_in (tree_of d paths)) l → cost_of octets ≤ left_on d rows l) →
-      become ≡ Placed (record { name = name; octets = octets; paths = paths })
-  pub unplaced : (l : ℕ) → short_link d rows (cost_of octets) (tree_of d paths) ≡ Some l →
-      become ≡ Unplaced (fault.Short (name_of_bridge d (bridge_of d l)) (name_of_end d l) (left_on d rows l))
+  pub placed : ((l : ℕ) → Contains (links_in (tree_of d paths)) l → cost_of octets ≤ left_on d rows (tree_of d paths) each_cycle l) →
+      become ≡ Placed (record { name = name; octets = octets; every = 1; phase = 0; paths = paths })
+  pub unplaced : (l : ℕ) → short_link d rows (cost_of octets) each_cycle (tree_of d paths) ≡ Some l →
+      become ≡ Unplaced (fault.Short (name_of_bridge d (bridge_of d l)) (name_of_end d l) (left_on d rows (tree_of d paths) each_cycle l))
 
 abbrev pub IsPlacedOnWay : Domain → List Row → List ℕ → ℕ → SettledWay → PlacedOr → Type 0
 IsPlacedOnWay d rows name octets (Along paths) become = IsPlacedAlong d rows name octets paths become

@@ -15,7 +15,7 @@ use Rattle.cqf_model.specs.declared.topology.Node.{Node}
 use Rattle.cqf_model.specs.declared.topology.Node.TheVariants.{Bridge, Station}
 use Rattle.cqf_model.specs.Domain.{Domain, node_named, same_node}
 use Rattle.cqf_model.specs.History.{Branch}
-use Rattle.cqf_model.specs.Limits.{least_reserved, most_reserved, most_streams}
+use Rattle.cqf_model.specs.Limits.{least_reserved, most_reserved, streams_within}
 use Rattle.cqf_topology_fields.specs.Fields.{and_first}
 use Rattle.cqf_topology.specs.DomainText.{if_so, is_among}
 use Rattle.cqf_ways.specs.Ways.{led_to, most_links}
@@ -141,10 +141,10 @@ deadline_of_stream sketch d stream =
     deadline_behind (taken_on (talker_of_stream sketch d stream.way) (longest_of stream.octets stream.traffic)) stream.deadline
 
 -- why a stream of a name can't stand behind those of other names
-abbrev pub refusal_behind : List (List ℕ) → List ℕ → Option Refused
-refusal_behind before name =
+abbrev pub refusal_behind : Domain → List (List ℕ) → List ℕ → Option Refused
+refusal_behind d before name =
     if is_among name before then Some refused.NameHeld
-    else (if nat_le most_streams (length before) then Some refused.TooManyStreams else None)
+    else (if nat_le (streams_within d.limits) (length before) then Some refused.TooManyStreams else None)
 
 -- a stream whose way is settled, with its deadline
 abbrev pub with_deadline : List ℕ → Option ℕ → SettledWay → Option TrafficText → Result (Option ℕ) PlanFault → Result SettledStream PlanFault
@@ -156,7 +156,7 @@ abbrev pub settled_stream : SketchDomain → Domain → List (List ℕ) → Stre
 settled_stream sketch d before stream =
     refuse (if_so (not (are_reservable stream.octets))) (λ _. fault.Refused refused.BadOctets) (
     and_then (settled_way sketch d stream.way) (λ way.
-    refuse (refusal_behind before stream.name) fault.Refused (
+    refuse (refusal_behind d before stream.name) fault.Refused (
     with_deadline stream.name stream.octets way stream.traffic (deadline_of_stream sketch d stream))))
 
 -- a stream's fault, with its name

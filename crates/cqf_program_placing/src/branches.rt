@@ -13,7 +13,7 @@ use cqf_units::{Memory, Name};
 use std::alloc::Global;
 
 /// The name of a bridge. A bridge that the domain lacks has none.
-fn name_of_bridge(domain: &Domain, bridge: u8) -> &str
+fn name_of_bridge(domain: &Domain, bridge: u16) -> &str
     ensures { result.now ≡ name_of_bridge domain.now bridge }
 {
     if bridge < domain.bridges() {
@@ -40,7 +40,7 @@ fn name_of_node(domain: &Domain, node: Node) -> &str
 }
 
 /// The name of the node that a link ends in. A link that the domain lacks ends in none.
-fn name_of_end(domain: &Domain, link: u8) -> &str
+fn name_of_end(domain: &Domain, link: u16) -> &str
     ensures { result.now ≡ name_of_end domain.now link }
 {
     if link < domain.links() {
@@ -54,8 +54,8 @@ fn name_of_end(domain: &Domain, link: u8) -> &str
 fn branch_along(
     alloc: Global,
     domain: &Domain,
-    bridge: u8,
-    way: &[u8],
+    bridge: u16,
+    way: &[u16],
 ) -> Result<Vec<String>, Memory>
     ensures { IfOk result (λ names. branch_of names.items ≡ names_along domain.now bridge way.now) }
 {
@@ -71,8 +71,8 @@ fn branch_along(
 pub(crate) fn branches_along(
     alloc: Global,
     domain: &Domain,
-    bridge: u8,
-    ways: &[ArrayVec<u8, 16>],
+    bridge: u16,
+    ways: &[ArrayVec<u16, 16>],
 ) -> Result<Vec<Vec<String>>, Memory>
     ensures { IfOk result (λ paths. branches_of paths.items ≡ map (λ way. names_along domain.now bridge way.items) ways.now) }
 {
@@ -109,7 +109,7 @@ pub(crate) fn copied_branches(
 }
 
 /// The name of the bridge that a link of the domain leaves.
-pub(crate) fn start_of_link(domain: &Domain, link: u8) -> Name
+pub(crate) fn start_of_link(domain: &Domain, link: u16) -> Name
     requires { link < length domain.now.links }
     ensures { result ≡ name_of_bridge domain.now (bridge_of domain.now link) }
 {
@@ -119,7 +119,7 @@ pub(crate) fn start_of_link(domain: &Domain, link: u8) -> Name
 }
 
 /// The name of the node that a link of the domain ends in.
-pub(crate) fn end_of_link(domain: &Domain, link: u8) -> Name
+pub(crate) fn end_of_link(domain: &Domain, link: u16) -> Name
     requires { link < length domain.now.links }
     ensures { result ≡ name_of_end domain.now link }
 {

@@ -21,12 +21,12 @@ pub(crate) struct OpenSketch<'a> {
 #[derive(Clone, Copy, Debug)]
 pub(crate) struct Entrance {
     /// The edge bridge's number.
-    pub bridge: u8,
+    pub bridge: u16,
     pub talker: Option<TalkerLink>,
 }
 
 /// The talker's link of a station.
-fn talker_of(sketch: &SketchDomain, station: u8) -> Option<TalkerLink>
+fn talker_of(sketch: &SketchDomain, station: u16) -> Option<TalkerLink>
     ensures { result ≡ find (λ talker. talker.station == station) sketch.now.talkers }
 {
     for talker in sketch.talkers() {

@@ -1,10 +1,11 @@
 //! Settled streams, placed on a cycle time one after the other.
 ghost use Rattle.std.specs.Prelude.{ℕ, ◌≡◌, ◌+◌, ◌∷◌, ◌<◌, ◌≤◌, [], All, Err, IfErr, IfOk, Ok, length, map};
 ghost use Rattle.cqf_admission.specs.Admission.{calls};
-ghost use Rattle.cqf_admission.specs.Tables.{AreAlongLinks};
+ghost use Rattle.cqf_admission.specs.Tables.{AreAlongLinks, AreOfEachCycle};
 ghost use Rattle.cqf_admission_trees.specs.Branches.{branches_of};
 ghost use Rattle.cqf_laws_history.specs.StateLaws.{AreHeld};
-ghost use Rattle.cqf_model.specs.History.{held_in, left_on, seals};
+ghost use Rattle.cqf_admission.specs.Costs.{left_beside};
+ghost use Rattle.cqf_model.specs.History.{held_in, seals};
 ghost use Rattle.cqf_model.specs.Limits.{most_calls, most_reserved, most_streams};
 ghost use Rattle.cqf_sketch.specs.SketchDomain.{IsOpenCycle, domain_at};
 ghost use Rattle.cqf_program_placing.specs.Placing.{ArePlaced, IsPlacing, IsRouted, IsRoutedAndAnswered, lefts_on, outcome_value};
@@ -47,10 +48,10 @@ impl Model for Placing {
 }
 
 /// What a link has left beside those that are placed, in octets a cycle.
-fn left_on(domain: &Domain, admission: &Admission, link: u8) -> u32
+fn left_on(domain: &Domain, admission: &Admission, link: u16) -> u32
     requires domain { admission.now.domain ≡ domain.now }
     requires inside { link < length domain.now.links }
-    ensures { result ≡ left_on domain.now (held_in domain.now admission.now.entries (seals admission.now.entries)) link }
+    ensures { result ≡ left_beside domain.now (held_in domain.now admission.now.entries (seals admission.now.entries)) link }
 {
     let rate = domain.link(link).rate;
     let most = budget(domain.cycle_time(), domain.guard(), rate);
@@ -217,7 +218,8 @@ pub fn place(
 
 /// The rows of a table, by number.
 fn rows_of_table(alloc: Global, table: &Table) -> Result<Vec<Row>, Memory>
-    ensures { IfOk result (λ rows. rows.items ≡ table.now.rows) }
+    ensures rows { IfOk result (λ rows. rows.items ≡ table.now.rows) }
+    ensures paced { IfOk result (λ rows. AreOfEachCycle rows.items) }
 {
     let mut rows = Vec::new(alloc);
     for row in table.rows() {
@@ -233,6 +235,7 @@ fn sealed_rows(alloc: Global, admission: Admission) -> Result<(Domain, Vec<Row>)
     ensures rows { IfOk result (λ told. told.1.items ≡ held_in admission.domain admission.entries (seals admission.entries)) }
     ensures along { IfOk result (λ told. AreAlongLinks admission.domain told.1.items) }
     ensures sound { IfOk result (λ told. (next : ℕ) × AreHeld admission.domain told.1.items next 0) }
+    ensures paced { IfOk result (λ told. AreOfEachCycle told.1.items) }
 {
     state_follows_history();
     let mut admission = admission;
@@ -266,6 +269,7 @@ impl Placing {
         ensures rows { IfOk result (λ parts. parts.1.items ≡ held_in self.domain self.entries (seals self.entries)) }
         ensures along { IfOk result (λ parts. AreAlongLinks self.domain parts.1.items) }
         ensures sound { IfOk result (λ parts. (next : ℕ) × AreHeld self.domain parts.1.items next 0) }
+        ensures paced { IfOk result (λ parts. AreOfEachCycle parts.1.items) }
         ensures outcomes { IfOk result (λ parts. map outcome_value parts.2.items ≡ self.outcomes) }
     {
         let Placing {
@@ -285,6 +289,7 @@ impl Placing {
         ensures rows { IfOk result (λ parts. parts.1.items ≡ held_in self.domain self.entries (seals self.entries)) }
         ensures along { IfOk result (λ parts. AreAlongLinks self.domain parts.1.items) }
         ensures sound { IfOk result (λ parts. (next : ℕ) × AreHeld self.domain parts.1.items next 0) }
+        ensures paced { IfOk result (λ parts. AreOfEachCycle parts.1.items) }
     {
         sealed_rows(alloc, self.admission)
     }

@@ -51,7 +51,7 @@ impl From<AllocError> for Unrouted {
 }
 
 /// That a listener is full for a stream, where this link of the domain lacks room.
-fn full_at(domain: &Domain, room: Room, station: u8, link: u8) -> PlanFault
+fn full_at(domain: &Domain, room: Room, station: u16, link: u16) -> PlanFault
     requires station { station < length domain.now.stations }
     requires link { link < length domain.now.links }
     requires left { length room.left.now ≡ length domain.now.links }
@@ -69,7 +69,7 @@ fn full_at(domain: &Domain, room: Room, station: u8, link: u8) -> PlanFault
 
 /// That a listener is full for a stream, where a way leads to it from the stream's bridge, but none with room: the first link that lacks
 /// it on the first way there is.
-fn full_to(domain: &Domain, room: Room, bridge: u8, station: u8) -> PlanFault
+fn full_to(domain: &Domain, room: Room, bridge: u16, station: u16) -> PlanFault
     requires links { room.links.now ≡ domain.now.links }
     requires left { length room.left.now ≡ length domain.now.links }
     requires reached { IsReached domain.now bridge station }
@@ -102,8 +102,8 @@ pub(crate) fn branches_between(
     alloc: Global,
     domain: &Domain,
     room: Room,
-    bridge: u8,
-    stations: &[u8],
+    bridge: u16,
+    stations: &[u16],
 ) -> Result<Vec<Vec<String>>, Unrouted>
     requires links { room.links.now ≡ domain.now.links }
     requires left { length room.left.now ≡ length domain.now.links }

@@ -11,7 +11,7 @@ pub enum Way {
     /// Along these branches of a tree, each the names of its bridges, in order, and then of the listener's station.
     Along(Vec<Vec<String>>),
     /// From the bridge of this number to the stations of these, in their order, by ways that are to be found.
-    Between(u8, Vec<u8>),
+    Between(u16, Vec<u16>),
 }
 
 /// A stream of a sketch of which nothing is wrong whatever the cycle time is.

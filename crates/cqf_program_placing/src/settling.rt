@@ -11,9 +11,10 @@ use crate::deadlines::{deadline_behind, longest_of, taken_on};
 use crate::entrances::{OpenSketch, find_talker};
 use crate::way_settling::settle_way;
 use crate::{PlanFault, Settled, Unsettled, Way};
-use cqf_model::{LEAST_OCTETS, MOST_OCTETS, MOST_STREAMS, Refused};
+use cqf_model::{LEAST_OCTETS, MOST_OCTETS, Refused};
 use cqf_sketch::SketchDomain;
 use cqf_sketch_streams::{Stream, Wanted};
+use cqf_topology::Domain;
 use cqf_traffic::Traffic;
 use cqf_units::{Memory, Name};
 use indexmap::IndexSet;
@@ -46,13 +47,13 @@ fn hold(held: &mut IndexSet<Name>, name: &Name) -> Result<(), Memory>
 }
 
 /// Why a stream of a name can't stand behind those of other names.
-fn refusal_behind(held: &IndexSet<Name>, name: &Name) -> Option<Refused>
-    ensures { result ≡ refusal_behind held.now.keys name.now }
+fn refusal_behind(plant: &Domain, held: &IndexSet<Name>, name: &Name) -> Option<Refused>
+    ensures { result ≡ refusal_behind plant.now held.now.keys name.now }
 {
     if is_held(held, name) {
         return Some(Refused::NameHeld);
     }
-    if held.len() >= MOST_STREAMS {
+    if held.len() >= plant.limits().streams_within() {
         return Some(Refused::TooManyStreams);
     }
     None
@@ -111,7 +112,7 @@ fn settle_named(
         longest_of(terms.octets, terms.traffic),
     );
     let settled = settle_way(alloc, at, name, way)?;
-    if let Some(refused) = refusal_behind(held, name) {
+    if let Some(refused) = refusal_behind(at.plant, held, name) {
         return Err(unsettled(name, refused));
     }
     settle_deadline(name, terms, settled, taken)

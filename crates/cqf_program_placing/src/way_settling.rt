@@ -17,7 +17,7 @@ use cqf_units::Name;
 use std::alloc::Global;
 
 /// The station of a name.
-fn station_by_name(plant: &Domain, name: &Name) -> Result<u8, PlanFault>
+fn station_by_name(plant: &Domain, name: &Name) -> Result<u16, PlanFault>
     ensures { result ≡ station_by_name plant.now name.now }
 {
     match plant.find(name.as_str()) {
@@ -32,7 +32,7 @@ fn stations_by_name(
     plant: &Domain,
     stream: &Name,
     names: &[Name],
-) -> Result<Vec<u8>, Unsettled>
+) -> Result<Vec<u16>, Unsettled>
     ensures { Gives Unsettled.Memory (λ stations. stations.items) result (or_unsettled stream.now (stations_by_name plant.now names.now)) }
 {
     let mut stations = Vec::new(alloc);

@@ -1,22 +1,22 @@
 //! Whether ways lead from a bridge to nodes.
-ghost use Rattle.std.specs.Prelude.{◌≡◌, ◌≤◌, length};
+ghost use Rattle.std.specs.Prelude.{◌≡◌};
 ghost use Rattle.cqf_model.specs.Domain.{node_named};
-ghost use Rattle.cqf_ways.specs.Ways.{most_links};
+ghost use Rattle.cqf_ways.specs.Ways.{AreLinks, most_links};
 ghost use Rattle.cqf_program_placing.specs.Settled.{first_apart, has_way, is_led};
 
 use crate::entrances::OpenSketch;
-use cqf_model::{Link, Node};
+use cqf_model::{Link, MOST_LINKS, Node};
 use cqf_units::Name;
 use cqf_ways::{Room, first_way, full_ways_have_a_short_link};
 
-/// Whether links lead from a bridge to a node, at most 16 of them. There are at most 64 links.
-fn is_led(links: &[Link], bridge: u8, to: Node) -> bool
-    requires { length links.now ≤ 64 }
+/// Whether links lead from a bridge to a node, at most 16 of them. There are no more links than are represented.
+fn is_led(links: &[Link], bridge: u16, to: Node) -> bool
+    requires { AreLinks links.now }
     ensures { result ≡ is_led links.now most_links (Node.Bridge bridge) to }
 {
     // at a cost of nothing each link has room
     full_ways_have_a_short_link();
-    let nothing = [0u32; 64];
+    let nothing = [0u32; MOST_LINKS];
     let room = Room {
         links,
         left: &nothing[..links.len()],
@@ -26,11 +26,11 @@ fn is_led(links: &[Link], bridge: u8, to: Node) -> bool
 }
 
 /// Whether a way leads from a bridge to the node of a name.
-fn has_way(at: OpenSketch, bridge: u8, name: &Name) -> bool
+fn has_way(at: OpenSketch, bridge: u16, name: &Name) -> bool
     requires { at.sketch.now.links ≡ at.plant.now.links }
     ensures { result ≡ has_way at.entry.plant.now bridge (node_named at.entry.plant.now name.now) }
 {
-    // the plant is accepted, so it has at most 64 links
+    // the plant is accepted, so it has no more links than are represented
     let _accepted = at.plant.cycle_time();
     match at.plant.find(name.as_str()) {
         Some(node) => is_led(at.sketch.links(), bridge, node),
@@ -39,7 +39,7 @@ fn has_way(at: OpenSketch, bridge: u8, name: &Name) -> bool
 }
 
 /// The first of some names to whose node no way leads from a bridge.
-pub(crate) fn first_apart(at: OpenSketch, bridge: u8, names: &[Name]) -> Option<Name>
+pub(crate) fn first_apart(at: OpenSketch, bridge: u16, names: &[Name]) -> Option<Name>
     requires { at.sketch.now.links ≡ at.plant.now.links }
     ensures { result ≡ first_apart at.entry.plant.now bridge names.now }
 {

@@ -3,7 +3,7 @@ use Rattle.std.proofs.Common.{◌≡◌, ◌≢◌, ◌⊎◌, ◌∙◌, ◌<�
 use Rattle.std.proofs.Common.{refl, sym, length-append, inl, inr}
 use Rattle.cqf_model.specs.declared.history.Receipt.{Receipt}
 use Rattle.cqf_model.specs.declared.history.Refused.{Refused}
-use Rattle.cqf_model.specs.declared.history.Refused.TheVariants.{BadName, BadOctets, UnknownNode, BrokenPath, LoopingPath, NotATree, NameHeld, TooManyStreams}
+use Rattle.cqf_model.specs.declared.history.Refused.TheVariants.{BadName, BadOctets, BadPace, UnknownNode, BrokenPath, LoopingPath, NotATree, TooManyHops, NameHeld, TooManyStreams}
 use Rattle.cqf_model.specs.declared.history.Refused.TheVariants.{BudgetShort, NotHeld, AlreadyWithdrawn, HistoryFull, Memory}
 use Rattle.cqf_model.specs.declared.history.Reply.TheVariants.{Accepted, Refused as RefusedFor}
 use Rattle.cqf_model.specs.declared.topology.Row.{Row}
@@ -55,7 +55,7 @@ pub AreAllHeld-more : (d : Domain) (entries : List Recorded) (asked : Asked) →
 AreAllHeld-more d entries asked goes_on counted grants finds all granted_is =
     let rows : List Row = held_in d entries (seals entries) in
     let count : length rows ≡ length entries = ap (λ c. length (held_in d entries c)) all.no_seal ∙ all.one_each in
-    let room : length rows < 1024 = finds d rows asked granted_is in
+    let room : length rows < 16384 = finds d rows asked granted_is in
     let one_more : length (with_asked d entries asked) ≡ length entries + 1 = length-append entries _ in
     let no_seal : seals (with_asked d entries asked) ≡ 0 = omega (arith, counted entries 0 (Admits asked) (reply_to d entries (Admits asked)), all.no_seal) in
     let state = grants d entries rows (next_number d entries) 0 asked all.legal (record { held = refl; number = refl }) granted_is in
@@ -90,6 +90,13 @@ module _ (old new : Administration) (asked : Asked) (receipt : Receipt) (answers
   entered : new.entries ≡ with_asked old.domain old.entries asked
   entered = answers.entered refl ∙ ap (λ reply. with_entry old.entries 0 (Admits asked) reply) (answers.due refl)
 
+  -- so those behind it are admitted behind that entry
+  pub granted-goes_on : (place : ℕ) (more : List Asked) →
+      admitted_from old.domain old.entries place (asked ∷ more) ≡ admitted_from old.domain new.entries (place + 1) more
+  granted-goes_on place more =
+      ap (λ (r : Option Refused). refuse r (stream_line place) (admitted_from old.domain (with_asked old.domain old.entries asked) (place + 1) more)) none_due
+      ∙ ap (λ (entries : List Recorded). admitted_from old.domain entries (place + 1) more) (sym entered)
+
   -- so its stream is held with the others
   pub granted-held : HistoryGoesOn → SealsAreCounted → GrantedIsHeld → GrantedFindsRoom → AreAllHeld old.domain old.entries → AreAllHeld new.domain new.entries
   granted-held goes_on counted grants finds all =
@@ -100,10 +107,12 @@ module _ (old new : Administration) (asked : Asked) (receipt : Receipt) (answers
 entered_unless : (refused : Refused) → refused ≢ HistoryFull → refused ≢ Memory → is_entered (Err refused) ≡ true
 entered_unless BadName full memory = refl
 entered_unless BadOctets full memory = refl
+entered_unless BadPace full memory = refl
 entered_unless (UnknownNode place) full memory = refl
 entered_unless (BrokenPath place) full memory = refl
 entered_unless (LoopingPath place) full memory = refl
 entered_unless (NotATree branch) full memory = refl
+entered_unless TooManyHops full memory = refl
 entered_unless NameHeld full memory = refl
 entered_unless TooManyStreams full memory = refl
 entered_unless (BudgetShort link left) full memory = refl
@@ -117,10 +126,12 @@ pub is_memory : (refused : Refused) → (refused ≡ Memory) ⊎ (refused ≢ Me
 is_memory Memory = inl refl
 is_memory BadName = inr (λ h. cc)
 is_memory BadOctets = inr (λ h. cc)
+is_memory BadPace = inr (λ h. cc)
 is_memory (UnknownNode place) = inr (λ h. cc)
 is_memory (BrokenPath place) = inr (λ h. cc)
 is_memory (LoopingPath place) = inr (λ h. cc)
 is_memory (NotATree branch) = inr (λ h. cc)
+is_memory TooManyHops = inr (λ h. cc)
 is_memory NameHeld = inr (λ h. cc)
 is_memory TooManyStreams = inr (λ h. cc)
 is_memory (BudgetShort link left) = inr (λ h. cc)

@@ -1,25 +1,31 @@
 -- What fits is what is accepted.
-use Rattle.std.proofs.Common.{ℕ, ◌≡◌, ◌≤◌, ◌<◌, ◌+◌, ◌==◌, ◌/◌, ◌∙◌, Bool, true, false, not, ◌&&◌, cond, nat_lt, Option}
-use Rattle.std.proofs.Common.{Some, None, List, [], ◌∷◌, length, get_or, ap, arith, sym, refl, inl, inr}
+use Rattle.std.proofs.Common.{ℕ, ◌≡◌, ◌≤◌, ◌<◌, ◌+◌, ◌++◌, ◌-◌, ◌==◌, ◌/◌, ◌%◌, ◌∙◌, Bool, true, false, not, ◌&&◌, cond, nat_lt, Option}
+use Rattle.std.proofs.Common.{Some, None, List, [], ◌∷◌, append-nil, length, get_or, fold, max, ap, arith, subst, sym, refl, inl, inr}
 use Rattle.std.specs.Prelude.{All, find, if◌then◌else◌, nat_le, suc, zero}
 use Rattle.std.specs.List.{list_any}
-use Rattle.std.proofs.lemmas.Bool.{cases_Bool, leb-true, leb-false, ltb-false, le-ltb, eq-eqb}
+use Rattle.std.proofs.lemmas.Bool.{and_from, cases_Bool, leb-true, leb-false, ltb-false, le-ltb, eq-eqb}
 use Rattle.std.proofs.lemmas.List.{get_or-map, length-map}
 use Rattle.std.proofs.lemmas.List.Folds.{list_any_at}
+use Rattle.std.proofs.lemmas.List.Sums.{fold_push}
 use Rattle.std.proofs.lemmas.List.Elements.{All-cons, All-head, All-nil, All-tail}
-use Rattle.cqf_lists.specs.Lists.{or_else}
+use Rattle.cqf_lists.specs.Lists.{each_below, or_else}
 use Rattle.cqf_units.specs.Name.{is_name}
 use Rattle.cqf_units.specs.Timing.{cost_of}
 use Rattle.cqf_model.specs.declared.history.Refused.{Refused}
-use Rattle.cqf_model.specs.declared.history.Refused.TheVariants.{BadName, BadOctets, NameHeld, TooManyStreams, BudgetShort}
+use Rattle.cqf_model.specs.declared.history.Refused.TheVariants.{BadName, BadOctets, BadPace, NameHeld, TooManyStreams, BudgetShort}
 use Rattle.cqf_model.specs.declared.topology.Row.{Row}
 use Rattle.cqf_model.specs.Domain.{Domain, budget, is_text}
-use Rattle.cqf_model.specs.History.{Asked, left_on, refusal_of, refused_at, refused_if, tree_of}
+use Rattle.cqf_model.specs.History.{Asked, is_pace, left_on, most_beside, pace_of, refusal_of, refused_at, refused_if, tree_of}
 use Rattle.cqf_model.specs.declared.topology.Hop.{Hop}
-use Rattle.cqf_model.specs.Table.{cost_on, crosses, link_cost, links_in}
+use Rattle.cqf_model.specs.declared.topology.Pace.{Pace}
+use Rattle.cqf_model.specs.Limits.{streams_within}
+use Rattle.cqf_model.specs.Paces.{each_cycle, is_turn}
+use Rattle.cqf_model.specs.Table.{cost_on, link_cost, links_in, uses}
 use Rattle.cqf_model.proofs.Hops.{hops_inside}
 use Rattle.cqf_admission_trees.specs.Branches.{tree_refusal}
+use Rattle.cqf_admission.specs.Costs.{left_beside}
 use Rattle.cqf_admission.specs.Judging.{form_refusal, short_refusal}
+use Rattle.cqf_admission.proofs.CostLemmas.{beside_is_most}
 use Rattle.cqf_admission.proofs.GrantLemmas.{refusal_in_two, refusal_last, refusal_later}
 use Rattle.cqf_program_plans.specs.Fitting.{fits_by, fits_on}
 use Rattle.cqf_program_plans.specs.FitLaws.{FitsIsGreatest, OneMoreFits}
@@ -84,7 +90,7 @@ module _ (d : Domain) (rows : List Row) (asked : Asked) (h : listing_refusal d r
   held = refused_if (list_any (λ (row : Row). is_text row.name asked.name) rows) NameHeld
 
   abbrev many : Option Refused
-  many = refused_if (nat_le 1024 (length rows)) TooManyStreams
+  many = refused_if (nat_le (streams_within d.limits) (length rows)) TooManyStreams
 
   form : form_refusal d asked ≡ None
   form = first_none (form_refusal d asked) (or_else held many) h
@@ -95,12 +101,14 @@ module _ (d : Domain) (rows : List Row) (asked : Asked) (h : listing_refusal d r
   free : list_any (λ (row : Row). is_text row.name asked.name) rows ≡ false
   free = not_due _ NameHeld (first_none held many behind)
 
-  few : length rows < 1024
-  few = omega (arith, leb-false 1024 (length rows) (not_due (nat_le 1024 (length rows)) TooManyStreams (second_none held many behind)))
+  few : length rows < streams_within d.limits
+  few = leb-false (streams_within d.limits) (length rows)
+      (not_due (nat_le (streams_within d.limits) (length rows)) TooManyStreams (second_none held many behind))
 
   in_range : (nat_le 64 asked.octets ≡ true) × (nat_le asked.octets 60000 ≡ true)
   in_range = both (nat_le 64 asked.octets) (nat_le asked.octets 60000)
-      (not_due _ BadOctets (first_none (refused_if (not (nat_le 64 asked.octets && nat_le asked.octets 60000)) BadOctets) (tree_refusal d asked.paths)
+      (not_due _ BadOctets (first_none (refused_if (not (nat_le 64 asked.octets && nat_le asked.octets 60000)) BadOctets)
+      (or_else (refused_if (not (is_pace asked.every asked.phase)) BadPace) (tree_refusal d asked.paths))
       (second_none (refused_if (not (is_name asked.name)) BadName) _ form)))
 
   least : 64 ≤ asked.octets
@@ -110,40 +118,101 @@ module _ (d : Domain) (rows : List Row) (asked : Asked) (h : listing_refusal d r
   most = leb-true asked.octets 60000 in_range.1
 
   abbrev is_short : ℕ → Bool
-  is_short l = nat_lt (left_on d rows l) (cost_of asked.octets)
+  is_short l = nat_lt (left_on d rows (tree_of d asked.paths) (pace_of asked) l) (cost_of asked.octets)
 
-  by_budget : refusal_of d rows asked ≡ short_refusal d rows (cost_of asked.octets) (tree_of d asked.paths)
+  by_budget : refusal_of d rows asked ≡ short_refusal d rows (cost_of asked.octets) (pace_of asked) (tree_of d asked.paths)
   by_budget = refusal_later d rows asked form ∙ refusal_last d rows asked free few
 
-  accepted_fits : refusal_of d rows asked ≡ None → All (λ l. asked.octets ≤ fits_on d rows l) (links_in (tree_of d asked.paths))
-  accepted_fits none k other low =
-      let room = none_short is_short (links_in (tree_of d asked.paths)) (not_at _ (λ l. BudgetShort l (left_on d rows l)) (sym by_budget ∙ none)) in
-      let l = get_or (links_in (tree_of d asked.paths)) k other in
-      (fits_greatest (left_on d rows l) asked.octets least most).0 (ltb-false (left_on d rows l) (cost_of asked.octets) (room k other low))
+  abbrev refused_short : ℕ → Refused
+  refused_short l = BudgetShort l (left_on d rows (tree_of d asked.paths) (pace_of asked) l)
 
-  fits_accepted : All (λ l. asked.octets ≤ fits_on d rows l) (links_in (tree_of d asked.paths)) → refusal_of d rows asked ≡ None
-  fits_accepted fits =
-      let room : All (λ l. is_short l ≡ false) (links_in (tree_of d asked.paths)) =
-      λ k other low. (let l = get_or (links_in (tree_of d asked.paths)) k other in
-      le-ltb (left_on d rows l) (cost_of asked.octets) ((fits_greatest (left_on d rows l) asked.octets least most).1 (fits k other low))) in
-      by_budget ∙ ap (refused_at (λ l. BudgetShort l (left_on d rows l))) (none_found is_short (links_in (tree_of d asked.paths)) room)
+  -- what its links have left for it, where it is one of each cycle, they have left in each
+  left_there : pace_of asked ≡ each_cycle → (k other : ℕ) → k < length (links_in (tree_of d asked.paths)) →
+      left_on d rows (tree_of d asked.paths) (pace_of asked) (get_or (links_in (tree_of d asked.paths)) k other)
+      ≡ left_beside d rows (get_or (links_in (tree_of d asked.paths)) k other)
+  left_there paced k other low =
+      let tree = tree_of d asked.paths in
+      let l = get_or (links_in tree) k other in
+      let crossed : list_any (λ n. n == l) (links_in tree) ≡ true = list_any_at (λ n. n == l) (links_in tree) k other low (eq-eqb l l refl) in
+      ap (λ (most : ℕ). budget d l - most) (ap (λ (p : Pace). most_beside rows tree p l) paced ∙ beside_is_most rows tree l crossed)
+
+  accepted_fits : pace_of asked ≡ each_cycle → refusal_of d rows asked ≡ None → All (λ l. asked.octets ≤ fits_on d rows l) (links_in (tree_of d asked.paths))
+  accepted_fits paced none k other low =
+      let tree = tree_of d asked.paths in
+      let room = none_short is_short (links_in tree) (not_at _ refused_short (sym by_budget ∙ none)) in
+      let l = get_or (links_in tree) k other in
+      let enough = ltb-false (left_on d rows tree (pace_of asked) l) (cost_of asked.octets) (room k other low) in
+      (fits_greatest (left_beside d rows l) asked.octets least most).0 (subst (λ left. cost_of asked.octets ≤ left) (left_there paced k other low) enough)
+
+  fits_accepted : pace_of asked ≡ each_cycle → All (λ l. asked.octets ≤ fits_on d rows l) (links_in (tree_of d asked.paths)) → refusal_of d rows asked ≡ None
+  fits_accepted paced fits =
+      let tree = tree_of d asked.paths in
+      let room : All (λ l. is_short l ≡ false) (links_in tree) =
+      λ k other low. (let l = get_or (links_in tree) k other in
+      let enough = (fits_greatest (left_beside d rows l) asked.octets least most).1 (fits k other low) in
+      le-ltb (left_on d rows tree (pace_of asked) l) (cost_of asked.octets)
+      (subst (λ left. cost_of asked.octets ≤ left) (sym (left_there paced k other low)) enough)) in
+      by_budget ∙ ap (refused_at refused_short) (none_found is_short (links_in tree) room)
 
 -- a stream that is accepted is listed
 pub accepted_listed : (d : Domain) (rows : List Row) (asked : Asked) → refusal_of d rows asked ≡ None → listing_refusal d rows asked ≡ None
 accepted_listed d rows asked none =
     let form = form_refusal d asked in
     let held = refused_if (list_any (λ (row : Row). is_text row.name asked.name) rows) NameHeld in
-    let many = refused_if (nat_le 1024 (length rows)) TooManyStreams in
-    let short = short_refusal d rows (cost_of asked.octets) (tree_of d asked.paths) in
+    let many = refused_if (nat_le (streams_within d.limits) (length rows)) TooManyStreams in
+    let short = short_refusal d rows (cost_of asked.octets) (pace_of asked) (tree_of d asked.paths) in
     let parted : or_else form (or_else held (or_else many short)) ≡ None = sym (refusal_in_two d rows asked) ∙ none in
     let behind = second_none form (or_else held (or_else many short)) parted in
     ap (λ o. or_else o (or_else held many)) (first_none form (or_else held (or_else many short)) parted)
     ∙ ap (λ o. or_else o many) (first_none held (or_else many short) behind)
     ∙ first_none many short (second_none held (or_else many short) behind)
 
+-- the greater of two numbers that are within a third is within it
+within_both : (a b most : ℕ) → a ≤ most → b ≤ most → max a b ≤ most
+within_both a b most first second = omega arith
+
+-- the most of what is taken in some turns is within what each of these is within
+most_taken : (test : ℕ → Bool) (costs : ℕ → ℕ) (most : ℕ) → ((turn : ℕ) → test turn ≡ true → costs turn ≤ most) → (n : ℕ) →
+    fold max 0 (each_below (λ turn. if test turn then costs turn ∷ [] else []) n) ≤ most
+most_taken test costs most each zero = omega arith
+most_taken test costs most each (suc n) =
+    let before : List ℕ = each_below (λ turn. if test turn then costs turn ∷ [] else []) n in
+    let so_far : fold max 0 before ≤ most = most_taken test costs most each n in
+    elim (cases_Bool (test n)) [
+      | inl on ↦
+          subst (λ (b : Bool). fold max 0 (before ++ (if b then costs n ∷ [] else [])) ≤ most) (sym on)
+          (subst (λ (x : ℕ). x ≤ most) (sym (fold_push max 0 before (costs n))) (within_both (fold max 0 before) (costs n) most so_far (each n on)))
+      | inr off ↦
+          subst (λ (b : Bool). fold max 0 (before ++ (if b then costs n ∷ [] else [])) ≤ most) (sym off)
+          (subst (λ (xs : List ℕ). fold max 0 xs ≤ most) (sym (append-nil before)) so_far)
+    ]
+
+-- the most that streams cost of a link in the turns of another is within what they cost at most in each of these
+most_within : (rows : List Row) (tree : List Hop) (pace : Pace) (l most : ℕ) → ((turn : ℕ) → uses tree pace l turn ≡ true → link_cost rows l turn ≤ most) →
+    most_beside rows tree pace l ≤ most
+most_within rows tree pace l most each = most_taken (uses tree pace l) (link_cost rows l) most each 80
+
+-- where a cost and what is held are within a budget, the rest of it has room for both
+beside_cost : (held mine cost most : ℕ) → held + mine ≤ most → mine ≡ cost → held ≤ most - cost
+beside_cost held mine cost most room is = omega arith
+
+room_beside : (held mine cost beside most : ℕ) → held + mine ≤ most → mine ≡ cost → beside ≤ most - cost → cost ≤ most - beside
+room_beside held mine cost beside most room is low = omega arith
+
+-- a stream uses the links of its tree in some cycle
+in_a_turn : (tree : List Hop) (pace : Pace) (k : ℕ) (none : Hop) → k < length tree → (turn : ℕ) × (uses tree pace (get_or tree k none).link turn ≡ true)
+in_a_turn tree pace k none inside =
+    let hop : Hop = get_or tree k none in
+    let turn : ℕ = pace.phase + hop.depth in
+    let test : Hop → Bool = λ h. (h.link == hop.link) && is_turn pace h.depth turn in
+    let here : test hop ≡ true =
+    and_from (hop.link == hop.link) (is_turn pace hop.depth turn) (eq-eqb hop.link hop.link refl)
+    (eq-eqb (turn % (pace.pause + 1)) (turn % (pace.pause + 1)) refl) in
+    (turn, list_any_at test tree k none inside here)
+
 -- and one that is listed is accepted where each link has room for it
 pub accepted_where_room : (d : Domain) (rows : List Row) (asked : Asked) → listing_refusal d rows asked ≡ None →
-    ((l : ℕ) → l < length d.links → link_cost rows l + cost_on (listed_row d rows asked) l ≤ budget d l) → refusal_of d rows asked ≡ None
+    ((l turn : ℕ) → l < length d.links → link_cost rows l turn + cost_on (listed_row d rows asked) l turn ≤ budget d l) → refusal_of d rows asked ≡ None
 accepted_where_room d rows asked h room =
     let tree = tree_of d asked.paths in
     let links = links_in tree in
@@ -153,10 +222,20 @@ accepted_where_room d rows asked h room =
     omega (arith, hops_inside d asked.paths k first below, get_or-map (λ (hop : Hop). hop.link) tree k first other below)) in
     let enough : All (λ l. is_short d rows asked h l ≡ false) links =
     λ k other low. (let l = get_or links k other in
-    let on : crosses (listed_row d rows asked) l ≡ true = list_any_at (λ n. n == l) links k other low (eq-eqb l l refl) in
-    let cost : cost_on (listed_row d rows asked) l ≡ cost_of asked.octets = ap {B = ℕ} (λ (b : Bool). if b then cost_of asked.octets else 0) on in
-    le-ltb (left_on d rows l) (cost_of asked.octets) (omega (arith, room l (inside k other low), cost))) in
-    by_budget d rows asked h ∙ ap (refused_at (λ l. BudgetShort l (left_on d rows l))) (none_found (is_short d rows asked h) links enough)
+    let pace = pace_of asked in
+    let cost : (turn : ℕ) → uses tree pace l turn ≡ true → cost_on (listed_row d rows asked) l turn ≡ cost_of asked.octets =
+    λ turn on. ap {B = ℕ} (λ (b : Bool). if b then cost_of asked.octets else 0) on in
+    let new = listed_row d rows asked in
+    let most = most_within rows tree pace l (budget d l - cost_of asked.octets)
+    (λ turn on. beside_cost (link_cost rows l turn) (cost_on new l turn) (cost_of asked.octets) (budget d l) (room l turn (inside k other low)) (cost turn on)) in
+    let below : k < length tree = omega (arith, low, length-map tree (λ (hop : Hop). hop.link)) in
+    let on : (turn : ℕ) × (uses tree pace l turn ≡ true) =
+    subst (λ n. (turn : ℕ) × (uses tree pace n turn ≡ true)) (sym (get_or-map (λ (hop : Hop). hop.link) tree k first other below))
+    (in_a_turn tree pace k first below) in
+    le-ltb (left_on d rows tree pace l) (cost_of asked.octets)
+    (room_beside (link_cost rows l on.0) (cost_on new l on.0) (cost_of asked.octets) (most_beside rows tree pace l) (budget d l)
+    (room l on.0 (inside k other low)) (cost on.0 on.1) most)) in
+    by_budget d rows asked h ∙ ap (refused_at (refused_short d rows asked h)) (none_found (is_short d rows asked h) links enough)
 
 pub one_more : OneMoreFits
-one_more d rows asked h = (accepted_fits d rows asked h, fits_accepted d rows asked h)
+one_more d rows asked paced h = (accepted_fits d rows asked h paced, fits_accepted d rows asked h paced)

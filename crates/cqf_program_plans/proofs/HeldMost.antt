@@ -1,5 +1,5 @@
 -- Streams that are listed cost together what is told of them, and no history of theirs holds more.
-use Rattle.std.proofs.Common.{ℕ, ◌≡◌, ◌≤◌, ◌+◌, ◌++◌, ◌∙◌, Ok, List, [], ◌∷◌, ap, arith, length, sym}
+use Rattle.std.proofs.Common.{ℕ, ◌≡◌, ◌+◌, ◌++◌, Ok, List, [], ◌∷◌, ap, arith, length}
 use Rattle.std.proofs.lemmas.List.Sums.{sum_by-cons, sum_by_push}
 use Rattle.cqf_model.specs.declared.topology.Row.{Row}
 use Rattle.cqf_model.specs.Domain.{Domain}
@@ -14,20 +14,21 @@ use Rattle.cqf_program_plans.specs.LoadOutput.{listed_from}
 use Rattle.cqf_program_plans.proofs.CompileLemmas.{refuse_ok, same_ok}
 
 -- the rows of streams that are listed behind others cost what the streams cost, beside those
-listed_cost : (d : Domain) (streams : List Asked) (rows end : List Row) (link : ℕ) → listed_from d rows streams ≡ Ok end →
-    link_cost end link ≡ link_cost rows link + cost_of_all d streams link
-listed_cost d [] rows end link h = omega (arith, ap (λ (rs : List Row). link_cost rs link) (same_ok rows end h))
-listed_cost d (asked ∷ more) rows end link h =
+listed_cost : (d : Domain) (streams : List Asked) (rows end : List Row) (link turn : ℕ) → listed_from d rows streams ≡ Ok end →
+    link_cost end link turn ≡ link_cost rows link turn + cost_of_all d streams link turn
+listed_cost d [] rows end link turn h = omega (arith, ap (λ (rs : List Row). link_cost rs link turn) (same_ok rows end h))
+listed_cost d (asked ∷ more) rows end link turn h =
     let new = listed_row d rows asked in
     let parts = refuse_ok (listing_refusal d rows asked) (stream_line (length rows + 1)) (listed_from d (rows ++ new ∷ []) more) end h in
-    added (link_cost end link) (link_cost (rows ++ new ∷ []) link) (cost_of_all d more link) (link_cost rows link) (cost_on new link)
-    (cost_of_all d (asked ∷ more) link) (listed_cost d more (rows ++ new ∷ []) end link parts.1) (sum_by_push (λ (row : Row). cost_on row link) rows new)
-    (sum_by-cons (λ (a : Asked). cost_on (granted_row d 0 0 a) link) asked more)
+    added (link_cost end link turn) (link_cost (rows ++ new ∷ []) link turn) (cost_of_all d more link turn) (link_cost rows link turn) (cost_on new link turn)
+    (cost_of_all d (asked ∷ more) link turn) (listed_cost d more (rows ++ new ∷ []) end link turn parts.1)
+    (sum_by_push (λ (row : Row). cost_on row link turn) rows new)
+    (sum_by-cons (λ (a : Asked). cost_on (granted_row d 0 0 a) link turn) asked more)
   where
     added : (whole grown rest before new all : ℕ) → whole ≡ grown + rest → grown ≡ before + new → all ≡ new + rest → whole ≡ before + all
     added whole grown rest before new all a b c = omega (arith, a, b, c)
 
 pub none_holds_more : TablesCostNoMore → NoneHoldsMore
-none_holds_more tables d streams rows entries cycles cycle link listed legal sealed only =
-    let none : link_cost [] link ≡ 0 = omega arith in
-    omega (arith, tables d entries streams cycles cycle link legal sealed only, listed_cost d streams [] rows link listed, none)
+none_holds_more tables d streams rows entries cycles cycle link turn listed legal sealed only =
+    let none : link_cost [] link turn ≡ 0 = omega arith in
+    omega (arith, tables d entries streams cycles cycle link turn legal sealed only, listed_cost d streams [] rows link turn listed, none)

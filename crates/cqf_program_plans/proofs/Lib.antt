@@ -11,7 +11,10 @@ mod Listed
 mod Fits
 mod PlanFits
 mod HeldMost
-mod Loading
+pub mod Loading
 mod GrantedPlans
+mod RowPaces
+pub mod LookedOver
 pub mod Found
+mod LatencyRows
 mod LatencyLines

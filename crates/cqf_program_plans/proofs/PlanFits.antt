@@ -1,23 +1,18 @@
 -- A plan whose streams are all listed is admitted where it fits.
-use Rattle.std.proofs.Common.{ℕ, ◌≡◌, ◌≤◌, ◌<◌, ◌+◌, ◌++◌, ◌∙◌, Bool, true, false, cond, nat_lt, Option, Some, None}
-use Rattle.std.proofs.Common.{Result, Ok, Err, List, [], ◌∷◌, length, get_or, ap, arith, refl, subst, sym}
-use Rattle.std.specs.Prelude.{All, Contains, find, if◌then◌else◌}
-use Rattle.std.proofs.lemmas.Bool.{le-ltb}
+use Rattle.std.proofs.Common.{ℕ, ◌≡◌, ◌≤◌, ◌<◌, ◌+◌, ◌++◌, ◌∙◌, None}
+use Rattle.std.proofs.Common.{Result, Ok, List, [], ◌∷◌, length, ap, arith, refl, subst, sym}
 use Rattle.std.proofs.lemmas.List.{length_push}
 use Rattle.std.proofs.lemmas.Option.{slice_get_within}
 use Rattle.std.proofs.lemmas.List.Sums.{sum_by_push}
 use Rattle.cqf_lists.specs.Results.{refuse}
-use Rattle.cqf_units.specs.Timing.{cost_of}
-use Rattle.cqf_model.specs.declared.history.Refused.{Refused}
 use Rattle.cqf_model.specs.declared.topology.Row.{Row}
 use Rattle.cqf_model.specs.Domain.{Domain, budget}
-use Rattle.cqf_model.specs.History.{Admits, Asked, IsLegalHistory, Recorded, held_in, left_on, next_number, refusal_of, reply_to, seals, tree_of}
-use Rattle.cqf_model.specs.Table.{cost_on, crosses, link_cost, links_in}
-use Rattle.cqf_model.proofs.Hops.{hops_inside}
-use Rattle.cqf_laws_history.specs.StateLaws.{AreHeld, GrantedFindsRoom, GrantedIsHeld, HeldAreSound, HistoryGoesOn, IsState, SealsAreCounted, granted_row}
+use Rattle.cqf_model.specs.History.{Asked, IsLegalHistory, Recorded, held_in, next_number, refusal_of, seals}
+use Rattle.cqf_model.specs.Table.{cost_on, link_cost}
+use Rattle.cqf_laws_history.specs.StateLaws.{AreHeld, GrantedFindsRoom, GrantedIsHeld, HeldAreSound, HistoryGoesOn, SealsAreCounted, granted_row}
 use Rattle.cqf_program_plans.specs.CompileOutput.{AreAllHeld, admitted_from, stream_line, with_asked}
 use Rattle.cqf_program_plans.proofs.CompileLemmas.{AreAllHeld-more, AreAllHeld-none, refuse_ok, same_ok}
-use Rattle.cqf_program_plans.specs.FitLaws.{AdmittedAreListed, AreAdmitted, PlanFits}
+use Rattle.cqf_program_plans.specs.FitLaws.{AreAdmitted}
 use Rattle.cqf_program_plans.specs.Listing.{listed_row, listing_refusal}
 use Rattle.cqf_program_plans.specs.LoadOutput.{listed_from}
 use Rattle.cqf_program_plans.proofs.Fits.{accepted_listed, accepted_where_room}
@@ -60,25 +55,29 @@ module _ (goes_on : HistoryGoesOn) (counted : SealsAreCounted) (grants : Granted
       )
 
   -- rows behind others cost no less
-  grows : (streams : List Asked) (rows end : List Row) (l : ℕ) → listed_from d rows streams ≡ Ok end → link_cost rows l ≤ link_cost end l
-  grows [] rows end l h = omega (arith, ap (λ rs. link_cost rs l) (same_ok rows end h))
-  grows (asked ∷ more) rows end l h =
+  grows : (streams : List Asked) (rows end : List Row) (l turn : ℕ) → listed_from d rows streams ≡ Ok end → link_cost rows l turn ≤ link_cost end l turn
+  grows [] rows end l turn h = omega (arith, ap (λ rs. link_cost rs l turn) (same_ok rows end h))
+  grows (asked ∷ more) rows end l turn h =
       let parts = refuse_ok (listing_refusal d rows asked) (stream_line (length rows + 1)) (listed_from d (rows ++ listed_row d rows asked ∷ []) more) end h in
-      omega (arith, grows more (rows ++ listed_row d rows asked ∷ []) end l parts.1, sum_by_push (λ (r : Row). cost_on r l) rows (listed_row d rows asked))
+      omega (
+        arith,
+        grows more (rows ++ listed_row d rows asked ∷ []) end l turn parts.1,
+        sum_by_push (λ (r : Row). cost_on r l turn) rows (listed_row d rows asked),
+      )
 
   -- and streams that are listed and fit are admitted
   admitted : (streams : List Asked) (entries : List Recorded) (rows end : List Row) (place : ℕ) → HaveRows d entries rows →
-      listed_from d rows streams ≡ Ok end → ((l : ℕ) → l < length d.links → link_cost end l ≤ budget d l) →
+      listed_from d rows streams ≡ Ok end → ((l turn : ℕ) → l < length d.links → link_cost end l turn ≤ budget d l) →
       (all : List Recorded) × (admitted_from d entries place streams ≡ Ok all) × HaveRows d all end
   admitted [] entries rows end place now h fits = (entries, refl, subst (HaveRows d entries) (same_ok rows end h) now)
   admitted (asked ∷ more) entries rows end place now h fits =
       let parts = refuse_ok (listing_refusal d rows asked) (stream_line (length rows + 1)) (listed_from d (rows ++ listed_row d rows asked ∷ []) more) end h in
       let none : refusal_of d rows asked ≡ None = accepted_where_room d rows asked parts.0
-      (λ l inside. omega (
+      (λ l turn inside. omega (
         arith,
-        grows more (rows ++ listed_row d rows asked ∷ []) end l parts.1,
-        fits l inside,
-        sum_by_push (λ (r : Row). cost_on r l) rows (listed_row d rows asked),
+        grows more (rows ++ listed_row d rows asked ∷ []) end l turn parts.1,
+        fits l turn inside,
+        sum_by_push (λ (r : Row). cost_on r l turn) rows (listed_row d rows asked),
       )) in
       let due : refusal_of d (held_in d entries (seals entries)) asked ≡ None = ap (λ rs. refusal_of d rs asked) now.held ∙ none in
       let rest = admitted more (with_asked d entries asked) (rows ++ listed_row d rows asked ∷ []) end (place + 1)
@@ -102,17 +101,17 @@ module _ (goes_on : HistoryGoesOn) (counted : SealsAreCounted) (grants : Granted
       let found = listed streams [] entries [] 1 no_rows h in
       found.1 ∙ ap {B = Result (List Row) (List ℕ)} (λ (rows : List Row). Ok rows) (sym (in_cycle_0 entries found.0 found.2))
 
-  pub admitted_within : (streams : List Asked) (rows : List Row) → listed_from d [] streams ≡ Ok rows → AreAdmitted d streams rows → (l : ℕ) →
-      link_cost rows l ≤ budget d l
-  admitted_within streams rows h found l =
+  pub admitted_within : (streams : List Asked) (rows : List Row) → listed_from d [] streams ≡ Ok rows → AreAdmitted d streams rows → (l turn : ℕ) →
+      link_cost rows l turn ≤ budget d l
+  admitted_within streams rows h found l turn =
       let now = listed streams [] found.0 [] 1 no_rows found.1 in
       let same : now.0 ≡ rows = same_ok now.0 rows (sym now.1 ∙ h) in
       let held : AreHeld d now.0 (next_number d found.0) (seals found.0) =
       sound d found.0 now.0 (next_number d found.0) now.2.all.legal (record { held = now.2.held; number = refl }) in
-      subst (λ rs. link_cost rs l ≤ budget d l) same (held.loads l)
+      subst (λ rs. link_cost rs l turn ≤ budget d l) same (held.loads l turn)
 
   pub within_admitted : (streams : List Asked) (rows : List Row) → listed_from d [] streams ≡ Ok rows →
-      ((l : ℕ) → l < length d.links → link_cost rows l ≤ budget d l) → AreAdmitted d streams rows
+      ((l turn : ℕ) → l < length d.links → link_cost rows l turn ≤ budget d l) → AreAdmitted d streams rows
   within_admitted streams rows h fits =
       let found = admitted streams [] [] rows 1 no_rows h fits in
       (found.0, found.1, in_cycle_0 found.0 rows found.2)

@@ -18,7 +18,7 @@ use Rattle.cqf_program_plans.specs.CompileOutput.{AreAllHeld, ArePlanned, admitt
 pub asked_at : (requests : List Request) (place : ℕ) (request : Request) → place < length requests → request ≡ get_or requests place request →
     asked_of request ≡ request_at (map asked_of requests) place
 asked_at requests place request low is =
-    sym (get_or-map asked_of requests place request (record { name = []; octets = 0; paths = [] }) low ∙ ap asked_of (sym is))
+    sym (get_or-map asked_of requests place request (record { name = []; octets = 0; every = 1; phase = 0; paths = [] }) low ∙ ap asked_of (sym is))
 
 -- one stream more is planned
 planned_step : (d : Domain) (requests : List Asked) (old new : Kept) (rows after : List Row) (row : Row) (receipt : Receipt) (k : ℕ) → old.requests ≡ requests →
@@ -64,7 +64,7 @@ admitted_more d requests old learnt after k whole same of domain inside so_far s
     subst (λ (x : Kept). admitted_from x.administration.domain x.administration.entries (k + 1) (request_at x.requests k ∷ rest)
     ≡ admitted_from x.administration.domain after (k + 1 + 1) rest) same (step rest) in
     so_far
-    ∙ ap (admitted_from d old.administration.entries (k + 1)) (drop_more requests k (record { name = []; octets = 0; paths = [] }) inside)
+    ∙ ap (admitted_from d old.administration.entries (k + 1)) (drop_more requests k (record { name = []; octets = 0; every = 1; phase = 0; paths = [] }) inside)
     ∙ sym (λ i. admitted_from (domain i) old.administration.entries (k + 1) (request_at (of i) k ∷ rest))
     ∙ stepped
     ∙ (λ i. admitted_from (domain i) after (k + 1 + 1) rest)
@@ -80,6 +80,6 @@ refused_whole P d requests old learnt k whole same of domain inside so_far refus
     subst (λ (x : Kept). P (admitted_from x.administration.domain x.administration.entries (k + 1) (request_at x.requests k ∷ rest))) same (refuses rest) in
     subst P
     (sym (so_far
-    ∙ ap (admitted_from d old.administration.entries (k + 1)) (drop_more requests k (record { name = []; octets = 0; paths = [] }) inside)
+    ∙ ap (admitted_from d old.administration.entries (k + 1)) (drop_more requests k (record { name = []; octets = 0; every = 1; phase = 0; paths = [] }) inside)
     ∙ sym (λ i. admitted_from (domain i) old.administration.entries (k + 1) (request_at (of i) k ∷ rest))))
     here

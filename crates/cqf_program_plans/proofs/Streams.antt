@@ -5,7 +5,7 @@ use Rattle.std.proofs.Common.{sym, take}
 use Rattle.std.specs.Prelude.{replicate, slice_get}
 use Rattle.std.specs.List.{list_any}
 use Rattle.std.specs.Option.{option_map_or}
-use Rattle.std.proofs.lemmas.List.{get_or-replicate, get_or-set_other, get_or-set_same, length-set, take_more}
+use Rattle.std.proofs.lemmas.List.{get_or-replicate, get_or-set_other, get_or-set_same, length-replicate, length-set, take_more}
 use Rattle.std.proofs.lemmas.Bool.Decides.{eqb_tells}
 use Rattle.std.proofs.lemmas.List.Folds.{list_any-append}
 use Rattle.std.proofs.lemmas.Option.{slice_get_read}
@@ -33,8 +33,8 @@ stream_more text rows k row there =
     ∙ ap (λ (found : Option Row). each_below (stream_at text rows) k ++ option_map_or (text (take k rows)) found []) there
 
 -- nothing is noted before the first stream
-pub seen_none : (d : Domain) (bridge : ℕ) → IsSeenWay d bridge [] (replicate 256 false)
-seen_none d bridge = record { size = refl; each = λ link low. get_or-replicate {A = Bool} 256 link false false low }
+pub seen_none : (d : Domain) (bridge : ℕ) → IsSeenWay d bridge [] (replicate 65536 false)
+seen_none d bridge = record { size = length-replicate {A = Bool} 65536 false; each = λ link low. get_or-replicate {A = Bool} 65536 link false false low }
 
 unequal : (b : Bool) → b ≡ true → b ≡ false → ⊥
 unequal true one other = cc
@@ -98,6 +98,6 @@ module _ (d : Domain) (bridge : ℕ) (before : List Row) (row : Row) (seen : Lis
   }
 
   -- a way is new where it isn't noted
-  pub new_where_unseen : (way : Option ℕ) → ((link : ℕ) → way ≡ Some link → link < 256) → is_unseen seen way ≡ is_new d bridge before way
+  pub new_where_unseen : (way : Option ℕ) → ((link : ℕ) → way ≡ Some link → link < 65536) → is_unseen seen way ≡ is_new d bridge before way
   new_where_unseen None range = refl
   new_where_unseen (Some link) range = ap not (now.each link (range link refl))

@@ -14,6 +14,7 @@ use Rattle.cqf_lists.specs.Lists.{each_below}
 use Rattle.cqf_lists.proofs.Members.{contains_at, contains_here, contains_later}
 use Rattle.cqf_text.proofs.DecimalLemmas.{own}
 use Rattle.cqf_text.specs.Lines.{lines_of}
+use Rattle.cqf_model.proofs.Represented.{few_bridges}
 use Rattle.cqf_model.specs.declared.topology.Hop.{Hop}
 use Rattle.cqf_model.specs.declared.topology.Row.{Row}
 use Rattle.cqf_model.specs.Domain.{Domain, bridge_of, is_text, leaves}
@@ -425,7 +426,7 @@ module _ (d : Domain) (rows : List Row) (domain : IsDomain d) (names : HaveNames
 
   called : (bridge : ℕ) → bridge < length d.bridges → calls_at bridge (tc_text d rows) ≡ calls_due d rows bridge
   called bridge inside =
-      let few = domain.accepted.few_bridges in
+      let few = few_bridges d domain.accepted in
       let small : bridge < 2 ^ 64 = omega (arith, inside, few) in
       ap (λ lines. filter is_call (lines_before (codes "}") lines)) (to_bridges d rows (codes "ridge_" ++ (decimal bridge ++ codes "() {")) domain)
       ∙ ap (filter is_call) (function_found bridge (length d.bridges) (choice_text d) inside small)

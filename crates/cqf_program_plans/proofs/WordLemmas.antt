@@ -1,4 +1,5 @@
 -- The words of lists are read as the lists.
+use Rattle.cqf_model.specs.Paces.{each_cycle}
 use Rattle.std.proofs.Common.{ℕ, ◌≡◌, ◌<◌, ◌+◌, ◌-◌, ◌^◌, ◌++◌, ◌==◌, ◌∙◌, ◌/◌, ◌%◌, ◌&&◌, Bool, true, false, not, cond}
 use Rattle.std.proofs.Common.{suc, List, [], ◌∷◌, Some, Ok, All, ap, append_assoc, arith, codes, decimal, get_or, leb}
 use Rattle.std.proofs.Common.{length, refl, sym, take}
@@ -137,7 +138,7 @@ gate_parted cycle_time small =
     ap (λ (words : List (List ℕ)). [] ∷ codes "sched-entry" ∷ codes "open" ∷ words) first
 
 -- and those of a gate as its list, with the octets that the parameter has
-pub gate_again : (cycle_time octets : ℕ) → cycle_time < 2 ^ 32 → gate_of_words octets (gate_words cycle_time) ≡ Some (stream_list cycle_time octets)
+pub gate_again : (cycle_time octets : ℕ) → cycle_time < 2 ^ 32 → gate_of_words octets (gate_words cycle_time) ≡ Some (stream_list cycle_time octets each_cycle 0)
 gate_again cycle_time octets small =
     ap (λ (words : List (List ℕ)). gate_of_parts octets (drop 1 words)) (gate_parted cycle_time small)
     ∙ rw (decimal_read cycle_time small) refl

@@ -48,7 +48,7 @@ configuration_of d streams = and_then (admitted_from d [] 1 streams) (λ entries
 abbrev pub compiled_input : List ℕ → Result (List ℕ) (List ℕ)
 compiled_input input = and_then (compile_input input) (λ found. configuration_of found.0 found.1)
 
--- a history of admissions alone, each of them granted: no Seal, one held stream for each entry, and at most 1,024
+-- a history of admissions alone, each of them granted: no Seal, one held stream for each entry, and at most 16,384
 pub record AreAllHeld (d : Domain) (entries : List Recorded) : Type 0 where
   pub legal : IsLegalHistory d entries
   pub no_seal : seals entries ≡ 0

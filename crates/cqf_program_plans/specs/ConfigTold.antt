@@ -1,4 +1,5 @@
 -- What the output of the command `compile` tells.
+use Rattle.cqf_model.specs.Paces.{each_cycle}
 use Rattle.std.specs.Prelude.{ℕ, ◌≡◌, ◌++◌, ◌∷◌, List, codes, decimal}
 use Rattle.cqf_admission.specs.Tables.{AreAlongLinks}
 use Rattle.cqf_compile.specs.ConfigText.{config_text}
@@ -32,7 +33,7 @@ abbrev pub row_front : Row → List ℕ
 row_front row = codes "stream " ++ decimal row.no ++ codes " " ++ row.name ++ codes " bridge "
 
 abbrev pub gate_text : ℕ → ℕ → List ℕ
-gate_text cycle_time reserved = 10 ∷ text_of_stream_entries (stream_list cycle_time reserved)
+gate_text cycle_time reserved = 10 ∷ text_of_stream_entries (stream_list cycle_time reserved each_cycle 0)
 
 -- words, and then the numbers of a gate's entry
 abbrev pub gate_entry_text : List ℕ → ℕ → ℕ → List ℕ

@@ -5,8 +5,9 @@ use Rattle.cqf_units.specs.declared.timing.Rate.{Rate}
 use Rattle.cqf_units.specs.declared.timing.Rate.TheVariants.{Mb10, Mb100, Mb1000}
 use Rattle.cqf_model.specs.declared.topology.Link.{Link}
 use Rattle.cqf_model.specs.declared.topology.Row.{Row}
-use Rattle.cqf_model.specs.Domain.{Domain, budget}
-use Rattle.cqf_model.specs.Table.{crosses, link_cost}
+use Rattle.cqf_model.specs.Domain.{Domain}
+use Rattle.cqf_model.specs.Table.{crosses}
+use Rattle.cqf_admission.specs.Costs.{left_beside}
 use Rattle.cqf_model.specs.Limits.{most_reserved}
 
 -- a rate in Mb/s
@@ -32,4 +33,4 @@ abbrev pub fits_in : ℕ → ℕ
 fits_in left = fits_by (left / 84) left
 
 abbrev pub fits_on : Domain → List Row → ℕ → ℕ
-fits_on d rows l = fits_in (budget d l - link_cost rows l)
+fits_on d rows l = fits_in (left_beside d rows l)

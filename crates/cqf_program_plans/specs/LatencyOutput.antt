@@ -3,10 +3,10 @@ use Rattle.std.specs.Prelude.{ℕ, ◌≡◌, List, [], ◌∷◌, Bool, if◌th
 use Rattle.cqf_model.specs.declared.topology.Row.{Row}
 use Rattle.cqf_model.specs.Domain.{Domain}
 use Rattle.cqf_model.specs.History.{Asked, held_in}
-use Rattle.cqf_model.specs.Table.{link_cost}
 use Rattle.cqf_lists.specs.Lists.{each_below}
 use Rattle.cqf_lists.specs.Results.{and_then, refuse}
-use Rattle.cqf_admission.specs.Tables.{AreAlongLinks}
+use Rattle.cqf_admission.specs.Rows.{costs_on}
+use Rattle.cqf_admission.specs.Tables.{AreAlongLinks, AreOfEachCycle}
 use Rattle.cqf_program_plans.specs.CompileOutput.{admitted_from}
 use Rattle.cqf_program_plans.specs.LatencyText.{first_not_sure, latency_text}
 
@@ -26,7 +26,8 @@ pub record DomainTable : Type 0 where
   pub domain : Domain
   pub rows : List Row
 
--- the rows go along links of the domain, and these are what they cost of each
+-- the rows go along links of the domain, their streams are offered in each cycle, and these are what they cost of each link
 pub record AreCosts (d : Domain) (rows : List Row) (costs : List ℕ) : Type 0 where
   pub along : AreAlongLinks d rows
-  pub each : costs ≡ each_below (λ l. link_cost rows l ∷ []) (length d.links)
+  pub paced : AreOfEachCycle rows
+  pub each : costs ≡ each_below (λ l. costs_on rows l ∷ []) (length d.links)

@@ -7,7 +7,7 @@ use Rattle.cqf_model.specs.declared.topology.Node.{Node}
 use Rattle.cqf_model.specs.declared.topology.Node.TheVariants.{Bridge, Station}
 use Rattle.cqf_model.specs.declared.topology.Row.{Row}
 use Rattle.cqf_model.specs.Domain.{Domain, end_of}
-use Rattle.cqf_model.specs.Table.{link_cost}
+use Rattle.cqf_model.specs.History.{most_beside}
 use Rattle.cqf_laws_latency.specs.Latency.{least_of, most_of, window_of}
 use Rattle.cqf_laws_latency.specs.Verdicts.{Sure, InTime, Late, MayBeLate, sure_of}
 use Rattle.cqf_report.specs.Records.{Fields}
@@ -40,9 +40,9 @@ latency_to d cost row deadline hop = record {
   deadline = deadline;
 }
 
--- that of each of its listeners, beside the rows of its table
+-- that of each of its listeners, beside the rows of its table: by the most that these cost in a cycle of its own
 abbrev pub latencies_of_row : Domain → List Row → Row → Option ℕ → List Latency
-latencies_of_row d rows row deadline = map (λ (hop : Hop). latency_to d (link_cost rows hop.link) row deadline hop) (listeners_of d row)
+latencies_of_row d rows row deadline = map (λ (hop : Hop). latency_to d (most_beside rows row.tree.items row.pace hop.link) row deadline hop) (listeners_of d row)
 
 -- the deadline of the stream of a number
 abbrev pub deadline_of : List (Option ℕ) → ℕ → Option ℕ

@@ -6,19 +6,20 @@ use Rattle.cqf_model.specs.declared.history.Refused.{Refused}
 use Rattle.cqf_model.specs.declared.history.Refused.TheVariants.{NameHeld, TooManyStreams}
 use Rattle.cqf_model.specs.declared.topology.Row.{Row}
 use Rattle.cqf_model.specs.Domain.{Domain, is_text}
-use Rattle.cqf_model.specs.History.{Asked, refused_if}
-use Rattle.cqf_model.specs.Table.{link_cost}
+use Rattle.cqf_model.specs.History.{Asked, pace_of, refused_if}
 use Rattle.cqf_laws_history.specs.StateLaws.{granted_row}
 use Rattle.cqf_admission.specs.Judging.{form_refusal}
 use Rattle.cqf_program_plans.specs.Fitting.{streams_on}
-use Rattle.cqf_model.specs.Limits.{most_reserved, most_streams}
+use Rattle.cqf_model.specs.Limits.{most_links, most_streams, streams_within}
+use Rattle.cqf_admission.specs.Rows.{IsCountable, costs_on}
+use Rattle.cqf_admission.specs.Tables.{AreOfEachCycle}
 
 -- why a stream isn't listed beside others: as it would be refused beside them if each link had room
 abbrev pub listing_refusal : Domain → List Row → Asked → Option Refused
 listing_refusal d rows asked =
     or_else (form_refusal d asked)
     (or_else (refused_if (list_any (λ (row : Row). is_text row.name asked.name) rows) NameHeld)
-    (refused_if (nat_le most_streams (length rows)) TooManyStreams))
+    (refused_if (nat_le (streams_within d.limits) (length rows)) TooManyStreams))
 
 -- the row of a stream that is listed behind others
 abbrev pub listed_row : Domain → List Row → Asked → Row
@@ -27,19 +28,21 @@ listed_row d rows asked = granted_row d (length rows) 0 asked
 -- beside the rows stand their names; by link stand what they cost of it, and how many go by it
 pub record IsListing (names : List (List ℕ)) (rows : List Row) (held crossing : List ℕ) : Type 0 where
   pub are_names : names ≡ map (λ (row : Row). row.name) rows
+  pub paced : AreOfEachCycle rows
   pub few : length rows ≤ most_streams
-  pub costs : length held ≡ 64
-  pub counts : length crossing ≡ 64
-  pub cost : (l : ℕ) → l < 64 → slice_index_or held l 0 ≡ link_cost rows l
-  pub bounded : (l : ℕ) → l < 64 → slice_index_or held l 0 ≤ length rows * 100000
-  pub count : (l : ℕ) → l < 64 → slice_index_or crossing l 0 ≡ streams_on rows l
-  pub counted : (l : ℕ) → l < 64 → slice_index_or crossing l 0 ≤ length rows
+  pub costs : length held ≡ most_links
+  pub counts : length crossing ≡ most_links
+  pub cost : (l : ℕ) → l < most_links → slice_index_or held l 0 ≡ costs_on rows l
+  pub bounded : (l : ℕ) → l < most_links → slice_index_or held l 0 ≤ length rows * 100000
+  pub count : (l : ℕ) → l < most_links → slice_index_or crossing l 0 ≡ streams_on rows l
+  pub counted : (l : ℕ) → l < most_links → slice_index_or crossing l 0 ≤ length rows
 
 -- a look at a request gives its row behind others, or the first reason why it isn't listed
 pub record IsListed (d : Domain) (rows : List Row) (asked : Asked) (row : Row) : Type 0 where
   pub none : listing_refusal d rows asked ≡ None
   pub is : row ≡ listed_row d rows asked
-  pub most_octets : row.octets ≤ most_reserved
+  pub paced : row.pace ≡ pace_of asked
+  pub countable : IsCountable (length d.links) row
   pub few : length rows < most_streams
   pub free : list_any (λ (other : Row). is_text other.name row.name) rows ≡ false
 

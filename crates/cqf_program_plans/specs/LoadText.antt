@@ -3,7 +3,7 @@ use Rattle.std.specs.Prelude.{ℕ, ◌-◌, ◌*◌, ◌/◌, ◌%◌, ◌++◌,
 use Rattle.cqf_lists.specs.Lists.{each_below}
 use Rattle.cqf_model.specs.declared.topology.Row.{Row}
 use Rattle.cqf_model.specs.Domain.{Domain, budget}
-use Rattle.cqf_model.specs.Table.{link_cost}
+use Rattle.cqf_admission.specs.Costs.{most_cost}
 use Rattle.cqf_report.specs.Books.{name_of_link}
 use Rattle.cqf_report.specs.Records.{Fields}
 use Rattle.cqf_report.specs.Written.{line_of_fields}
@@ -27,11 +27,11 @@ abbrev pub load_header : Fields
 load_header =
     codes "link" ∷ codes "rate" ∷ codes "budget" ∷ codes "held" ∷ codes "left" ∷ codes "fits" ∷ codes "streams" ∷ codes "used" ∷ []
 
--- a link: its rate, its budget, what is held and what is left, the greatest reservation that fits, the streams, and the share used
+-- a link: its rate, its budget, what is held at most in a cycle and what is left then, the greatest reservation that fits, the streams, and the share used
 abbrev pub load_fields : Domain → List Row → ℕ → Fields
 load_fields d rows l =
-    name_of_link d l ∷ decimal (rate_on d l) ∷ decimal (budget d l) ∷ decimal (link_cost rows l) ∷ left_text (budget d l) (link_cost rows l)
-    ∷ decimal (fits_on d rows l) ∷ decimal (streams_on rows l) ∷ used_text (budget d l) (link_cost rows l) ∷ []
+    name_of_link d l ∷ decimal (rate_on d l) ∷ decimal (budget d l) ∷ decimal (most_cost rows l) ∷ left_text (budget d l) (most_cost rows l)
+    ∷ decimal (fits_on d rows l) ∷ decimal (streams_on rows l) ∷ used_text (budget d l) (most_cost rows l) ∷ []
 
 -- a line a link, of so many links, by number
 abbrev pub lines_of_links : Domain → List Row → ℕ → List ℕ

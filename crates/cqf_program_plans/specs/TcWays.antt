@@ -8,8 +8,8 @@ use Rattle.cqf_program_plans.specs.TcBridge.{comes_by}
 
 -- by link it's noted whether some stream comes by it
 pub record IsSeenWay (d : Domain) (bridge : ℕ) (before : List Row) (seen : List Bool) : Type 0 where
-  pub size : length seen ≡ 256
-  pub each : (link : ℕ) → link < 256 → slice_index_or seen link false ≡ list_any (comes_by d bridge link) before
+  pub size : length seen ≡ 65536
+  pub each : (link : ℕ) → link < 65536 → slice_index_or seen link false ≡ list_any (comes_by d bridge link) before
 
 -- whether no stream was noted that comes that way
 abbrev pub is_unseen : List Bool → Option ℕ → Bool

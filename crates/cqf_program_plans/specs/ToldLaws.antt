@@ -5,11 +5,10 @@ use Rattle.cqf_model.specs.declared.frames.Offer.{Offer}
 use Rattle.cqf_model.specs.declared.frames.Started.{Started}
 use Rattle.cqf_model.specs.Book.{Contents}
 use Rattle.cqf_model.specs.Domain.{Domain, IsAccepted}
-use Rattle.cqf_model.specs.History.{Asked, IsLegalHistory, Recorded, held_in, tables_of}
+use Rattle.cqf_model.specs.History.{Asked, IsLegalHistory, Recorded, held_in, most_beside, tables_of}
 use Rattle.cqf_model.specs.HistoryBook.{IsBookOfHistory, run_of_history}
 use Rattle.cqf_model.specs.Run.{AreBackground, AreOffers}
 use Rattle.cqf_model.specs.Shift.{InShift}
-use Rattle.cqf_model.specs.Table.{link_cost}
 use Rattle.cqf_program_plans.specs.CompileOutput.{admitted_from}
 use Rattle.cqf_laws_latency.specs.Latency.{IsTimely, least_of, most_of, whole_of}
 use Rattle.cqf_laws_latency.specs.Streams.{AdmitsOnly}
@@ -29,4 +28,4 @@ ToldLatenciesHold =
     (book : Contents) → IsAccepted d → admitted_from d [] 1 streams ≡ Ok plan → IsLegalHistory d entries → AdmitsOnly streams entries →
     AreOffers d offers → AreBackground d background → IsBookOfHistory d entries offers background cycles book → (s : Started) → Contains book.starts s →
     (shift : InShift (run_of_history d entries offers background cycles) (length (tables_of d entries cycles)) s.frame s.link s.cycle.0) →
-    IsAsTold d s.link shift.depth (link_cost (held_in d plan 0) s.link) shift.x.offer.at.0 (whole_of d s)
+    IsAsTold d s.link shift.depth (most_beside (held_in d plan 0) shift.row.tree.items shift.row.pace s.link) shift.x.offer.at.0 (whole_of d s)

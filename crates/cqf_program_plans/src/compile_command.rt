@@ -2,7 +2,7 @@
 ghost use Rattle.std.specs.Prelude.{ℕ, ◌≡◌, ◌≢◌, ◌+◌, ◌++◌, ◌<◌, ◌^◌, [], ◌∷◌, List, Ok, IfOk, IfErr, OnOk, length, map, string_bytes};
 ghost use Rattle.cqf_admission.specs.Admission.{HoldsOneMore};
 ghost use Rattle.cqf_admission.specs.Asking.{asked_of};
-ghost use Rattle.cqf_admission.specs.Tables.{AreAlongLinks};
+ghost use Rattle.cqf_admission.specs.Tables.{AreAlongLinks, AreOfEachCycle};
 ghost use Rattle.cqf_laws_history.specs.StateLaws.{AreHeld};
 ghost use Rattle.cqf_admission_ledger.specs.Forms.{IsRowOfGoodForm};
 ghost use Rattle.cqf_model.specs.History.{Asked, Recorded};
@@ -19,7 +19,7 @@ use cqf_admission_trees::count_places;
 use cqf_compile::compile;
 use cqf_gates::{compiled_list, write_tx};
 use cqf_laws_history::state_follows_history;
-use cqf_model::Row;
+use cqf_model::{EACH_CYCLE, Row};
 use cqf_program_press::Sheet;
 use cqf_program_scenario::{domain_part, streams_part, two_parts};
 use cqf_program_stop::{REFUSED, Stop};
@@ -80,6 +80,7 @@ fn row_at(alloc: Global, domain: &Domain, request: &Request, place: usize) -> Re
             no: 0,
             name,
             octets: request.octets,
+            pace: EACH_CYCLE,
             tree,
             admitted: Cycle(0),
             withdrawn: None,
@@ -185,6 +186,7 @@ fn rows_with(
     ensures held { IfOk result (λ rows. HoldsAll domain.now (map asked_of requests.now) rows.items) }
     ensures along { IfOk result (λ rows. AreAlongLinks domain.now rows.items) }
     ensures sound { IfOk result (λ rows. (next : ℕ) × AreHeld domain.now rows.items next 0) }
+    ensures paced { IfOk result (λ rows. AreOfEachCycle rows.items) }
     ensures err { IfErr result (IsRefused (admitted_from domain.now [] 1 (map asked_of requests.now))) }
 {
     state_follows_history();
@@ -206,6 +208,7 @@ pub fn rows_of_cycle_0(
     ensures held { IfOk result (λ rows. HoldsAll domain.now (map asked_of requests.now) rows.items) }
     ensures along { IfOk result (λ rows. AreAlongLinks domain.now rows.items) }
     ensures sound { IfOk result (λ rows. (next : ℕ) × AreHeld domain.now rows.items next 0) }
+    ensures paced { IfOk result (λ rows. AreOfEachCycle rows.items) }
     ensures err { IfErr result (IsRefused (admitted_from domain.now [] 1 (map asked_of requests.now))) }
 {
     let Ok(mut ledger) = Ledger::new(alloc, domain, requests, &[]) else {

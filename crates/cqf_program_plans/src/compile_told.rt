@@ -18,7 +18,7 @@ use cqf_program_telling::{put_bridge, put_link};
 use cqf_topology::Domain;
 
 /// Puts the line of a link, and a text behind it.
-fn put_port<W: Sink>(press: &mut Press<'_, W>, domain: &Domain, link: u8, port_text: &[u8])
+fn put_port<W: Sink>(press: &mut Press<'_, W>, domain: &Domain, link: u16, port_text: &[u8])
     ensures { Puts W.contents press.old press.new (codes "link " ++ (name_of_link domain.now link ++ 10 ∷ port_text.now)) }
 {
     press.put(b"link ");
@@ -42,7 +42,7 @@ fn put_at<W: Sink>(
     press: &mut Press<'_, W>,
     domain: &Domain,
     front: &[u8],
-    bridge: u8,
+    bridge: u16,
     behind: &[u8],
 )
     ensures { Puts W.contents press.old press.new (front.now ++ (name_of_bridge domain.now bridge ++ behind.now)) }

@@ -1,7 +1,7 @@
 //! The command `latency`: the latencies of a domain's streams.
 ghost use Rattle.std.specs.Prelude.{ℕ, ◌≡◌, true, Ok, IfOk, IfErr, OnOk, find, map, option_copied, string_bytes};
 ghost use Rattle.cqf_admission.specs.Asking.{asked_of};
-ghost use Rattle.cqf_admission.specs.Tables.{AreAlongLinks};
+ghost use Rattle.cqf_admission.specs.Tables.{AreAlongLinks, AreOfEachCycle};
 ghost use Rattle.cqf_laws_history.specs.StateLaws.{AreHeld};
 ghost use Rattle.cqf_program_stop.specs.Stops.{EndsWith, IsRefused};
 ghost use Rattle.cqf_program_plans.specs.LatencyText.{first_line_of, first_not_sure, is_not_sure, latencies_of, latency_text, not_sure_line, text_of_latency};
@@ -76,6 +76,7 @@ fn latencies_ready(
 ) -> Result<LatencyOutput, Memory>
     requires along { AreAlongLinks domain rows.items }
     requires held { (next : ℕ) × AreHeld domain rows.items next 0 }
+    requires paced { AreOfEachCycle rows.items }
     ensures { IfOk result (λ output. output ≡ latencies_of domain rows.items deadlines.now) }
 {
     let latencies = latencies_of_rows(alloc, &domain, rows.as_slice(), deadlines)?;
@@ -93,6 +94,7 @@ fn output_of_rows(
 ) -> Result<LatencyOutput, Stop>
     requires along { AreAlongLinks domain rows.items }
     requires held { (next : ℕ) × AreHeld domain rows.items next 0 }
+    requires paced { AreOfEachCycle rows.items }
     ensures ok { let told = unless_strict strict (first_not_sure domain rows.items deadlines.now) (latency_text domain rows.items deadlines.now) in
         IfOk result (λ output. told ≡ Ok (text_of_latency output)) }
     ensures err { let told = unless_strict strict (first_not_sure domain rows.items deadlines.now) (latency_text domain rows.items deadlines.now) in

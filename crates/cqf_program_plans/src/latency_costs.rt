@@ -1,10 +1,10 @@
 //! What the streams of some rows cost of each link.
 ghost use Rattle.std.specs.Prelude.{ℕ, ◌≡◌, ◌<◌, ◌≤◌, ◌^◌, ◌∷◌, [], All, IfOk, length};
-ghost use Rattle.cqf_admission.specs.Tables.{AreAlongLinks};
+ghost use Rattle.cqf_admission.specs.Rows.{cost_by_link, costs_on};
+ghost use Rattle.cqf_admission.specs.Tables.{AreAlongLinks, AreOfEachCycle};
 ghost use Rattle.cqf_laws_history.specs.StateLaws.{AreHeld};
 ghost use Rattle.cqf_lists.specs.Lists.{each_below};
 ghost use Rattle.cqf_model.specs.declared.topology.Row.{Row as ARow};
-ghost use Rattle.cqf_model.specs.Table.{cost_on, link_cost};
 ghost use Rattle.cqf_model.specs.Limits.{most_reserved};
 
 use cqf_model::Row;
@@ -33,9 +33,9 @@ impl<'r> Model for Costs<'r> {
 }
 
 /// What a row's stream costs of a link.
-fn cost_on(row: &Row, link: u8) -> u32
+fn cost_on(row: &Row, link: u16) -> u32
     requires { row.now.octets ≤ most_reserved }
-    ensures { result ≡ cost_on row.now link }
+    ensures { result ≡ cost_by_link row.now link }
 {
     if row.crosses(link) {
         cost(Octets(row.octets)).0
@@ -45,10 +45,10 @@ fn cost_on(row: &Row, link: u8) -> u32
 }
 
 /// What the rows' streams cost of a link.
-fn link_cost(rows: &[Row], link: u8) -> u32
+fn link_cost(rows: &[Row], link: u16) -> u32
     requires octets { All (λ (row : ARow). row.octets ≤ most_reserved) rows.now }
-    requires fits { link_cost rows.now link < 2 ^ 32 }
-    ensures { result ≡ link_cost rows.now link }
+    requires fits { costs_on rows.now link < 2 ^ 32 }
+    ensures { result ≡ costs_on rows.now link }
 {
     let mut total = 0;
     for row in rows {
@@ -57,13 +57,15 @@ fn link_cost(rows: &[Row], link: u8) -> u32
     total
 }
 
-/// What the streams of these rows of a table of the domain cost of each link, by number, in octets a cycle.
+/// What the streams of these rows of a table of the domain, which are offered in each cycle, cost of each link, by number, in octets a
+/// cycle.
 ///
 /// # Errors
 /// `Memory` where a growth is refused.
 pub fn link_costs(alloc: Global, domain: &Domain, rows: &[Row]) -> Result<Vec<u32>, Memory>
-    requires { (next : ℕ) × AreHeld domain.now rows.now next 0 }
-    ensures { IfOk result (λ costs. costs.items ≡ each_below (λ l. link_cost rows.now l ∷ []) (length domain.now.links)) }
+    requires held { (next : ℕ) × AreHeld domain.now rows.now next 0 }
+    requires paced { AreOfEachCycle rows.now }
+    ensures { IfOk result (λ costs. costs.items ≡ each_below (λ l. costs_on rows.now l ∷ []) (length domain.now.links)) }
 {
     // the domain is accepted: a fact for the loop
     let _cycle_time = domain.cycle_time();
@@ -83,6 +85,7 @@ impl<'r> Costs<'r> {
     ) -> Result<Costs<'r>, Memory>
         requires along { AreAlongLinks domain.now rows.now }
         requires held { (next : ℕ) × AreHeld domain.now rows.now next 0 }
+        requires paced { AreOfEachCycle rows.now }
         ensures { IfOk result (λ costs. costs ≡ record { domain = domain.now; rows = rows.now }) }
     {
         let costs = link_costs(alloc, domain, rows)?;
@@ -104,14 +107,15 @@ impl<'r> Costs<'r> {
     pub(crate) fn rows(&self) -> &[Row]
         ensures rows { result.now ≡ self.now.rows }
         ensures along { AreAlongLinks self.now.domain self.now.rows }
+        ensures paced { AreOfEachCycle self.now.rows }
     {
         self.rows
     }
 
     /// What the streams cost of a link, in octets a cycle.
-    pub(crate) fn of_link(&self, link: u8) -> u32
+    pub(crate) fn of_link(&self, link: u16) -> u32
         requires { link < length self.now.domain.links }
-        ensures { result ≡ link_cost self.now.rows link }
+        ensures { result ≡ costs_on self.now.rows link }
     {
         self.costs[usize::from(link)]
     }

@@ -1,12 +1,14 @@
 //! The latencies of the streams of a table to their listeners.
 ghost use Rattle.std.specs.Prelude.{ℕ, ◌≡◌, ◌*◌, ◌<◌, ◌≤◌, ◌^◌, ◌++◌, All, IfOk, OnOk, Some, None, if◌then◌else◌, length};
-ghost use Rattle.cqf_admission.specs.Tables.{AreAlongLinks};
+ghost use Rattle.cqf_admission.specs.Tables.{AreAlongLinks, AreOfEachCycle};
 ghost use Rattle.cqf_laws_history.specs.StateLaws.{AreHeld};
 ghost use Rattle.cqf_laws_latency.specs.Latency.{least_of, most_of, window_of};
 ghost use Rattle.cqf_program_plans.specs.EndNames.{name_of_end};
 ghost use Rattle.cqf_program_plans.specs.LatencyText.{deadline_of, is_station, latencies_of, latencies_of_row, latency_to};
 ghost use Rattle.cqf_model.specs.Domain.{end_of};
-ghost use Rattle.cqf_model.specs.Table.{link_cost, links_of};
+ghost use Rattle.cqf_model.specs.Paces.{each_cycle};
+ghost use Rattle.cqf_admission.specs.Rows.{costs_on};
+ghost use Rattle.cqf_model.specs.Table.{links_of};
 
 use crate::latency_costs::Costs;
 use crate::latency_latencies::Latency;
@@ -16,7 +18,7 @@ use cqf_units::{Memory, Name, octet_time};
 use std::alloc::Global;
 
 /// The least that a frame takes to the end of a link of this depth.
-fn least_to(domain: &Domain, link: u8, depth: u8) -> u64
+fn least_to(domain: &Domain, link: u16, depth: u8) -> u64
     requires { link < length domain.now.links }
     ensures { result ≡ least_of domain.now link depth }
 {
@@ -26,7 +28,7 @@ fn least_to(domain: &Domain, link: u8, depth: u8) -> u64
 }
 
 /// The most that a frame takes to the end of a link of this depth, in nanoseconds, of which the streams cost so many octets (profile).
-pub fn most_to(domain: &Domain, link: u8, depth: u8, cost: u64) -> u64
+pub fn most_to(domain: &Domain, link: u16, depth: u8, cost: u64) -> u64
     requires link { link < length domain.now.links }
     requires cost { cost ≤ 2 ^ 32 * 100000 }
     ensures { result ≡ most_of domain.now link depth cost }
@@ -37,7 +39,7 @@ pub fn most_to(domain: &Domain, link: u8, depth: u8, cost: u64) -> u64
 }
 
 /// How far apart the frames of one cycle can be whole at the end of a link of which the streams cost so much.
-fn window_at(domain: &Domain, link: u8, cost: u32) -> u64
+fn window_at(domain: &Domain, link: u16, cost: u32) -> u64
     requires { link < length domain.now.links }
     ensures { result ≡ window_of domain.now link cost }
 {
@@ -46,7 +48,7 @@ fn window_at(domain: &Domain, link: u8, cost: u32) -> u64
 }
 
 /// The name of the station that a link of the domain ends in, where a listener is; none where it ends in a bridge.
-pub fn listener_at(domain: &Domain, link: u8) -> Option<Name>
+pub fn listener_at(domain: &Domain, link: u16) -> Option<Name>
     requires { link < length domain.now.links }
     ensures { result ≡ (if is_station (end_of domain.now link) then Some (name_of_end domain.now link) else None) }
 {
@@ -61,7 +63,7 @@ pub fn listener_at(domain: &Domain, link: u8) -> Option<Name>
 /// The latency to the end of a hop of a row's tree, where a listener is there.
 fn latency_at(costs: &Costs<'_>, row: &Row, deadline: Option<u32>, hop: &Hop) -> Option<Latency>
     requires { hop.now.link < length costs.now.domain.links }
-    ensures { let cost = link_cost costs.now.rows hop.now.link in result
+    ensures { let cost = costs_on costs.now.rows hop.now.link in result
         ≡ (if is_station (end_of costs.now.domain hop.now.link) then Some (latency_to costs.now.domain cost row.now deadline hop.now) else None) }
 {
     let (domain, link, depth) = (costs.domain(), hop.link, hop.depth);
@@ -85,7 +87,9 @@ fn push_listeners(
     row: &Row,
     deadline: Option<u32>,
 ) -> Result<(), Memory>
-    requires { All (λ l. l < length costs.now.domain.links) (links_of row.now) }
+    requires along { All (λ l. l < length costs.now.domain.links) (links_of row.now) }
+    requires paced { row.now.pace ≡ each_cycle }
+    requires all { AreOfEachCycle costs.now.rows }
     ensures { OnOk result (latencies.new.items ≡ latencies.old.items ++ latencies_of_row costs.now.domain costs.now.rows row.now deadline) }
 {
     for hop in row.tree.as_slice() {
@@ -134,6 +138,7 @@ pub fn latencies_of_rows(
 ) -> Result<Vec<Latency>, Memory>
     requires along { AreAlongLinks domain.now rows.now }
     requires held { (next : ℕ) × AreHeld domain.now rows.now next 0 }
+    requires paced { AreOfEachCycle rows.now }
     ensures { IfOk result (λ latencies. latencies.items ≡ latencies_of domain.now rows.now deadlines.now) }
 {
     let costs = Costs::new(alloc, domain, rows)?;

@@ -25,6 +25,8 @@ fn list_one(
     ensures ok { IfOk result (λ after. (more : List Asked) → listed_from domain.now listing (asked_of request.now ∷ more) ≡ listed_from domain.now after more) }
     ensures err { IfErr result (λ stop. (more : List Asked) → IsRefused (listed_from domain.now listing (asked_of request.now ∷ more)) stop) }
 {
+    // the domain is accepted: a fact for the call below
+    let _cycle_time = domain.cycle_time();
     if count_places(request.paths.as_slice()).is_none() {
         return Err(Stop::memory(alloc));
     }
@@ -42,7 +44,9 @@ fn list_all(alloc: Global, domain: &Domain, requests: &[Request]) -> Result<List
     ensures ok { IfOk result (λ listing. listed_from domain.now [] (map asked_of requests.now) ≡ Ok listing) }
     ensures err { IfErr result (IsRefused (listed_from domain.now [] (map asked_of requests.now))) }
 {
-    let mut listing = Listing::new(alloc);
+    let Ok(mut listing) = Listing::new(alloc) else {
+        return Err(Stop::memory(alloc));
+    };
     for request in requests {
         listing = list_one(alloc, domain, listing, request)?;
     }

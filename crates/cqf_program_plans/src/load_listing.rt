@@ -1,30 +1,33 @@
 //! Streams that are listed beside one another, whatever room links have.
-ghost use Rattle.std.specs.Prelude.{ℕ, ◌≡◌, ◌≤◌, ◌<◌, ◌^◌, [], ◌∷◌, ◌++◌, IfOk, false, length, slice_index_or};
+ghost use Rattle.std.specs.Prelude.{ℕ, ◌≡◌, ◌≤◌, ◌<◌, ◌^◌, [], ◌∷◌, ◌++◌, IfOk, false, length, replicate, slice_index_or};
 ghost use Rattle.std.specs.List.{list_any};
 ghost use Rattle.cqf_model.specs.Domain.{is_text};
-ghost use Rattle.cqf_model.specs.Table.{crosses, link_cost};
 ghost use Rattle.cqf_admission_trees.specs.Branches.{branches_of, places_of};
 ghost use Rattle.cqf_admission.specs.Asking.{asked_of};
 ghost use Rattle.cqf_program_plans.specs.Listing.{Lists};
 ghost use Rattle.cqf_program_plans.specs.Fitting.{streams_on};
 ghost use Rattle.cqf_program_plans.specs.Adding.{AddsWhere};
-ghost use Rattle.cqf_model.specs.Limits.{most_reserved, most_streams};
+ghost use Rattle.cqf_admission.specs.Costs.{most_cost};
+ghost use Rattle.cqf_admission.specs.Rows.{IsCountable};
+ghost use Rattle.cqf_model.specs.Limits.{most_links, most_streams};
+ghost use Rattle.cqf_model.specs.Paces.{each_cycle};
 
-use cqf_admission::{Judged, MOST_STREAMS, judge};
-use cqf_model::{Refused, Row};
+use cqf_admission::{Judged, judge};
+use cqf_admission_trees::add_on;
+use cqf_model::{EACH_CYCLE, MOST_LINKS, Refused, Row};
 use cqf_topology::{Domain, Request};
 use cqf_units::{Cycle, Memory, Name, Octets, cost};
 use indexmap::IndexSet;
 use std::alloc::Global;
 use std::marker::Model;
 
-/// The rows of streams by number, at most 1,024, with what they cost of each link and how many go by it.
+/// The rows of streams by number, with what they cost of each link and how many go by it.
 #[derive(Drop)]
 pub(crate) struct Listing {
     names: IndexSet<Name>,
     rows: Vec<Row>,
-    held: [u64; 64],
-    crossing: [u64; 64],
+    held: Vec<u64>,
+    crossing: Vec<u64>,
 }
 
 impl Model for Listing {
@@ -36,37 +39,40 @@ impl Model for Listing {
 
     ghost view = { λ l. l.rows.items };
 
-    ghost invariant = { λ l. IsListing l.names.keys l.rows.items l.held l.crossing };
+    ghost invariant = { λ l. IsListing l.names.keys l.rows.items l.held.items l.crossing.items };
 }
 
-/// By link, a number more where the row's stream goes by it.
-fn added(by_link: &[u64; 64], row: &Row, number: u32) -> [u64; 64]
-    requires { (l : ℕ) → l < 64 → slice_index_or by_link.now l 0 < 2 ^ 32 }
-    ensures { AddsWhere by_link.now row.now number result }
+/// As many sums as these, each 0, unless memory runs out.
+fn no_sums(alloc: Global, count: usize) -> Result<Vec<u64>, Memory>
+    ensures { IfOk result (λ sums. sums.items ≡ replicate count 0) }
 {
-    let mut after = [0; 64];
-    for link in 0..64u8 {
-        let place = usize::from(link);
-        after[place] = if row.crosses(link) {
-            by_link[place] + u64::from(number)
-        } else {
-            by_link[place]
-        };
-    }
-    after
+    Ok(vec![in alloc; 0; count]?)
+}
+
+/// Adds a number to that of each link by which a row's stream goes.
+fn add_where(by_link: &mut Vec<u64>, row: &Row, number: u32)
+    requires all { length by_link.old.items ≡ most_links }
+    requires countable { IsCountable most_links row.now }
+    requires low { (l : ℕ) → l < most_links → slice_index_or by_link.old.items l 0 < 2 ^ 32 }
+    ensures { AddsWhere by_link.old.items row.now number by_link.new.items }
+{
+    let links = row.links();
+    add_on(by_link, links.as_slice(), number);
 }
 
 impl Listing {
-    /// No streams. It takes no memory.
-    pub(crate) fn new(alloc: Global) -> Listing
-        ensures { result ≡ [] }
+    /// No streams, unless memory runs out.
+    pub(crate) fn new(alloc: Global) -> Result<Listing, Memory>
+        ensures { IfOk result (λ listing. listing ≡ []) }
     {
-        Listing {
+        let held = no_sums(alloc, MOST_LINKS)?;
+        let crossing = no_sums(alloc, MOST_LINKS)?;
+        Ok(Listing {
             names: IndexSet::new(alloc),
             rows: Vec::new(alloc),
-            held: [0; 64],
-            crossing: [0; 64],
-        }
+            held,
+            crossing,
+        })
     }
 
     /// How many streams are listed.
@@ -83,19 +89,19 @@ impl Listing {
         self.names.contains(name)
     }
 
-    /// What the streams cost of a link, in octets a cycle: at most 102,400,000.
-    pub(crate) fn cost_on(&self, link: u8) -> u64
-        requires { link < 64 }
-        ensures cost { result ≡ link_cost self.now link }
-        ensures bounded { result ≤ 102400000 }
+    /// What the streams cost of a link at most in a cycle, in octets: at most 1,638,400,000.
+    pub(crate) fn cost_on(&self, link: u16) -> u64
+        requires { link < most_links }
+        ensures cost { result ≡ most_cost self.now link }
+        ensures bounded { result ≤ 1638400000 }
     {
         let rows = &self.rows;
         self.held[usize::from(link)]
     }
 
     /// How many of them go by it.
-    pub(crate) fn streams_on(&self, link: u8) -> u64
-        requires { link < 64 }
+    pub(crate) fn streams_on(&self, link: u16) -> u64
+        requires { link < most_links }
         ensures { result ≡ streams_on self.now link }
     {
         let rows = &self.rows;
@@ -112,7 +118,7 @@ impl Listing {
         if self.has_name(&judged.name) {
             return Err(Refused::NameHeld);
         }
-        if self.len() >= MOST_STREAMS {
+        if self.len() >= domain.limits().streams_within() {
             return Err(Refused::TooManyStreams);
         }
         let Judged { name, tree, .. } = judged;
@@ -120,6 +126,7 @@ impl Listing {
             no: self.len() as u32,
             name,
             octets: request.octets,
+            pace: EACH_CYCLE,
             tree,
             admitted: Cycle(0),
             withdrawn: None,
@@ -129,7 +136,8 @@ impl Listing {
     /// The listing with a row more behind the others, of a name that isn't listed, unless memory runs out.
     pub(crate) fn with(self, row: Row) -> Result<Listing, Memory>
         requires few { length self < most_streams }
-        requires octets { row.octets ≤ most_reserved }
+        requires countable { IsCountable most_links row }
+        requires paced { row.pace ≡ each_cycle }
         requires free { list_any (λ other. is_text other.name row.name) self ≡ false }
         ensures { IfOk result (λ listing. listing ≡ self ++ row ∷ []) }
     {
@@ -139,9 +147,9 @@ impl Listing {
             held,
             crossing,
         } = self;
-        let (mut names, mut rows) = (names, rows);
-        let held = added(&held, &row, cost(Octets(row.octets)).0);
-        let crossing = added(&crossing, &row, 1);
+        let (mut names, mut rows, mut held, mut crossing) = (names, rows, held, crossing);
+        add_where(&mut held, &row, cost(Octets(row.octets)).0);
+        add_where(&mut crossing, &row, 1);
         names.insert(row.name.copied())?;
         rows.push(row)?;
         Ok(Listing {

@@ -27,19 +27,19 @@ fn megabits_of(rate: Rate) -> u32
 }
 
 /// The rate of a link in Mb/s.
-fn rate_on(domain: &Domain, link: u8) -> u32
+fn rate_on(domain: &Domain, link: u16) -> u32
     requires { link < length domain.now.links }
     ensures { result ≡ rate_on domain.now link }
 {
     megabits_of(domain.link(link).rate)
 }
 
-/// The budget of a link, in octets a cycle. A domain has at most 64 links.
-fn budget_on(domain: &Domain, link: u8) -> u64
+/// The budget of a link, in octets a cycle. A domain has at most 4,096 links.
+fn budget_on(domain: &Domain, link: u16) -> u64
     requires { link < length domain.now.links }
     ensures value { result ≡ budget domain.now link }
     ensures range { result < 2 ^ 32 }
-    ensures low { link < 64 }
+    ensures low { link < 4096 }
 {
     let rate = domain.link(link).rate;
     u64::from(budget(domain.cycle_time(), domain.guard(), rate).0)
@@ -98,7 +98,7 @@ fn put_fits<W: Sink>(press: &mut Press<'_, W>, budget: u64, held: u64)
 }
 
 /// Puts the line of a link.
-fn put_line<W: Sink>(press: &mut Press<'_, W>, domain: &Domain, listing: &Listing, link: u8)
+fn put_line<W: Sink>(press: &mut Press<'_, W>, domain: &Domain, listing: &Listing, link: u16)
     requires { link < length domain.now.links }
     ensures { Puts W.contents press.old press.new (line_of_fields (load_fields domain.now listing.now link)) }
 {

@@ -17,7 +17,7 @@ use cqf_program_telling::{put_bridge, put_link, put_node};
 use cqf_topology::Domain;
 
 /// Puts the name of the node that a link ends in. A link that the domain lacks ends in none.
-fn put_end<W: Sink>(press: &mut Press<'_, W>, domain: &Domain, link: u8)
+fn put_end<W: Sink>(press: &mut Press<'_, W>, domain: &Domain, link: u16)
     ensures { Puts W.contents press.old press.new (name_of_end domain.now link) }
 {
     if link < domain.links() {
@@ -26,7 +26,7 @@ fn put_end<W: Sink>(press: &mut Press<'_, W>, domain: &Domain, link: u8)
 }
 
 /// The number of the bridge that a link leaves.
-fn bridge_of(domain: &Domain, link: u8) -> u8
+fn bridge_of(domain: &Domain, link: u16) -> u16
     ensures { result ≡ bridge_of domain.now link }
 {
     if link < domain.links() {
@@ -37,7 +37,7 @@ fn bridge_of(domain: &Domain, link: u8) -> u8
 }
 
 /// Puts the variable of the interface by which a stream comes.
-fn put_way<W: Sink>(press: &mut Press<'_, W>, row: &Row, way: Option<u8>)
+fn put_way<W: Sink>(press: &mut Press<'_, W>, row: &Row, way: Option<u16>)
     ensures { Puts W.contents press.old press.new (way_in row.now way) }
 {
     match way {
@@ -53,7 +53,7 @@ fn put_way<W: Sink>(press: &mut Press<'_, W>, row: &Row, way: Option<u8>)
 }
 
 /// Puts the line that wants the interface of a link that leaves the bridge.
-fn put_out_need<W: Sink>(press: &mut Press<'_, W>, domain: &Domain, bridge: u8, link: u8)
+fn put_out_need<W: Sink>(press: &mut Press<'_, W>, domain: &Domain, bridge: u16, link: u16)
     ensures { Puts W.contents press.old press.new (out_need domain.now bridge link) }
 {
     press.put(b"    port OUT_");
@@ -70,7 +70,7 @@ fn put_out_need<W: Sink>(press: &mut Press<'_, W>, domain: &Domain, bridge: u8, 
 }
 
 /// Puts the line that wants the interface by which a stream comes from its talker.
-fn put_talker_need<W: Sink>(press: &mut Press<'_, W>, domain: &Domain, bridge: u8, row: &Row)
+fn put_talker_need<W: Sink>(press: &mut Press<'_, W>, domain: &Domain, bridge: u16, row: &Row)
     ensures { Puts W.contents press.old press.new (way_need domain.now bridge row.now None) }
 {
     press.put(b"    port TALKER_");
@@ -85,7 +85,7 @@ fn put_talker_need<W: Sink>(press: &mut Press<'_, W>, domain: &Domain, bridge: u
 }
 
 /// Puts the line that wants the interface by which streams come over a link.
-fn put_link_need<W: Sink>(press: &mut Press<'_, W>, domain: &Domain, bridge: u8, link: u8)
+fn put_link_need<W: Sink>(press: &mut Press<'_, W>, domain: &Domain, bridge: u16, link: u16)
     ensures { Puts W.contents press.old press.new (link_need domain.now bridge link) }
 {
     let from = bridge_of(domain, link);
@@ -106,9 +106,9 @@ fn put_link_need<W: Sink>(press: &mut Press<'_, W>, domain: &Domain, bridge: u8,
 fn put_way_need<W: Sink>(
     press: &mut Press<'_, W>,
     domain: &Domain,
-    bridge: u8,
+    bridge: u16,
     row: &Row,
-    way: Option<u8>,
+    way: Option<u16>,
 )
     ensures { Puts W.contents press.old press.new (way_need domain.now bridge row.now way) }
 {
@@ -134,7 +134,7 @@ fn put_frame_needs<W: Sink>(press: &mut Press<'_, W>, row: &Row)
 }
 
 /// Puts the line that clears the interface by which a stream comes.
-fn put_clearing<W: Sink>(press: &mut Press<'_, W>, row: &Row, way: Option<u8>)
+fn put_clearing<W: Sink>(press: &mut Press<'_, W>, row: &Row, way: Option<u16>)
     ensures { Puts W.contents press.old press.new (way_clearing row.now way) }
 {
     press.put(b"    no_gates \"$");
@@ -143,7 +143,7 @@ fn put_clearing<W: Sink>(press: &mut Press<'_, W>, row: &Row, way: Option<u8>)
 }
 
 /// Puts the call that sets the list of a link that leaves the bridge.
-fn put_link_call<W: Sink>(press: &mut Press<'_, W>, link: u8)
+fn put_link_call<W: Sink>(press: &mut Press<'_, W>, link: u16)
     ensures { Puts W.contents press.old press.new (link_call link) }
 {
     press.put(b"    link \"$OUT_");
@@ -152,7 +152,7 @@ fn put_link_call<W: Sink>(press: &mut Press<'_, W>, link: u8)
 }
 
 /// Puts the lines of a link that leaves the bridge.
-fn put_link_lines<W: Sink>(press: &mut Press<'_, W>, domain: &Domain, link: u8)
+fn put_link_lines<W: Sink>(press: &mut Press<'_, W>, domain: &Domain, link: u16)
     ensures { Puts W.contents press.old press.new (link_lines domain.now link) }
 {
     press.put(b"    # link ");
@@ -165,7 +165,7 @@ fn put_link_lines<W: Sink>(press: &mut Press<'_, W>, domain: &Domain, link: u8)
 }
 
 /// Puts the interface of a hop, where it leaves the bridge.
-fn put_way_out<W: Sink>(press: &mut Press<'_, W>, domain: &Domain, bridge: u8, hop: &Hop)
+fn put_way_out<W: Sink>(press: &mut Press<'_, W>, domain: &Domain, bridge: u16, hop: &Hop)
     ensures { Puts W.contents press.old press.new (way_out domain.now bridge hop.now) }
 {
     if leaves(domain, hop.link, bridge) {
@@ -175,7 +175,7 @@ fn put_way_out<W: Sink>(press: &mut Press<'_, W>, domain: &Domain, bridge: u8, h
 }
 
 /// Puts the interfaces by which a stream leaves the bridge.
-fn put_ways_out<W: Sink>(press: &mut Press<'_, W>, domain: &Domain, bridge: u8, row: &Row)
+fn put_ways_out<W: Sink>(press: &mut Press<'_, W>, domain: &Domain, bridge: u16, row: &Row)
     ensures { Puts W.contents press.old press.new (ways_out domain.now bridge row.now) }
 {
     for hop in row.tree.as_slice() {
@@ -184,7 +184,7 @@ fn put_ways_out<W: Sink>(press: &mut Press<'_, W>, domain: &Domain, bridge: u8, 
 }
 
 /// Puts the call that sets a stream's gate at the interface by which it comes.
-fn put_gate_call<W: Sink>(press: &mut Press<'_, W>, row: &Row, way: Option<u8>)
+fn put_gate_call<W: Sink>(press: &mut Press<'_, W>, row: &Row, way: Option<u16>)
     ensures { Puts W.contents press.old press.new (gate_call row.now way) }
 {
     press.put(b"    gate \"$");
@@ -203,9 +203,9 @@ fn put_gate_call<W: Sink>(press: &mut Press<'_, W>, row: &Row, way: Option<u8>)
 fn put_stream_lines<W: Sink>(
     press: &mut Press<'_, W>,
     domain: &Domain,
-    bridge: u8,
+    bridge: u16,
     row: &Row,
-    way: Option<u8>,
+    way: Option<u16>,
 )
     ensures { Puts W.contents press.old press.new (stream_lines domain.now bridge row.now way) }
 {
@@ -221,7 +221,7 @@ fn put_stream_lines<W: Sink>(
 }
 
 /// Puts the line that wants the interface of a link, where it leaves the bridge.
-fn put_out_need_of<W: Sink>(press: &mut Press<'_, W>, domain: &Domain, bridge: u8, link: u8)
+fn put_out_need_of<W: Sink>(press: &mut Press<'_, W>, domain: &Domain, bridge: u16, link: u16)
     ensures { Puts W.contents press.old press.new (if_left domain.now bridge (out_need domain.now bridge) link) }
 {
     if leaves(domain, link, bridge) {
@@ -230,7 +230,7 @@ fn put_out_need_of<W: Sink>(press: &mut Press<'_, W>, domain: &Domain, bridge: u
 }
 
 /// Puts the lines that want the interfaces of the links that leave the bridge.
-fn put_out_needs<W: Sink>(press: &mut Press<'_, W>, domain: &Domain, bridge: u8)
+fn put_out_needs<W: Sink>(press: &mut Press<'_, W>, domain: &Domain, bridge: u16)
     ensures { Puts W.contents press.old press.new (each_link domain.now bridge (out_need domain.now bridge)) }
 {
     for link in 0..domain.links() {
@@ -239,7 +239,7 @@ fn put_out_needs<W: Sink>(press: &mut Press<'_, W>, domain: &Domain, bridge: u8)
 }
 
 /// Puts the lines of a link, where it leaves the bridge.
-fn put_lines_of_link<W: Sink>(press: &mut Press<'_, W>, domain: &Domain, bridge: u8, link: u8)
+fn put_lines_of_link<W: Sink>(press: &mut Press<'_, W>, domain: &Domain, bridge: u16, link: u16)
     ensures { Puts W.contents press.old press.new (if_left domain.now bridge (link_lines domain.now) link) }
 {
     if leaves(domain, link, bridge) {
@@ -248,7 +248,7 @@ fn put_lines_of_link<W: Sink>(press: &mut Press<'_, W>, domain: &Domain, bridge:
 }
 
 /// Puts the lines of the links that leave the bridge.
-fn put_links<W: Sink>(press: &mut Press<'_, W>, domain: &Domain, bridge: u8)
+fn put_links<W: Sink>(press: &mut Press<'_, W>, domain: &Domain, bridge: u16)
     ensures { Puts W.contents press.old press.new (each_link domain.now bridge (link_lines domain.now)) }
 {
     for link in 0..domain.links() {
@@ -260,9 +260,9 @@ fn put_links<W: Sink>(press: &mut Press<'_, W>, domain: &Domain, bridge: u8)
 fn put_new_need<W: Sink>(
     press: &mut Press<'_, W>,
     domain: &Domain,
-    bridge: u8,
+    bridge: u16,
     row: &Row,
-    way: (Option<u8>, bool),
+    way: (Option<u16>, bool),
 )
     ensures { Puts W.contents press.old press.new (if way.1 then way_need domain.now bridge row.now way.0 else []) }
 {
@@ -275,9 +275,9 @@ fn put_new_need<W: Sink>(
 fn put_needs_by<W: Sink>(
     press: &mut Press<'_, W>,
     domain: &Domain,
-    bridge: u8,
+    bridge: u16,
     row: &Row,
-    way: (Option<u8>, bool),
+    way: (Option<u16>, bool),
 )
     ensures { Puts W.contents press.old press.new (needs_by domain.now bridge row.now way) }
 {
@@ -289,9 +289,9 @@ fn put_needs_by<W: Sink>(
 fn put_needs_of<W: Sink>(
     press: &mut Press<'_, W>,
     domain: &Domain,
-    bridge: u8,
+    bridge: u16,
     row: &Row,
-    way: Option<(Option<u8>, bool)>,
+    way: Option<(Option<u16>, bool)>,
 )
     ensures { Puts W.contents press.old press.new (option_map_or (needs_by domain.now bridge row.now) way []) }
 {
@@ -301,10 +301,10 @@ fn put_needs_of<W: Sink>(
 }
 
 /// Puts what the streams need that leave the bridge.
-fn put_needs<W: Sink>(press: &mut Press<'_, W>, domain: &Domain, bridge: u8, rows: &[Row])
+fn put_needs<W: Sink>(press: &mut Press<'_, W>, domain: &Domain, bridge: u16, rows: &[Row])
     ensures { Puts W.contents press.old press.new (each_stream (stream_needs domain.now bridge) rows.now) }
 {
-    let mut seen = [false; 256];
+    let mut seen = [false; 65536];
     for row in rows {
         let way = way_of(domain, bridge, &mut seen, row);
         put_needs_of(press, domain, bridge, row, way);
@@ -312,7 +312,7 @@ fn put_needs<W: Sink>(press: &mut Press<'_, W>, domain: &Domain, bridge: u8, row
 }
 
 /// Puts the line that clears the interface by which a stream comes, where it's new.
-fn put_clearing_by<W: Sink>(press: &mut Press<'_, W>, row: &Row, way: (Option<u8>, bool))
+fn put_clearing_by<W: Sink>(press: &mut Press<'_, W>, row: &Row, way: (Option<u16>, bool))
     ensures { Puts W.contents press.old press.new (clearing_by row.now way) }
 {
     if way.1 {
@@ -321,7 +321,7 @@ fn put_clearing_by<W: Sink>(press: &mut Press<'_, W>, row: &Row, way: (Option<u8
 }
 
 /// Puts the line that clears the interface by which a stream comes, where it leaves the bridge and the interface is new.
-fn put_clearing_of<W: Sink>(press: &mut Press<'_, W>, row: &Row, way: Option<(Option<u8>, bool)>)
+fn put_clearing_of<W: Sink>(press: &mut Press<'_, W>, row: &Row, way: Option<(Option<u16>, bool)>)
     ensures { Puts W.contents press.old press.new (option_map_or (clearing_by row.now) way []) }
 {
     if let Some(way) = way {
@@ -330,10 +330,10 @@ fn put_clearing_of<W: Sink>(press: &mut Press<'_, W>, row: &Row, way: Option<(Op
 }
 
 /// Puts the lines that clear the interfaces by which streams come.
-fn put_clearings<W: Sink>(press: &mut Press<'_, W>, domain: &Domain, bridge: u8, rows: &[Row])
+fn put_clearings<W: Sink>(press: &mut Press<'_, W>, domain: &Domain, bridge: u16, rows: &[Row])
     ensures { Puts W.contents press.old press.new (each_stream (stream_clearing domain.now bridge) rows.now) }
 {
-    let mut seen = [false; 256];
+    let mut seen = [false; 65536];
     for row in rows {
         let way = way_of(domain, bridge, &mut seen, row);
         put_clearing_of(press, row, way);
@@ -341,7 +341,7 @@ fn put_clearings<W: Sink>(press: &mut Press<'_, W>, domain: &Domain, bridge: u8,
 }
 
 /// Puts the lines of a stream, where it leaves the bridge.
-fn put_stream<W: Sink>(press: &mut Press<'_, W>, domain: &Domain, bridge: u8, row: &Row)
+fn put_stream<W: Sink>(press: &mut Press<'_, W>, domain: &Domain, bridge: u16, row: &Row)
     ensures { Puts W.contents press.old press.new (stream_gates domain.now bridge row.now) }
 {
     if let Some(hop) = first_hop(domain, row, bridge) {
@@ -350,7 +350,7 @@ fn put_stream<W: Sink>(press: &mut Press<'_, W>, domain: &Domain, bridge: u8, ro
 }
 
 /// Puts the lines of the streams that leave the bridge.
-fn put_streams<W: Sink>(press: &mut Press<'_, W>, domain: &Domain, bridge: u8, rows: &[Row])
+fn put_streams<W: Sink>(press: &mut Press<'_, W>, domain: &Domain, bridge: u16, rows: &[Row])
     ensures { Puts W.contents press.old press.new (flat_map (stream_gates domain.now bridge) rows.now) }
 {
     for row in rows {
@@ -362,7 +362,7 @@ fn put_streams<W: Sink>(press: &mut Press<'_, W>, domain: &Domain, bridge: u8, r
 pub(crate) fn put_bridge_function<W: Sink>(
     press: &mut Press<'_, W>,
     domain: &Domain,
-    bridge: u8,
+    bridge: u16,
     rows: &[Row],
 )
     ensures { Puts W.contents press.old press.new (bridge_text domain.now rows.now bridge) }

@@ -62,7 +62,7 @@ pub(crate) fn put_usage<W: Sink>(press: &mut Press<'_, W>, domain: &Domain)
 }
 
 /// Puts the name of a bridge, and a space before it.
-fn put_name<W: Sink>(press: &mut Press<'_, W>, domain: &Domain, bridge: u8)
+fn put_name<W: Sink>(press: &mut Press<'_, W>, domain: &Domain, bridge: u16)
     ensures { Puts W.contents press.old press.new (name_text domain.now bridge) }
 {
     press.put(b" ");
@@ -217,7 +217,7 @@ pub(crate) fn put_gate_function<W: Sink>(press: &mut Press<'_, W>, domain: &Doma
 }
 
 /// Puts the line that chooses a bridge by its name.
-fn put_choice_line<W: Sink>(press: &mut Press<'_, W>, domain: &Domain, bridge: u8)
+fn put_choice_line<W: Sink>(press: &mut Press<'_, W>, domain: &Domain, bridge: u16)
     ensures { Puts W.contents press.old press.new (choice_line domain.now bridge) }
 {
     press.put(b"\"");

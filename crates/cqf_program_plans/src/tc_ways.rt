@@ -9,14 +9,14 @@ use cqf_model::{Hop, Row};
 use cqf_topology::Domain;
 
 /// Whether a link leaves the bridge. A link that the domain lacks doesn't.
-pub(crate) fn leaves(domain: &Domain, link: u8, bridge: u8) -> bool
+pub(crate) fn leaves(domain: &Domain, link: u16, bridge: u16) -> bool
     ensures { result ≡ leaves domain.now link bridge }
 {
     link < domain.links() && domain.link(link).from == bridge
 }
 
 /// Where the first hop stands by which the row's stream leaves the bridge.
-fn find_hop<'r>(domain: &Domain, row: &'r Row, bridge: u8) -> Option<&'r Hop>
+fn find_hop<'r>(domain: &Domain, row: &'r Row, bridge: u16) -> Option<&'r Hop>
     ensures { option_copied result ≡ first_hop domain.now bridge row.now }
 {
     row.tree
@@ -26,7 +26,7 @@ fn find_hop<'r>(domain: &Domain, row: &'r Row, bridge: u8) -> Option<&'r Hop>
 }
 
 /// The first hop by which the row's stream leaves the bridge.
-pub(crate) fn first_hop(domain: &Domain, row: &Row, bridge: u8) -> Option<Hop>
+pub(crate) fn first_hop(domain: &Domain, row: &Row, bridge: u16) -> Option<Hop>
     ensures { result ≡ first_hop domain.now bridge row.now }
 {
     match find_hop(domain, row, bridge) {
@@ -36,9 +36,9 @@ pub(crate) fn first_hop(domain: &Domain, row: &Row, bridge: u8) -> Option<Hop>
 }
 
 /// Whether no stream was seen to come that way.
-fn is_unseen(seen: &[bool; 256], way: Option<u8>) -> bool
+fn is_unseen(seen: &[bool; 65536], way: Option<u16>) -> bool
     ensures value { result ≡ is_unseen seen.now way }
-    ensures range { (link : ℕ) → way ≡ Some link → link < 256 }
+    ensures range { (link : ℕ) → way ≡ Some link → link < 65536 }
 {
     match way {
         Some(link) => !seen[usize::from(link)],
@@ -47,14 +47,14 @@ fn is_unseen(seen: &[bool; 256], way: Option<u8>) -> bool
 }
 
 /// Notes that a stream comes by a link.
-fn mark(seen: &mut [bool; 256], link: u8)
+fn mark(seen: &mut [bool; 65536], link: u16)
     ensures { NotesWay seen.old (Some link) seen.new }
 {
     seen[usize::from(link)] = true;
 }
 
 /// Notes that a stream comes that way.
-fn note(seen: &mut [bool; 256], way: Option<u8>)
+fn note(seen: &mut [bool; 65536], way: Option<u16>)
     ensures { NotesWay seen.old way seen.new }
 {
     match way {
@@ -66,10 +66,10 @@ fn note(seen: &mut [bool; 256], way: Option<u8>)
 /// By which way the row's stream comes to the bridge, and whether none did before, where it leaves the bridge at all. It is noted.
 pub(crate) fn way_of(
     domain: &Domain,
-    bridge: u8,
-    seen: &mut [bool; 256],
+    bridge: u16,
+    seen: &mut [bool; 65536],
     row: &Row,
-) -> Option<(Option<u8>, bool)>
+) -> Option<(Option<u16>, bool)>
     ensures way { (before : List ARow) → IsSeenWay domain.now bridge before seen.old → result ≡ way_at domain.now bridge before row.now }
     ensures noted { (before : List ARow) → IsSeenWay domain.now bridge before seen.old → IsSeenWay domain.now bridge (before ++ row.now ∷ []) seen.new }
 {

@@ -1,6 +1,7 @@
 //! Gate lists as words of `tc`.
 ghost use Rattle.std.specs.Prelude.{ℕ, ◌≡◌, ◌<◌, ◌^◌, ◌++◌, IfOk, OnOk, Ok, Some, codes, string_bytes};
 ghost use Rattle.cqf_gates.specs.GateListText.{line_of_gates};
+ghost use Rattle.cqf_model.specs.Paces.{each_cycle};
 ghost use Rattle.cqf_model.specs.StreamGate.{stream_list};
 ghost use Rattle.cqf_program_plans.specs.TcWords.{gate_of_words, gate_words, tx_of_words, tx_words};
 
@@ -61,7 +62,7 @@ fn gate_words_of(alloc: Global, cycle_time: u32) -> Result<String, AllocError>
 /// compiled to (man tc-gate; profile).
 pub fn write_gate_words(alloc: Global, cycle_time: u32) -> Result<Vec<u8>, Memory>
     ensures words { IfOk result (λ words. words.items ≡ gate_words cycle_time) }
-    ensures again { IfOk result (λ words. (octets : ℕ) → gate_of_words octets words.items ≡ Some (stream_list cycle_time octets)) }
+    ensures again { IfOk result (λ words. (octets : ℕ) → gate_of_words octets words.items ≡ Some (stream_list cycle_time octets each_cycle 0)) }
 {
     let words = gate_words_of(alloc, cycle_time)?;
     Ok(Vec::from_slice(alloc, words.as_bytes())?)

@@ -9,7 +9,7 @@ use Rattle.cqf_program_runs.specs.Line.{line_domain, line_scenario}
 
 -- it has one call, which is no Seal, and the offers that were read
 pub MayBeRun-line : (cycles : ℕ) (offers : List Offer) (s : Scenario) → s ≡ line_scenario offers → AreOffers line_domain offers →
-    length offers ≤ 1000000 → StandInOrder offers → MayBeRun cycles s
+    length offers ≤ 16777215 → StandInOrder offers → MayBeRun cycles s
 MayBeRun-line cycles offers s same good few ordered = subst (λ (t : Scenario). MayBeRun cycles t) (sym same) (record {
   room = record { for_seals = omega arith; for_others = omega arith };
   offers = good;

@@ -7,11 +7,11 @@ use Rattle.cqf_program_runs.specs.Checked.{checked_by, counts_of, is_bad}
 use Rattle.cqf_program_runs.specs.Deliveries.{fate_of}
 use Rattle.cqf_program_runs.specs.Ending.{Over, deliveries_among, deliveries_over}
 
--- the counts are those of the deliveries of so many offers, each of which has at most 64
+-- the counts are those of the deliveries of so many offers, each of which has at most 200
 pub record AreCountsBefore (place : ℕ) (counts : Counts) : Type 0 where
-  pub under_way : counts.under_way ≤ 64 * place
-  pub delivered : counts.delivered ≤ 64 * place
-  pub timed : counts.timed ≤ 64 * place
+  pub under_way : counts.under_way ≤ 200 * place
+  pub delivered : counts.delivered ≤ 200 * place
+  pub timed : counts.timed ≤ 200 * place
 
 -- what is told of a run that is over, of whose offers so many are of cycles that aren't run
 abbrev pub checked_over : Over → ℕ → Result (List ℕ) (List ℕ)

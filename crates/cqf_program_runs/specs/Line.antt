@@ -9,6 +9,8 @@ use Rattle.cqf_model.specs.declared.topology.Node.TheVariants.{Station}
 use Rattle.cqf_model.specs.declared.topology.Row.{Row}
 use Rattle.cqf_model.specs.Domain.{Domain}
 use Rattle.cqf_model.specs.History.{Admits, Asked}
+use Rattle.cqf_model.specs.Limits.{profile}
+use Rattle.cqf_model.specs.Paces.{each_cycle}
 use Rattle.cqf_program_scenario.specs.Scenario.{Scenario}
 
 -- the link from bridge a to station s: 1,000 Mb/s, with a delay of 500 ns
@@ -17,11 +19,11 @@ line_link = record { from = 0; to = Station 0; rate = Mb1000; delay = 500 }
 
 -- the domain: a cycle time of 125,000 ns and a guard time of 5,000 ns
 abbrev pub line_domain : Domain
-line_domain = record { cycle_time = 125000; guard = 5000; bridges = codes "a" ∷ []; stations = codes "s" ∷ []; links = line_link ∷ [] }
+line_domain = record { limits = profile; cycle_time = 125000; guard = 5000; bridges = codes "a" ∷ []; stations = codes "s" ∷ []; links = line_link ∷ [] }
 
 -- what is asked for: the stream x with 1,500 octets a cycle, from bridge a to station s
 abbrev pub line_asked : Asked
-line_asked = record { name = codes "x"; octets = 1500; paths = (codes "a" ∷ codes "s" ∷ []) ∷ [] }
+line_asked = record { name = codes "x"; octets = 1500; every = 1; phase = 0; paths = (codes "a" ∷ codes "s" ∷ []) ∷ [] }
 
 -- the scenario of some offers: seat 0 admits the stream before cycle 0, seat 1 closes the cycles, and there are no background
 -- frames
@@ -34,7 +36,7 @@ line_hop = record { link = 0; depth = 1; from = None }
 
 -- the stream's row: 1,500 octets a cycle on that link, live in every cycle
 abbrev pub line_row : Row
-line_row = record { no = 0; name = codes "x"; octets = 1500; tree = record { items = line_hop ∷ [] }; admitted = record { 0 = 0 }; withdrawn = None }
+line_row = record { no = 0; name = codes "x"; octets = 1500; pace = each_cycle; tree = record { items = line_hop ∷ [] }; admitted = record { 0 = 0 }; withdrawn = None }
 
 -- the tables of so many cycles: the stream is held in each of them, and no other
 abbrev pub line_tables : ℕ → List (List Row)

@@ -1,5 +1,6 @@
 //! Whether all goes well in a run, by its deliveries.
 ghost use Rattle.std.specs.Prelude.{ℕ, ◌≡◌, ◌+◌, ◌≤◌, ◌++◌, ◌&&◌, [], true, IfOk, List, length, count_by, find, option_copied, string_bytes};
+ghost use Rattle.cqf_model.specs.Limits.{most_rows};
 ghost use Rattle.cqf_program_runs.specs.Checked.{complaint_line, complaint_of, counts_of, is_bad, is_delivered};
 ghost use Rattle.cqf_program_runs.specs.Checked.{is_finished, is_timed, is_under_way, unfinished_line, well_line};
 ghost use Rattle.cqf_program_runs.specs.Counting.{AreCountsBefore};
@@ -116,10 +117,10 @@ pub(crate) fn no_counts(frames: usize, later: usize) -> Counts
 }
 
 impl Counts {
-    /// The same with some deliveries more: those of one offer, of at most 1,000,000.
+    /// The same with some deliveries more: those of one offer, of as many as a table has at most.
     pub(crate) fn with(self, here: &[Delivery]) -> Counts
-        requires few { length here.now ≤ 64 }
-        requires early { AreCountsBefore 1000000 self }
+        requires few { length here.now ≤ 200 }
+        requires early { AreCountsBefore most_rows self }
         ensures counts { (frames later : ℕ) (done : List ADelivery) → self ≡ counts_of frames later done →
             result ≡ counts_of frames later (done ++ here.now) }
         ensures more { (place : ℕ) → AreCountsBefore place self → AreCountsBefore (place + 1) result }

@@ -2,11 +2,12 @@
 ghost use Rattle.std.specs.Prelude.{◌≡◌, ◌≤◌, ◌<◌, ◌++◌, ◌∷◌, [], IfOk, length};
 
 use crate::delivery::Delivery;
+use cqf_model::MOST_HOPS;
 use cqf_units::Memory;
 use std::alloc::Global;
 use std::marker::Model;
 
-/// Room for the deliveries of one offer: a tree has at most 64 hops.
+/// Room for the deliveries of one offer: a tree has at most 200 hops.
 #[derive(Drop)]
 pub struct Few {
     deliveries: Vec<Delivery>,
@@ -20,7 +21,7 @@ impl Model for Few {
 
     ghost view = { λ f. f.deliveries.items };
 
-    ghost invariant = { λ f. (64 ≤ vec_capacity f.deliveries) × (length f.deliveries.items ≤ 64) };
+    ghost invariant = { λ f. (200 ≤ vec_capacity f.deliveries) × (length f.deliveries.items ≤ 200) };
 }
 
 impl Few {
@@ -31,7 +32,7 @@ impl Few {
     pub fn new(alloc: Global) -> Result<Few, Memory>
         ensures { IfOk result (λ few. few ≡ []) }
     {
-        let deliveries = Vec::with_capacity(alloc, 64)?;
+        let deliveries = Vec::with_capacity(alloc, MOST_HOPS)?;
         Ok(Few { deliveries })
     }
 
@@ -44,16 +45,16 @@ impl Few {
 
     /// Puts one behind those that are there.
     pub(crate) fn push(&mut self, delivery: Delivery)
-        requires { length self.old < 64 }
+        requires { length self.old < 200 }
         ensures { self.new ≡ self.old ++ delivery ∷ [] }
     {
         self.deliveries.push_reserved(delivery);
     }
 
-    /// What is there: at most 64 deliveries.
+    /// What is there: at most 200 deliveries.
     pub fn as_slice(&self) -> &[Delivery]
         ensures value { result.now ≡ self.now }
-        ensures fits { length result.now ≤ 64 }
+        ensures fits { length result.now ≤ 200 }
     {
         self.deliveries.as_slice()
     }

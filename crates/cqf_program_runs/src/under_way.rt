@@ -30,7 +30,7 @@ pub struct UnderWay {
 }
 
 /// Whether a link ends in a station. A link that the domain lacks doesn't.
-pub(crate) fn ends_in_station(domain: &Domain, link: u8) -> bool
+pub(crate) fn ends_in_station(domain: &Domain, link: u16) -> bool
     ensures { result ≡ is_station (end_of domain.now link) }
 {
     if link >= domain.links() {
@@ -54,7 +54,7 @@ fn whole_of(domain: &Domain, start: &Started) -> Nanos
 }
 
 /// The place of the listener at the end of a link among those of a row, from 0.
-fn column_of(domain: &Domain, row: &Row, link: u8) -> Option<usize>
+fn column_of(domain: &Domain, row: &Row, link: u16) -> Option<usize>
     ensures { result ≡ column_of domain.now row.now link }
 {
     row.tree
@@ -65,7 +65,7 @@ fn column_of(domain: &Domain, row: &Row, link: u8) -> Option<usize>
 }
 
 /// The same in the row by which the offer at a place goes on.
-fn column_at(ended: &Ended<'_>, place: usize, link: u8) -> Option<usize>
+fn column_at(ended: &Ended<'_>, place: usize, link: u16) -> Option<usize>
     ensures { result ≡ option_and_then (λ row. column_of ended.now.domain.now row link) (row_at ended.now.rows.now ended.now.judgements.now place) }
 {
     let row = match ended.judgements.get(place)? {
@@ -145,7 +145,7 @@ pub(crate) fn whole_in(
     domain: &Domain,
     row: &Row,
     slot: &[Option<Nanos>],
-    link: u8,
+    link: u16,
 ) -> Option<Nanos>
     ensures { result ≡ whole_in domain.now row.now slot.now link }
 {

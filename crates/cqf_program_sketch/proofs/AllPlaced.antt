@@ -38,21 +38,23 @@ record IsGranted (d : Domain) (entries : List Recorded) (stream : SettledStream)
   reserved : reserved_on d.cycle_time stream ≡ Ok asked.octets
   granted : refusal_of d (held_in d entries (seals entries)) asked ≡ None
   entered : after ≡ with_asked d entries asked
+  told : asked_in (flow_of stream asked) ≡ asked
 
 -- where its branches are found
 granted_routed : (d : Domain) (entries : List Recorded) (stream : SettledStream) (octets : ℕ) (paths : List Branch) (asked : Asked) (after : List Recorded) →
     reserved_on d.cycle_time stream ≡ Ok octets →
-    Placed asked ≡ answered d (record { name = stream.name; octets = octets; paths = paths })
-    (refusal_of d (held_in d entries (seals entries)) (record { name = stream.name; octets = octets; paths = paths })) →
-    after ≡ with_asked d entries (record { name = stream.name; octets = octets; paths = paths }) → IsGranted d entries stream asked after
+    Placed asked ≡ answered d (record { name = stream.name; octets = octets; every = 1; phase = 0; paths = paths })
+    (refusal_of d (held_in d entries (seals entries)) (record { name = stream.name; octets = octets; every = 1; phase = 0; paths = paths })) →
+    after ≡ with_asked d entries (record { name = stream.name; octets = octets; every = 1; phase = 0; paths = paths }) → IsGranted d entries stream asked after
 granted_routed d entries stream octets paths asked after reserves is after_is =
-    let there : Asked = record { name = stream.name; octets = octets; paths = paths } in
+    let there : Asked = record { name = stream.name; octets = octets; every = 1; phase = 0; paths = paths } in
     let found = answered_placed d there asked (refusal_of d (held_in d entries (seals entries)) there) is in
     record {
       named = ap (λ (a : Asked). a.name) found.1;
       reserved = reserves ∙ ap (λ (a : Asked). Ok a.octets) (sym found.1);
       granted = ap (refusal_of d (held_in d entries (seals entries))) found.1 ∙ found.0;
       entered = after_is ∙ ap (with_asked d entries) (sym found.1);
+      told = ap (λ (a : Asked). asked_in (flow_of stream a)) found.1 ∙ sym found.1;
     }
 
 -- what is placed isn't left out
@@ -115,8 +117,10 @@ one_stream : (d : Domain) (entries after end : List Recorded) (stream : SettledS
 one_stream d entries after end stream streams asked flows counted granted rest = record {
   each = λ i. (granted.named i, stream.deadline, stream.traffic) ∷ rest.each i;
   admitted = λ place.
-      ap (λ r. refuse r (stream_line place) (admitted_from d (with_asked d entries asked) (place + 1) (map asked_in flows))) granted.granted
-      ∙ ap (λ (there : List Recorded). admitted_from d there (place + 1) (map asked_in flows)) (sym granted.entered)
+      ap (λ r. refuse r (stream_line place) (admitted_from d (with_asked d entries (asked_in (flow_of stream asked))) (place + 1) (map asked_in flows)))
+      (ap (refusal_of d (held_in d entries (seals entries))) granted.told ∙ granted.granted)
+      ∙ ap (λ (there : List Recorded). admitted_from d there (place + 1) (map asked_in flows))
+      (sym (granted.entered ∙ ap (with_asked d entries) (sym granted.told)))
       ∙ rest.admitted (place + 1);
   enough = All-cons (ReservesEnough d.cycle_time) (flow_of stream asked) flows
       (enough_for stream.octets stream.traffic d.cycle_time asked.octets granted.reserved) rest.enough;

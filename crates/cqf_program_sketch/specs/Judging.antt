@@ -6,7 +6,7 @@ use Rattle.cqf_lists.specs.Lists.{each_below, or_else}
 use Rattle.cqf_model.specs.declared.topology.Row.{Row}
 use Rattle.cqf_model.specs.Domain.{Domain, budget}
 use Rattle.cqf_model.specs.History.{Asked, held_in, seals}
-use Rattle.cqf_model.specs.Table.{link_cost}
+use Rattle.cqf_admission.specs.Costs.{most_cost}
 use Rattle.cqf_sketch.specs.SketchDomain.{SketchDomain, domain_at}
 use Rattle.cqf_traffic.specs.FlowsText.{FlowText}
 use Rattle.cqf_program_plans.specs.declared.latency_latencies.Latency.{Latency}
@@ -61,7 +61,7 @@ share_of zero held = []
 share_of (suc rest) held = 1000 * held / suc rest ∷ []
 
 abbrev pub shares_of : Domain → List Row → List ℕ
-shares_of d rows = each_below (λ l. share_of (budget d l) (link_cost rows l)) (length d.links)
+shares_of d rows = each_below (λ l. share_of (budget d l) (most_cost rows l)) (length d.links)
 
 -- the greatest of some numbers
 abbrev pub larger : Option ℕ → ℕ → Option ℕ

@@ -1,5 +1,6 @@
 //! How much of the links' budgets is held.
 ghost use Rattle.std.specs.Prelude.{ℕ, ◌≡◌, ◌<◌, IfOk, fold, length, slice_index};
+ghost use Rattle.cqf_admission.specs.Tables.{AreOfEachCycle};
 ghost use Rattle.cqf_lists.specs.Lists.{each_below};
 ghost use Rattle.cqf_laws_history.specs.StateLaws.{AreHeld};
 ghost use Rattle.cqf_model.specs.Domain.{budget};
@@ -12,7 +13,7 @@ use cqf_units::{Memory, budget};
 use std::alloc::Global;
 
 /// The budget of a link, in octets a cycle.
-fn budget_on(domain: &Domain, link: u8) -> u32
+fn budget_on(domain: &Domain, link: u16) -> u32
     requires { link < length domain.now.links }
     ensures { result ≡ budget domain.now link }
 {
@@ -52,7 +53,8 @@ pub(crate) fn greatest_share(
     domain: &Domain,
     rows: &[Row],
 ) -> Result<Option<u64>, Memory>
-    requires { (next : ℕ) × AreHeld domain.now rows.now next 0 }
+    requires held { (next : ℕ) × AreHeld domain.now rows.now next 0 }
+    requires paced { AreOfEachCycle rows.now }
     ensures { IfOk result (λ used. used ≡ greatest_of (shares_of domain.now rows.now)) }
 {
     let held = link_costs(alloc, domain, rows)?;

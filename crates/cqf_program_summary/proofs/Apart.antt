@@ -1,6 +1,6 @@
 -- No two ways of a stream lead to one listener.
-use Rattle.std.proofs.Common.{◌≡◌, ◌≢◌, ◌∙◌, ◌∷◌, ◌<◌, [], ℕ, Bool, true, false, Contains, List, Some, None, Option, ap, if◌then◌else◌, length, map, not, refl, sym}
-use Rattle.std.specs.Prelude.{◌&&◌, is_none, is_some, nat_le, position}
+use Rattle.std.proofs.Common.{◌≡◌, ◌≢◌, ◌∙◌, ℕ, Bool, true, false, Contains, List, Some, None, Option, ap, if◌then◌else◌, length, map, not, refl, sym}
+use Rattle.std.specs.Prelude.{◌&&◌, is_none, is_some, nat_le, nat_lt, position}
 use Rattle.std.specs.List.{flat_map, list_any}
 use Rattle.std.proofs.lemmas.List.Kept.{AllPairs-filter}
 use Rattle.cqf_lists.specs.Lists.{least, or_else}
@@ -10,13 +10,14 @@ use Rattle.cqf_lists.proofs.Members.{contains_flat, contains_from_filter}
 use Rattle.cqf_lists.proofs.Pairs.{pairs_map, pairs_one, pairs_weaker}
 use Rattle.cqf_units.specs.Name.{is_name}
 use Rattle.cqf_model.specs.declared.history.Refused.{Refused}
-use Rattle.cqf_model.specs.declared.history.Refused.TheVariants.{BadName, BadOctets, UnknownNode, BrokenPath, LoopingPath, NotATree}
+use Rattle.cqf_model.specs.declared.history.Refused.TheVariants.{BadName, BadOctets, BadPace, UnknownNode, BrokenPath, LoopingPath, NotATree, TooManyHops}
 use Rattle.cqf_model.specs.declared.topology.Hop.{Hop}
 use Rattle.cqf_model.specs.declared.topology.Node.{Node}
 use Rattle.cqf_model.specs.declared.topology.Node.TheVariants.{Bridge, Station}
 use Rattle.cqf_model.specs.declared.topology.Row.{Row}
 use Rattle.cqf_model.specs.Domain.{Domain, end_of, node_named}
-use Rattle.cqf_model.specs.History.{Asked, Branch, broken_place, first_place, is_bridge, is_broken_at, is_loop_at, is_stray, node_at, refused_at, refused_if, tree_of}
+use Rattle.cqf_model.specs.History.{Asked, Branch, broken_place, first_place, is_bridge, is_broken_at, is_loop_at, is_pace, is_stray, node_at, refused_at, refused_if, tree_of}
+use Rattle.cqf_model.specs.Limits.{hops_within}
 use Rattle.cqf_model.specs.Table.{IsTree}
 use Rattle.cqf_model.proofs.Texts.{is_text_same}
 use Rattle.cqf_laws_history.proofs.Branches.{IsBranch, first_is_bridge, is_branch, no_repeat}
@@ -49,18 +50,20 @@ record IsGoodTree (d : Domain) (paths : List Branch) : Type 0 where
 
 good_tree : (d : Domain) (paths : List Branch) → tree_refusal d paths ≡ None → IsGoodTree d paths
 good_tree d paths good =
-    let stray = refused_at (λ branch. NotATree branch) (least (is_stray paths) (length paths)) in
-    let after_broken = or_else (refused_at (λ place. LoopingPath place) (first_place (is_loop_at d) paths)) stray in
+    let hops = refused_if (nat_lt (hops_within d.limits) (length (tree_of d paths))) TooManyHops in
+    let after_looping = or_else (refused_at (λ branch. NotATree branch) (least (is_stray paths) (length paths))) hops in
+    let after_broken = or_else (refused_at (λ place. LoopingPath place) (first_place (is_loop_at d) paths)) after_looping in
     let after_unknown = or_else (refused_at (λ place. BrokenPath place) (broken_place d paths)) after_broken in
     let unknown = position (λ name. is_none (node_named d name)) (flat_map (λ branch. branch) paths) in
     let known = or_else_none (refused_at (λ place. UnknownNode place) unknown) after_unknown good in
     let broken = or_else_none (refused_at (λ place. BrokenPath place) (broken_place d paths)) after_broken known.1 in
-    let looping = or_else_none (refused_at (λ place. LoopingPath place) (first_place (is_loop_at d) paths)) stray broken.1 in
+    let looping = or_else_none (refused_at (λ place. LoopingPath place) (first_place (is_loop_at d) paths)) after_looping broken.1 in
+    let stray = or_else_none (refused_at (λ branch. NotATree branch) (least (is_stray paths) (length paths))) hops looping.1 in
     record {
       known = refused_at_none (λ place. UnknownNode place) unknown known.0;
       whole = refused_at_none (λ place. BrokenPath place) (broken_place d paths) broken.0;
       simple = refused_at_none (λ place. LoopingPath place) (first_place (is_loop_at d) paths) looping.0;
-      together = refused_at_none (λ branch. NotATree branch) (least (is_stray paths) (length paths)) looping.1;
+      together = refused_at_none (λ branch. NotATree branch) (least (is_stray paths) (length paths)) stray.0;
     }
 
 -- they are a tree
@@ -92,9 +95,11 @@ module _ (d : Domain) (paths : List Branch) (g : IsGoodTree d paths) where
 good_branches : (d : Domain) (asked : Asked) → form_refusal d asked ≡ None → tree_refusal d asked.paths ≡ None
 good_branches d asked good =
     let in_range = nat_le 64 asked.octets && nat_le asked.octets 60000 in
-    let behind_name = or_else (refused_if (not in_range) BadOctets) (tree_refusal d asked.paths) in
+    let behind_octets = or_else (refused_if (not (is_pace asked.every asked.phase)) BadPace) (tree_refusal d asked.paths) in
+    let behind_name = or_else (refused_if (not in_range) BadOctets) behind_octets in
     let named = or_else_none (refused_if (not (is_name asked.name)) BadName) behind_name good in
-    (or_else_none (refused_if (not in_range) BadOctets) (tree_refusal d asked.paths) named.1).1
+    let sized = or_else_none (refused_if (not in_range) BadOctets) behind_octets named.1 in
+    (or_else_none (refused_if (not (is_pace asked.every asked.phase)) BadPace) (tree_refusal d asked.paths) sized.1).1
 
 -- two ways, or listeners, have no name in common
 abbrev apart_listeners : Option Listener → Option Listener → Type 0

@@ -67,11 +67,11 @@ count_none p xs none = sym (length-filter p xs) ∙ ap length (filter_none p xs 
 
 -- what stands past the end of some streams
 abbrev nobody : Asked
-nobody = record { name = []; octets = 0; paths = [] }
+nobody = record { name = []; octets = 0; every = 0; phase = 0; paths = [] }
 
 module _ (d : Domain) (told : List Asked) (due : List ℕ → Option ℕ) (apart : AllPairs (λ (a b : Asked). is_text a.name b.name ≡ false) told)
     (offers : List Offered) (x : Offered) (ds here : List Delivery) (named : (y : Delivery) → Contains here y → y.stream ≡ x.offer.stream) where
-  abbrev cost : ℕ → ℕ
+  abbrev cost : Asked → ℕ → ℕ
   cost = told_cost d told
 
   abbrev n : List ℕ

@@ -163,14 +163,14 @@ module _ (ds : List Delivery) (x : Delivery) where
       ap₂ (λ (w : Way) (ws : List Way). w ∷ ws) (way_more to journey e) (ways_more (passage.Goes journey) e tos)
 
 -- what is told of a stream, with one delivery more of a frame of it
-module _ (d : Domain) (cost : ℕ → ℕ) (due : List ℕ → Option ℕ) (asked : Asked) where
+module _ (d : Domain) (cost : Asked → ℕ → ℕ) (due : List ℕ → Option ℕ) (asked : Asked) where
   fare_more : (n : ℕ) (ds : List Delivery) (x : Delivery) → fare_by d cost due n (ds ++ x ∷ []) asked ≡ fare_with (fare_by d cost due n ds asked) x
   fare_more n ds x = λ i. record {
     name = asked.name;
     deadline = due asked.name;
     offered = n;
     dropped = count_push (λ (y : Delivery). is_dropped (fate_of y)) ds x i;
-    ways = ways_more ds x x.passage refl (listeners_by d cost (row_of_stream d asked)) i;
+    ways = ways_more ds x x.passage refl (listeners_by d (cost asked) (row_of_stream d asked)) i;
   }
 
   -- with several

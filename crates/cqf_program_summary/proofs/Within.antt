@@ -108,9 +108,9 @@ none_within d told due = record {
     of_stream asked = record {
       offered = omega arith;
       dropped = omega arith;
-      ways = all_from_members (λ (way : Way). TallyWithin 0 way.tally) (ways_of d (told_cost d told) [] (row_of_stream d asked))
+      ways = all_from_members (λ (way : Way). TallyWithin 0 way.tally) (ways_of d (told_cost d told asked) [] (row_of_stream d asked))
           (λ way c.
-          let found = contains_from_map (way_to []) (listeners_by d (told_cost d told) (row_of_stream d asked)) way c in
+          let found = contains_from_map (way_to []) (listeners_by d (told_cost d told asked) (row_of_stream d asked)) way c in
           subst (λ (w : Way). TallyWithin 0 w.tally) found.2 (empty found.0));
     }
       where

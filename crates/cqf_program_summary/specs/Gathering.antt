@@ -20,10 +20,10 @@ IsSummaryOfFirst over place before after = (streams : List Asked) (due : List �
     after ≡ summary_by over.domain (told_streams streams) due (offers_within over.domain over.cycles (take place (numbered over.offers)))
     (deliveries_among over (take place (numbered over.offers)))
 
--- so far, and no more is counted than these offers could have, 64 deliveries each and itself
+-- so far, and no more is counted than these offers could have, 200 deliveries each and itself
 pub record IsSummarySoFar (over : Over) (place : ℕ) (before after : Summary) : Type 0 where
   pub is : IsSummaryOfFirst over place before after
-  pub within : SummaryWithin (65 * place) after
+  pub within : SummaryWithin (201 * place) after
 
 -- and by all
 abbrev pub IsSummaryOver : Over → Summary → Summary → Type 0

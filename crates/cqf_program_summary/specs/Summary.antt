@@ -62,17 +62,17 @@ offers_named name offers = count_by (λ (x : Offered). is_text x.offer.stream na
 abbrev pub deliveries_named : List ℕ → List Delivery → List Delivery
 deliveries_named name deliveries = filter (λ (x : Delivery). is_text x.stream name) deliveries
 
--- that of a stream, by its number of offers and the deliveries of its frames
-abbrev pub fare_by : Domain → (ℕ → ℕ) → (List ℕ → Option ℕ) → ℕ → List Delivery → Asked → Fare
+-- that of a stream, by its number of offers and the deliveries of its frames, where streams cost so much of each link beside it
+abbrev pub fare_by : Domain → (Asked → ℕ → ℕ) → (List ℕ → Option ℕ) → ℕ → List Delivery → Asked → Fare
 fare_by d cost due offered deliveries asked = record {
   name = asked.name;
   deadline = due asked.name;
   offered = offered;
   dropped = count_by (λ (x : Delivery). is_dropped (fate_of x)) deliveries;
-  ways = ways_of d cost deliveries (row_of_stream d asked);
+  ways = ways_of d (cost asked) deliveries (row_of_stream d asked);
 }
 
-abbrev pub fare_of : Domain → (ℕ → ℕ) → (List ℕ → Option ℕ) → List Offered → List Delivery → Asked → Fare
+abbrev pub fare_of : Domain → (Asked → ℕ → ℕ) → (List ℕ → Option ℕ) → List Offered → List Delivery → Asked → Fare
 fare_of d cost due offers deliveries asked =
     fare_by d cost due (offers_named asked.name offers) (deliveries_named asked.name deliveries) asked
 

@@ -8,7 +8,7 @@ use Rattle.cqf_model.specs.declared.topology.Row.{Row}
 use Rattle.cqf_model.specs.Domain.{Domain, is_text}
 use Rattle.cqf_model.specs.History.{Asked}
 use Rattle.cqf_laws_history.specs.StateLaws.{granted_row}
-use Rattle.cqf_laws_latency.specs.Streams.{cost_of_all}
+use Rattle.cqf_laws_latency.specs.Streams.{most_beside_all}
 use Rattle.cqf_admission.specs.Judging.{form_refusal}
 
 -- those whose name is a name, of each name the first
@@ -31,6 +31,7 @@ row_unless d asked (Some refused) = None
 abbrev pub row_of_stream : Domain → Asked → Option Row
 row_of_stream d asked = row_unless d asked (form_refusal d asked)
 
--- what the good ones cost of a link together, in octets a cycle, whether or not they fit
-abbrev pub told_cost : Domain → List Asked → ℕ → ℕ
-told_cost d told link = cost_of_all d (filter (is_good d) told) link
+-- the most that the good ones cost of a link together in a cycle in which a stream's frames go by it, in octets, whether or not
+-- they fit
+abbrev pub told_cost : Domain → List Asked → Asked → ℕ → ℕ
+told_cost d told asked link = most_beside_all d (filter (is_good d) told) asked link

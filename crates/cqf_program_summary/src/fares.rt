@@ -1,6 +1,7 @@
 //! How the frames of a stream fare to its listeners.
 ghost use Rattle.std.specs.Prelude.{ℕ, ◌≡◌, ◌+◌, ◌*◌, ◌≤◌, ◌<◌, ◌^◌, ◌++◌, ◌∷◌, [], Some, None, IfOk, OnOk, if◌then◌else◌, length, map, position, slice_get};
 ghost use Rattle.cqf_model.specs.Domain.{end_of};
+ghost use Rattle.cqf_model.specs.Limits.{most_links};
 ghost use Rattle.cqf_program_plans.specs.LatencyText.{is_station};
 ghost use Rattle.cqf_program_runs.specs.Deliveries.{fate_of};
 ghost use Rattle.cqf_program_summary.specs.Counting.{AreApart, FareWithin, OthersWithin, WaysWithin};
@@ -71,11 +72,12 @@ pub(crate) struct Others {
 }
 
 /// The listener at the end of a hop, where one is there. Hops by links that the domain lacks have none.
-fn listener_to(domain: &Domain, costs: &[u64; 64], hop: &Hop) -> Option<Listener>
-    requires { AreBounded costs.now }
+fn listener_to(domain: &Domain, costs: &[u64], hop: &Hop) -> Option<Listener>
+    requires bounded { AreBounded costs.now }
+    requires all { length costs.now ≡ most_links }
     ensures { result ≡ (if is_station (end_of domain.now hop.now.link) then Some (listener_to domain.now (cost_in costs.now) hop.now) else None) }
 {
-    // the domain is accepted: it has at most 64 links
+    // the domain is accepted: it has no more links than are represented
     let _cycle_time = domain.cycle_time();
     if hop.link >= domain.links() {
         return None;
@@ -103,10 +105,11 @@ fn push_way(ways: &mut Vec<Way>, to: Option<Listener>) -> Result<(), Memory>
 fn push_listeners(
     ways: &mut Vec<Way>,
     domain: &Domain,
-    costs: &[u64; 64],
+    costs: &[u64],
     row: &Row,
 ) -> Result<(), Memory>
-    requires { AreBounded costs.now }
+    requires bounded { AreBounded costs.now }
+    requires all { length costs.now ≡ most_links }
     ensures { OnOk result (ways.new.items ≡ ways.old.items ++ ways_of domain.now (cost_in costs.now) [] (Some row.now)) }
 {
     for hop in row.tree.as_slice() {
@@ -121,10 +124,11 @@ fn push_listeners(
 fn ways_of(
     alloc: Global,
     domain: &Domain,
-    costs: &[u64; 64],
+    costs: &[u64],
     row: &Option<Row>,
 ) -> Result<Vec<Way>, Memory>
-    requires { AreBounded costs.now }
+    requires bounded { AreBounded costs.now }
+    requires all { length costs.now ≡ most_links }
     ensures { IfOk result (λ ways. ways.items ≡ ways_of domain.now (cost_in costs.now) [] row.now) }
 {
     let mut ways = Vec::new(alloc);
@@ -176,7 +180,7 @@ fn place_to(ways: &[Way], expected: usize, name: &Name) -> Option<usize>
 /// Adds a frame on its journey to the way to its listener.
 fn add_journey(ways: &mut [Way], expected: usize, ending: Fate, at: Nanos, journey: &Journey)
     requires apart { AreApart ways.old }
-    requires few { WaysWithin 64999999 ways.old }
+    requires few { WaysWithin 3372220214 ways.old }
     ensures ways { ways.new ≡ map (way_with ending at.0 journey.now) ways.old }
     ensures more { (many : ℕ) → WaysWithin many ways.old → WaysWithin (many + 1) ways.new }
 {
@@ -189,7 +193,7 @@ fn add_journey(ways: &mut [Way], expected: usize, ending: Fate, at: Nanos, journ
 /// Adds a delivery to the way to its listener: a drop goes nowhere.
 fn add_passage(ways: &mut [Way], expected: usize, delivery: &Delivery)
     requires apart { AreApart ways.old }
-    requires few { WaysWithin 64999999 ways.old }
+    requires few { WaysWithin 3372220214 ways.old }
     ensures ways { ways.new ≡ ways_with (fate_of delivery.now) delivery.now.at.0 delivery.now.passage ways.old }
     ensures more { (many : ℕ) → WaysWithin many ways.old → WaysWithin (many + 1) ways.new }
 {
@@ -203,11 +207,12 @@ impl Fares {
     pub(crate) fn new(
         alloc: Global,
         domain: &Domain,
-        costs: &[u64; 64],
+        costs: &[u64],
         listed: &Listed,
         deadline: Option<u32>,
     ) -> Result<Fares, Memory>
         requires bounded { AreBounded costs.now }
+        requires all { length costs.now ≡ most_links }
         requires listed { IsOfStream domain.now listed.now }
         ensures { IfOk result (λ fares. fares ≡ fare_from domain.now (cost_in costs.now) deadline listed.now) }
     {
@@ -225,7 +230,7 @@ impl Fares {
 
     /// Adds a delivery of a frame, which is expected on the way of a place.
     fn add(&mut self, expected: usize, delivery: &Delivery)
-        requires { FareWithin 64999999 self.old }
+        requires { FareWithin 3372220214 self.old }
         ensures fare { self.new ≡ fare_with self.old delivery.now }
         ensures more { (many : ℕ) → FareWithin many self.old → FareWithin (many + 1) self.new }
     {
@@ -233,24 +238,24 @@ impl Fares {
         add_passage(self.ways.as_mut_slice(), expected, delivery);
     }
 
-    /// Adds the deliveries of an offer, at most 64.
+    /// Adds the deliveries of an offer, at most 200.
     fn add_each(&mut self, here: &[Delivery])
-        requires few { length here.now ≤ 64 }
-        requires within { FareWithin 64999936 self.old }
+        requires few { length here.now ≤ 200 }
+        requires within { FareWithin 3372220015 self.old }
         ensures fare { self.new ≡ fare_with_each here.now self.old }
-        ensures more { (many : ℕ) → FareWithin many self.old → FareWithin (many + 64) self.new }
+        ensures more { (many : ℕ) → FareWithin many self.old → FareWithin (many + 200) self.new }
     {
         for (place, delivery) in here.iter().enumerate() {
             self.add(place, delivery);
         }
     }
 
-    /// Adds an offer that claims the stream's name, and its deliveries, at most 64.
+    /// Adds an offer that claims the stream's name, and its deliveries, at most 200.
     pub(crate) fn add_offer(&mut self, here: &[Delivery])
-        requires few { length here.now ≤ 64 }
-        requires within { FareWithin 64999935 self.old }
+        requires few { length here.now ≤ 200 }
+        requires within { FareWithin 3372220014 self.old }
         ensures fare { self.new ≡ fare_with_offer here.now self.old }
-        ensures more { (many : ℕ) → FareWithin many self.old → FareWithin (many + 65) self.new }
+        ensures more { (many : ℕ) → FareWithin many self.old → FareWithin (many + 201) self.new }
     {
         self.offered += 1;
         self.add_each(here);
@@ -258,12 +263,12 @@ impl Fares {
 }
 
 impl Others {
-    /// The same with an offer more, and its deliveries, at most 64.
+    /// The same with an offer more, and its deliveries, at most 200.
     pub(crate) fn with(self, here: &[Delivery]) -> Others
-        requires few { length here.now ≤ 64 }
-        requires within { OthersWithin 64999935 self }
+        requires few { length here.now ≤ 200 }
+        requires within { OthersWithin 3372220014 self }
         ensures others { result ≡ others_with here.now self }
-        ensures more { (many : ℕ) → OthersWithin many self → OthersWithin (many + 65) result }
+        ensures more { (many : ℕ) → OthersWithin many self → OthersWithin (many + 201) result }
     {
         Others {
             offered: self.offered + 1,

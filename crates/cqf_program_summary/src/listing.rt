@@ -1,15 +1,16 @@
 //! The streams of which is told, and what they cost of links.
-ghost use Rattle.std.specs.Prelude.{◌≡◌, ◌≤◌, ◌++◌, ◌∷◌, [], IfOk, List, map};
+ghost use Rattle.std.specs.Prelude.{◌≡◌, ◌++◌, ◌∷◌, [], IfOk, List, length, map, replicate};
 ghost use Rattle.cqf_admission.specs.Asking.{asked_of};
 ghost use Rattle.cqf_model.specs.Domain.{Domain as ADomain};
 ghost use Rattle.cqf_model.specs.History.{Asked};
-ghost use Rattle.cqf_model.specs.Limits.{most_reserved};
-ghost use Rattle.cqf_program_summary.specs.Listing.{AddsCost, AreBounded, CostsWith, HasOctets, IsListing, ListsOne};
+ghost use Rattle.cqf_admission.specs.Rows.{IsCountable};
+ghost use Rattle.cqf_model.specs.Limits.{most_links};
+ghost use Rattle.cqf_program_summary.specs.Listing.{AddsCost, AreBounded, CostsWith, IsListing, ListsOne, MayBeCounted};
 ghost use Rattle.cqf_program_summary.specs.Told.{row_of_stream};
 
 use cqf_admission::{Judged, judge};
-use cqf_admission_trees::count_places;
-use cqf_model::Row;
+use cqf_admission_trees::{add_on, count_places};
+use cqf_model::{EACH_CYCLE, MOST_LINKS, Row};
 use cqf_topology::{Domain, Request};
 use cqf_units::{Cycle, Memory, Name, Octets, cost};
 use indexmap::IndexSet;
@@ -30,45 +31,41 @@ pub(crate) struct Listing {
     pub(crate) names: IndexSet<Name>,
     pub(crate) streams: Vec<Listed>,
     /// In octets a cycle, by link number.
-    pub(crate) costs: [u64; 64],
+    pub(crate) costs: Vec<u64>,
 }
 
-/// By link, what a row's stream costs of it more.
-fn added(costs: &[u64; 64], row: &Row) -> [u64; 64]
-    requires octets { row.now.octets ≤ most_reserved }
-    requires bounded { AreBounded costs.now }
-    ensures { AddsCost costs.now row.now result }
+/// Adds what a row's stream costs to that of each link by which it goes.
+fn add(costs: &mut Vec<u64>, row: &Row)
+    requires countable { IsCountable most_links row.now }
+    requires all { length costs.old.items ≡ most_links }
+    requires bounded { AreBounded costs.old.items }
+    ensures { AddsCost costs.old.items row.now costs.new.items }
 {
-    let octets = u64::from(cost(Octets(row.octets)).0);
-    let mut after = [0; 64];
-    for link in 0..64u8 {
-        let place = usize::from(link);
-        after[place] = if row.crosses(link) {
-            costs[place] + octets
-        } else {
-            costs[place]
-        };
-    }
-    after
+    let links = row.links();
+    add_on(costs, links.as_slice(), cost(Octets(row.octets)).0);
 }
 
 /// By link, what a stream costs of it more: nothing where it has no row.
-fn costs_with(costs: [u64; 64], row: &Option<Row>) -> [u64; 64]
-    requires octets { HasOctets row.now }
-    requires bounded { AreBounded costs }
-    ensures { CostsWith costs row.now result }
+fn costs_with(costs: Vec<u64>, row: &Option<Row>) -> Vec<u64>
+    requires countable { MayBeCounted row.now }
+    requires all { length costs.items ≡ most_links }
+    requires bounded { AreBounded costs.items }
+    ensures { CostsWith costs.items row.now result.items }
 {
-    match row {
-        Some(row) => added(&costs, row),
-        None => costs,
+    let mut costs = costs;
+    if let Some(row) = row {
+        add(&mut costs, row);
     }
+    costs
 }
 
 /// The row of a request, as if it were the first of all; none where its octets or its path are refused.
 fn row_of_request(domain: &Domain, request: &Request) -> Result<Option<Row>, Memory>
     ensures row { IfOk result (λ row. row ≡ row_of_stream domain.now (asked_of request.now)) }
-    ensures octets { IfOk result HasOctets }
+    ensures countable { IfOk result MayBeCounted }
 {
+    // the domain is accepted: it has no more links than are represented
+    let _cycle_time = domain.cycle_time();
     if count_places(request.paths.as_slice()).is_none() {
         return Err(AllocError);
     }
@@ -79,6 +76,7 @@ fn row_of_request(domain: &Domain, request: &Request) -> Result<Option<Row>, Mem
                 no: 0,
                 name,
                 octets: request.octets,
+                pace: EACH_CYCLE,
                 tree,
                 admitted: Cycle(0),
                 withdrawn: None,
@@ -88,22 +86,31 @@ fn row_of_request(domain: &Domain, request: &Request) -> Result<Option<Row>, Mem
     }
 }
 
+/// What no streams cost of each link.
+fn no_costs(alloc: Global) -> Result<Vec<u64>, Memory>
+    ensures { IfOk result (λ costs. costs.items ≡ replicate most_links 0) }
+{
+    Ok(vec![in alloc; 0; MOST_LINKS]?)
+}
+
 impl Listing {
-    /// None so far. It takes no memory.
-    fn new(alloc: Global) -> Listing
-        ensures { (d : ADomain) → IsListing d [] result }
+    /// None so far, unless memory runs out.
+    fn new(alloc: Global) -> Result<Listing, Memory>
+        ensures { IfOk result (λ listing. (d : ADomain) → IsListing d [] listing) }
     {
-        Listing {
+        let costs = no_costs(alloc)?;
+        Ok(Listing {
             names: IndexSet::new(alloc),
             streams: Vec::new(alloc),
-            costs: [0; 64],
-        }
+            costs,
+        })
     }
 
     /// The listing with a stream more.
     fn push(self, name: Name, row: Option<Row>) -> Result<Listing, Memory>
-        requires octets { HasOctets row }
-        requires bounded { AreBounded self.costs }
+        requires countable { MayBeCounted row }
+        requires all { length self.costs.items ≡ most_links }
+        requires bounded { AreBounded self.costs.items }
         ensures { IfOk result (ListsOne self name row) }
     {
         let Listing {
@@ -151,7 +158,7 @@ pub(crate) fn list_streams(
 ) -> Result<Listing, Memory>
     ensures { IfOk result (IsListing domain.now (map asked_of requests.now)) }
 {
-    let mut listing = Listing::new(alloc);
+    let mut listing = Listing::new(alloc)?;
     for request in requests {
         listing = listing.with(domain, request)?;
     }

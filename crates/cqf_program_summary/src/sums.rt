@@ -1,6 +1,7 @@
 //! How the frames of all streams fare, found by name.
 ghost use Rattle.std.specs.Prelude.{ℕ, ◌≡◌, ◌≤◌, ◌+◌, [], All, IfOk, length, map};
 ghost use Rattle.cqf_admission.specs.Asking.{asked_of};
+ghost use Rattle.cqf_model.specs.Limits.{most_links};
 ghost use Rattle.cqf_program_runs.specs.Deadlines.{deadline_in};
 ghost use Rattle.cqf_program_summary.specs.Counting.{SummaryWithin, summary_with};
 ghost use Rattle.cqf_program_summary.specs.Listing.{AreBounded, IsOfStream, cost_in, fare_named};
@@ -39,11 +40,12 @@ impl Model for Sums {
 fn fares_of(
     alloc: Global,
     domain: &Domain,
-    costs: &[u64; 64],
+    costs: &[u64],
     streams: &[Listed],
     deadlines: &Deadlines<'_>,
 ) -> Result<Vec<Fares>, Memory>
     requires bounded { AreBounded costs.now }
+    requires all { length costs.now ≡ most_links }
     requires listed { All (IsOfStream domain.now) streams.now }
     ensures { IfOk result (λ fares. fares.items ≡ map (fare_named domain.now (cost_in costs.now) (deadline_in deadlines.now)) streams.now) }
 {
@@ -66,14 +68,14 @@ impl Sums {
         ensures { let due = deadline_in (record { requests = requests.now; deadlines = deadlines.now }) in
             IfOk result (λ sums. sums ≡ summary_by domain.now (told_streams (map asked_of requests.now)) due [] []) }
     {
-        // the domain is accepted: it has at most 64 links
+        // the domain is accepted: it has no more links than are represented
         let _cycle_time = domain.cycle_time();
         let listing = list_streams(alloc, domain, requests)?;
         let due = Deadlines::new(alloc, requests, deadlines)?;
         let fares = fares_of(
             alloc,
             domain,
-            &listing.costs,
+            listing.costs.as_slice(),
             listing.streams.as_slice(),
             &due,
         )?;
@@ -88,12 +90,12 @@ impl Sums {
         })
     }
 
-    /// Adds an offer of a name, and its deliveries, at most 64, in a time that doesn't grow with the streams.
+    /// Adds an offer of a name, and its deliveries, at most 200, in a time that doesn't grow with the streams.
     pub(crate) fn add(&mut self, name: &Name, here: &[Delivery])
-        requires few { length here.now ≤ 64 }
-        requires within { SummaryWithin 64999935 self.old }
+        requires few { length here.now ≤ 200 }
+        requires within { SummaryWithin 3372220014 self.old }
         ensures sums { self.new ≡ summary_with name.now here.now self.old }
-        ensures more { (many : ℕ) → SummaryWithin many self.old → SummaryWithin (many + 65) self.new }
+        ensures more { (many : ℕ) → SummaryWithin many self.old → SummaryWithin (many + 201) self.new }
     {
         match self.names.get_index_of(name) {
             Some(place) => self.fares[place].add_offer(here),

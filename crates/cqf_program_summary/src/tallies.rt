@@ -12,7 +12,7 @@ use cqf_units::Nanos;
 pub struct Taken {
     pub least: u64,
     pub most: u64,
-    /// That of all of them together: some 64,000,000 have room.
+    /// That of all of them together: some 3,372,000,000 have room.
     pub total: u128,
     /// How many came behind the first.
     pub behind: u32,
@@ -33,7 +33,7 @@ pub struct Tally {
 
 /// What frames took, with one more.
 fn taken_more(taken: Option<Taken>, latency: u64) -> Taken
-    requires { TakenWithin 64999999 taken }
+    requires { TakenWithin 3372220214 taken }
     ensures taken { result ≡ taken_more latency taken }
     ensures more { (many : ℕ) → TakenWithin many taken → TakenWithin (many + 1) (Some result) }
 {
@@ -55,7 +55,7 @@ fn taken_more(taken: Option<Taken>, latency: u64) -> Taken
 
 /// What frames took, with one more where it is whole.
 fn taken_with(taken: Option<Taken>, at: Nanos, whole: Option<Nanos>) -> Option<Taken>
-    requires { TakenWithin 64999999 taken }
+    requires { TakenWithin 3372220214 taken }
     ensures taken { result ≡ taken_with at.0 whole taken }
     ensures more { (many : ℕ) → TakenWithin many taken → TakenWithin (many + 1) result }
 {
@@ -89,7 +89,7 @@ impl Tally {
 
     /// The same with an end more.
     fn counted(self, ending: Fate) -> Tally
-        requires { TallyWithin 64999999 self }
+        requires { TallyWithin 3372220214 self }
         ensures { result ≡ counted ending self }
     {
         match ending {
@@ -111,7 +111,7 @@ impl Tally {
 
     /// The same with a delivery more, of a frame that is offered at an instant and whole at another, where it is.
     pub(crate) fn with(self, ending: Fate, at: Nanos, whole: Option<Nanos>) -> Tally
-        requires { TallyWithin 64999999 self }
+        requires { TallyWithin 3372220214 self }
         ensures tally { result ≡ tally_with ending at.0 whole self }
         ensures more { (many : ℕ) → TallyWithin many self → TallyWithin (many + 1) result }
     {

@@ -21,7 +21,7 @@ fn put_numbered<W: Sink>(press: &mut Press<'_, W>, word: &[u8], number: usize)
 }
 
 /// Puts that a link's budget has too few octets left.
-fn put_short<W: Sink>(press: &mut Press<'_, W>, link: u8, left: u32)
+fn put_short<W: Sink>(press: &mut Press<'_, W>, link: u16, left: u32)
     ensures { Puts W.contents press.old press.new (text_of_refusal (Refused.BudgetShort link left)) }
 {
     press.put(b"BudgetShort ");
@@ -42,6 +42,8 @@ fn put_refusal<W: Sink>(press: &mut Press<'_, W>, refused: Refused)
         Refused::LoopingPath(place) => put_numbered(press, b"LoopingPath ", place),
         Refused::NotATree(branch) => put_numbered(press, b"NotATree ", branch),
         Refused::NameHeld => press.put(b"NameHeld"),
+        Refused::TooManyHops => press.put(b"TooManyHops"),
+        Refused::BadPace => press.put(b"BadPace"),
         Refused::TooManyStreams => press.put(b"TooManyStreams"),
         Refused::BudgetShort { link, left } => put_short(press, link, left),
         Refused::NotHeld => press.put(b"NotHeld"),

@@ -8,7 +8,7 @@ use cqf_program_press::{Press, Sink};
 use cqf_topology::Domain;
 
 /// Puts the name of a bridge. A bridge that the domain lacks has none.
-pub fn put_bridge<W: Sink>(press: &mut Press<'_, W>, domain: &Domain, bridge: u8)
+pub fn put_bridge<W: Sink>(press: &mut Press<'_, W>, domain: &Domain, bridge: u16)
     ensures { Puts W.contents press.old press.new (name_of_bridge domain.now bridge) }
 {
     if bridge < domain.bridges() {
@@ -17,7 +17,7 @@ pub fn put_bridge<W: Sink>(press: &mut Press<'_, W>, domain: &Domain, bridge: u8
 }
 
 /// Puts the name of a station. A station that the domain lacks has none.
-fn put_station<W: Sink>(press: &mut Press<'_, W>, domain: &Domain, station: u8)
+fn put_station<W: Sink>(press: &mut Press<'_, W>, domain: &Domain, station: u16)
     ensures { Puts W.contents press.old press.new (name_of_node domain.now (Node.Station station)) }
 {
     if station < domain.stations() {
@@ -45,7 +45,7 @@ fn put_ends<W: Sink>(press: &mut Press<'_, W>, domain: &Domain, link: Link)
 }
 
 /// Puts a link by the names of its ends. A link that the domain lacks has none.
-pub fn put_link<W: Sink>(press: &mut Press<'_, W>, domain: &Domain, link: u8)
+pub fn put_link<W: Sink>(press: &mut Press<'_, W>, domain: &Domain, link: u16)
     ensures { Puts W.contents press.old press.new (name_of_link domain.now link) }
 {
     if link < domain.links() {

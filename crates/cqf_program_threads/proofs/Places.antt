@@ -9,6 +9,7 @@ use Rattle.cqf_model.specs.declared.frames.Started.{Started}
 use Rattle.cqf_model.specs.declared.topology.Link.{Link}
 use Rattle.cqf_model.specs.Domain.{Domain, IsAccepted, bridge_of, leaves}
 use Rattle.cqf_model.proofs.Links.{bridge_within, leaves_its_bridge}
+use Rattle.cqf_model.proofs.Represented.{few_bridges}
 use Rattle.cqf_laws_cycle.specs.PageLaws.{is_on_link}
 use Rattle.cqf_laws_account.specs.Paged.{AreByLink}
 use Rattle.cqf_laws_account.proofs.Gathering.{leaves_one}
@@ -18,7 +19,7 @@ use Rattle.cqf_program_threads.proofs.Stretches.{front_of, next_place, place_wit
 
 -- by bridge the place behind the starts on so many links, on the bridge's page
 pub record ArePlaces (d : Domain) (pages : ℕ → List Started) (link : ℕ) (places : List ℕ) : Type 0 where
-  pub many : length places ≡ 32
+  pub many : length places ≡ 1024
   pub each : (bridge : ℕ) → bridge < length d.bridges → get_or places bridge 0 ≡ length (front_of d bridge (pages bridge) link)
 
 -- those of a book's pages of a kind in a cycle
@@ -27,11 +28,11 @@ ArePlacesIn book kind cycle link places = ArePlaces book.domain (λ bridge. stan
 
 module _ (d : Domain) (pages : ℕ → List Started) where
   -- at first it's the page's begin
-  pub first_places : IsAccepted d → (places : List ℕ) → places ≡ replicate 32 0 → ArePlaces d pages 0 places
+  pub first_places : IsAccepted d → (places : List ℕ) → places ≡ replicate 1024 0 → ArePlaces d pages 0 places
   first_places accepted places are = record {
-    many = ap length are ∙ length-replicate {A = ℕ} 32 0;
+    many = ap length are ∙ length-replicate {A = ℕ} 1024 0;
     each = λ bridge inside.
-        ap (λ (xs : List ℕ). get_or xs bridge 0) are ∙ get_or-replicate {A = ℕ} 32 bridge 0 0 (omega (arith, inside, accepted.few_bridges));
+        ap (λ (xs : List ℕ). get_or xs bridge 0) are ∙ get_or-replicate {A = ℕ} 1024 bridge 0 0 (omega (arith, inside, few_bridges d accepted));
   }
 
   -- a link brings nothing to another bridge's page
@@ -55,7 +56,7 @@ module _ (d : Domain) (pages : ℕ → List Started) where
 
     -- it has a place
     pub own_has_place : own < length places
-    own_has_place = omega (arith, own_within, accepted.few_bridges, are.many)
+    own_has_place = omega (arith, own_within, few_bridges d accepted, are.many)
 
     module _ (starts : List Started) (same : starts ≡ pages own) (by_link : AreByLink d own starts) where
       -- which is on its page

@@ -90,7 +90,7 @@ impl PagedBook {
     }
 
     /// The transmissions of a kind on the bridge's page of the cycle, link by link; none where there is no page.
-    pub(crate) fn starts(&self, kind: Kind, bridge: u8, cycle: u32) -> &[Started]
+    pub(crate) fn starts(&self, kind: Kind, bridge: u16, cycle: u32) -> &[Started]
         ensures value { result.now ≡ stands_on self.now kind bridge cycle }
         ensures by_link { bridge < length self.now.domain.bridges → AreByLink self.now.domain bridge result.now }
     {
@@ -99,7 +99,7 @@ impl PagedBook {
     }
 
     /// The drops on the bridge's page of the cycle; none where there is no page.
-    pub(crate) fn drops(&self, bridge: u8, cycle: u32) -> &[Dropped]
+    pub(crate) fn drops(&self, bridge: u16, cycle: u32) -> &[Dropped]
         ensures { result.now ≡ (contents_on (pages_of self.now.pages) bridge cycle).drops }
     {
         let page = self.pages.page(bridge, Cycle(cycle));

@@ -11,7 +11,7 @@ use cqf_program_telling::{put_book_header, put_drops, put_starts};
 use cqf_topology::Domain;
 
 /// Where the starts on a link end, of those from a place on: the first place of a start on another link, or that behind the last.
-fn end_on_link(starts: &[Started], place: usize, link: u8) -> usize
+fn end_on_link(starts: &[Started], place: usize, link: u16) -> usize
     requires { place ≤ length starts.now }
     ensures { IsStretch link starts.now place result }
 {
@@ -30,7 +30,7 @@ fn put_on_link<W: Sink>(
     domain: &Domain,
     starts: &[Started],
     place: usize,
-    link: u8,
+    link: u16,
 ) -> usize
     requires { place ≤ length starts.now }
     ensures stretch { IsStretch link starts.now place result }
@@ -55,7 +55,7 @@ fn put_starts_of_cycle<W: Sink>(
     let domain = book.domain();
     // the domain is accepted: a fact
     let _accepted = domain.cycle_time();
-    let mut places = [0; 32];
+    let mut places = [0; 1024];
     for link in 0..domain.links() {
         let bridge = domain.link(link).from;
         let starts = book.starts(kind, bridge, cycle);

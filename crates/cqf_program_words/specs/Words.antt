@@ -17,7 +17,7 @@ use Rattle.cqf_program_words.specs.declared.words.Job.TheVariants.{Check, Compil
 use Rattle.cqf_program_words.specs.declared.words.Job.TheVariants.{Load, Offers, Plan, Port, Report, Run, Summary}
 use Rattle.cqf_program_stop.specs.Stops.{line_of}
 use Rattle.cqf_program_stop.specs.declared.stops.Stop.{Stop}
-use Rattle.cqf_model.specs.Limits.{last_until, most_cycles, most_rows}
+use Rattle.cqf_model.specs.Limits.{last_until, most_cycles, profile}
 use Rattle.cqf_program_words.specs.Candidates.{AreNamed}
 
 -- an option `--NAME N` that has to be given
@@ -54,7 +54,7 @@ seed_rule = free_number_rule (codes "seed") 0 4294967295
 
 -- the option `--frame F`
 abbrev pub frame_rule : Rule
-frame_rule = free_number_rule (codes "frame") 1 most_rows
+frame_rule = free_number_rule (codes "frame") 1 profile.rows
 
 -- a flag `--NAME`
 abbrev pub flag_rule : Text → Rule
@@ -202,7 +202,7 @@ IsJobOf (Offers cycles seed) name rows = (name ≡ codes "offers")
 IsJobOf (Hops cycles stream frame) name rows = (name ≡ codes "hops")
     × IsNumberIn 1 most_cycles cycles (first_of (codes "cycles") rows)
     × (option_map string_bytes stream ≡ first_of (codes "stream") rows)
-    × IsFreeIn 1 most_rows frame (first_of (codes "frame") rows)
+    × IsFreeIn 1 profile.rows frame (first_of (codes "frame") rows)
 IsJobOf (Plan table given) name rows = (name ≡ codes "plan")
     × IsFlagGiven table (first_of (codes "table") rows)
     × AreGiven given (first_of (codes "cycle") rows)

@@ -9,7 +9,7 @@ ghost use Rattle.cqf_program_words.specs.Words.{AreGiven, IsFlagGiven, IsFreeIn,
 ghost use Rattle.cqf_program_words.specs.declared.candidates.Candidates.{Candidates};
 ghost use Rattle.cqf_program_words.specs.Shown.{ShowsWords, are_printable};
 ghost use Rattle.cqf_program_words.specs.Words.{EndsWords, TellsNoCandidates, takes_domain};
-ghost use Rattle.cqf_model.specs.Limits.{most_cycles, most_rows};
+ghost use Rattle.cqf_model.specs.Limits.{most_cycles, profile};
 
 use crate::candidates::Candidates;
 use crate::commands::commands;
@@ -17,7 +17,7 @@ use crate::endings::{no_job, stop_of};
 use crate::naming::candidates_named;
 use crate::shown::stop_of_words;
 use clap::ArgMatches;
-use cqf_model::{LAST_UNTIL, MOST_CYCLES, MOST_ROWS};
+use cqf_model::{LAST_UNTIL, MOST_CYCLES, PROFILE};
 use cqf_program_stop::Stop;
 use cqf_units::Rate;
 use std::alloc::{AllocError, Global};
@@ -248,10 +248,10 @@ fn stream_of(alloc: Global, values: &ArgMatches<'_>) -> Result<Option<String>, A
 
 /// The number of a frame of the command with these values, which may have none; `None` where something else is given.
 fn frame_of(values: &ArgMatches<'_>) -> Option<Option<u32>>
-    ensures { MatchOption result ((frame : Option ℕ) → ¬ IsFreeIn 1 most_rows frame (first_of (codes "frame") (rows_of (found_of values.now))))
-        (λ frame. IsFreeIn 1 most_rows frame (first_of (codes "frame") (rows_of (found_of values.now)))) }
+    ensures { MatchOption result ((frame : Option ℕ) → ¬ IsFreeIn 1 profile.rows frame (first_of (codes "frame") (rows_of (found_of values.now))))
+        (λ frame. IsFreeIn 1 profile.rows frame (first_of (codes "frame") (rows_of (found_of values.now)))) }
 {
-    free_number_in(text_of(values, "frame"), 1, u64::from(MOST_ROWS))
+    free_number_in(text_of(values, "frame"), 1, u64::from(PROFILE.rows))
 }
 
 /// The job of the command `hops` with its values. The error is want of memory.

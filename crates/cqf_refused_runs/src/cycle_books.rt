@@ -170,7 +170,7 @@ pub(crate) fn twice_told<R: Wait>(rt: &R, alloc: Global) -> Told {
 }
 
 /// Whether the share of a bridge takes its page.
-fn takes<R: Wait>(rt: &R, alloc: Global, book: &CycleBook, share: &mut Share, bridge: u8) -> bool {
+fn takes<R: Wait>(rt: &R, alloc: Global, book: &CycleBook, share: &mut Share, bridge: u16) -> bool {
     match page_of(alloc, bridge) {
         Ok(page) => book.post(rt, share, page).is_ok(),
         Err(_) => false,

@@ -6,7 +6,7 @@ use cqf_units::{Cycle, Memory, Nanos};
 use std::alloc::Global;
 
 /// A start of 64 octets in cycle 0 on a link.
-pub(crate) fn start_on(link: u8) -> Started {
+pub(crate) fn start_on(link: u16) -> Started {
     Started {
         cycle: Cycle(0),
         link,
@@ -17,7 +17,7 @@ pub(crate) fn start_on(link: u8) -> Started {
 }
 
 /// A drop of cycle 0 at the bridge.
-pub(crate) fn drop_at(bridge: u8) -> Dropped {
+pub(crate) fn drop_at(bridge: u16) -> Dropped {
     Dropped {
         cycle: Cycle(0),
         bridge,
@@ -28,7 +28,7 @@ pub(crate) fn drop_at(bridge: u8) -> Dropped {
 }
 
 /// A page of cycle 0 with a start on link 1, a background start on link 2, and a drop.
-pub(crate) fn page_of(alloc: Global, bridge: u8) -> Result<Page, Memory> {
+pub(crate) fn page_of(alloc: Global, bridge: u16) -> Result<Page, Memory> {
     Ok(Page {
         bridge,
         cycle: Cycle(0),
@@ -39,7 +39,7 @@ pub(crate) fn page_of(alloc: Global, bridge: u8) -> Result<Page, Memory> {
 }
 
 /// Whether a page is that of the bridge.
-pub(crate) fn is_page(page: &Page, bridge: u8) -> bool {
+pub(crate) fn is_page(page: &Page, bridge: u16) -> bool {
     page.bridge == bridge
         && page.cycle == Cycle(0)
         && page.starts.as_slice() == [start_on(1)].as_slice()

@@ -15,10 +15,10 @@ enum Act {
     Admit,
     Withdraw,
     Seal,
-    Give(u8),
-    Step(u8),
-    Take(u8),
-    Post(u8),
+    Give(u16),
+    Step(u16),
+    Take(u16),
+    Post(u16),
 }
 
 /// The event itself.

@@ -29,7 +29,7 @@ fn is_new(alloc: Global, made: Result<Bridge, Memory>) -> bool {
 }
 
 /// Whether a batch is of a cycle and a link, and has these frames.
-pub(crate) fn is_batch(batch: &Batch, cycle: Cycle, link: u8, frames: &[Sent]) -> bool {
+pub(crate) fn is_batch(batch: &Batch, cycle: Cycle, link: u16, frames: &[Sent]) -> bool {
     if batch.cycle() != cycle || batch.link() != link || batch.len() != frames.len() {
         return false;
     }
@@ -42,7 +42,7 @@ pub(crate) fn is_batch(batch: &Batch, cycle: Cycle, link: u8, frames: &[Sent]) -
 }
 
 /// Whether one batch of a cycle and a link was sent, with these frames.
-fn is_sent(batches: &[Batch], cycle: Cycle, link: u8, frames: &[Sent]) -> bool {
+fn is_sent(batches: &[Batch], cycle: Cycle, link: u16, frames: &[Sent]) -> bool {
     match batches {
         [batch] => is_batch(batch, cycle, link, frames),
         _ => false,
@@ -54,7 +54,7 @@ pub(crate) fn sends(
     alloc: Global,
     bridge: &mut Bridge,
     cycle: Cycle,
-    link: u8,
+    link: u16,
     frames: &[Sent],
 ) -> bool
     requires { cycle.0 < 100000 }
@@ -132,7 +132,7 @@ pub(crate) fn goes_through(
     bridge: &mut Bridge,
     table: &Table,
     offers: &[Offer],
-    link: u8,
+    link: u16,
 ) -> bool {
     let cycle = table.cycle();
     cycle.0 < 100_000
@@ -168,7 +168,7 @@ pub(crate) fn make_ready(alloc: Global, streams: &[Asked], offering: &[Offering]
 }
 
 /// A new bridge of what is ready, where it has one of the number.
-fn bridge_of(alloc: Global, ready: &Ready, number: u8) -> Option<Bridge> {
+fn bridge_of(alloc: Global, ready: &Ready, number: u16) -> Option<Bridge> {
     if number >= ready.plan.domain().bridges() {
         return None;
     }

@@ -6,7 +6,7 @@ use cqf_units::Rate;
 use std::alloc::Global;
 
 /// A line's link to a node.
-fn link_to(from: u8, to: Node) -> Link {
+fn link_to(from: u16, to: Node) -> Link {
     Link {
         from,
         to,

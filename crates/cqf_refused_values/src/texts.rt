@@ -35,7 +35,7 @@ pub(crate) fn arrivals_told(alloc: Global) -> Told {
 }
 
 /// Whether an offer has these values.
-fn is_offer(offer: &Offer, at: u64, bridge: u8, octets: u32) -> bool {
+fn is_offer(offer: &Offer, at: u64, bridge: u16, octets: u32) -> bool {
     offer.at == Nanos(at)
         && offer.bridge == bridge
         && offer.octets == octets

@@ -1,6 +1,7 @@
 -- What the arrivals that are read are like.
 use Rattle.std.proofs.Common.{◌≡◌, ◌≤◌, ℕ, List, [], ◌∷◌, Option, Some, None, Ok, length, refl, subst}
 use Rattle.cqf_model.specs.declared.ports.Arrival.{Arrival}
+use Rattle.cqf_model.specs.Limits.{profile, rows_within}
 use Rattle.cqf_report.specs.Arrivals.{arrival_header, arrival_instant, arrival_of, arrival_with, arrivals_of_table, AreArrivals, IsArrival}
 use Rattle.cqf_report.specs.Records.{Fields, records_of}
 use Rattle.cqf_report.specs.Table.{in_four}
@@ -34,10 +35,10 @@ arrival-row (a ∷ b ∷ c ∷ x ∷ y ∷ fields) arrival e = cc
 -- the arrivals of a text are in their ranges and in order
 pub arrivals-good : (text : List ℕ) (arrivals : List Arrival) → arrivals_of_table text ≡ Ok arrivals → AreArrivals arrivals
 arrivals-good text arrivals e = record {
-  each = table-each IsArrival (in_four arrival_of) arrival_instant arrival-row arrival_header (records_of text) arrivals e;
-  in_order = rows_under-in_order arrival_header (in_four arrival_of) arrival_instant (records_of text) arrivals e;
+  each = table-each IsArrival (rows_within profile) (in_four arrival_of) arrival_instant arrival-row arrival_header (records_of text) arrivals e;
+  in_order = rows_under-in_order (rows_within profile) arrival_header (in_four arrival_of) arrival_instant (records_of text) arrivals e;
 }
 
 -- and there are at most 1,000,000
-pub arrivals-few : (text : List ℕ) (arrivals : List Arrival) → arrivals_of_table text ≡ Ok arrivals → length arrivals ≤ 1000000
-arrivals-few text arrivals e = rows_under-few arrival_header (in_four arrival_of) arrival_instant (records_of text) arrivals e
+pub arrivals-few : (text : List ℕ) (arrivals : List Arrival) → arrivals_of_table text ≡ Ok arrivals → length arrivals ≤ rows_within profile
+arrivals-few text arrivals e = rows_under-few (rows_within profile) arrival_header (in_four arrival_of) arrival_instant (records_of text) arrivals e

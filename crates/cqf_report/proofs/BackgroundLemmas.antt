@@ -4,6 +4,7 @@ use Rattle.cqf_model.proofs.Links.{link_inside}
 use Rattle.cqf_model.specs.declared.frames.Background.{Background}
 use Rattle.cqf_model.specs.Domain.{Domain}
 use Rattle.cqf_model.specs.Run.{AreBackground, IsBackground}
+use Rattle.cqf_model.specs.Limits.{rows_within}
 use Rattle.cqf_report.specs.Records.{Fields, records_of}
 use Rattle.cqf_report.specs.Table.{in_five}
 use Rattle.cqf_report.specs.BackgroundFrames.{background_header, background_instant, background_of_table}
@@ -51,9 +52,9 @@ frame-row d (a ∷ b ∷ c ∷ x ∷ y ∷ z ∷ fields) frame e = cc
 -- each background frame of a text may be handed to a run
 pub frames-good : (d : Domain) (text : List ℕ) (frames : List Background) → background_frames_of d text ≡ Ok frames → AreBackground d frames
 frames-good d text frames e =
-    table-each (IsBackground d) (in_five (background_of_table d)) background_instant (λ fields frame is. frame-row d fields frame is) background_header
+    table-each (IsBackground d) (rows_within d.limits) (in_five (background_of_table d)) background_instant (λ fields frame is. frame-row d fields frame is) background_header
     (records_of text) frames e
 
 -- and there are at most 1,000,000
-pub frames-few : (d : Domain) (text : List ℕ) (frames : List Background) → background_frames_of d text ≡ Ok frames → length frames ≤ 1000000
-frames-few d text frames e = rows_under-few background_header (in_five (background_of_table d)) background_instant (records_of text) frames e
+pub frames-few : (d : Domain) (text : List ℕ) (frames : List Background) → background_frames_of d text ≡ Ok frames → length frames ≤ rows_within d.limits
+frames-few d text frames e = rows_under-few (rows_within d.limits) background_header (in_five (background_of_table d)) background_instant (records_of text) frames e

@@ -5,13 +5,12 @@ use Rattle.std.proofs.lemmas.Bool.{cases_lt}
 use Rattle.std.proofs.lemmas.Bool.Decides.{nat_tests}
 use Rattle.cqf_lists.proofs.Places.{slice_get_behind}
 use Rattle.cqf_report.specs.Records.{Fields}
-use Rattle.cqf_model.specs.Limits.{most_rows}
 use Rattle.cqf_report.specs.Table.{row_then, rows_from, with_row}
 use Rattle.cqf_report.specs.TableLaws.{AreGoodBefore, IsFirstBack, IsFirstFault, IsGood, TellsFirst, Writes}
 use Rattle.cqf_report.specs.declared.tables.TableFault.{TableFault}
 use Rattle.cqf_report.specs.declared.tables.TableFault.TheVariants.{TooMany, OutOfOrder}
 
-module _ {A : Type 0} (read : Fields → Option A) (instant : A → ℕ) where
+module _ {A : Type 0} (most : ℕ) (read : Fields → Option A) (instant : A → ℕ) where
   -- a record writes one row
   one-row : (rows : List Fields) (place : ℕ) (a b : A) → Writes read rows place a → Writes read rows place b → a ≡ b
   one-row rows place a b first second =
@@ -56,8 +55,8 @@ module _ {A : Type 0} (read : Fields → Option A) (instant : A → ℕ) where
   -- the records are all good, or the first fault of them all is told
   abbrev Told : List Fields → Result (List A) TableFault → Type 0
   Told rows told = MatchResult told
-      (λ items. (length rows ≤ most_rows) × AreGoodBefore read instant rows (length rows))
-      (λ fault. IsFirstFault read instant rows fault)
+      (λ items. (length rows ≤ most) × AreGoodBefore read instant rows (length rows))
+      (λ fault. IsFirstFault most read instant rows fault)
 
   -- a row in front changes nothing of it
   told-behind : (rows : List Fields) (row : A) (others : Result (List A) TableFault) → Told rows others → Told rows (with_row row others)
@@ -66,16 +65,16 @@ module _ {A : Type 0} (read : Fields → Option A) (instant : A → ℕ) where
 
   -- so it is of the records behind any good front
   abbrev TellsBehind : List Fields → Type 0
-  TellsBehind rest = (front : List Fields) (number before : ℕ) → number ≡ length front + 1 → number ≤ most_rows + 1
+  TellsBehind rest = (front : List Fields) (number before : ℕ) → number ≡ length front + 1 → number ≤ most + 1
       → AreGoodBefore read instant (front ++ rest) (length front) → IsBefore (front ++ rest) (length front) before
-      → Told (front ++ rest) (rows_from read instant number before rest)
+      → Told (front ++ rest) (rows_from most read instant number before rest)
 
   -- what is told of a text holds behind each front of it
   told-behind-front : (rest : List Fields) → TellsBehind rest
   told-behind-front [] front number before numbered few good last =
       let whole : length (front ++ []) ≡ length front = ap length (append-nil front) in
       (omega (arith, whole, numbered, few), subst (λ n. AreGoodBefore read instant (front ++ []) n) (sym whole) good)
-  told-behind-front (fields ∷ rest) front number before numbered few good last = by_many (told-behind-front rest) (nat_lt most_rows number) refl
+  told-behind-front (fields ∷ rest) front number before numbered few good last = by_many (told-behind-front rest) (nat_lt most number) refl
     where
       rows : List Fields
       rows = front ++ fields ∷ rest
@@ -86,15 +85,15 @@ module _ {A : Type 0} (read : Fields → Option A) (instant : A → ℕ) where
       long : length rows ≡ length front + (length rest + 1)
       long = length-append front (fields ∷ rest) ∙ omega arith
 
-      next : TellsBehind rest → (row : A) → read fields ≡ Some row → before ≤ instant row → number ≤ most_rows →
-          Told rows (rows_from read instant (number + 1) (instant row) rest)
+      next : TellsBehind rest → (row : A) → read fields ≡ Some row → before ≤ instant row → number ≤ most →
+          Told rows (rows_from most read instant (number + 1) (instant row) rest)
       next again row means h within =
           let writes : Writes read rows (length front) row = record { fields = fields; stands = stands; means = means } in
           let here : IsGood read instant rows (length front) =
           record { row = row; writes = writes; in_order = in-order rows (length front) before row last h } in
           let moved : (front ++ fields ∷ []) ++ rest ≡ rows = append_assoc front (fields ∷ []) rest in
           let one : length (front ++ fields ∷ []) ≡ length front + 1 = length-append front (fields ∷ []) in
-          subst (λ all. Told all (rows_from read instant (number + 1) (instant row) rest)) moved
+          subst (λ all. Told all (rows_from most read instant (number + 1) (instant row) rest)) moved
           (again (front ++ fields ∷ []) (number + 1) (instant row) (omega (arith, numbered, one)) (omega (arith, within))
           (subst (λ all. AreGoodBefore read instant all (length (front ++ fields ∷ []))) (sym moved)
           (subst (λ n. AreGoodBefore read instant rows n) (sym one) (good-more rows (length front) good here)))
@@ -107,8 +106,8 @@ module _ {A : Type 0} (read : Fields → Option A) (instant : A → ℕ) where
                 refl;
           })))
 
-      back : (row : A) → read fields ≡ Some row → instant row < before → number ≤ most_rows → IsBefore rows (length front) before →
-          IsFirstBack read instant rows number
+      back : (row : A) → read fields ≡ Some row → instant row < before → number ≤ most → IsBefore rows (length front) before →
+          IsFirstBack most read instant rows number
       back row means h within (inl start) = absurd (omega (arith, start.1, h))
       back row means h within (inr last) =
           let here : length front ≡ last.k + 1 = sym last.next in
@@ -124,22 +123,22 @@ module _ {A : Type 0} (read : Fields → Option A) (instant : A → ℕ) where
             goes_back = omega (arith, h, last.its);
           }
 
-      by_back : TellsBehind rest → (row : A) → read fields ≡ Some row → number ≤ most_rows → (b : Bool) → nat_lt (instant row) before ≡ b
-          → Told rows (cond b (Err (OutOfOrder number)) (with_row row (rows_from read instant (number + 1) (instant row) rest)))
+      by_back : TellsBehind rest → (row : A) → read fields ≡ Some row → number ≤ most → (b : Bool) → nat_lt (instant row) before ≡ b
+          → Told rows (cond b (Err (OutOfOrder number)) (with_row row (rows_from most read instant (number + 1) (instant row) rest)))
       by_back again row means within true e = back row means (grind (arith, nat_tests)) within last
       by_back again row means within false e =
-          told-behind rows row (rows_from read instant (number + 1) (instant row) rest) (next again row means (grind (arith, nat_tests)) within)
+          told-behind rows row (rows_from most read instant (number + 1) (instant row) rest) (next again row means (grind (arith, nat_tests)) within)
 
-      by_row : TellsBehind rest → (o : Option A) → read fields ≡ o → number ≤ most_rows →
-          Told rows (row_then instant number before o (λ last. rows_from read instant (number + 1) last rest))
+      by_row : TellsBehind rest → (o : Option A) → read fields ≡ o → number ≤ most →
+          Told rows (row_then instant number before o (λ last. rows_from most read instant (number + 1) last rest))
       by_row again None means within =
           record { place = length front; numbered = numbered; few = within; good_before = good; fields = fields; stands = stands; means_nothing = means }
       by_row again (Some row) means within = by_back again row means within (nat_lt (instant row) before) refl
 
-      by_many : TellsBehind rest → (b : Bool) → nat_lt most_rows number ≡ b
-          → Told rows (cond b (Err TooMany) (row_then instant number before (read fields) (λ last. rows_from read instant (number + 1) last rest)))
+      by_many : TellsBehind rest → (b : Bool) → nat_lt most number ≡ b
+          → Told rows (cond b (Err TooMany) (row_then instant number before (read fields) (λ last. rows_from most read instant (number + 1) last rest)))
       by_many again true e =
-          let beyond : most_rows < number = grind (arith, nat_tests) in
+          let beyond : most < number = grind (arith, nat_tests) in
           record {
             many = omega (arith, beyond, numbered, long);
             good_before =
@@ -148,5 +147,5 @@ module _ {A : Type 0} (read : Fields → Option A) (instant : A → ℕ) where
       by_many again false e = by_row again (read fields) refl (grind (arith, nat_tests))
 
   -- of all of them
-  pub tells-first : (rows : List Fields) → TellsFirst read instant rows
+  pub tells-first : (rows : List Fields) → TellsFirst most read instant rows
   tells-first rows = told-behind-front rows [] 1 0 refl (omega arith) (λ k below. absurd (omega (arith, below))) (inl (refl, refl))

@@ -243,17 +243,23 @@ module _ (rest batch later : List Started) (d : Started) (parts : rest ≡ batch
 
 -- what each link has as its most so far is, with what the rest has, the most of all
 pub record AreMostSoFar (starts rest : List Started) (most : List ℕ) : Type 0 where
-  pub each_link : length most ≡ 256
+  pub each_link : length most ≡ 65536
   pub ordered : AreSumsInOrder rest
-  pub with_rest : (link : ℕ) → link < 256 → max (slice_index most link) (most_on link rest) ≡ most_on link starts
+  pub with_rest : (link : ℕ) → link < 65536 → max (slice_index most link) (most_on link rest) ≡ most_on link starts
 
 -- before the first batch no link has any
-pub none_most : (starts : List Started) (most : List ℕ) → AreSumsInOrder starts → most ≡ replicate 256 0 → AreMostSoFar starts starts most
+pub none_most : (starts : List Started) (most : List ℕ) → AreSumsInOrder starts → most ≡ replicate 65536 0 → AreMostSoFar starts starts most
 none_most starts most ordered is = record {
-  each_link = ap length is ∙ length-replicate {A = ℕ} 256 0;
+  each_link = ap length is ∙ length-replicate {A = ℕ} 65536 0;
   ordered = ordered;
-  with_rest = λ link below. omega (arith, ap (λ (xs : List ℕ). slice_index xs link) is ∙ get_or-replicate 256 link 0 0 below);
+  with_rest = λ link below. omega (arith, ap (λ (xs : List ℕ). slice_index xs link) is ∙ get_or-replicate 65536 link 0 0 below);
 }
+
+-- behind the last batch each link has the most of all
+pub all_most : (starts rest : List Started) (most : List ℕ) → AreMostSoFar starts rest most → length rest ≡ 0 → (link : ℕ) → link < 65536 →
+    slice_index most link ≡ most_on link starts
+all_most starts [] most so_far ended link below = omega (arith, so_far.with_rest link below)
+all_most starts (first ∷ rest) most so_far ended link below = absurd (omega (arith, ended))
 
 -- one batch more
 pub more_most : (starts rest batch later : List Started) (most : List ℕ) (d : Started) (octets : ℕ) → rest ≡ batch ++ later → 0 < length batch →

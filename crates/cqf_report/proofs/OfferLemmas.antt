@@ -5,6 +5,7 @@ use Rattle.std.specs.Prelude.{position}
 use Rattle.cqf_model.specs.declared.frames.Offer.{Offer}
 use Rattle.cqf_model.specs.Domain.{Domain, is_text, node_named, node_or}
 use Rattle.cqf_model.specs.Run.{AreOffers, IsOffer}
+use Rattle.cqf_model.specs.Limits.{rows_within}
 use Rattle.cqf_report.specs.Records.{Fields, records_of}
 use Rattle.cqf_report.specs.Table.{in_four}
 use Rattle.cqf_report.specs.Offers.{as_bridge, bridge_named, name_in, offer_header, offer_instant, offer_of, offer_with, offers_of}
@@ -65,8 +66,8 @@ offer-row d (a ∷ b ∷ c ∷ x ∷ y ∷ fields) offer e = cc
 -- each offer of a text may be handed to a run
 pub offers-good : (d : Domain) (text : List ℕ) (offers : List Offer) → offers_of d text ≡ Ok offers → AreOffers d offers
 offers-good d text offers e =
-    table-each (IsOffer d) (in_four (offer_of d)) offer_instant (λ fields offer is. offer-row d fields offer is) offer_header (records_of text) offers e
+    table-each (IsOffer d) (rows_within d.limits) (in_four (offer_of d)) offer_instant (λ fields offer is. offer-row d fields offer is) offer_header (records_of text) offers e
 
 -- and there are at most 1,000,000
-pub offers-few : (d : Domain) (text : List ℕ) (offers : List Offer) → offers_of d text ≡ Ok offers → length offers ≤ 1000000
-offers-few d text offers e = rows_under-few offer_header (in_four (offer_of d)) offer_instant (records_of text) offers e
+pub offers-few : (d : Domain) (text : List ℕ) (offers : List Offer) → offers_of d text ≡ Ok offers → length offers ≤ rows_within d.limits
+offers-few d text offers e = rows_under-few (rows_within d.limits) offer_header (in_four (offer_of d)) offer_instant (records_of text) offers e

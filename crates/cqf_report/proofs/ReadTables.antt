@@ -8,14 +8,13 @@ use Rattle.std.proofs.lemmas.List.Elements.{All-cons, All-nil}
 use Rattle.std.proofs.lemmas.List.Kept.{AllPairs-cons}
 use Rattle.std.specs.Option.{option_and_then}
 use Rattle.cqf_report.specs.Records.{Fields}
-use Rattle.cqf_model.specs.Limits.{most_rows}
 use Rattle.cqf_report.specs.Table.{is_header, row_then, rows_from, rows_under, with_row}
 use Rattle.cqf_report.specs.declared.tables.TableFault.{TableFault}
 use Rattle.cqf_report.specs.declared.tables.TableFault.TheVariants.{BadHeader, BadRow, OutOfOrder, TooMany}
 use Rattle.cqf_text.specs.Decimal.{decimal_in, decimal_value, in_range}
 
 -- what holds of each row that is read holds of each row of a table
-module _ {A : Type 0} (P : A → Type 0) (read : Fields → Option A) (instant : A → ℕ) (each : (fields : Fields) (row : A) → read fields ≡ Some row → P row) where
+module _ {A : Type 0} (P : A → Type 0) (most : ℕ) (read : Fields → Option A) (instant : A → ℕ) (each : (fields : Fields) (row : A) → read fields ≡ Some row → P row) where
   -- one row more of which the fact holds
   cons-each : (row : A) (others : Result (List A) TableFault) (items : List A) → P row → ((rest : List A) → others ≡ Ok rest → All P rest) →
       with_row row others ≡ Ok items → All P items
@@ -36,24 +35,24 @@ module _ {A : Type 0} (P : A → Type 0) (read : Fields → Option A) (instant :
       by false e = cons-each row (others (instant row)) items (each fields row is) (more (instant row)) e
 
   -- what holds of each row holds of the rows of a text
-  pub rows-each : (number before : ℕ) (rows : List Fields) (items : List A) → rows_from read instant number before rows ≡ Ok items → All P items
+  pub rows-each : (number before : ℕ) (rows : List Fields) (items : List A) → rows_from most read instant number before rows ≡ Ok items → All P items
   rows-each number before [] items e = let same : [] ≡ items = cc in subst (All P) same (All-nil P)
   rows-each number before (fields ∷ rows) items e =
-      by (nat_lt most_rows number) (row-each number before fields (read fields) (λ last. rows_from read instant (number + 1) last rows) items refl
+      by (nat_lt most number) (row-each number before fields (read fields) (λ last. rows_from most read instant (number + 1) last rows) items refl
       (λ last rest. rows-each (number + 1) last rows rest)) e
     where
-      by : (b : Bool) → (row_then instant number before (read fields) (λ last. rows_from read instant (number + 1) last rows) ≡ Ok items → All P items)
-          → (if b then Err TooMany else row_then instant number before (read fields) (λ last. rows_from read instant (number + 1) last rows)) ≡ Ok items →
+      by : (b : Bool) → (row_then instant number before (read fields) (λ last. rows_from most read instant (number + 1) last rows) ≡ Ok items → All P items)
+          → (if b then Err TooMany else row_then instant number before (read fields) (λ last. rows_from most read instant (number + 1) last rows)) ≡ Ok items →
           All P items
       by true more e = cc
       by false more e = more e
 
   -- and of a table's
-  pub table-each : (names : Fields) (rows : List Fields) (items : List A) → rows_under names read instant rows ≡ Ok items → All P items
+  pub table-each : (names : Fields) (rows : List Fields) (items : List A) → rows_under most names read instant rows ≡ Ok items → All P items
   table-each names [] items e = cc
   table-each names (first ∷ rows) items e = by (is_header names first) e
     where
-      by : (b : Bool) → (if b then rows_from read instant 1 0 rows else Err BadHeader) ≡ Ok items → All P items
+      by : (b : Bool) → (if b then rows_from most read instant 1 0 rows else Err BadHeader) ≡ Ok items → All P items
       by true e = rows-each 1 0 rows items e
       by false e = cc
 
@@ -112,38 +111,38 @@ row_then-few instant number before (Some row) others rows most few h =
     late-few number row (others (instant row)) rows most (nat_lt (instant row) before) (few (instant row)) h
 
 -- where the rows aren't too many
-unless-few : {A : Type 0} (number : ℕ) (read : Result (List A) TableFault) (rows : List A) (many : Bool) → nat_lt most_rows number ≡ many →
-    (number ≤ 1000000 → read ≡ Ok rows → length rows + number ≤ 1000001) → (if many then Err TooMany else read) ≡ Ok rows → length rows + number ≤ 1000001
-unless-few number read rows true test few h = absurd (no_rows TooMany rows h)
-unless-few number read rows false test few h =
-    let within : number ≤ 1000000 = grind (arith, common_steps) in few within h
+unless-few : {A : Type 0} (most : ℕ) (number : ℕ) (read : Result (List A) TableFault) (rows : List A) (many : Bool) → nat_lt most number ≡ many →
+    (number ≤ most → read ≡ Ok rows → length rows + number ≤ most + 1) → (if many then Err TooMany else read) ≡ Ok rows → length rows + number ≤ most + 1
+unless-few most number read rows true test few h = absurd (no_rows TooMany rows h)
+unless-few most number read rows false test few h =
+    let within : number ≤ most = grind (arith, common_steps) in few within h
 
--- so the rows are a million at most
-rows_from-few : {A : Type 0} (read : Fields → Option A) (instant : A → ℕ) (number before : ℕ) (records : List Fields) (rows : List A) → number ≤ 1000001 →
-    rows_from read instant number before records ≡ Ok rows → length rows + number ≤ 1000001
-rows_from-few {A} read instant number before [] rows low h =
+-- so the rows are as many as may be at most
+rows_from-few : {A : Type 0} (most : ℕ) (read : Fields → Option A) (instant : A → ℕ) (number before : ℕ) (records : List Fields) (rows : List A) → number ≤ most + 1 →
+    rows_from most read instant number before records ≡ Ok rows → length rows + number ≤ most + 1
+rows_from-few {A} most read instant number before [] rows low h =
     let none : length rows ≡ 0 = ap length (sym (nil_ok rows h)) in omega (arith, none)
-rows_from-few read instant number before (fields ∷ records) rows low h =
-    unless-few number _ rows (nat_lt most_rows number) refl
+rows_from-few most read instant number before (fields ∷ records) rows low h =
+    unless-few most number _ rows (nat_lt most number) refl
     (λ within e.
-    let rest_few : length rows ≤ (1000000 - number) + 1 =
-    row_then-few instant number before (read fields) (λ last. rows_from read instant (number + 1) last records) rows (1000000 - number)
-    (λ last rest r. let more : length rest + (number + 1) ≤ 1000001 = rows_from-few read instant (number + 1) last records rest (omega arith) r in
+    let rest_few : length rows ≤ (most - number) + 1 =
+    row_then-few instant number before (read fields) (λ last. rows_from most read instant (number + 1) last records) rows (most - number)
+    (λ last rest r. let more : length rest + (number + 1) ≤ most + 1 = rows_from-few most read instant (number + 1) last records rest (omega arith) r in
     omega (arith, more)) e in
     omega (arith, rest_few)) h
 
 -- under the right header
-named-few : {A : Type 0} (read : Fields → Option A) (instant : A → ℕ) (named : Bool) (records : List Fields) (rows : List A) →
-    (if named then rows_from read instant 1 0 records else Err BadHeader) ≡ Ok rows → length rows ≤ 1000000
-named-few read instant true records rows h = let few : length rows + 1 ≤ 1000001 = rows_from-few read instant 1 0 records rows (omega arith) h in
+named-few : {A : Type 0} (most : ℕ) (read : Fields → Option A) (instant : A → ℕ) (named : Bool) (records : List Fields) (rows : List A) →
+    (if named then rows_from most read instant 1 0 records else Err BadHeader) ≡ Ok rows → length rows ≤ most
+named-few most read instant true records rows h = let few : length rows + 1 ≤ most + 1 = rows_from-few most read instant 1 0 records rows (omega arith) h in
     omega (arith, few)
-named-few read instant false records rows h = absurd (no_rows BadHeader rows h)
+named-few most read instant false records rows h = absurd (no_rows BadHeader rows h)
 
--- a table has at most 1,000,000 rows
-pub rows_under-few : {A : Type 0} (names : Fields) (read : Fields → Option A) (instant : A → ℕ) (records : List Fields) (rows : List A) →
-    rows_under names read instant records ≡ Ok rows → length rows ≤ 1000000
-rows_under-few names read instant [] rows h = absurd (no_rows BadHeader rows h)
-rows_under-few names read instant (first ∷ records) rows h = named-few read instant (is_header names first) records rows h
+-- a table has no more rows than it may
+pub rows_under-few : {A : Type 0} (most : ℕ) (names : Fields) (read : Fields → Option A) (instant : A → ℕ) (records : List Fields) (rows : List A) →
+    rows_under most names read instant records ≡ Ok rows → length rows ≤ most
+rows_under-few most names read instant [] rows h = absurd (no_rows BadHeader rows h)
+rows_under-few most names read instant (first ∷ records) rows h = named-few most read instant (is_header names first) records rows h
 
 -- rows whose instants are in order, from an instant on
 record AreInOrder {A : Type 0} (instant : A → ℕ) (before : ℕ) (rows : List A) : Type 0 where
@@ -196,23 +195,23 @@ unless-in_order instant before read rows true ordered h = absurd (no_rows TooMan
 unless-in_order instant before read rows false ordered h = ordered h
 
 -- so the rows are in order
-rows_from-in_order : {A : Type 0} (read : Fields → Option A) (instant : A → ℕ) (number before : ℕ) (records : List Fields) (rows : List A) →
-    rows_from read instant number before records ≡ Ok rows → AreInOrder instant before rows
-rows_from-in_order {A} read instant number before [] rows h =
+rows_from-in_order : {A : Type 0} (most : ℕ) (read : Fields → Option A) (instant : A → ℕ) (number before : ℕ) (records : List Fields) (rows : List A) →
+    rows_from most read instant number before records ≡ Ok rows → AreInOrder instant before rows
+rows_from-in_order {A} most read instant number before [] rows h =
     subst (λ (xs : List A). AreInOrder instant before xs) (nil_ok rows h) (AreInOrder-nil instant before)
-rows_from-in_order read instant number before (fields ∷ records) rows h =
-    unless-in_order instant before _ rows (nat_lt most_rows number)
-    (row_then-in_order instant before number (read fields) (λ last. rows_from read instant (number + 1) last records) rows
-    (λ last rest e. rows_from-in_order read instant (number + 1) last records rest e)) h
+rows_from-in_order most read instant number before (fields ∷ records) rows h =
+    unless-in_order instant before _ rows (nat_lt most number)
+    (row_then-in_order instant before number (read fields) (λ last. rows_from most read instant (number + 1) last records) rows
+    (λ last rest e. rows_from-in_order most read instant (number + 1) last records rest e)) h
 
 -- under the right header
-named-in_order : {A : Type 0} (read : Fields → Option A) (instant : A → ℕ) (named : Bool) (records : List Fields) (rows : List A) →
-    (if named then rows_from read instant 1 0 records else Err BadHeader) ≡ Ok rows → AreInOrder instant 0 rows
-named-in_order read instant true records rows h = rows_from-in_order read instant 1 0 records rows h
-named-in_order read instant false records rows h = absurd (no_rows BadHeader rows h)
+named-in_order : {A : Type 0} (most : ℕ) (read : Fields → Option A) (instant : A → ℕ) (named : Bool) (records : List Fields) (rows : List A) →
+    (if named then rows_from most read instant 1 0 records else Err BadHeader) ≡ Ok rows → AreInOrder instant 0 rows
+named-in_order most read instant true records rows h = rows_from-in_order most read instant 1 0 records rows h
+named-in_order most read instant false records rows h = absurd (no_rows BadHeader rows h)
 
 -- no row of a table is before one that stands before it
-pub rows_under-in_order : {A : Type 0} (names : Fields) (read : Fields → Option A) (instant : A → ℕ) (records : List Fields) (rows : List A) →
-    rows_under names read instant records ≡ Ok rows → AllPairs (λ (a b : A). instant a ≤ instant b) rows
-rows_under-in_order names read instant [] rows h = absurd (no_rows BadHeader rows h)
-rows_under-in_order names read instant (first ∷ records) rows h = (named-in_order read instant (is_header names first) records rows h).in_order
+pub rows_under-in_order : {A : Type 0} (most : ℕ) (names : Fields) (read : Fields → Option A) (instant : A → ℕ) (records : List Fields) (rows : List A) →
+    rows_under most names read instant records ≡ Ok rows → AllPairs (λ (a b : A). instant a ≤ instant b) rows
+rows_under-in_order most names read instant [] rows h = absurd (no_rows BadHeader rows h)
+rows_under-in_order most names read instant (first ∷ records) rows h = (named-in_order most read instant (is_header names first) records rows h).in_order

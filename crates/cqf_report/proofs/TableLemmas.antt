@@ -6,40 +6,39 @@ use Rattle.std.specs.Str.{bytes_eq}
 use lib.Pointwise.{pointwise_long}
 use Rattle.csv.specs.declared.reader.Reader.{Reader}
 use Rattle.cqf_report.specs.Records.{Fields, RefusesRow, StillGives, TakesRow}
-use Rattle.cqf_model.specs.Limits.{most_rows}
 use Rattle.cqf_report.specs.Table.{IsFaultOf, TakesHeader, TakesNext, has_header, is_header, rows_from, rows_under, with_row}
 use Rattle.cqf_report.specs.declared.tables.TableFault.{TableFault}
 use Rattle.cqf_report.specs.declared.tables.TableFault.TheVariants.{BadHeader, TooMany, BadRow, OutOfOrder}
 
 -- a row that has not the form of one
-pub rows_from-bad : {A : Type 0} (read : Fields → Option A) (instant : A → ℕ) (number before : ℕ) (fields : Fields) (rest : List Fields)
-    → number ≤ 1000000 → read fields ≡ None → rows_from read instant number before (fields ∷ rest) ≡ Err (BadRow number)
-rows_from-bad read instant number before fields rest few bad =
-    let in_range : nat_lt most_rows number ≡ false = search rules in
+pub rows_from-bad : {A : Type 0} (most : ℕ) (read : Fields → Option A) (instant : A → ℕ) (number before : ℕ) (fields : Fields) (rest : List Fields)
+    → number ≤ most → read fields ≡ None → rows_from most read instant number before (fields ∷ rest) ≡ Err (BadRow number)
+rows_from-bad most read instant number before fields rest few bad =
+    let in_range : nat_lt most number ≡ false = search rules in
     rw (in_range, bad) refl
 
 -- a row that is before the one before it
-pub rows_from-back : {A : Type 0} (read : Fields → Option A) (instant : A → ℕ) (number before : ℕ) (fields : Fields) (rest : List Fields) (row : A)
-    → number ≤ 1000000 → read fields ≡ Some row → instant row < before → rows_from read instant number before (fields ∷ rest) ≡ Err (OutOfOrder number)
-rows_from-back read instant number before fields rest row few good back =
-    let in_range : nat_lt most_rows number ≡ false = search rules in
+pub rows_from-back : {A : Type 0} (most : ℕ) (read : Fields → Option A) (instant : A → ℕ) (number before : ℕ) (fields : Fields) (rest : List Fields) (row : A)
+    → number ≤ most → read fields ≡ Some row → instant row < before → rows_from most read instant number before (fields ∷ rest) ≡ Err (OutOfOrder number)
+rows_from-back most read instant number before fields rest row few good back =
+    let in_range : nat_lt most number ≡ false = search rules in
     let goes_back : nat_lt (instant row) before ≡ true = search rules in
     rw (in_range, good, goes_back) refl
 
 -- a row that stands, and those behind it
-pub rows_from-good : {A : Type 0} (read : Fields → Option A) (instant : A → ℕ) (number before : ℕ) (fields : Fields) (rest : List Fields) (row : A)
-    → number ≤ 1000000 → read fields ≡ Some row → before ≤ instant row
-    → rows_from read instant number before (fields ∷ rest) ≡ with_row row (rows_from read instant (number + 1) (instant row) rest)
-rows_from-good read instant number before fields rest row few good in_order =
-    let in_range : nat_lt most_rows number ≡ false = search rules in
+pub rows_from-good : {A : Type 0} (most : ℕ) (read : Fields → Option A) (instant : A → ℕ) (number before : ℕ) (fields : Fields) (rest : List Fields) (row : A)
+    → number ≤ most → read fields ≡ Some row → before ≤ instant row
+    → rows_from most read instant number before (fields ∷ rest) ≡ with_row row (rows_from most read instant (number + 1) (instant row) rest)
+rows_from-good most read instant number before fields rest row few good in_order =
+    let in_range : nat_lt most number ≡ false = search rules in
     let goes_on : nat_lt (instant row) before ≡ false = search rules in
     rw (in_range, good, goes_on) refl
 
 -- one row more than a table may have
-pub rows_from-too_many : {A : Type 0} (read : Fields → Option A) (instant : A → ℕ) (number before : ℕ) (fields : Fields) (rest : List Fields)
-    → 1000000 < number → rows_from read instant number before (fields ∷ rest) ≡ Err TooMany
-rows_from-too_many read instant number before fields rest many =
-    let beyond : nat_lt most_rows number ≡ true = search rules in
+pub rows_from-too_many : {A : Type 0} (most : ℕ) (read : Fields → Option A) (instant : A → ℕ) (number before : ℕ) (fields : Fields) (rest : List Fields)
+    → most < number → rows_from most read instant number before (fields ∷ rest) ≡ Err TooMany
+rows_from-too_many most read instant number before fields rest many =
+    let beyond : nat_lt most number ≡ true = search rules in
     rw beyond refl
 
 -- the rows that were taken, in front of those that follow
@@ -64,85 +63,85 @@ behind-err [] fault = refl
 behind-err (first ∷ rows) fault = ap (λ r. with_row first r) (behind-err rows fault)
 
 -- a row that was taken and writes nothing is the first fault
-pub next-bad : {A R : Type 0} (columns : ℕ) (read : Fields → Option A) (instant : A → ℕ) (remaining : R → Option (List ℕ)) (number before : ℕ) (fields : Fields)
+pub next-bad : {A R : Type 0} (most : ℕ) (columns : ℕ) (read : Fields → Option A) (instant : A → ℕ) (remaining : R → Option (List ℕ)) (number before : ℕ) (fields : Fields)
     (rows : List Fields) (after : Reader R)
-    → number ≤ 1000000 → TakesRow remaining (Some columns) after fields rows → read fields ≡ None →
-    rows_from read instant number before rows ≡ Err (BadRow number)
-next-bad columns read instant remaining number before fields rows after few takes bad =
-    rw takes.first (rows_from-bad read instant number before fields takes.rest few bad)
+    → number ≤ most → TakesRow remaining (Some columns) after fields rows → read fields ≡ None →
+    rows_from most read instant number before rows ≡ Err (BadRow number)
+next-bad most columns read instant remaining number before fields rows after few takes bad =
+    rw takes.first (rows_from-bad most read instant number before fields takes.rest few bad)
 
 -- a row of another number of fields is the first fault
-pub next-refused : {A : Type 0} (columns : ℕ) (read : Fields → Option A) (instant : A → ℕ) (number before : ℕ) (rows : List Fields)
-    → number ≤ 1000000 → RefusesRow (Some columns) rows → ((fields : Fields) → (columns ≡ length fields → ⊥) → read fields ≡ None) →
-    rows_from read instant number before rows ≡ Err (BadRow number)
-next-refused columns read instant number before rows few refuses other =
+pub next-refused : {A : Type 0} (most : ℕ) (columns : ℕ) (read : Fields → Option A) (instant : A → ℕ) (number before : ℕ) (rows : List Fields)
+    → number ≤ most → RefusesRow (Some columns) rows → ((fields : Fields) → (columns ≡ length fields → ⊥) → read fields ≡ None) →
+    rows_from most read instant number before rows ≡ Err (BadRow number)
+next-refused most columns read instant number before rows few refuses other =
     let count : columns ≡ refuses.count = some-inj columns refuses.count refuses.expects in
-    rw refuses.first (rows_from-bad read instant number before refuses.fields refuses.rest few (other refuses.fields (λ e. refuses.other (sym count ∙ e))))
+    rw refuses.first (rows_from-bad most read instant number before refuses.fields refuses.rest few (other refuses.fields (λ e. refuses.other (sym count ∙ e))))
   where
     -- options that are equal hold equal numbers
     some-inj : (a b : ℕ) → ◌≡◌ {A = Option ℕ} (Some a) (Some b) → a ≡ b
     some-inj a b e = cc
 
 -- a row that was taken and is before the one before it is the first fault
-pub next-back : {A R : Type 0} (columns : ℕ) (read : Fields → Option A) (instant : A → ℕ) (remaining : R → Option (List ℕ)) (number before : ℕ)
+pub next-back : {A R : Type 0} (most : ℕ) (columns : ℕ) (read : Fields → Option A) (instant : A → ℕ) (remaining : R → Option (List ℕ)) (number before : ℕ)
     (fields : Fields) (rows : List Fields) (after : Reader R) (row : A)
-    → number ≤ 1000000 → TakesRow remaining (Some columns) after fields rows → read fields ≡ Some row → instant row < before →
-    rows_from read instant number before rows ≡ Err (OutOfOrder number)
-next-back columns read instant remaining number before fields rows after row few takes good back =
-    rw takes.first (rows_from-back read instant number before fields takes.rest row few good back)
+    → number ≤ most → TakesRow remaining (Some columns) after fields rows → read fields ≡ Some row → instant row < before →
+    rows_from most read instant number before rows ≡ Err (OutOfOrder number)
+next-back most columns read instant remaining number before fields rows after row few takes good back =
+    rw takes.first (rows_from-back most read instant number before fields takes.rest row few good back)
 
 -- a row that was taken and stands
-pub next-good : {A R : Type 0} (columns : ℕ) (read : Fields → Option A) (instant : A → ℕ) (remaining : R → Option (List ℕ)) (number before : ℕ)
+pub next-good : {A R : Type 0} (most : ℕ) (columns : ℕ) (read : Fields → Option A) (instant : A → ℕ) (remaining : R → Option (List ℕ)) (number before : ℕ)
     (fields : Fields) (rows : List Fields) (after : Reader R) (row : A)
-    → number ≤ 1000000 → TakesRow remaining (Some columns) after fields rows → read fields ≡ Some row → before ≤ instant row
+    → number ≤ most → TakesRow remaining (Some columns) after fields rows → read fields ≡ Some row → before ≤ instant row
     → (rest : List Fields) × StillGives remaining (Some columns) after rest
-    × (rows_from read instant number before rows ≡ with_row row (rows_from read instant (number + 1) (instant row) rest))
-next-good columns read instant remaining number before fields rows after row few takes good in_order =
+    × (rows_from most read instant number before rows ≡ with_row row (rows_from most read instant (number + 1) (instant row) rest))
+next-good most columns read instant remaining number before fields rows after row few takes good in_order =
     let as_many : columns ≡ length fields = takes.fits in
-    (takes.rest, rw (← as_many) at takes.goes_on, rw takes.first (rows_from-good read instant number before fields takes.rest row few good in_order))
+    (takes.rest, rw (← as_many) at takes.goes_on, rw takes.first (rows_from-good most read instant number before fields takes.rest row few good in_order))
 
 -- these rows were taken, up to and without the row of this number, and the reader still gives the others
-abbrev pub Taken : {A R : Type 0} → ℕ → (Fields → Option A) → (A → ℕ) → (R → Option (List ℕ)) → Reader R → ℕ → ℕ → List A → Reader R → Type 0
-Taken columns read instant remaining first number before taken after = (rows : List Fields) → StillGives remaining (Some columns) first rows
+abbrev pub Taken : {A R : Type 0} → ℕ → ℕ → (Fields → Option A) → (A → ℕ) → (R → Option (List ℕ)) → Reader R → ℕ → ℕ → List A → Reader R → Type 0
+Taken most columns read instant remaining first number before taken after = (rows : List Fields) → StillGives remaining (Some columns) first rows
     → (rest : List Fields) × StillGives remaining (Some columns) after rest
-    × (rows_from read instant 1 0 rows ≡ behind taken (rows_from read instant number before rest))
+    × (rows_from most read instant 1 0 rows ≡ behind taken (rows_from most read instant number before rest))
 
 -- where the reader gives no further row, the table is what was taken
-pub taken-end : {A R : Type 0} (columns : ℕ) (read : Fields → Option A) (instant : A → ℕ) (remaining : R → Option (List ℕ)) (first : Reader R)
+pub taken-end : {A R : Type 0} (most : ℕ) (columns : ℕ) (read : Fields → Option A) (instant : A → ℕ) (remaining : R → Option (List ℕ)) (first : Reader R)
     (number before : ℕ) (taken : List A) (after : Reader R)
-    → Taken columns read instant remaining first number before taken after → ((rest : List Fields) → StillGives remaining (Some columns) after rest → rest ≡ [])
-    → (rows : List Fields) → StillGives remaining (Some columns) first rows → rows_from read instant 1 0 rows ≡ Ok taken
-taken-end columns read instant remaining first number before taken after so_far none rows gives =
+    → Taken most columns read instant remaining first number before taken after → ((rest : List Fields) → StillGives remaining (Some columns) after rest → rest ≡ [])
+    → (rows : List Fields) → StillGives remaining (Some columns) first rows → rows_from most read instant 1 0 rows ≡ Ok taken
+taken-end most columns read instant remaining first number before taken after so_far none rows gives =
     let (rest, still, is) = so_far rows gives in
-    let ended : rows_from read instant number before rest ≡ Ok [] = rw (none rest still) refl in
+    let ended : rows_from most read instant number before rest ≡ Ok [] = rw (none rest still) refl in
     is ∙ ap (behind taken) ended ∙ behind-ok taken [] ∙ ap Ok (append-nil taken)
 
 -- where the next row has a fault, it is the table's
-pub taken-fault : {A R : Type 0} (columns : ℕ) (read : Fields → Option A) (instant : A → ℕ) (remaining : R → Option (List ℕ)) (first : Reader R)
+pub taken-fault : {A R : Type 0} (most : ℕ) (columns : ℕ) (read : Fields → Option A) (instant : A → ℕ) (remaining : R → Option (List ℕ)) (first : Reader R)
     (number before : ℕ) (taken : List A) (after : Reader R) (fault : TableFault)
-    → Taken columns read instant remaining first number before taken after →
-    ((rest : List Fields) → StillGives remaining (Some columns) after rest → rows_from read instant number before rest ≡ Err fault)
-    → (rows : List Fields) → StillGives remaining (Some columns) first rows → rows_from read instant 1 0 rows ≡ Err fault
-taken-fault columns read instant remaining first number before taken after fault so_far bad rows gives =
+    → Taken most columns read instant remaining first number before taken after →
+    ((rest : List Fields) → StillGives remaining (Some columns) after rest → rows_from most read instant number before rest ≡ Err fault)
+    → (rows : List Fields) → StillGives remaining (Some columns) first rows → rows_from most read instant 1 0 rows ≡ Err fault
+taken-fault most columns read instant remaining first number before taken after fault so_far bad rows gives =
     let (rest, still, is) = so_far rows gives in
     is ∙ ap (behind taken) (bad rest still) ∙ behind-err taken fault
 
 -- one row more was taken
-pub taken-more : {A R : Type 0} (columns : ℕ) (read : Fields → Option A) (instant : A → ℕ) (remaining : R → Option (List ℕ)) (first : Reader R)
+pub taken-more : {A R : Type 0} (most : ℕ) (columns : ℕ) (read : Fields → Option A) (instant : A → ℕ) (remaining : R → Option (List ℕ)) (first : Reader R)
     (number before : ℕ) (taken : List A) (after next : Reader R) (row : A)
-    → Taken columns read instant remaining first number before taken after →
+    → Taken most columns read instant remaining first number before taken after →
     ((rest : List Fields) → StillGives remaining (Some columns) after rest →
-    TakesNext columns read instant remaining number before rest next (Ok (Some row)))
-    → Taken columns read instant remaining first (number + 1) (instant row) (taken ++ row ∷ []) next
-taken-more columns read instant remaining first number before taken after next row so_far goes rows gives =
+    TakesNext most columns read instant remaining number before rest next (Ok (Some row)))
+    → Taken most columns read instant remaining first (number + 1) (instant row) (taken ++ row ∷ []) next
+taken-more most columns read instant remaining first number before taken after next row so_far goes rows gives =
     let (rest, still, is) = so_far rows gives in
     let (more, on, follows) = goes rest still in
-    (more, on, is ∙ ap (behind taken) follows ∙ sym (behind-more taken row (rows_from read instant (number + 1) (instant row) more)))
+    (more, on, is ∙ ap (behind taken) follows ∙ sym (behind-more taken row (rows_from most read instant (number + 1) (instant row) more)))
 
 -- a row beyond the most that a table may have
-pub next-beyond : {A : Type 0} (read : Fields → Option A) (instant : A → ℕ) (number before : ℕ) (fields : Fields) (rest rows : List Fields)
-    → 1000000 < number → rows ≡ fields ∷ rest → rows_from read instant number before rows ≡ Err TooMany
-next-beyond read instant number before fields rest rows many is = rw is (rows_from-too_many read instant number before fields rest many)
+pub next-beyond : {A : Type 0} (most : ℕ) (read : Fields → Option A) (instant : A → ℕ) (number before : ℕ) (fields : Fields) (rest rows : List Fields)
+    → most < number → rows ≡ fields ∷ rest → rows_from most read instant number before rows ≡ Err TooMany
+next-beyond most read instant number before fields rest rows many is = rw is (rows_from-too_many most read instant number before fields rest many)
 
 -- an error that is passed on
 pub passed-on : {V : Type 0} (result : Result V TableFault) (fault : TableFault) (P : TableFault → Type 0) → IsErrAnd result (λ e. e ≡ fault) → P fault →
@@ -167,16 +166,16 @@ pub header-unrefused : (rows : List Fields) → RefusesRow None rows → ⊥
 header-unrefused rows refuses = let e = refuses.expects in cc
 
 -- the table's rows are those under its header
-pub under-header : {A R : Type 0} (read : Fields → Option A) (instant : A → ℕ) (remaining : R → Option (List ℕ)) (names : Fields) (rows : List Fields)
+pub under-header : {A R : Type 0} (most : ℕ) (read : Fields → Option A) (instant : A → ℕ) (remaining : R → Option (List ℕ)) (names : Fields) (rows : List Fields)
     (after : Reader R) (begins : TakesHeader remaining names rows after)
-    → rows_under names read instant rows ≡ rows_from read instant 1 0 begins.rest
-under-header read instant remaining names rows after begins = rw (begins.begins, begins.named) refl
+    → rows_under most names read instant rows ≡ rows_from most read instant 1 0 begins.rest
+under-header most read instant remaining names rows after begins = rw (begins.begins, begins.named) refl
 
 -- a table without its header
-pub without-header : {A : Type 0} (read : Fields → Option A) (instant : A → ℕ) (names : Fields) (rows : List Fields)
-    → has_header names rows ≡ false → rows_under names read instant rows ≡ Err BadHeader
-without-header read instant names [] none = refl
-without-header read instant names (first ∷ rows) none = rw none refl
+pub without-header : {A : Type 0} (most : ℕ) (read : Fields → Option A) (instant : A → ℕ) (names : Fields) (rows : List Fields)
+    → has_header names rows ≡ false → rows_under most names read instant rows ≡ Err BadHeader
+without-header most read instant names [] none = refl
+without-header most read instant names (first ∷ rows) none = rw none refl
 
 -- what follows of an answer, where a fact of it follows from another
 pub err-of : {V : Type 0} (result : Result V TableFault) (P Q : TableFault → Type 0) → IfErr result P → ((fault : TableFault) → P fault → Q fault) →
@@ -190,21 +189,21 @@ ok-of (Ok v) P Q h follows = follows v h
 ok-of (Err fault) P Q h follows = tt
 
 -- the table's rows, from the rows under its header
-pub table-ok : {A V R : Type 0} (read : Fields → Option A) (instant : A → ℕ) (remaining : R → Option (List ℕ)) (items : V → List A) (names : Fields)
+pub table-ok : {A V R : Type 0} (most : ℕ) (read : Fields → Option A) (instant : A → ℕ) (remaining : R → Option (List ℕ)) (items : V → List A) (names : Fields)
     (rows : List Fields) (after : Reader R) (result : Result V TableFault)
     → TakesHeader remaining names rows after
-    → IfOk result (λ v. (rest : List Fields) → StillGives remaining (Some (length names)) after rest → rows_from read instant 1 0 rest ≡ Ok (items v))
-    → IfOk result (λ v. rows_under names read instant rows ≡ Ok (items v))
-table-ok read instant remaining items names rows after result begins h =
-    ok-of result _ (λ v. rows_under names read instant rows ≡ Ok (items v)) h
-    (λ v is. under-header read instant remaining names rows after begins ∙ is begins.rest begins.goes_on)
+    → IfOk result (λ v. (rest : List Fields) → StillGives remaining (Some (length names)) after rest → rows_from most read instant 1 0 rest ≡ Ok (items v))
+    → IfOk result (λ v. rows_under most names read instant rows ≡ Ok (items v))
+table-ok most read instant remaining items names rows after result begins h =
+    ok-of result _ (λ v. rows_under most names read instant rows ≡ Ok (items v)) h
+    (λ v is. under-header most read instant remaining names rows after begins ∙ is begins.rest begins.goes_on)
 
 -- the table's fault, from the fault of the rows under its header
-pub table-err : {A V R : Type 0} (read : Fields → Option A) (instant : A → ℕ) (remaining : R → Option (List ℕ)) (names : Fields) (rows : List Fields)
+pub table-err : {A V R : Type 0} (most : ℕ) (read : Fields → Option A) (instant : A → ℕ) (remaining : R → Option (List ℕ)) (names : Fields) (rows : List Fields)
     (after : Reader R) (result : Result V TableFault)
     → TakesHeader remaining names rows after
-    → IfErr result (λ fault. (rest : List Fields) → StillGives remaining (Some (length names)) after rest → IsFaultOf (rows_from read instant 1 0 rest) fault)
-    → IfErr result (λ fault. IsFaultOf (rows_under names read instant rows) fault)
-table-err read instant remaining names rows after result begins h =
-    err-of result _ (λ fault. IsFaultOf (rows_under names read instant rows) fault) h
-    (λ fault is other. under-header read instant remaining names rows after begins ∙ is begins.rest begins.goes_on other)
+    → IfErr result (λ fault. (rest : List Fields) → StillGives remaining (Some (length names)) after rest → IsFaultOf (rows_from most read instant 1 0 rest) fault)
+    → IfErr result (λ fault. IsFaultOf (rows_under most names read instant rows) fault)
+table-err most read instant remaining names rows after result begins h =
+    err-of result _ (λ fault. IsFaultOf (rows_under most names read instant rows) fault) h
+    (λ fault is other. under-header most read instant remaining names rows after begins ∙ is begins.rest begins.goes_on other)

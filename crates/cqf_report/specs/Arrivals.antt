@@ -3,6 +3,7 @@ use Rattle.std.specs.Prelude.{ℕ, ◌≤◌, ◌-◌, ◌^◌, All, AllPairs, L
 use Rattle.cqf_model.specs.declared.ports.Arrival.{Arrival}
 use Rattle.cqf_text.specs.Decimal.{decimal_in}
 use Rattle.cqf_report.specs.Records.{Fields}
+use Rattle.cqf_model.specs.Limits.{profile, rows_within}
 use Rattle.cqf_report.specs.Table.{in_four, table_read}
 use Rattle.cqf_report.specs.declared.tables.TableFault.{TableFault}
 use Rattle.cqf_model.specs.Limits.{last_until}
@@ -30,7 +31,7 @@ arrival_instant arrival = arrival.at.0
 
 -- the arrivals that a text writes, in order, or its first fault
 abbrev pub arrivals_of_table : List ℕ → Result (List Arrival) TableFault
-arrivals_of_table text = table_read arrival_header (in_four arrival_of) arrival_instant text
+arrivals_of_table text = table_read (rows_within profile) arrival_header (in_four arrival_of) arrival_instant text
 
 -- what an arrival that is read is like, and all of them: no one is before one that stands before it
 pub record IsArrival (arrival : Arrival) : Type 0 where

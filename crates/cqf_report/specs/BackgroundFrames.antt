@@ -7,6 +7,7 @@ use Rattle.cqf_model.specs.Domain.{Domain, node_named}
 use Rattle.cqf_model.specs.History.{link_from}
 use Rattle.cqf_text.specs.Decimal.{decimal_in}
 use Rattle.cqf_report.specs.Records.{Fields}
+use Rattle.cqf_model.specs.Limits.{rows_within}
 use Rattle.cqf_report.specs.Table.{in_five, table_read}
 use Rattle.cqf_report.specs.declared.tables.TableFault.{TableFault}
 
@@ -43,4 +44,4 @@ background_instant frame = frame.at.0
 
 -- the background frames that a text writes, in order, or its first fault
 abbrev pub background_frames_of : Domain → List ℕ → Result (List Background) TableFault
-background_frames_of d text = table_read background_header (in_five (background_of_table d)) background_instant text
+background_frames_of d text = table_read (rows_within d.limits) background_header (in_five (background_of_table d)) background_instant text

@@ -7,6 +7,7 @@ use Rattle.cqf_model.specs.declared.topology.Node.TheVariants.{Bridge, Station}
 use Rattle.cqf_model.specs.Domain.{Domain, node_named}
 use Rattle.cqf_text.specs.Decimal.{decimal_in}
 use Rattle.cqf_report.specs.Records.{Fields}
+use Rattle.cqf_model.specs.Limits.{rows_within}
 use Rattle.cqf_report.specs.Table.{in_four, table_read}
 use Rattle.cqf_report.specs.declared.tables.TableFault.{TableFault}
 
@@ -48,4 +49,4 @@ offer_instant offer = offer.at.0
 
 -- the offers that a text writes, in order, or its first fault
 abbrev pub offers_of : Domain → List ℕ → Result (List Offer) TableFault
-offers_of d text = table_read offer_header (in_four (offer_of d)) offer_instant text
+offers_of d text = table_read (rows_within d.limits) offer_header (in_four (offer_of d)) offer_instant text

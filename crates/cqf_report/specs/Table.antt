@@ -6,7 +6,6 @@ use Rattle.csv.specs.declared.reader.Reader.{Reader}
 use Rattle.cqf_report.specs.Records.{Fields, StillGives, records_of}
 use Rattle.cqf_report.specs.declared.tables.TableFault.{TableFault}
 use Rattle.cqf_report.specs.declared.tables.TableFault.TheVariants.{BadHeader, TooMany, BadRow, OutOfOrder, Memory}
-use Rattle.cqf_model.specs.Limits.{most_rows}
 
 -- the fields are exactly those of the header
 abbrev pub is_header : Fields → Fields → Bool
@@ -43,21 +42,21 @@ row_then instant number before (Some row) others =
     if nat_lt (instant row) before then Err (OutOfOrder number) else with_row row (others (instant row))
 
 -- the rows from this number on, or the first fault
-abbrev pub rows_from : {A : Type 0} → (Fields → Option A) → (A → ℕ) → ℕ → ℕ → List Fields → Result (List A) TableFault
-rows_from read instant number before [] = Ok []
-rows_from read instant number before (fields ∷ rows) =
-    if nat_lt most_rows number then Err TooMany
-    else row_then instant number before (read fields) (λ last. rows_from read instant (number + 1) last rows)
+abbrev pub rows_from : {A : Type 0} → ℕ → (Fields → Option A) → (A → ℕ) → ℕ → ℕ → List Fields → Result (List A) TableFault
+rows_from most read instant number before [] = Ok []
+rows_from most read instant number before (fields ∷ rows) =
+    if nat_lt most number then Err TooMany
+    else row_then instant number before (read fields) (λ last. rows_from most read instant (number + 1) last rows)
 
 -- the rows under the header, or the first fault
-abbrev pub rows_under : {A : Type 0} → Fields → (Fields → Option A) → (A → ℕ) → List Fields → Result (List A) TableFault
-rows_under names read instant [] = Err BadHeader
-rows_under names read instant (first ∷ rows) =
-    if is_header names first then rows_from read instant 1 0 rows else Err BadHeader
+abbrev pub rows_under : {A : Type 0} → ℕ → Fields → (Fields → Option A) → (A → ℕ) → List Fields → Result (List A) TableFault
+rows_under most names read instant [] = Err BadHeader
+rows_under most names read instant (first ∷ rows) =
+    if is_header names first then rows_from most read instant 1 0 rows else Err BadHeader
 
 -- the rows of a text with this header, or its first fault
-abbrev pub table_read : {A : Type 0} → Fields → (Fields → Option A) → (A → ℕ) → List ℕ → Result (List A) TableFault
-table_read names read instant text = rows_under names read instant (records_of text)
+abbrev pub table_read : {A : Type 0} → ℕ → Fields → (Fields → Option A) → (A → ℕ) → List ℕ → Result (List A) TableFault
+table_read most names read instant text = rows_under most names read instant (records_of text)
 
 -- the fault is the table's first. Nothing is said of want of memory
 abbrev pub IsFaultOf : {A : Type 0} → Result (List A) TableFault → TableFault → Type 0
@@ -65,13 +64,13 @@ IsFaultOf table fault = fault ≢ Memory → table ≡ Err fault
 
 -- what taking the next row does, of the rows of so many columns from this number on: there is none; or it is taken, and the
 -- reader still gives the others; or it is the first fault
-abbrev pub TakesNext : {A R : Type 0} → ℕ → (Fields → Option A) → (A → ℕ) → (R → Option (List ℕ)) → ℕ → ℕ → List Fields → Reader R
+abbrev pub TakesNext : {A R : Type 0} → ℕ → ℕ → (Fields → Option A) → (A → ℕ) → (R → Option (List ℕ)) → ℕ → ℕ → List Fields → Reader R
     → Result (Option A) TableFault → Type 0
-TakesNext columns read instant remaining number before rows after (Ok None) = rows ≡ []
-TakesNext columns read instant remaining number before rows after (Ok (Some row)) =
+TakesNext most columns read instant remaining number before rows after (Ok None) = rows ≡ []
+TakesNext most columns read instant remaining number before rows after (Ok (Some row)) =
     (rest : List Fields) × StillGives remaining (Some columns) after rest
-    × (rows_from read instant number before rows ≡ with_row row (rows_from read instant (number + 1) (instant row) rest))
-TakesNext columns read instant remaining number before rows after (Err fault) = IsFaultOf (rows_from read instant number before rows) fault
+    × (rows_from most read instant number before rows ≡ with_row row (rows_from most read instant (number + 1) (instant row) rest))
+TakesNext most columns read instant remaining number before rows after (Err fault) = IsFaultOf (rows_from most read instant number before rows) fault
 
 -- the rows begin with the header
 abbrev pub has_header : Fields → List Fields → Bool

@@ -1,7 +1,6 @@
 -- Which fault of a table's rows is told, in words of places alone (profile). Places count from 0, and numbers of rows from 1.
 use Rattle.std.specs.Prelude.{ℕ, ◌≡◌, ◌+◌, ◌≤◌, ◌<◌, List, Option, Some, None, MatchResult, length, slice_get}
 use Rattle.cqf_report.specs.Records.{Fields}
-use Rattle.cqf_model.specs.Limits.{most_rows}
 use Rattle.cqf_report.specs.Table.{rows_from}
 use Rattle.cqf_report.specs.declared.tables.TableFault.{TableFault}
 use Rattle.cqf_report.specs.declared.tables.TableFault.TheVariants.{BadHeader, TooMany, BadRow, OutOfOrder, Memory}
@@ -23,20 +22,20 @@ abbrev pub AreGoodBefore : {A : Type 0} → (Fields → Option A) → (A → ℕ
 AreGoodBefore read instant rows place = (k : ℕ) → k < place → IsGood read instant rows k
 
 -- the record of this number is the first that isn't good, and it writes no row
-pub record IsFirstBad {A : Type 0} (read : Fields → Option A) (instant : A → ℕ) (rows : List Fields) (number : ℕ) : Type 0 where
+pub record IsFirstBad {A : Type 0} (most : ℕ) (read : Fields → Option A) (instant : A → ℕ) (rows : List Fields) (number : ℕ) : Type 0 where
   pub place : ℕ
   pub numbered : number ≡ place + 1
-  pub few : number ≤ most_rows
+  pub few : number ≤ most
   pub good_before : AreGoodBefore read instant rows place
   pub fields : Fields
   pub stands : slice_get rows place ≡ Some fields
   pub means_nothing : read fields ≡ None
 
 -- the record of this number is the first that isn't good, and it writes a row before that of the place before it
-pub record IsFirstBack {A : Type 0} (read : Fields → Option A) (instant : A → ℕ) (rows : List Fields) (number : ℕ) : Type 0 where
+pub record IsFirstBack {A : Type 0} (most : ℕ) (read : Fields → Option A) (instant : A → ℕ) (rows : List Fields) (number : ℕ) : Type 0 where
   pub place : ℕ
   pub numbered : number ≡ place + 2
-  pub few : number ≤ most_rows
+  pub few : number ≤ most
   pub good_before : AreGoodBefore read instant rows (place + 1)
   pub row : A
   pub earlier : A
@@ -45,20 +44,20 @@ pub record IsFirstBack {A : Type 0} (read : Fields → Option A) (instant : A �
   pub goes_back : instant row < instant earlier
 
 -- there are more records than may be, and as many as may be are good
-pub record IsTooLong {A : Type 0} (read : Fields → Option A) (instant : A → ℕ) (rows : List Fields) : Type 0 where
-  pub many : most_rows < length rows
-  pub good_before : AreGoodBefore read instant rows most_rows
+pub record IsTooLong {A : Type 0} (most : ℕ) (read : Fields → Option A) (instant : A → ℕ) (rows : List Fields) : Type 0 where
+  pub many : most < length rows
+  pub good_before : AreGoodBefore read instant rows most
 
 -- the fault is the first of the records
-abbrev pub IsFirstFault : {A : Type 0} → (Fields → Option A) → (A → ℕ) → List Fields → TableFault → Type 0
-IsFirstFault read instant rows BadHeader = ⊥
-IsFirstFault read instant rows TooMany = IsTooLong read instant rows
-IsFirstFault read instant rows (BadRow number) = IsFirstBad read instant rows number
-IsFirstFault read instant rows (OutOfOrder number) = IsFirstBack read instant rows number
-IsFirstFault read instant rows Memory = ⊥
+abbrev pub IsFirstFault : {A : Type 0} → ℕ → (Fields → Option A) → (A → ℕ) → List Fields → TableFault → Type 0
+IsFirstFault most read instant rows BadHeader = ⊥
+IsFirstFault most read instant rows TooMany = IsTooLong most read instant rows
+IsFirstFault most read instant rows (BadRow number) = IsFirstBad most read instant rows number
+IsFirstFault most read instant rows (OutOfOrder number) = IsFirstBack most read instant rows number
+IsFirstFault most read instant rows Memory = ⊥
 
 -- the records are read where there are no more than may be and each is good, and else their first fault is told
-abbrev pub TellsFirst : {A : Type 0} → (Fields → Option A) → (A → ℕ) → List Fields → Type 0
-TellsFirst read instant rows = MatchResult (rows_from read instant 1 0 rows)
-    (λ items. (length rows ≤ most_rows) × AreGoodBefore read instant rows (length rows))
-    (λ fault. IsFirstFault read instant rows fault)
+abbrev pub TellsFirst : {A : Type 0} → ℕ → (Fields → Option A) → (A → ℕ) → List Fields → Type 0
+TellsFirst most read instant rows = MatchResult (rows_from most read instant 1 0 rows)
+    (λ items. (length rows ≤ most) × AreGoodBefore read instant rows (length rows))
+    (λ fault. IsFirstFault most read instant rows fault)

@@ -8,7 +8,7 @@ ghost use Rattle.cqf_model.specs.Limits.{most_rows};
 
 use crate::rows::{RowFormat, read_table};
 use crate::tables::{TableFault, four_fields, is_header_of, read_number};
-use cqf_model::{Arrival, LAST_UNTIL};
+use cqf_model::{Arrival, LAST_UNTIL, Limits};
 use cqf_text::read_decimal;
 use cqf_units::Nanos;
 use csv::ByteRecord;
@@ -89,5 +89,6 @@ pub fn read_arrivals(alloc: Global, text: &[u8]) -> Result<Vec<Arrival>, TableFa
     ensures few { IfOk result (λ arrivals. length arrivals.items ≤ most_rows) }
     ensures err { IfErr result (λ fault. IsFaultOf (arrivals_of_table text.now) fault) }
 {
-    read_table(alloc, &ArrivalRows, text)
+    let most = Limits::of_profile().rows_within();
+    read_table(alloc, &ArrivalRows, most, text)
 }

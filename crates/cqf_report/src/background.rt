@@ -28,7 +28,7 @@ fn read_node(domain: &Domain, field: &[u8]) -> Option<Node>
 }
 
 /// The link from one node to another that two fields name.
-fn read_link(domain: &Domain, from: &[u8], to: &[u8]) -> Option<u8>
+fn read_link(domain: &Domain, from: &[u8], to: &[u8]) -> Option<u16>
     ensures { result ≡ link_named domain.now from.now to.now }
 {
     let Some(from) = read_node(domain, from) else {
@@ -126,7 +126,8 @@ impl RowFormat for BackgroundRows<'_> {
 /// last row without its line end.
 ///
 /// # Errors
-/// As of `read_offers`: `BadHeader`; then the first fault of the rows in their order, `TooMany` at row 1,000,001, `BadRow`,
+/// As of `read_offers`: `BadHeader`; then the first fault of the rows in their order, `TooMany` at the row behind as many as the
+/// domain may have, `BadRow`,
 /// `OutOfOrder`; `Memory` where a growth is refused. A pair of names that is no link makes its row `BadRow`.
 pub fn read_background(
     alloc: Global,
@@ -138,5 +139,6 @@ pub fn read_background(
     ensures few { IfOk result (λ frames. length frames.items ≤ most_rows) }
     ensures err { IfErr result (λ fault. IsFaultOf (background_frames_of domain.now text.now) fault) }
 {
-    read_table(alloc, &BackgroundRows { domain }, text)
+    let most = domain.limits().rows_within();
+    read_table(alloc, &BackgroundRows { domain }, most, text)
 }

@@ -5,6 +5,7 @@ ghost use Rattle.cqf_model.specs.declared.frames.Started.{Started};
 ghost use Rattle.cqf_model.specs.Book.{Contents, IsBook};
 ghost use Rattle.cqf_model.specs.Domain.{Domain as DomainValue};
 ghost use Rattle.cqf_model.specs.GateList.{Entry};
+ghost use Rattle.cqf_model.specs.Limits.{profile, rows_within};
 ghost use Rattle.cqf_model.specs.Run.{Run};
 ghost use Rattle.cqf_report.specs.Arrivals.{arrival_instant, arrival_of};
 ghost use Rattle.cqf_report.specs.BackgroundFrames.{background_instant, background_of_table};
@@ -17,9 +18,9 @@ ghost use Rattle.cqf_report.specs.TableLaws.{TellsFirst};
 /// Law: the fault that is told of the rows of a table is the first. Each row before it writes what a row of this table
 /// writes, and not before the row before it; it is the first that breaks one of the two, or there are more rows than may be.
 pub fn first_fault_is_told()
-    ensures arrivals { (rows : List Fields) → TellsFirst (in_four arrival_of) arrival_instant rows }
-    ensures offers { (d : DomainValue) (rows : List Fields) → TellsFirst (in_four (offer_of d)) offer_instant rows }
-    ensures background { (d : DomainValue) (rows : List Fields) → TellsFirst (in_five (background_of_table d)) background_instant rows }
+    ensures arrivals { (rows : List Fields) → TellsFirst (rows_within profile) (in_four arrival_of) arrival_instant rows }
+    ensures offers { (d : DomainValue) (rows : List Fields) → TellsFirst (rows_within d.limits) (in_four (offer_of d)) offer_instant rows }
+    ensures background { (d : DomainValue) (rows : List Fields) → TellsFirst (rows_within d.limits) (in_five (background_of_table d)) background_instant rows }
 {}
 
 /// Law: the most octets that a link has in one cycle is so, over all cycles: no cycle has more, and one has it, unless it

@@ -1,6 +1,6 @@
 //! The sums of streams' frames by link, written as a text.
 
-ghost use Rattle.std.specs.Prelude.{ℕ, ◌≡◌, ◌≤◌, ◌<◌, ◌^◌, ◌++◌, [], List, IfOk, OnOk, Some, length, map, max, sum, sum_by, slice_index, slice_set};
+ghost use Rattle.std.specs.Prelude.{ℕ, ◌≡◌, ◌≤◌, ◌<◌, ◌^◌, ◌++◌, [], List, IfOk, OnOk, Some, length, map, max, replicate, sum, sum_by, slice_index, slice_set};
 ghost use Rattle.cqf_lists.specs.ByNumber.{AddsTo, lists_of};
 ghost use Rattle.cqf_model.specs.Book.{contents_of};
 ghost use Rattle.cqf_model.specs.declared.frames.Started.{Started as AStarted};
@@ -26,7 +26,7 @@ use std::thread::Threads;
 const PIECE: usize = 1_048_576;
 
 /// How many links a start can name.
-const LINKS: usize = 256;
+const LINKS: usize = 65_536;
 
 /// How many frames there are, and how many octets they have together.
 #[derive(Clone, Copy)]
@@ -35,9 +35,9 @@ pub(crate) struct Sums {
     pub(crate) octets: u128,
 }
 
-/// An empty list of octets for each of the links 0 to 255.
+/// An empty list of octets for each of the links 0 to 65,535.
 fn no_octets(alloc: Global) -> Result<Vec<Vec<u32>>, Memory>
-    ensures { IfOk result (λ by_link. AreListsByLink [] 256 (lists_of by_link.items)) }
+    ensures { IfOk result (λ by_link. AreListsByLink [] 65536 (lists_of by_link.items)) }
 {
     let mut by_link = Vec::with_capacity(alloc, LINKS)?;
     for _link in 0..LINKS {
@@ -47,17 +47,17 @@ fn no_octets(alloc: Global) -> Result<Vec<Vec<u32>>, Memory>
 }
 
 /// Puts octets behind those of a link.
-fn list_octets(by_link: &mut Vec<Vec<u32>>, link: u8, octets: u32) -> Result<(), Memory>
-    requires { length by_link.old.items ≡ 256 }
+fn list_octets(by_link: &mut Vec<Vec<u32>>, link: u16, octets: u32) -> Result<(), Memory>
+    requires { length by_link.old.items ≡ 65536 }
     ensures { OnOk result (AddsTo (lists_of by_link.old.items) (lists_of by_link.new.items) link octets) }
 {
     by_link[usize::from(link)].push(octets)?;
     Ok(())
 }
 
-/// The octets of the starts on each of the links 0 to 255, in their order: one look at each start.
+/// The octets of the starts on each of the links 0 to 65,535, in their order: one look at each start.
 fn octets_by_link(alloc: Global, starts: &[Started]) -> Result<Vec<Vec<u32>>, Memory>
-    ensures { IfOk result (λ by_link. AreListsByLink starts.now 256 (lists_of by_link.items)) }
+    ensures { IfOk result (λ by_link. AreListsByLink starts.now 65536 (lists_of by_link.items)) }
 {
     let mut by_link = no_octets(alloc)?;
     for start in starts {
@@ -94,10 +94,10 @@ pub(crate) fn sum_of(rt: &(impl Threads + Sync), listed: &[u32]) -> u128
 }
 
 /// The sums of a link's starts, by the octets that are listed for each link.
-fn sums_of_link(rt: &(impl Threads + Sync), by_link: &[Vec<u32>], link: u8) -> Sums
-    requires { length by_link.now ≡ 256 }
-    ensures frames { (starts : List AStarted) → AreListsByLink starts 256 (lists_of by_link.now) → result.frames ≡ frames_on link starts }
-    ensures octets { (starts : List AStarted) → AreListsByLink starts 256 (lists_of by_link.now) → result.octets ≡ octets_on link starts }
+fn sums_of_link(rt: &(impl Threads + Sync), by_link: &[Vec<u32>], link: u16) -> Sums
+    requires { length by_link.now ≡ 65536 }
+    ensures frames { (starts : List AStarted) → AreListsByLink starts 65536 (lists_of by_link.now) → result.frames ≡ frames_on link starts }
+    ensures octets { (starts : List AStarted) → AreListsByLink starts 65536 (lists_of by_link.now) → result.octets ≡ octets_on link starts }
 {
     let listed = by_link[usize::from(link)].as_slice();
     Sums {
@@ -130,21 +130,29 @@ fn octet_column(alloc: Global, starts: &[Started]) -> Result<Vec<u32>, Memory>
 }
 
 /// Raises what a link has to a number, if that is more.
-fn raise(most: &mut Vec<u128>, link: u8, octets: u128)
-    requires { length most.old.items ≡ 256 }
+fn raise(most: &mut Vec<u128>, link: u16, octets: u128)
+    requires { length most.old.items ≡ 65536 }
     ensures { most.new.items ≡ slice_set most.old.items link (max (slice_index most.old.items link) octets) }
 {
     let place = usize::from(link);
     most[place] = most[place].max(octets);
 }
 
-/// The most octets that each of the links 0 to 255 has in one cycle. Starts on one link in one cycle stand side by side.
+/// So many zeros.
+fn zeros(alloc: Global, count: usize) -> Result<Vec<u128>, Memory>
+    ensures { IfOk result (λ zeros. zeros.items ≡ replicate count 0) }
+{
+    let zeros = vec![in alloc; 0; count]?;
+    Ok(zeros)
+}
+
+/// The most octets that each of the links 0 to 65,535 has in one cycle. Starts on one link in one cycle stand side by side.
 fn most_by_link(alloc: Global, starts: &[Started]) -> Result<Vec<u128>, Memory>
     requires { AreSumsInOrder starts.now }
-    ensures all { IfOk result (λ most. length most.items ≡ 256) }
-    ensures most { IfOk result (λ most. (link : ℕ) → link < 256 → slice_index most.items link ≡ most_on link starts.now) }
+    ensures all { IfOk result (λ most. length most.items ≡ 65536) }
+    ensures most { IfOk result (λ most. (link : ℕ) → link < 65536 → slice_index most.items link ≡ most_on link starts.now) }
 {
-    let mut most: Vec<u128> = vec![in alloc; 0; LINKS]?;
+    let mut most = zeros(alloc, LINKS)?;
     for batch in starts.chunk_by(
         |first: &Started, second: &Started| -> bool
             ensures { result ≡ are_of_one_batch first.now second.now }

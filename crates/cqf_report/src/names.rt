@@ -12,7 +12,7 @@ use std::alloc::Global;
 use std::marker::Model;
 
 /// The name of a bridge. A bridge that the domain lacks has none.
-pub(crate) fn bridge_name(domain: &Domain, bridge: u8) -> &str
+pub(crate) fn bridge_name(domain: &Domain, bridge: u16) -> &str
     ensures name { result.now ≡ name_of_bridge domain.now bridge }
     ensures plain { IsPlain result.now }
 {
@@ -24,7 +24,7 @@ pub(crate) fn bridge_name(domain: &Domain, bridge: u8) -> &str
 }
 
 /// The name of a station. A station that the domain lacks has none.
-fn station_name(domain: &Domain, station: u8) -> &str
+fn station_name(domain: &Domain, station: u16) -> &str
     ensures name { result.now ≡ name_of_node domain.now (Node.Station station) }
     ensures plain { IsPlain result.now }
 {
@@ -88,7 +88,7 @@ impl<'d> LinkNames<'d> {
     }
 
     /// A link by the names of its ends. A link that the domain lacks has none.
-    pub(crate) fn name_of(&self, link: u8) -> &str
+    pub(crate) fn name_of(&self, link: u16) -> &str
         ensures name { result.now ≡ name_of_link self.now link }
         ensures plain { IsPlain result.now }
     {

@@ -18,7 +18,7 @@ use csv::ByteRecord;
 use std::alloc::Global;
 
 /// The bridge that a field names.
-fn read_bridge(domain: &Domain, field: &[u8]) -> Option<u8>
+fn read_bridge(domain: &Domain, field: &[u8]) -> Option<u16>
     ensures { result ≡ bridge_named domain.now field.now }
 {
     let name = Name::new(field)?;
@@ -117,7 +117,8 @@ impl RowFormat for OfferRows<'_> {
 /// last row without its line end.
 ///
 /// # Errors
-/// As of `read_arrivals`: `BadHeader`; then the first fault of the rows in their order, `TooMany` at row 1,000,001,
+/// As of `read_arrivals`: `BadHeader`; then the first fault of the rows in their order, `TooMany` at the row behind as many as the
+/// domain may have,
 /// `BadRow`, `OutOfOrder`; `Memory` where a growth is refused.
 pub fn read_offers(alloc: Global, domain: &Domain, text: &[u8]) -> Result<Vec<Offer>, OfferFault>
     ensures ok { IfOk result (λ offers. offers_of domain.now text.now ≡ Ok offers.items) }
@@ -125,5 +126,6 @@ pub fn read_offers(alloc: Global, domain: &Domain, text: &[u8]) -> Result<Vec<Of
     ensures few { IfOk result (λ offers. length offers.items ≤ most_rows) }
     ensures err { IfErr result (λ fault. IsFaultOf (offers_of domain.now text.now) fault) }
 {
-    read_table(alloc, &OfferRows { domain }, text)
+    let most = domain.limits().rows_within();
+    read_table(alloc, &OfferRows { domain }, most, text)
 }

@@ -6,11 +6,9 @@ ghost use Rattle.csv.specs.Records.{fields_of};
 ghost use Rattle.cqf_report.specs.Records.{Fields, StillGives};
 ghost use Rattle.cqf_report.specs.Table.{IsFaultOf, TakesHeader, TakesNext, has_header, is_header, rows_from, table_read};
 ghost use Rattle.cqf_report.specs.declared.tables.TableFault.TheVariants as fault_kind;
-ghost use Rattle.cqf_model.specs.Limits.{most_rows};
 
 use crate::records::{Taken, take_record};
 use crate::tables::{TableFault, open_table};
-use cqf_model::MOST_ROWS;
 use cqf_units::Nanos;
 use csv::{ByteRecord, Reader};
 use std::alloc::Global;
@@ -72,14 +70,15 @@ fn next_row<F: RowFormat, R: Read>(
     format: &F,
     reader: &mut Reader<R>,
     fields: &mut ByteRecord,
+    most: u32,
     number: u32,
     before: Nanos,
 ) -> Result<Option<F::Row>, TableFault>
-    requires few { number ≤ most_rows }
+    requires few { number ≤ most }
     requires ready { Ready reader.old }
     ensures ready { IfOk result (λ row. IfSome row (λ _. Ready reader.new)) }
     ensures taken { (rows : List Fields) → StillGives R.remaining (Some (length F.header)) reader.old rows
-        → TakesNext (length F.header) (F.row_of format.now) F.instant_of R.remaining number before.0 rows reader.new result }
+        → TakesNext most (length F.header) (F.row_of format.now) F.instant_of R.remaining number before.0 rows reader.new result }
 {
     match take_record(reader, fields)? {
         Taken::End => Ok(None),
@@ -96,23 +95,24 @@ fn next_row<F: RowFormat, R: Read>(
     }
 }
 
-/// The rows that the reader still gives, from row 1 on.
+/// The rows that the reader still gives, from row 1 on, of no more than so many.
 fn read_rows<F: RowFormat, R: Read>(
     alloc: Global,
     format: &F,
     reader: &mut Reader<R>,
     fields: &mut ByteRecord,
+    most: u32,
 ) -> Result<Vec<F::Row>, TableFault>
     requires { Ready reader.old }
     ensures ok { IfOk result (λ taken. (rows : List Fields) → StillGives R.remaining (Some (length F.header)) reader.old rows
-        → rows_from (F.row_of format.now) F.instant_of 1 0 rows ≡ Ok taken.items) }
+        → rows_from most (F.row_of format.now) F.instant_of 1 0 rows ≡ Ok taken.items) }
     ensures err { IfErr result (λ fault. (rows : List Fields) → StillGives R.remaining (Some (length F.header)) reader.old rows
-        → IsFaultOf (rows_from (F.row_of format.now) F.instant_of 1 0 rows) fault) }
+        → IsFaultOf (rows_from most (F.row_of format.now) F.instant_of 1 0 rows) fault) }
 {
     let mut rows = Vec::new(alloc);
     let mut before = Nanos(0);
-    for number in 1..=MOST_ROWS {
-        let Some(row) = next_row(format, reader, fields, number, before)? else {
+    for place in 0..most {
+        let Some(row) = next_row(format, reader, fields, most, place + 1, before)? else {
             return Ok(rows);
         };
         before = F::instant(&row);
@@ -125,17 +125,18 @@ fn read_rows<F: RowFormat, R: Read>(
     }
 }
 
-/// The rows of a text, or its first fault.
+/// The rows of a text, no more than so many, or its first fault.
 pub(crate) fn read_table<F: RowFormat>(
     alloc: Global,
     format: &F,
+    most: u32,
     text: &[u8],
 ) -> Result<Vec<F::Row>, TableFault>
-    ensures ok { IfOk result (λ rows. table_read F.header (F.row_of format.now) F.instant_of text.now ≡ Ok rows.items) }
-    ensures err { IfErr result (λ fault. IsFaultOf (table_read F.header (F.row_of format.now) F.instant_of text.now) fault) }
+    ensures ok { IfOk result (λ rows. table_read most F.header (F.row_of format.now) F.instant_of text.now ≡ Ok rows.items) }
+    ensures err { IfErr result (λ fault. IsFaultOf (table_read most F.header (F.row_of format.now) F.instant_of text.now) fault) }
 {
     let mut reader = open_table(alloc, text);
     let mut fields = ByteRecord::new(alloc);
     take_header(format, &mut reader, &mut fields)?;
-    read_rows(alloc, format, &mut reader, &mut fields)
+    read_rows(alloc, format, &mut reader, &mut fields, most)
 }

@@ -5,7 +5,7 @@ use Rattle.std.specs.List.{list_all, list_any}
 use Rattle.cqf_lists.specs.Results.{and_then, refuse}
 use Rattle.cqf_units.specs.Name.{is_name}
 use Rattle.cqf_model.specs.Domain.{Domain}
-use Rattle.cqf_model.specs.Limits.{longest_cycle}
+use Rattle.cqf_model.specs.Limits.{longest_cycle, profile}
 use Rattle.cqf_model.specs.declared.topology.Link.{Link}
 use Rattle.cqf_model.specs.declared.topology.Node.{Node}
 use Rattle.cqf_model.specs.declared.topology.Node.TheVariants.{Bridge, Station}
@@ -28,9 +28,9 @@ pub record SketchDomain : Type 0 where
   pub links : List Link
   pub talkers : List TalkerLink
 
--- the plant's domain with a cycle time
+-- the plant's domain with a cycle time, within the limits that plants have where none are set
 abbrev pub domain_at : SketchDomain → ℕ → Domain
-domain_at sketch cycle_time = domain_with cycle_time sketch.guard sketch.bridges sketch.stations sketch.links
+domain_at sketch cycle_time = domain_with profile cycle_time sketch.guard sketch.bridges sketch.stations sketch.links
 
 -- what a cycle may take, in nanoseconds
 pub record IsCycleTime (cycle_time : ℕ) : Type 0 where

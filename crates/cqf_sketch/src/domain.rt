@@ -9,7 +9,7 @@ use crate::SketchFault;
 use crate::checks::check;
 use crate::draft::{Draft, read_draft};
 use crate::ends::{JoinedEdge, join_edges};
-use cqf_model::Link;
+use cqf_model::{Limits, Link};
 use cqf_topology::{Domain, DomainFault, copied_names, numbered_names};
 use cqf_units::{Memory, Name, Rate};
 use indexmap::IndexSet;
@@ -20,9 +20,9 @@ use std::marker::Model;
 #[derive(Clone, Copy, Debug, PartialEq, Eq)]
 pub struct TalkerLink {
     /// The station's number.
-    pub station: u8,
+    pub station: u16,
     /// The number of the bridge in which it ends.
-    pub bridge: u8,
+    pub bridge: u16,
     pub rate: Rate,
     /// In nanoseconds.
     pub delay: u32,
@@ -194,7 +194,14 @@ impl SketchDomain {
         let links = Vec::from_slice(alloc, self.links.as_slice())?;
         let bridges = copied_names(&self.bridges)?;
         let stations = copied_names(&self.stations)?;
-        Ok(Domain::of_parts(cycle_time, self.guard, bridges, stations, links))
+        Ok(Domain::of_parts(
+            Limits::of_profile(),
+            cycle_time,
+            self.guard,
+            bridges,
+            stations,
+            links,
+        ))
     }
 
     /// The candidates for the cycle time, in the order of wish: 1 to 1,000 of them, each from 10,000 to 10,000,000 ns. Each that is

@@ -176,13 +176,13 @@ impl JoinedEdge {
 }
 
 /// The number of a node, where there are few.
-fn small_number(end: End) -> u8
+fn small_number(end: End) -> u16
     requires { NodeInside 32 64 (node_of end) }
     ensures { result ≡ number_of (node_of end) }
 {
     match end {
-        End::Bridge(bridge) => bridge as u8,
-        End::Station(station) => station as u8,
+        End::Bridge(bridge) => bridge as u16,
+        End::Station(station) => station as u16,
     }
 }
 
@@ -192,8 +192,8 @@ fn small_node(end: End) -> Node
     ensures { result ≡ node_of end }
 {
     match end {
-        End::Bridge(bridge) => Node::Bridge(bridge as u8),
-        End::Station(station) => Node::Station(station as u8),
+        End::Bridge(bridge) => Node::Bridge(bridge as u16),
+        End::Station(station) => Node::Station(station as u16),
     }
 }
 

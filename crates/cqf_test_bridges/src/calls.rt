@@ -33,7 +33,7 @@ pub(crate) fn receive(
 }
 
 /// Whether a link of the domain leaves a bridge.
-fn is_from(domain: &Domain, link: u8, bridge: u8) -> bool
+fn is_from(domain: &Domain, link: u16, bridge: u16) -> bool
     ensures inside { result ≡ true → link < length domain.now.links }
     ensures leaves { result ≡ true → leaves domain.now link bridge ≡ true }
 {
@@ -44,7 +44,7 @@ fn is_from(domain: &Domain, link: u8, bridge: u8) -> bool
 }
 
 /// Whether a background frame may be handed to a bridge with a cycle.
-fn is_backed_of(domain: &Domain, bridge: u8, cycle: Cycle, frame: &Background) -> bool
+fn is_backed_of(domain: &Domain, bridge: u16, cycle: Cycle, frame: &Background) -> bool
     ensures { result ≡ true → (number : ℕ) → IsBackedOf domain.now bridge cycle.0 (record { frame = number; background = frame.now }) }
 {
     let here = is_from(domain, frame.link, bridge);

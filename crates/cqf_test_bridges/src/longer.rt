@@ -13,7 +13,7 @@ use std::alloc::Global;
 /// list.
 fn told_in(alloc: Global, cycle: u32) -> Result<Vec<Start>, Memory> {
     let mut told = Vec::new(alloc);
-    for link in 0..3u8 {
+    for link in 0..3u16 {
         if cycle > u32::from(link) {
             told.push((cycle, link, 1, 64, u64::from(cycle) * 125_000))?;
         }

@@ -12,10 +12,10 @@ use cqf_units::{Cycle, Memory, Nanos};
 use std::alloc::Global;
 
 /// A start: its cycle, link, frame, octets and instant.
-pub(crate) type Start = (u32, u8, u32, u32, u64);
+pub(crate) type Start = (u32, u16, u32, u32, u64);
 
 /// A drop: its cycle, bridge, frame, octets and reason.
-pub(crate) type Drop = (u32, u8, u32, u32, Reason);
+pub(crate) type Drop = (u32, u16, u32, u32, Reason);
 
 /// What is asked for and offered in a run, with at most one background frame.
 struct Run {
@@ -123,7 +123,7 @@ fn send_all(
 }
 
 /// The batches for a bridge. The bridges stand in a row, and each sends first on the link to the next one.
-fn batches_for(batches: &[Batch], number: u8) -> &[Batch] {
+fn batches_for(batches: &[Batch], number: u16) -> &[Batch] {
     let end = usize::from(number);
     if end == 0 || end > batches.len() {
         return &[];

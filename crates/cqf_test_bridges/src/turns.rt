@@ -11,7 +11,7 @@ use cqf_units::Cycle;
 use std::alloc::Global;
 
 /// Whether a bridge sends a cycle, with one batch, of a link, that has no frame.
-fn sends_an_empty_batch(alloc: Global, bridge: &mut Bridge, cycle: Cycle, link: u8) -> bool
+fn sends_an_empty_batch(alloc: Global, bridge: &mut Bridge, cycle: Cycle, link: u16) -> bool
     requires { cycle.0 < 100000 }
 {
     let mut batches = Vec::new(alloc);

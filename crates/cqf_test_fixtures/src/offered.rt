@@ -5,10 +5,10 @@ use cqf_units::{Memory, Name, Nanos};
 use std::alloc::{AllocError, Global};
 
 /// An offer: its instant, its bridge, its stream and its octets.
-pub type Offering = (u64, u8, &'static str, u32);
+pub type Offering = (u64, u16, &'static str, u32);
 
 /// A background frame: its instant, its link, its class and its octets.
-pub type Backing = (u64, u8, u8, u32);
+pub type Backing = (u64, u16, u8, u32);
 
 /// Offers of these values. `Memory` where a growth is refused, or where a name hasn't the form of one.
 pub fn offers_of(alloc: Global, rows: &[Offering]) -> Result<Vec<Offer>, Memory> {

@@ -3,10 +3,10 @@
 use cqf_model::{Dropped, Reason, Started};
 
 /// A start: its cycle, its link, its frame, its octets and its instant.
-pub type Begun = (u32, u8, u32, u32, u64);
+pub type Begun = (u32, u16, u32, u32, u64);
 
 /// A drop: its cycle, its bridge, its frame, its octets and its reason.
-pub type Fell = (u32, u8, u32, u32, Reason);
+pub type Fell = (u32, u16, u32, u32, Reason);
 
 /// Whether starts have these values.
 pub fn are_begun(starts: &[Started], rows: &[Begun]) -> bool {

@@ -16,7 +16,7 @@ fn started(cycle: u32, octets: u32) -> Started {
 }
 
 /// A page with one start of a stream's frame on link 1, of 100 octets, and a background frame of 1522 octets there.
-fn page_of(alloc: Global, bridge: u8, cycle: u32) -> Result<Page, Memory> {
+fn page_of(alloc: Global, bridge: u16, cycle: u32) -> Result<Page, Memory> {
     Ok(Page {
         bridge,
         cycle: Cycle(cycle),
@@ -27,7 +27,7 @@ fn page_of(alloc: Global, bridge: u8, cycle: u32) -> Result<Page, Memory> {
 }
 
 /// A page by its bridge and cycle, the answer to it, and how many cycles are whole then.
-type Post = (u8, u32, Option<PageFault>, u32);
+type Post = (u16, u32, Option<PageFault>, u32);
 
 /// A page is taken once and in order of cycle.
 const REFUSED: &[Post] = &[
@@ -60,14 +60,14 @@ const FILLED: &[Post] = &[
 ];
 
 /// Whether a page is that of the bridge and cycle.
-fn is_page(page: &Page, bridge: u8, cycle: u32) -> bool {
+fn is_page(page: &Page, bridge: u16, cycle: u32) -> bool {
     page.bridge == bridge
         && page.cycle == Cycle(cycle)
         && page.starts.as_slice() == [started(cycle, 100)].as_slice()
 }
 
 /// Whether the pages have that of the bridge and cycle.
-fn has_page(pages: &Pages, bridge: u8, cycle: u32) -> bool {
+fn has_page(pages: &Pages, bridge: u16, cycle: u32) -> bool {
     match pages.page(bridge, Cycle(cycle)) {
         Some(page) => is_page(page, bridge, cycle),
         None => false,
@@ -78,7 +78,7 @@ fn has_page(pages: &Pages, bridge: u8, cycle: u32) -> bool {
 fn answers(
     pages: &mut Pages,
     page: Page,
-    bridge: u8,
+    bridge: u16,
     cycle: u32,
     fault: Option<PageFault>,
 ) -> bool {

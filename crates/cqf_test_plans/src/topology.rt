@@ -216,7 +216,7 @@ fn are_line(alloc: Global, domain: Domain) -> bool {
 }
 
 /// A bridge, a node, and the number of the ring's link between them.
-const LINKS_OF_RING: &[(u8, Node, Option<u8>)] = &[
+const LINKS_OF_RING: &[(u16, Node, Option<u16>)] = &[
     (0, Node::Bridge(1), Some(0)),
     (2, Node::Station(0), Some(2)),
     (0, Node::Bridge(2), Some(3)),

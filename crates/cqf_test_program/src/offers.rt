@@ -7,7 +7,7 @@ use std::alloc::Global;
 use std::process::Abort;
 
 /// An offer: its instant, its bridge, its stream and its octets.
-type Offering = (u64, u8, &'static str, u32);
+type Offering = (u64, u16, &'static str, u32);
 
 /// Texts, and the offers that they have, or the first fault of each.
 const CASES: &[(&[u8], Result<&[Offering], TableFault>)] = &[

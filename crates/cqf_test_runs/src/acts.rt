@@ -11,10 +11,10 @@ pub(crate) enum Act {
     Admit,
     Withdraw,
     Seal,
-    Give(u8),
-    Step(u8),
-    Take(u8),
-    Post(u8),
+    Give(u16),
+    Step(u16),
+    Take(u16),
+    Post(u16),
 }
 
 /// All bridges of the line go through a cycle, side by side.

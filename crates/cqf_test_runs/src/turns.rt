@@ -16,7 +16,7 @@ enum Turn {
     /// None of these is enabled.
     NotEnabled(&'static [Act]),
     /// So many bridges have posted their pages of so many cycles, of which these aren't empty.
-    Posted(u8, u32, &'static [Written]),
+    Posted(u16, u32, &'static [Written]),
     /// The history has these answers, of seat 1 to Seals, and of seat 0 to the others.
     Replied(&'static [Reply]),
 }

@@ -6,7 +6,7 @@ use cqf_units::Cycle;
 
 /// A page that isn't empty: its bridge and its cycle, and what stands on it.
 pub(crate) struct Written {
-    pub(crate) bridge: u8,
+    pub(crate) bridge: u16,
     pub(crate) cycle: u32,
     pub(crate) starts: &'static [Begun],
     pub(crate) background: &'static [Begun],
@@ -16,7 +16,7 @@ pub(crate) struct Written {
 /// Whether a page is of the bridge and cycle, and has these starts and drops.
 fn has(
     page: &Page,
-    bridge: u8,
+    bridge: u16,
     cycle: u32,
     starts: &[Begun],
     background: &[Begun],
@@ -30,7 +30,7 @@ fn has(
 }
 
 /// Whether a page is the expected one of its bridge and cycle: that which is written, or else an empty one.
-fn is_expected(page: &Page, bridge: u8, cycle: u32, written: &[Written]) -> bool {
+fn is_expected(page: &Page, bridge: u16, cycle: u32, written: &[Written]) -> bool {
     for other in written {
         if other.bridge == bridge && other.cycle == cycle {
             return has(
@@ -48,7 +48,7 @@ fn is_expected(page: &Page, bridge: u8, cycle: u32, written: &[Written]) -> bool
 
 /// Whether so many first cycles of each of so many bridges are posted, and no other, and their pages are those that are written, and
 /// else empty.
-pub(crate) fn are_written(pages: &Pages, bridges: u8, cycles: u32, written: &[Written]) -> bool {
+pub(crate) fn are_written(pages: &Pages, bridges: u16, cycles: u32, written: &[Written]) -> bool {
     for bridge in 0..bridges {
         for cycle in 0..cycles {
             match pages.page(bridge, Cycle(cycle)) {

@@ -1,11 +1,14 @@
 //! The first ways through a small network, by hand.
-use cqf_model::{Link, Node};
+ghost use Rattle.std.specs.Prelude.{◌≡◌, ◌<◌, All, true};
+ghost use Rattle.cqf_model.specs.Limits.{most_bridges};
+
+use cqf_model::{Link, MOST_BRIDGES, Node};
 use cqf_units::Rate;
 use cqf_ways::{Room, WaysFault, first_short, first_way, first_ways};
 use std::alloc::Global;
 
 /// A link of a network.
-const fn link(from: u8, to: Node) -> Link {
+const fn link(from: u16, to: Node) -> Link {
     Link {
         from,
         to,
@@ -25,9 +28,21 @@ fn links() -> [Link; 5] {
     ]
 }
 
+/// Whether each link leaves a bridge that may be.
+fn leave_bridges(links: &[Link]) -> bool
+    ensures { result ≡ true → All (λ link. link.from < most_bridges) links.now }
+{
+    links
+        .iter()
+        .all(|link| usize::from(link.from) < MOST_BRIDGES)
+}
+
 /// Whether the first way from bridge 0 to station 0 is this, where so much is left.
-fn goes(left: &[u32], wanted: Option<&[u8]>) -> bool {
+fn goes(left: &[u32], wanted: Option<&[u16]>) -> bool {
     let links = links();
+    if !leave_bridges(&links) {
+        return false;
+    }
     let room = Room {
         links: &links,
         left,
@@ -52,8 +67,11 @@ fn the_first_way_has_room(rt: HostRuntime) {
 }
 
 /// Whether the first ways to stations 0 and 1 are these.
-fn goes_to_both(alloc: Global, left: &[u32], first: &[u8], second: &[u8]) -> bool {
+fn goes_to_both(alloc: Global, left: &[u32], first: &[u16], second: &[u16]) -> bool {
     let links = links();
+    if !leave_bridges(&links) {
+        return false;
+    }
     let room = Room {
         links: &links,
         left,
@@ -74,6 +92,7 @@ fn goes_to_both(alloc: Global, left: &[u32], first: &[u8], second: &[u8]) -> boo
 fn each_station_has_its_way(rt: HostRuntime) {
     assert!(rt; goes_to_both(rt.alloc(), &[100, 100, 100, 100, 100], &[0, 2], &[1, 4]));
     let links = links();
+    assert!(rt; leave_bridges(&links));
     let left = [100, 99, 100, 100, 100];
     let room = Room {
         links: &links,

@@ -8,7 +8,7 @@ use std::sync::Wait;
 use std::thread::{Threads, join};
 
 /// A transmission of so many octets, at the cycle's first instant.
-fn started(cycle: u32, link: u8, octets: u32) -> Started {
+fn started(cycle: u32, link: u16, octets: u32) -> Started {
     Started {
         cycle: Cycle(cycle),
         link,
@@ -19,7 +19,7 @@ fn started(cycle: u32, link: u8, octets: u32) -> Started {
 }
 
 /// An offer that was dropped.
-fn dropped(cycle: u32, bridge: u8, frame: u32) -> Dropped {
+fn dropped(cycle: u32, bridge: u16, frame: u32) -> Dropped {
     Dropped {
         cycle: Cycle(cycle),
         bridge,
@@ -30,7 +30,7 @@ fn dropped(cycle: u32, bridge: u8, frame: u32) -> Dropped {
 }
 
 /// A page with one start of a stream's frame on the link, one of a background frame on the link behind it, and a drop.
-fn page_with(alloc: Global, bridge: u8, cycle: u32, link: u8) -> Result<Page, Memory> {
+fn page_with(alloc: Global, bridge: u16, cycle: u32, link: u16) -> Result<Page, Memory> {
     Ok(Page {
         bridge,
         cycle: Cycle(cycle),
@@ -41,13 +41,13 @@ fn page_with(alloc: Global, bridge: u8, cycle: u32, link: u8) -> Result<Page, Me
 }
 
 /// A page that is posted by the share at a place: its bridge and cycle, and the answer.
-type Post = (usize, u8, u32, Option<PageFault>);
+type Post = (usize, u16, u32, Option<PageFault>);
 
 /// Whether a page comes back with this fault.
 fn comes_back(
     refused: (PageFault, Page),
     expected: Option<PageFault>,
-    bridge: u8,
+    bridge: u16,
     cycle: u32,
 ) -> bool {
     let (fault, page) = refused;
@@ -103,7 +103,7 @@ fn answers_all<R: Wait>(
 }
 
 /// Whether the starts are on these links in these cycles, each of so many octets.
-fn are_starts(starts: &[Started], octets: u32, places: &[(u32, u8)]) -> bool {
+fn are_starts(starts: &[Started], octets: u32, places: &[(u32, u16)]) -> bool {
     if starts.len() != places.len() {
         return false;
     }
@@ -117,7 +117,7 @@ fn are_starts(starts: &[Started], octets: u32, places: &[(u32, u8)]) -> bool {
 }
 
 /// Whether the drops are those of these cycles and bridges.
-fn are_drops(drops: &[Dropped], places: &[(u32, u8)]) -> bool {
+fn are_drops(drops: &[Dropped], places: &[(u32, u16)]) -> bool {
     if drops.len() != places.len() {
         return false;
     }
@@ -133,9 +133,9 @@ fn are_drops(drops: &[Dropped], places: &[(u32, u8)]) -> bool {
 /// What stands in a book: cycle and link of each start of a stream's frame, and of each of a background frame, and cycle and
 /// bridge of each drop.
 type Lines = (
-    &'static [(u32, u8)],
-    &'static [(u32, u8)],
-    &'static [(u32, u8)],
+    &'static [(u32, u16)],
+    &'static [(u32, u16)],
+    &'static [(u32, u16)],
 );
 
 /// How a book is closed.
@@ -383,7 +383,7 @@ fn a_book_closes_with_its_own_shares_alone(rt: HostRuntime) {
 /// Whether the book takes the page with a start on a link of 2 less the bridge's number.
 fn takes<R: Wait>(rt: &R, alloc: Global, book: &CycleBook, share: &mut Share, cycle: u32) -> bool {
     let bridge = share.bridge();
-    match page_with(alloc, bridge, cycle, 2u8.saturating_sub(bridge)) {
+    match page_with(alloc, bridge, cycle, 2u16.saturating_sub(bridge)) {
         Ok(page) => book.post(rt, share, page).is_ok(),
         Err(_) => false,
     }

@@ -10,10 +10,12 @@ use Rattle.std.proofs.lemmas.List.Quantifiers.{position-Some}
 use Rattle.std.proofs.lemmas.Option.{slice_get-get_or}
 use Rattle.cqf_units.specs.Name.{is_name}
 use Rattle.cqf_units.specs.Timing.{nanos_of_octet}
+use Rattle.cqf_model.specs.declared.limits.Limits.{Limits}
 use Rattle.cqf_model.specs.declared.topology.Link.{Link}
 use Rattle.cqf_model.specs.declared.topology.Node.{Node}
 use Rattle.cqf_model.specs.declared.topology.Node.TheVariants.{Bridge, Station}
 use Rattle.cqf_model.specs.Domain.{Domain, IsNode, node_or, same_node}
+use Rattle.cqf_model.specs.Limits.{bridges_within, links_within, stations_within}
 use Rattle.cqf_topology.specs.declared.draft.DraftLink.{DraftLink}
 use Rattle.cqf_topology_fields.specs.declared.keys.Key.TheVariants.{Cycle, Guard, Bridges, Stations, Links}
 use Rattle.cqf_topology.specs.declared.faults.DomainFault.{DomainFault}
@@ -28,8 +30,8 @@ use Rattle.cqf_topology.proofs.Distinct.{first_taken-None}
 use Rattle.cqf_topology.proofs.Refusals.{and_then-Ok, refuse-Ok, ok_or-Ok, number-range, names-named, if_some-Ok}
 
 -- what a text says is in its ranges and forms
-pub domain_from-readable : (table : _) (d : DomainText) → domain_from table ≡ Ok d → IsReadable d
-domain_from-readable table d h =
+pub domain_from-readable : (limits : Limits) (table : _) (d : DomainText) → domain_from limits table ≡ Ok d → IsReadable d
+domain_from-readable limits table d h =
     let (cycle_time, at_cycle, h1) = and_then-Ok (read_at Cycle (number_from 10000 10000000) table) _ d h in
     let (guard, at_guard, h2) = and_then-Ok (read_at Guard (number_from 1 10000000) table) _ d h1 in
     let (bridges, at_bridges, h3) = and_then-Ok (and_then (names_at Bridges table) (if_some Bridges)) _ d h2 in
@@ -39,7 +41,7 @@ domain_from-readable table d h =
     let some_is = if_some-Ok Bridges names bridges some in
     let cycle_range = number-range Cycle 10000 10000000 table cycle_time at_cycle in
     let guard_range = number-range Guard 1 10000000 table guard at_guard in
-    let d' : DomainText = record { cycle_time = cycle_time; guard = guard; bridges = bridges; stations = stations; links = links } in
+    let d' : DomainText = record { limits = limits; cycle_time = cycle_time; guard = guard; bridges = bridges; stations = stations; links = links } in
     let is : d' ≡ d = cc in
     subst IsReadable is (record {
       cycle_least = cycle_range.0;
@@ -51,10 +53,10 @@ domain_from-readable table d h =
     })
 
 -- what is read of a text is readable
-pub read_text-readable : (text : List ℕ) (d : DomainText) → read_text text ≡ Ok d → IsReadable d
-read_text-readable text d h =
-    let (table, whole, from) = and_then-Ok (whole_document domain_keys Links link_keys text) domain_from d h in
-    domain_from-readable table d from
+pub read_text-readable : (limits : Limits) (text : List ℕ) (d : DomainText) → read_text limits text ≡ Ok d → IsReadable d
+read_text-readable limits text d h =
+    let (table, whole, from) = and_then-Ok (whole_document domain_keys Links link_keys text) (domain_from limits) d h in
+    domain_from-readable limits table d from
 
 -- the first taken name of two lists, one after the other
 pub first_taken-append : (e xs ys : List (List ℕ)) → first_taken e (xs ++ ys) ≡ option_or (first_taken e xs) (first_taken (e ++ xs) ys)
@@ -236,21 +238,21 @@ joined-ends d (l ∷ ls) links h k link at =
     by (Ok x) (Ok xs) here more all h k at = let same : links ≡ x ∷ xs = cc in
         there x xs here (all xs more) k (subst (λ ys. slice_get ys k ≡ Some link) same at)
 
--- the number of a node fits a byte
-small-node : (d : Domain) (n : Node) → length d.bridges ≤ 32 → length d.stations ≤ 64 → IsNode d n → IsSmallNode n
+-- the number of a node fits two octets
+small-node : (d : Domain) (n : Node) → length d.bridges ≤ 1024 → length d.stations ≤ 4096 → IsNode d n → IsSmallNode n
 small-node d (Bridge b) few few_too h = omega arith
 small-node d (Station s) few few_too h = omega arith
 
 -- the links of a small domain have small ends
 pub joined-small : (t : DomainText) (bridges stations : List (List ℕ)) (links : List Link) → IsNumberedDomain t bridges stations links
-    → length bridges ≤ 32 → length stations ≤ 64 → All HasSmallEnds links
+    → length bridges ≤ 1024 → length stations ≤ 4096 → All HasSmallEnds links
 joined-small t bridges stations links n few few_too k link inside =
     let ends = joined-ends d t.links links there k (get_or links k link) (slice_get-get_or links k link inside) in
     record { from_small = omega (arith, ends.from_bridge); to_small = small-node d _ few few_too ends.to_node }
   where
     -- a domain of these names and links
     d : Domain
-    d = record { cycle_time = 0; guard = 0; bridges = bridges; stations = stations; links = links }
+    d = record { limits = t.limits; cycle_time = 0; guard = 0; bridges = bridges; stations = stations; links = links }
 
     -- its links are those of the text, joined
     there : joined bridges stations t.links ≡ Ok links
@@ -259,7 +261,7 @@ joined-small t bridges stations links n few few_too k link inside =
 -- the domain of a text that passed its checks is accepted, and its names are names, each once
 pub checked-accepted : (t : DomainText) (d : Domain) → IsNumberedDomain t d.bridges d.stations d.links → d.cycle_time ≡ t.cycle_time → d.guard ≡ t.guard
     → NoLinkTwice d.links → d.guard < d.cycle_time → first_long_delay d.guard d.links ≡ None → first_long_gap d.guard d.links ≡ None
-    → length d.bridges ≤ 32 → length d.stations ≤ 64 → length d.links ≤ 64 → IsDomain d
+    → length d.bridges ≤ bridges_within d.limits → length d.stations ≤ stations_within d.limits → length d.links ≤ links_within d.limits → IsDomain d
 checked-accepted t d n same_cycle same_guard once short no_delay no_gap few_bridges few_stations few_links =
     record {
       accepted = record {

@@ -1,9 +1,11 @@
 -- A domain that passed the checks of its times and links.
 use Rattle.std.proofs.Common.{◌≡◌, ◌<◌, ◌≤◌, ◌||◌, Bool, true, false, List, [], None, Ok, nat_le, nat_lt, length, arith, refl}
+use Rattle.std.proofs.lemmas.Bool.{ltb-false}
 use Rattle.std.proofs.lemmas.Bool.Decides.{nat_tests}
 use Rattle.cqf_model.specs.declared.topology.Link.{Link}
 use Rattle.cqf_topology.specs.declared.faults.DomainFault.TheVariants as fault
 use Rattle.cqf_model.specs.Domain.{Domain}
+use Rattle.cqf_model.specs.Limits.{bridges_within, links_within, stations_within}
 use Rattle.cqf_topology.specs.DomainText.{DomainText, first_long_delay, first_long_gap, first_twice, if_so, is_too_many, with_links}
 use Rattle.cqf_topology.proofs.Refusals.{refuse-Ok}
 
@@ -13,9 +15,9 @@ pub record Passes (d : DomainText) (links : List Link) : Type 0 where
   pub short : d.guard < d.cycle_time
   pub no_delay : first_long_delay d.guard links ≡ None
   pub no_gap : first_long_gap d.guard links ≡ None
-  pub few_bridges : length d.bridges ≤ 32
-  pub few_stations : length d.stations ≤ 64
-  pub few_links : length links ≤ 64
+  pub few_bridges : length d.bridges ≤ bridges_within d.limits
+  pub few_stations : length d.stations ≤ stations_within d.limits
+  pub few_links : length links ≤ links_within d.limits
 
 -- what isn't so fails its test
 pub not_so : (b : Bool) → if_so b ≡ None → b ≡ false
@@ -36,19 +38,19 @@ passes d links found h =
     let short = refuse-Ok (if_so (nat_le d.cycle_time d.guard)) (λ _. fault.GuardTooLong) _ found twice.1 in
     let delay = refuse-Ok (first_long_delay d.guard links) fault.DelayTooLong _ found short.1 in
     let gap = refuse-Ok (first_long_gap d.guard links) fault.GapTooLong _ found delay.1 in
-    let few = refuse-Ok (if_so (is_too_many d.bridges d.stations links)) (λ _. fault.TooMany) _ found gap.1 in
+    let few = refuse-Ok (if_so (is_too_many d.limits d.bridges d.stations links)) (λ _. fault.TooMany) _ found gap.1 in
     let not_long : nat_le d.cycle_time d.guard ≡ false = not_so (nat_le d.cycle_time d.guard) short.0 in
-    let none = no_more (nat_lt 32 (length d.bridges)) (nat_lt 64 (length d.stations)) (nat_lt 64 (length links))
-    (not_so (is_too_many d.bridges d.stations links) few.0) in
-    let bridges : nat_lt 32 (length d.bridges) ≡ false = none.0 in
-    let stations : nat_lt 64 (length d.stations) ≡ false = none.1 in
-    let all : nat_lt 64 (length links) ≡ false = none.2 in
+    let none = no_more (nat_lt (bridges_within d.limits) (length d.bridges)) (nat_lt (stations_within d.limits) (length d.stations)) (nat_lt (links_within d.limits) (length links))
+    (not_so (is_too_many d.limits d.bridges d.stations links) few.0) in
+    let bridges : nat_lt (bridges_within d.limits) (length d.bridges) ≡ false = none.0 in
+    let stations : nat_lt (stations_within d.limits) (length d.stations) ≡ false = none.1 in
+    let all : nat_lt (links_within d.limits) (length links) ≡ false = none.2 in
     record {
       no_twice = twice.0;
       short = grind (arith, nat_tests);
       no_delay = delay.0;
       no_gap = gap.0;
-      few_bridges = grind (arith, nat_tests);
-      few_stations = grind (arith, nat_tests);
-      few_links = grind (arith, nat_tests);
+      few_bridges = ltb-false (bridges_within d.limits) (length d.bridges) bridges;
+      few_stations = ltb-false (stations_within d.limits) (length d.stations) stations;
+      few_links = ltb-false (links_within d.limits) (length links) all;
     }

@@ -20,7 +20,8 @@ use Rattle.cqf_topology.specs.declared.faults.DomainFault.{DomainFault}
 use Rattle.cqf_topology.specs.declared.faults.DomainFault.TheVariants as fault
 use Rattle.cqf_lists.specs.Results.{and_then, refuse}
 use Rattle.cqf_topology_fields.specs.Fields.{and_first, whole_document, read_at, tables_of_key, number_from, name_from, names_at}
-use Rattle.cqf_model.specs.Limits.{longest_cycle}
+use Rattle.cqf_model.specs.declared.limits.Limits.{Limits}
+use Rattle.cqf_model.specs.Limits.{bridges_within, links_within, longest_cycle, profile, stations_within}
 
 -- the keys of a domain text, and those of each of its links, in reading order
 abbrev pub domain_keys : List Key
@@ -30,8 +31,9 @@ abbrev pub link_keys : List Key
 link_keys = From ∷ To ∷ Rate ∷ Delay ∷ []
 
 -- what a domain text says, before it is asked whether a network can be like that: times in nanoseconds, names, and links
--- by the names of their ends
+-- by the names of their ends; and the limits within which it is read
 pub record DomainText : Type 0 where
+  pub limits : Limits
   pub cycle_time : ℕ
   pub guard : ℕ
   pub bridges : List (List ℕ)
@@ -69,14 +71,14 @@ with_front done (Ok rest) = Ok (done ++ rest)
 with_front done (Err e) = Err e
 
 -- a domain's table
-abbrev pub domain_from : Members → Result DomainText TomlFault
-domain_from table =
+abbrev pub domain_from : Limits → Members → Result DomainText TomlFault
+domain_from limits table =
     and_then (read_at Cycle (number_from 10000 10000000) table) (λ cycle_time.
     and_then (read_at Guard (number_from 1 10000000) table) (λ guard.
     and_then (and_then (names_at Bridges table) (if_some Bridges)) (λ bridges.
     and_then (names_at Stations table) (λ stations.
     and_then (tables_of_key Links link_read table) (λ links.
-    Ok (record { cycle_time = cycle_time; guard = guard; bridges = bridges; stations = stations; links = links }))))))
+    Ok (record { limits = limits; cycle_time = cycle_time; guard = guard; bridges = bridges; stations = stations; links = links }))))))
 
 -- the first of some names that stood earlier
 abbrev pub is_among : List ℕ → List (List ℕ) → Bool
@@ -136,12 +138,14 @@ if_so true = Some tt
 if_so false = None
 
 -- there are more bridges, stations or links than a domain may have
-abbrev pub is_too_many : List (List ℕ) → List (List ℕ) → List Link → Bool
-is_too_many bridges stations links = nat_lt 32 (length bridges) || nat_lt 64 (length stations) || nat_lt 64 (length links)
+abbrev pub is_too_many : Limits → List (List ℕ) → List (List ℕ) → List Link → Bool
+is_too_many limits bridges stations links =
+    nat_lt (bridges_within limits) (length bridges) || nat_lt (stations_within limits) (length stations)
+    || nat_lt (links_within limits) (length links)
 
 -- the domain that the text says, with these links
 abbrev pub with_these : DomainText → List Link → Domain
-with_these d links = record { cycle_time = d.cycle_time; guard = d.guard; bridges = d.bridges; stations = d.stations; links = links }
+with_these d links = record { limits = d.limits; cycle_time = d.cycle_time; guard = d.guard; bridges = d.bridges; stations = d.stations; links = links }
 
 -- the domain that the text says, or the first check that it fails, each made over the whole before the next
 abbrev pub with_links : DomainText → List Link → Result Domain DomainFault
@@ -150,7 +154,7 @@ with_links d links =
     refuse (if_so (nat_le d.cycle_time d.guard)) (λ _. fault.GuardTooLong) (
     refuse (first_long_delay d.guard links) fault.DelayTooLong (
     refuse (first_long_gap d.guard links) fault.GapTooLong (
-    refuse (if_so (is_too_many d.bridges d.stations links)) (λ _. fault.TooMany) (
+    refuse (if_so (is_too_many d.limits d.bridges d.stations links)) (λ _. fault.TooMany) (
     Ok (with_these d links))))))
 
 -- the domain that the text says, or the first check that it fails, those of its names and ends before the others
@@ -171,12 +175,16 @@ as_domain_fault (Ok x) = Ok x
 as_domain_fault (Err e) = Err (domain_fault e)
 
 -- what a domain text says, or its first fault in being read
-abbrev pub read_text : List ℕ → Result DomainText TomlFault
-read_text text = and_then (whole_document domain_keys Links link_keys text) domain_from
+abbrev pub read_text : Limits → List ℕ → Result DomainText TomlFault
+read_text limits text = and_then (whole_document domain_keys Links link_keys text) (domain_from limits)
 
--- the domain that a text means, or its first fault
+-- the domain that a text means within some limits, or its first fault
+abbrev pub domain_within : Limits → List ℕ → Result Domain DomainFault
+domain_within limits text = and_then (as_domain_fault (read_text limits text)) checked
+
+-- and where none are set
 abbrev pub domain_of_text : List ℕ → Result Domain DomainFault
-domain_of_text text = and_then (as_domain_fault (read_text text)) checked
+domain_of_text text = domain_within profile text
 
 -- what the ranges and forms of the values give
 pub record IsReadable (d : DomainText) : Type 0 where
@@ -214,9 +222,9 @@ abbrev pub IsOnlyLink : Domain → ℕ → Node → Option ℕ → Type 0
 IsOnlyLink d from to found = (number : ℕ) (link : Link) → slice_get d.links number ≡ Some link → link.from ≡ from → link.to ≡ to → found ≡ Some number
 
 -- the domain of these parts
-abbrev pub domain_with : ℕ → ℕ → List (List ℕ) → List (List ℕ) → List Link → Domain
-domain_with cycle_time guard bridges stations links =
-    record { cycle_time = cycle_time; guard = guard; bridges = bridges; stations = stations; links = links }
+abbrev pub domain_with : Limits → ℕ → ℕ → List (List ℕ) → List (List ℕ) → List Link → Domain
+domain_with limits cycle_time guard bridges stations links =
+    record { limits = limits; cycle_time = cycle_time; guard = guard; bridges = bridges; stations = stations; links = links }
 
 -- what a domain's text gives beyond being accepted: each name has the form of a name, no two are equal, and no two links
 -- have the same ends

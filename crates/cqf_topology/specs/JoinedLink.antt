@@ -27,11 +27,11 @@ ends_of link = (link.from, link.to)
 abbrev pub are_same_ends : ℕ × Node → ℕ × Node → Bool
 are_same_ends a b = (a.0 == b.0) && same_node a.1 b.1
 
--- the number fits an octet
+-- the number fits two octets
 abbrev pub IsSmallNode : Node → Type 0
-IsSmallNode (Bridge b) = b < 256
-IsSmallNode (Station s) = s < 256
+IsSmallNode (Bridge b) = b < 65536
+IsSmallNode (Station s) = s < 65536
 
 pub record HasSmallEnds (link : Link) : Type 0 where
-  pub from_small : link.from < 256
+  pub from_small : link.from < 65536
   pub to_small : IsSmallNode link.to

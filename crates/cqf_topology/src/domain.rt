@@ -3,7 +3,7 @@ ghost use Rattle.std.specs.Prelude.{◌≡◌, ◌<◌, ◌==◌, ◌&&◌, leng
 ghost use Rattle.cqf_model.specs.Domain.{IsAccepted, node_named, link_between, same_node};
 ghost use Rattle.cqf_topology_fields.specs.Fields.{Gives};
 ghost use Rattle.cqf_topology.specs.DomainText.{IsDomain, IsOnlyLink, IsReadable, HasBridges, HasNames, IsNumberedDomain};
-ghost use Rattle.cqf_topology.specs.DomainText.{with_links, with_these, checked, domain_of_text, domain_with};
+ghost use Rattle.cqf_topology.specs.DomainText.{with_links, with_these, checked, domain_of_text, domain_within, domain_with};
 
 use crate::DomainFault;
 use crate::draft::{Draft, read_draft};
@@ -12,7 +12,7 @@ use crate::joined::{
     node_of_end, numbered_names,
 };
 use crate::names::copied_names;
-use cqf_model::{Link, Node};
+use cqf_model::{Limits, Link, Node};
 use cqf_units::{Memory, Name, Nanos};
 use indexmap::IndexSet;
 use std::alloc::Global;
@@ -22,6 +22,7 @@ use std::marker::Model;
 /// number. It is accepted: cyclic queuing and forwarding works on it.
 #[derive(Debug, Drop)]
 pub struct Domain {
+    limits: Limits,
     cycle_time: u32,
     guard: u32,
     bridges: IndexSet<Name>,
@@ -35,9 +36,10 @@ impl Model for Domain {
 
     ghost Value = { DomainValue };
 
-    ghost view = { λ d. record { cycle_time = d.cycle_time; guard = d.guard; bridges = d.bridges.keys; stations = d.stations.keys; links = d.links.items } };
+    ghost view = { λ d. record { limits = d.limits; cycle_time = d.cycle_time; guard = d.guard; bridges = d.bridges.keys; stations = d.stations.keys; links = d.links.items } };
 
     ghost invariant = { λ d. IsDomain (record {
+      limits = d.limits;
       cycle_time = d.cycle_time;
       guard = d.guard;
       bridges = d.bridges.keys;
@@ -63,7 +65,11 @@ fn check(alloc: Global, draft: &Draft, joined: &[JoinedLink]) -> Result<(), Doma
     if let Some(link) = find_long_gap(joined, guard) {
         return Err(DomainFault::GapTooLong(link));
     }
-    if draft.bridges().len() > 32 || draft.stations().len() > 64 || joined.len() > 64 {
+    let limits = draft.limits();
+    if draft.bridges().len() > limits.bridges_within()
+        || draft.stations().len() > limits.stations_within()
+        || joined.len() > limits.links_within()
+    {
         return Err(DomainFault::TooMany);
     }
     Ok(())
@@ -87,11 +93,18 @@ fn checked_links(
 }
 
 impl Domain {
-    /// The domain that a text means, or the first fault of the text. Keys that mean nothing here are passed over.
+    /// The domain that a text means where no limits are set, or the first fault of the text. Keys that mean nothing here are passed over.
     pub fn read(alloc: Global, text: &[u8]) -> Result<Domain, DomainFault>
         ensures { Gives DomainFault.Memory (λ domain. domain) result (domain_of_text text.now) }
     {
-        let draft = read_draft(alloc, text)?;
+        Domain::read_within(alloc, text, Limits::of_profile())
+    }
+
+    /// The domain that a text means within these limits, or the first fault of the text.
+    pub fn read_within(alloc: Global, text: &[u8], limits: Limits) -> Result<Domain, DomainFault>
+        ensures { Gives DomainFault.Memory (λ domain. domain) result (domain_within limits text.now) }
+    {
+        let draft = read_draft(alloc, text, limits)?;
         Domain::of_draft(alloc, &draft)
     }
 
@@ -130,6 +143,7 @@ impl Domain {
     {
         let links = checked_links(alloc, draft, &bridges, &stations)?;
         Ok(Domain {
+            limits: draft.limits(),
             cycle_time: draft.cycle_time(),
             guard: draft.guard(),
             bridges,
@@ -138,25 +152,34 @@ impl Domain {
         })
     }
 
-    /// The domain of these parts, which is an accepted one: its times in nanoseconds, its bridges and stations by number, and its
+    /// The domain of these parts, which is an accepted one: its limits, its times in nanoseconds, its bridges and stations by number, and its
     /// links by number (profile).
     pub fn of_parts(
+        limits: Limits,
         cycle_time: u32,
         guard: u32,
         bridges: IndexSet<Name>,
         stations: IndexSet<Name>,
         links: Vec<Link>,
     ) -> Domain
-        requires { IsDomain (domain_with cycle_time guard bridges.keys stations.keys links.items) }
-        ensures { result ≡ domain_with cycle_time guard bridges.keys stations.keys links.items }
+        requires { IsDomain (domain_with limits cycle_time guard bridges.keys stations.keys links.items) }
+        ensures { result ≡ domain_with limits cycle_time guard bridges.keys stations.keys links.items }
     {
         Domain {
+            limits,
             cycle_time,
             guard,
             bridges,
             stations,
             links,
         }
+    }
+
+    /// What it may have at most.
+    pub fn limits(&self) -> Limits
+        ensures { result ≡ self.now.limits }
+    {
+        self.limits
     }
 
     /// The cycle time: all bridges divide time into cycles of it (IEEE 802.1Q, Annex T). It is 10,000 to 10,000,000 ns.
@@ -178,29 +201,29 @@ impl Domain {
         Nanos(u64::from(self.guard))
     }
 
-    /// How many bridges there are, 1 to 32. They are numbered from 0.
-    pub fn bridges(&self) -> u8
+    /// How many bridges there are, from 1. They are numbered from 0.
+    pub fn bridges(&self) -> u16
         ensures { result ≡ length self.now.bridges }
     {
-        self.bridges.len() as u8
+        self.bridges.len() as u16
     }
 
-    /// How many stations there are, 0 to 64. They are numbered from 0.
-    pub fn stations(&self) -> u8
+    /// How many stations there are. They are numbered from 0.
+    pub fn stations(&self) -> u16
         ensures { result ≡ length self.now.stations }
     {
-        self.stations.len() as u8
+        self.stations.len() as u16
     }
 
-    /// How many directed links there are, 0 to 64. They are numbered from 0.
-    pub fn links(&self) -> u8
+    /// How many directed links there are. They are numbered from 0.
+    pub fn links(&self) -> u16
         ensures { result ≡ length self.now.links }
     {
-        self.links.len() as u8
+        self.links.len() as u16
     }
 
     /// The name of the bridge of this number.
-    pub fn bridge_name(&self, bridge: u8) -> &Name
+    pub fn bridge_name(&self, bridge: u16) -> &Name
         requires { bridge < length self.now.bridges }
         ensures { slice_get self.now.bridges bridge ≡ Some result.now }
     {
@@ -208,7 +231,7 @@ impl Domain {
     }
 
     /// The name of the station of this number.
-    pub fn station_name(&self, station: u8) -> &Name
+    pub fn station_name(&self, station: u16) -> &Name
         requires { station < length self.now.stations }
         ensures { slice_get self.now.stations station ≡ Some result.now }
     {
@@ -216,7 +239,7 @@ impl Domain {
     }
 
     /// The link of this number.
-    pub fn link(&self, link: u8) -> Link
+    pub fn link(&self, link: u16) -> Link
         requires { link < length self.now.links }
         ensures { slice_get self.now.links link ≡ Some result }
     {
@@ -239,12 +262,12 @@ impl Domain {
 
     /// The number of the link from a bridge to a node, or `None` where the domain has none. There is no other from that
     /// bridge to that node.
-    pub fn find_link(&self, from: u8, to: Node) -> Option<u8>
+    pub fn find_link(&self, from: u16, to: Node) -> Option<u16>
         ensures number { result ≡ link_between self.now from to }
         ensures only { IsOnlyLink self.now from to result }
     {
         let link = place_of_link(self.links.as_slice(), from, to)?;
-        Some(link as u8)
+        Some(link as u16)
     }
 
     /// The same domain again, unless memory runs out.
@@ -255,6 +278,7 @@ impl Domain {
         let bridges = copied_names(&self.bridges)?;
         let stations = copied_names(&self.stations)?;
         Ok(Domain {
+            limits: self.limits,
             cycle_time: self.cycle_time,
             guard: self.guard,
             bridges,
@@ -265,14 +289,14 @@ impl Domain {
 }
 
 /// Whether the link leads from the bridge to the node.
-fn leads(link: &Link, from: u8, to: Node) -> bool
+fn leads(link: &Link, from: u16, to: Node) -> bool
     ensures { result ≡ ((link.now.from == from) && same_node link.now.to to) }
 {
     link.from == from && link.to == to
 }
 
 /// The place of the link from the bridge to the node.
-fn place_of_link(links: &[Link], from: u8, to: Node) -> Option<usize>
+fn place_of_link(links: &[Link], from: u16, to: Node) -> Option<usize>
     ensures { result ≡ position (λ link. (link.from == from) && same_node link.to to) links.now }
 {
     links.iter().position(|link| leads(link, from, to))

@@ -6,7 +6,7 @@ ghost use Rattle.cqf_lists.specs.Results.{and_then};
 ghost use Rattle.cqf_topology_fields.specs.Fields.{Gives, read_at, tables_of_key, tables_from, names_at};
 ghost use Rattle.cqf_topology.specs.DomainText.{rate_of, rate_from, link_read, if_some, with_front, domain_from, read_text};
 
-use cqf_model::LONGEST_CYCLE;
+use cqf_model::{LONGEST_CYCLE, Limits};
 use cqf_topology_fields::{
     Key, TomlFault, are_all_tables, array_at, name_at, names_at, number_at, read_document, value_at,
 };
@@ -25,9 +25,11 @@ pub(crate) struct DraftLink {
     pub delay: u32,
 }
 
-/// A domain as its text says it: times in nanoseconds, and links by the names of their ends.
+/// A domain as its text says it: times in nanoseconds, and links by the names of their ends; and the limits within which it
+/// is read.
 #[derive(Drop)]
 pub(crate) struct Draft {
+    limits: Limits,
     cycle_time: u32,
     guard: u32,
     bridges: Vec<Name>,
@@ -40,10 +42,16 @@ impl Model for Draft {
 
     ghost Value = { DomainText };
 
-    ghost view = { λ d. record { cycle_time = d.cycle_time; guard = d.guard; bridges = d.bridges.items; stations = d.stations.items; links = d.links.items } };
+    ghost view = { λ d. record { limits = d.limits; cycle_time = d.cycle_time; guard = d.guard; bridges = d.bridges.items; stations = d.stations.items; links = d.links.items } };
 }
 
 impl Draft {
+    pub fn limits(&self) -> Limits
+        ensures { result ≡ self.now.limits }
+    {
+        self.limits
+    }
+
     pub fn cycle_time(&self) -> u32
         ensures { result ≡ self.now.cycle_time }
     {
@@ -200,8 +208,8 @@ fn read_bridges(alloc: Global, table: &Table) -> Result<Vec<Name>, TomlFault>
 }
 
 /// A domain's table.
-fn read_table(alloc: Global, table: &Table) -> Result<Draft, TomlFault>
-    ensures { Gives TomlFault.Memory (λ draft. draft) result (domain_from (table_view table.now)) }
+fn read_table(alloc: Global, table: &Table, limits: Limits) -> Result<Draft, TomlFault>
+    ensures { Gives TomlFault.Memory (λ draft. draft) result (domain_from limits (table_view table.now)) }
 {
     let cycle_time = number_at(table, Key::Cycle, 10_000, LONGEST_CYCLE)?;
     let guard = number_at(table, Key::Guard, 1, LONGEST_CYCLE)?;
@@ -209,6 +217,7 @@ fn read_table(alloc: Global, table: &Table) -> Result<Draft, TomlFault>
     let stations = names_at(alloc, table, Key::Stations)?;
     let links = read_links(alloc, table)?;
     Ok(Draft {
+        limits,
         cycle_time,
         guard,
         bridges,
@@ -217,10 +226,10 @@ fn read_table(alloc: Global, table: &Table) -> Result<Draft, TomlFault>
     })
 }
 
-/// What a domain text says.
-pub(crate) fn read_draft(alloc: Global, text: &[u8]) -> Result<Draft, TomlFault>
-    ensures { Gives TomlFault.Memory (λ draft. draft) result (read_text text.now) }
+/// What a domain text says, which is read within the limits.
+pub(crate) fn read_draft(alloc: Global, text: &[u8], limits: Limits) -> Result<Draft, TomlFault>
+    ensures { Gives TomlFault.Memory (λ draft. draft) result (read_text limits text.now) }
 {
     let table = read_document(alloc, text, &KEYS, Key::Links, &LINK_KEYS)?;
-    read_table(alloc, &table)
+    read_table(alloc, &table, limits)
 }

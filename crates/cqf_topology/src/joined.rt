@@ -177,8 +177,8 @@ pub(crate) fn node_of_end(end: End) -> Node
     ensures { result ≡ node_of end }
 {
     match end {
-        End::Bridge(bridge) => Node::Bridge(bridge as u8),
-        End::Station(station) => Node::Station(station as u8),
+        End::Bridge(bridge) => Node::Bridge(bridge as u16),
+        End::Station(station) => Node::Station(station as u16),
     }
 }
 
@@ -188,7 +188,7 @@ fn link_of(link: &JoinedLink) -> Link
     ensures { result ≡ link.now }
 {
     Link {
-        from: link.from as u8,
+        from: link.from as u16,
         to: node_of_end(link.to),
         rate: link.rate,
         delay: link.delay,

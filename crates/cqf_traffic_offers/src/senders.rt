@@ -8,7 +8,7 @@ use cqf_units::{Name, Nanos};
 pub struct Sender {
     pub name: Name,
     /// The number of its edge bridge.
-    pub bridge: u8,
+    pub bridge: u16,
     /// What its talker promises. Without it nothing is offered.
     pub traffic: Option<Traffic>,
 }

@@ -1,16 +1,22 @@
 -- Ways through a network by the numbers of their links, and the first of those with room (profile).
-use Rattle.std.specs.Prelude.{ℕ, ◌≡◌, ◌≤◌, Bool, true, false, if◌then◌else◌, nat_le, List, find, length, not, Option, Some, None, option_and_then, slice_get}
+use Rattle.std.specs.Prelude.{ℕ, ◌≡◌, ◌<◌, ◌≤◌, All, Bool, true, false, if◌then◌else◌, nat_le, List, find, length, not, Option, Some, None, option_and_then, slice_get}
 use Rattle.std.specs.Option.{option_map_or}
 use Rattle.std.specs.List.{list_all}
 use Rattle.cqf_model.specs.declared.topology.Link.{Link}
 use Rattle.cqf_model.specs.declared.topology.Node.{Node}
 use Rattle.cqf_model.specs.declared.topology.Node.TheVariants.{Bridge}
 use Rattle.cqf_model.specs.Domain.{same_node}
+use Rattle.cqf_model.specs.Limits.{most_bridges, most_links as most_numbered}
 use Rattle.cqf_ways.specs.Steps.{is_before, led_along}
 
 -- the most links of a way: so many bridges stand on it
 abbrev pub most_links : ℕ
 most_links = 16
+
+-- links by number, of a network with no more bridges and links than are represented
+pub record AreLinks (links : List Link) : Type 0 where
+  pub few : length links ≤ most_numbered
+  pub from_bridges : All (λ (link : Link). link.from < most_bridges) links
 
 -- whether a link has as much left as is asked for
 abbrev pub has_room : List ℕ → ℕ → ℕ → Bool

@@ -1,7 +1,7 @@
 //! The first ways to several stations.
 ghost use Rattle.std.specs.Prelude.{◌≡◌, ◌≤◌, IfErr, IfOk, length, map};
 ghost use Rattle.cqf_ways.specs.Listeners.{AreFirstWays, IsWaysFault};
-ghost use Rattle.cqf_ways.specs.Ways.{has_room};
+ghost use Rattle.cqf_ways.specs.Ways.{AreLinks, has_room};
 
 use crate::Room;
 use crate::ways::first_way;
@@ -39,10 +39,10 @@ impl<T: Drop> From<AllocFailed<T>> for WaysFault {
 pub fn first_ways(
     alloc: Global,
     room: Room,
-    from: u8,
-    stations: &[u8],
-) -> Result<Vec<ArrayVec<u8, 16>>, WaysFault>
-    requires { length room.links.now ≤ 256 }
+    from: u16,
+    stations: &[u16],
+) -> Result<Vec<ArrayVec<u16, 16>>, WaysFault>
+    requires { AreLinks room.links.now }
     ensures ways { let roomy = has_room room.entry.left.now room.entry.cost in
         IfOk result (λ ways. AreFirstWays room.entry.links.now roomy (Node.Bridge from) stations.now (map (λ way. way.items) ways.items)) }
     ensures fault { let roomy = has_room room.entry.left.now room.entry.cost in

@@ -41,7 +41,7 @@ fn take_table<R: Wait>(rt: &R, tables: &mut PipeOut<Carried<Table>>) -> Result<T
 }
 
 /// Whether a link ends in a bridge, and not in a station.
-fn ends_in_a_bridge(domain: &Domain, link: u8) -> bool
+fn ends_in_a_bridge(domain: &Domain, link: u16) -> bool
     ensures { result ≡ ends_in_bridge domain.now link }
 {
     if link >= domain.links() {

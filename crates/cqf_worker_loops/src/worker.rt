@@ -67,7 +67,7 @@ impl From<Memory> for WorkerFault {
 /// batches, and then at most one Stop.
 #[derive(Drop)]
 pub struct GaveUp {
-    pub bridge: u8,
+    pub bridge: u16,
     pub fault: WorkerFault,
     pub outs: Vec<LinkEnd<PipeIn<Carried<Batch>>>>,
 }

@@ -16,7 +16,7 @@ pub enum ConductFault {
     /// A growth was refused outside a bridge.
     Memory,
     /// This bridge refused a cycle, for this reason: of those that did, the one with the least number.
-    Bridge(u8, BridgeFault),
+    Bridge(u16, BridgeFault),
     /// The desk's history isn't that of its seats, or had no room for a call or a Seal.
     DeskDisagrees,
     /// The book isn't that of its shares, or refused a page for another cause than memory.

@@ -100,7 +100,7 @@ fn take_apart(alloc: Global, workers: Vec<Worker>) -> Result<Parts, Memory>
 }
 
 /// The place of the first putting end of a link.
-fn place_of(outs: &[LinkEnd<PipeIn<Carried<Batch>>>], link: u8) -> Option<usize>
+fn place_of(outs: &[LinkEnd<PipeIn<Carried<Batch>>>], link: u16) -> Option<usize>
     ensures { result ≡ position (λ (out : BatchPort). out.link == link) outs.now }
 {
     outs.iter().position(|out| out.link == link)
@@ -109,7 +109,7 @@ fn place_of(outs: &[LinkEnd<PipeIn<Carried<Batch>>>], link: u8) -> Option<usize>
 /// Takes the first putting end of a link from among others.
 fn take_partner(
     outs: &mut Vec<LinkEnd<PipeIn<Carried<Batch>>>>,
-    link: u8,
+    link: u16,
 ) -> Option<PipeIn<Carried<Batch>>>
     ensures some { IfSome result (λ end. IsPartner outs.old.items link end) }
     ensures rest { (out : BatchPort) → Contains outs.new.items out → Contains outs.old.items out }

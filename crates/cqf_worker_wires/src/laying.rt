@@ -102,9 +102,9 @@ fn add_in(worker: &mut Worker, port: LinkEnd<PipeOut<Carried<Batch>>>) -> Result
 fn lay_pipe(
     alloc: Global,
     workers: &mut Vec<Worker>,
-    link: u8,
-    from: u8,
-    to: u8,
+    link: u16,
+    from: u16,
+    to: u16,
 ) -> Result<(), Memory>
     requires from { from < length workers.old.items }
     requires to { to < length workers.old.items }
@@ -127,7 +127,7 @@ fn lay_link(
     alloc: Global,
     domain: &Domain,
     workers: &mut Vec<Worker>,
-    link: u8,
+    link: u16,
 ) -> Result<(), Memory>
     requires link { link < length domain.now.links }
     requires workers { length workers.old.items ≡ length domain.now.bridges }

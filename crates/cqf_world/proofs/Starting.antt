@@ -5,6 +5,7 @@ use Rattle.std.proofs.lemmas.Bool.{cases_lt, le-ltb}
 use Rattle.std.proofs.lemmas.List.{get_or-map, get_or-replicate, get_or_past, length-map, length-replicate, same_lists}
 use Rattle.std.proofs.lemmas.Option.{slice_get_cases, slice_get_within}
 use Rattle.cqf_lists.proofs.EachBelow.{filter_none}
+use Rattle.cqf_model.proofs.Represented.{few_bridges}
 use Rattle.cqf_model.specs.declared.frames.Background.{Background}
 use Rattle.cqf_model.specs.declared.frames.Offer.{Offer}
 use Rattle.cqf_model.specs.declared.frames.Page.{Page}
@@ -55,7 +56,7 @@ no_page : (bridges cycles bridge : ℕ) → pages_of (no_pages bridges cycles) b
 no_page bridges cycles bridge = same_at bridges bridge []
 
 -- so they are posted in order
-none_posted : (bridges cycles : ℕ) → bridges ≤ 32 → cycles ≤ 100000 → ArePosted (no_pages bridges cycles)
+none_posted : (bridges cycles : ℕ) → bridges ≤ 1024 → cycles ≤ 100000 → ArePosted (no_pages bridges cycles)
 none_posted bridges cycles few_bridges few_cycles = record {
   few_bridges = few_bridges;
   few_cycles = few_cycles;
@@ -170,7 +171,7 @@ module _ (w : WorldState) (driven : List Driven) (lines : List Line) (accepted :
         few_cycles = few_cycles;
         of_bridges = ap (λ (p : Posted). p.bridges) pages;
         of_cycles = ap (λ (p : Posted). p.cycles) pages;
-        in_order = subst ArePosted (sym pages) (none_posted (length w.domain.bridges) w.cycles accepted.few_bridges few_cycles);
+        in_order = subst ArePosted (sym pages) (none_posted (length w.domain.bridges) w.cycles (few_bridges w.domain accepted) few_cycles);
       };
       pages = λ bridge cycle page book there of_history. absurd (omega (arith, slice_get_within (pages_of w.pages bridge) cycle page there, in_cycle_0 bridge));
       sealed = λ bridge. omega (arith, in_cycle_0 bridge);

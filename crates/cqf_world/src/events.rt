@@ -10,13 +10,13 @@ pub enum Event {
     /// The next cycle is closed to changes, by a seat.
     Seal(u16),
     /// A bridge is given the table of its cycle.
-    Give(u8),
+    Give(u16),
     /// A bridge sends its cycle.
-    Step(u8),
+    Step(u16),
     /// The bridge in which a link ends takes the oldest batch under way on it.
-    Take(u8),
+    Take(u16),
     /// A bridge receives its cycle, and posts its page.
-    Post(u8),
+    Post(u16),
 }
 
 /// What became of an event.

@@ -13,7 +13,7 @@ use cqf_topology::Domain;
 use cqf_units::Memory;
 
 /// The bridge in which a link ends, where the domain has the link and it does end in one.
-pub(crate) fn bridge_at_end(domain: &Domain, link: u8) -> Option<u8>
+pub(crate) fn bridge_at_end(domain: &Domain, link: u16) -> Option<u16>
     ensures some { IfSome result (λ bridge. (enters domain.now link bridge ≡ true) × (bridge < length domain.now.bridges)) }
     ensures none { IfNone result ((bridge : ℕ) → enters domain.now link bridge ≡ false) }
 {
@@ -29,7 +29,7 @@ pub(crate) fn bridge_at_end(domain: &Domain, link: u8) -> Option<u8>
 }
 
 /// How many of the batches are of links before one.
-fn place_of(taken: &[Batch], link: u8) -> usize
+fn place_of(taken: &[Batch], link: u16) -> usize
     ensures value { result ≡ length (filter (λ (x : LinkBatch). nat_lt x.link link) taken.now) }
     ensures within { result ≤ length taken.now }
 {

@@ -18,7 +18,7 @@ fn new_driven(
     plan: &Plan,
     offers: &[Offer],
     background: &[Background],
-    bridge: u8,
+    bridge: u16,
 ) -> Result<Driven, Memory>
     requires inside { bridge < length plan.now.bridges }
     requires few_offers { length offers.now < 2 ^ 32 }

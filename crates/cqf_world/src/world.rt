@@ -143,7 +143,7 @@ impl World<'_> {
     }
 
     /// Whether a bridge may be given the table of its cycle.
-    fn may_give(&self, bridge: u8) -> bool
+    fn may_give(&self, bridge: u16) -> bool
         requires { self.now.stopped ≡ false }
         ensures yes { result ≡ true → MayBeGiven self.now bridge }
         ensures no { result ≡ false → ¬ MayBeGiven self.now bridge }
@@ -159,7 +159,7 @@ impl World<'_> {
     }
 
     /// Gives it.
-    fn give(&mut self, bridge: u8)
+    fn give(&mut self, bridge: u16)
         requires goes_on { self.old.stopped ≡ false }
         requires may { MayBeGiven self.old bridge }
         ensures { Happens self.old self.new (Event.Give bridge) }
@@ -214,7 +214,7 @@ impl World<'_> {
     }
 
     /// Whether the bridge in which a link ends may take a batch from it.
-    fn may_take(&self, link: u8) -> bool
+    fn may_take(&self, link: u16) -> bool
         requires { self.now.stopped ≡ false }
         ensures yes { result ≡ true → MayTake self.now link }
         ensures no { result ≡ false → ¬ MayTake self.now link }
@@ -231,7 +231,7 @@ impl World<'_> {
     }
 
     /// Takes it: the oldest one under way.
-    fn take(&mut self, link: u8) -> Result<(), Memory>
+    fn take(&mut self, link: u16) -> Result<(), Memory>
         requires goes_on { self.old.stopped ≡ false }
         requires may { MayTake self.old link }
         ensures ok { OnOk result (Happens self.old self.new (Event.Take link)) }
@@ -249,7 +249,7 @@ impl World<'_> {
     }
 
     /// Whether a bridge may send its cycle.
-    fn may_step(&self, bridge: u8) -> bool
+    fn may_step(&self, bridge: u16) -> bool
         requires { self.now.stopped ≡ false }
         ensures yes { result ≡ true → MayStep self.now bridge }
         ensures no { result ≡ false → ¬ MayStep self.now bridge }
@@ -264,7 +264,7 @@ impl World<'_> {
     }
 
     /// Sends it.
-    fn step(&mut self, bridge: u8) -> Result<(), Memory>
+    fn step(&mut self, bridge: u16) -> Result<(), Memory>
         requires goes_on { self.old.stopped ≡ false }
         requires may { MayStep self.old bridge }
         ensures ok { OnOk result (Happens self.old self.new (Event.Step bridge)) }
@@ -285,7 +285,7 @@ impl World<'_> {
     }
 
     /// Whether a bridge may receive its cycle, and post its page.
-    fn may_post(&self, bridge: u8) -> bool
+    fn may_post(&self, bridge: u16) -> bool
         requires { self.now.stopped ≡ false }
         ensures yes { result ≡ true → MayPost self.now bridge }
         ensures no { result ≡ false → ¬ MayPost self.now bridge }
@@ -300,7 +300,7 @@ impl World<'_> {
     }
 
     /// Receives it, and posts the page.
-    fn post(&mut self, bridge: u8) -> Result<(), Memory>
+    fn post(&mut self, bridge: u16) -> Result<(), Memory>
         requires goes_on { self.old.stopped ≡ false }
         requires may { MayPost self.old bridge }
         ensures ok { OnOk result (Happens self.old self.new (Event.Post bridge)) }

@@ -13,7 +13,7 @@ returns-in_err-tree c =
     let asked = asked_of c.args.request.now in
     let form : is_name asked.name ≡ true = ap is_name (sym c.as_bytes.ensures.value) ∙ c.in-Some.ensures.form.0 refl in
     let p = err_from_is_err_and c.from_residual.result c.from_residual.ensures.1 in
-    rw (p.1, p.2) (form_by_tree d asked form c.if-request-lt-LEAST_OCTETS.false c.if-request-gt-MOST_OCTETS.false
+    rw (p.1, p.2) (form_by_tree d asked form refl c.if-request-lt-LEAST_OCTETS.false c.if-request-gt-MOST_OCTETS.false
     ∙ ap (λ xs. tree_refusal d (branches_of xs)) (sym c.as_slice.ensures.value) ∙ c.in_err-tree.ensures)
 
 pub returns : goal.returns
@@ -22,7 +22,7 @@ returns c =
     let asked = asked_of c.args.request.now in
     let form : is_name asked.name ≡ true = ap is_name (sym c.as_bytes.ensures.value) ∙ c.in-Some.ensures.form.0 refl in
     record {
-      none = form_by_tree d asked form c.if-request-lt-LEAST_OCTETS.false c.if-request-gt-MOST_OCTETS.false
+      none = form_by_tree d asked form refl c.if-request-lt-LEAST_OCTETS.false c.if-request-gt-MOST_OCTETS.false
           ∙ ap (λ xs. tree_refusal d (branches_of xs)) (sym c.as_slice.ensures.value) ∙ c.in_ok-tree.ensures.0;
       named = c.in-Some.ensures.value ∙ c.as_bytes.ensures.value;
       costs = c.cost.ensures;

@@ -1,4 +1,4 @@
-use Rattle.std.proofs.Common.{◌≡◌, ◌∙◌, ◌<◌, ◌≤◌, ap, sym, arith, subst, ℕ, List, length, true, false}
+use Rattle.std.proofs.Common.{◌≡◌, ◌∙◌, ◌<◌, ◌≤◌, ap, sym, arith, subst, refl, ℕ, List, length, true, false}
 use Rattle.std.specs.Prelude.{All, is_some}
 use Rattle.std.specs.List.{list_any}
 use Rattle.std.proofs.lemmas.Result.{err_from_is_err_and}
@@ -8,9 +8,13 @@ use Rattle.cqf_model.specs.Domain.{is_text}
 use Rattle.cqf_model.specs.declared.topology.Hop.{Hop}
 use Rattle.cqf_model.specs.History.{tree_of}
 use Rattle.cqf_admission.specs.Asking.{asked_of}
-use Rattle.cqf_admission.specs.Judging.{short_refusal}
+use Rattle.cqf_model.specs.Limits.{streams_within}
+use Rattle.cqf_model.specs.Paces.{each_cycle}
+use Rattle.std.proofs.Math.Nat.{min-le_right}
+use Rattle.cqf_admission.specs.Judging.{short_by, short_refusal}
 use Rattle.cqf_lists.proofs.Any.{position_any}
 use Rattle.cqf_model.proofs.Hops.{hops_inside}
+use Rattle.cqf_admission.proofs.GrantLemmas.{granted_countable, short_same}
 use Rattle.cqf_admission.proofs.GrantLemmas.{refusal_form, refusal_held, refusal_last, refusal_later, refusal_many, row_granted}
 use Rattle.cqf_admission.proofs.refusals.grant.Goals as goal
 
@@ -34,8 +38,8 @@ returns-then-is_some c =
     ∙ c.if-is_some.true in
     refusal_later d rows asked form.none ∙ refusal_held d rows asked found
 
-pub returns-then-len-ge-MOST_STREAMS : goal.returns-then-len-ge-MOST_STREAMS
-returns-then-len-ge-MOST_STREAMS c =
+pub returns-then-len-streams_within : goal.returns-then-len-streams_within
+returns-then-len-streams_within c =
     let d = c.args.domain.now in
     let rows = c.args.held.now.rows in
     let asked = asked_of c.args.request.now in
@@ -45,7 +49,8 @@ returns-then-len-ge-MOST_STREAMS c =
     ap (λ (n : List ℕ). list_any (λ (row : Row). is_text row.name n) rows) (sym form.named)
     ∙ sym (position_any (λ (row : Row). is_text row.name name) rows) ∙ ap is_some (sym c.place_of.ensures) ∙ sym c.is_some.ensures
     ∙ c.if-is_some.false in
-    let many : 1024 ≤ length rows = omega (arith, c.if-len-ge-MOST_STREAMS.true, c.len.ensures) in
+    let many : streams_within d.limits ≤ length rows =
+    omega (arith, c.if-len-streams_within.true, c.len.ensures, c.streams_within.ensures, ap streams_within c.limits.ensures) in
     refusal_later d rows asked form.none ∙ refusal_many d rows asked found many
 
 pub short_of-requires-clause-inside : goal.short_of-requires-clause-inside
@@ -66,11 +71,13 @@ returns-in-Some c =
     ap (λ (n : List ℕ). list_any (λ (row : Row). is_text row.name n) rows) (sym form.named)
     ∙ sym (position_any (λ (row : Row). is_text row.name name) rows) ∙ ap is_some (sym c.place_of.ensures) ∙ sym c.is_some.ensures
     ∙ c.if-is_some.false in
-    let few : length rows < 1024 = omega (arith, c.if-len-ge-MOST_STREAMS.false, c.len.ensures) in
-    let asked_same : short_refusal d rows (cost_of asked.octets) (tree_of d asked.paths) ≡ c.short_of.result =
-    sym (c.short_of.ensures
-    ∙ ap (λ (n : ℕ). short_refusal d rows n c.as_slice.result.now) form.costs
-    ∙ ap (λ (xs : List Hop). short_refusal d rows (cost_of asked.octets) xs) (c.as_slice.ensures.value ∙ form.linked)) in
+    let few : length rows < streams_within d.limits =
+    omega (arith, c.if-len-streams_within.false, c.len.ensures, c.streams_within.ensures, ap streams_within c.limits.ensures) in
+    let asked_same : short_refusal d rows (cost_of asked.octets) each_cycle (tree_of d asked.paths) ≡ c.short_of.result =
+    short_same d rows (cost_of asked.octets) (tree_of d asked.paths) c.requires.sound.paced
+    ∙ sym (c.short_of.ensures
+    ∙ ap (λ (n : ℕ). short_by d rows n c.as_slice.result.now) form.costs
+    ∙ ap (λ (xs : List Hop). short_by d rows (cost_of asked.octets) xs) (c.as_slice.ensures.value ∙ form.linked)) in
     refusal_later d rows asked form.none ∙ refusal_last d rows asked found few ∙ asked_same ∙ c.in-Some.is
 
 pub returns : goal.returns
@@ -84,14 +91,18 @@ returns c =
     ap (λ (n : List ℕ). list_any (λ (row : Row). is_text row.name n) rows) (sym form.named)
     ∙ sym (position_any (λ (row : Row). is_text row.name name) rows) ∙ ap is_some (sym c.place_of.ensures) ∙ sym c.is_some.ensures
     ∙ c.if-is_some.false in
-    let few : length rows < 1024 = omega (arith, c.if-len-ge-MOST_STREAMS.false, c.len.ensures) in
-    let asked_same : short_refusal d rows (cost_of asked.octets) (tree_of d asked.paths) ≡ c.short_of.result =
-    sym (c.short_of.ensures
-    ∙ ap (λ (n : ℕ). short_refusal d rows n c.as_slice.result.now) form.costs
-    ∙ ap (λ (xs : List Hop). short_refusal d rows (cost_of asked.octets) xs) (c.as_slice.ensures.value ∙ form.linked)) in record {
+    let few : length rows < streams_within d.limits =
+    omega (arith, c.if-len-streams_within.false, c.len.ensures, c.streams_within.ensures, ap streams_within c.limits.ensures) in
+    let asked_same : short_refusal d rows (cost_of asked.octets) each_cycle (tree_of d asked.paths) ≡ c.short_of.result =
+    short_same d rows (cost_of asked.octets) (tree_of d asked.paths) c.requires.sound.paced
+    ∙ sym (c.short_of.ensures
+    ∙ ap (λ (n : ℕ). short_by d rows n c.as_slice.result.now) form.costs
+    ∙ ap (λ (xs : List Hop). short_by d rows (cost_of asked.octets) xs) (c.as_slice.ensures.value ∙ form.linked)) in
+    let is = row_granted d c.args.no c.args.effect asked name c.in_ok-judged.judged.tree form.named form.linked in record {
       none = refusal_later d rows asked form.none ∙ refusal_last d rows asked found few ∙ asked_same ∙ c.in_default.is;
-      is = row_granted d c.args.no c.args.effect asked name c.in_ok-judged.judged.tree form.named form.linked;
+      is = is;
       free = ap (λ (n : List ℕ). list_any (λ (row : Row). is_text row.name n) rows) form.named ∙ found;
-      few = few;
-      most_octets = form.most_octets;
+      few = omega (arith, few, min-le_right d.limits.streams 16384);
+      paced = refl;
+      countable = granted_countable d _ asked c.args.no c.args.effect.0 is form.most_octets;
     }

@@ -41,7 +41,7 @@ row_of-requires-clause-admissible c =
     (request_at (map asked_of rs) place) c.in-Some.receipt (ap (act_in (map asked_of rs) c.args.script.now) c.in-Admit.is) c.in-Some.ensures).0 in
     let low : place < length rs = omega (arith, is_there (map asked_of rs) place admitted, length-map rs asked_of) in
     subst (IsAdmissible c.args.domain.now)
-    (get_or-map asked_of rs place c.index-requests-place.result (record { name = []; octets = 0; paths = [] }) low
+    (get_or-map asked_of rs place c.index-requests-place.result (record { name = []; octets = 0; every = 1; phase = 0; paths = [] }) low
     ∙ ap asked_of (sym c.index-requests-place.is)) admitted
 
 pub end_stream-requires : goal.end_stream-requires
@@ -75,7 +75,7 @@ loop-logged-preserved c =
           (ap (act_in (map asked_of rs) script) w.in-Admit.is) c.in-Some.ensures in
           let low : place < length rs = omega (arith, is_there (map asked_of rs) place step.0, length-map rs asked_of) in
           let own : request_at (map asked_of rs) place ≡ asked_of w.index-requests-place.result =
-          get_or-map asked_of rs place w.index-requests-place.result (record { name = []; octets = 0; paths = [] }) low
+          get_or-map asked_of rs place w.index-requests-place.result (record { name = []; octets = 0; every = 1; phase = 0; paths = [] }) low
           ∙ ap asked_of (sym w.index-requests-place.is) in
           rw w.rows-is
           (w.in_ok-push-in-Admit.ensures.items

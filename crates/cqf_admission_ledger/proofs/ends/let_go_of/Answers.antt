@@ -16,4 +16,5 @@ loop-number-preserved c =
       one_taken c.args.slot.now.items c.args.holdings.now.rows c.loop-number.slot.items c.loop-number.holdings.rows c.loop-number.invariant.0 c.in-Some.number
           c.pop.new.self.items last c.let_go.new.self.rows held.inside c.let_go.ensures.rows,
       c.let_go.ensures.names ∙ c.loop-number.invariant.1,
+      c.let_go.ensures.links ∙ c.loop-number.invariant.2,
     )

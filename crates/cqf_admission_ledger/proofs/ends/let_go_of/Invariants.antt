@@ -5,7 +5,8 @@ use Rattle.cqf_admission_ledger.proofs.ends.let_go_of.Given as goal
 
 abbrev pub invariant-loop-number : goal.invariant-loop-number
 invariant-loop-number l =
-    AreTaken l.initial.slot.items l.initial.holdings.rows l.slot.items l.holdings.rows × (l.holdings.names ≡ l.initial.holdings.names)
+    AreTaken l.initial.slot.items l.initial.holdings.rows l.slot.items l.holdings.rows
+    × (l.holdings.names ≡ l.initial.holdings.names) × (l.holdings.links ≡ l.initial.holdings.links)
 
 abbrev pub decreases-loop-number : goal.decreases-loop-number
 decreases-loop-number l = goal.left-loop-number l

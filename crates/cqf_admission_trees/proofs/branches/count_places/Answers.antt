@@ -1,4 +1,4 @@
-use Rattle.std.proofs.Common.{◌+◌, ◌≡◌, ◌<◌, ◌≤◌, inl, inr, arith, sym}
+use Rattle.std.proofs.Common.{◌+◌, ◌≤◌, inl, inr, arith, sym}
 use Rattle.std.proofs.lemmas.Bool.{cases_lt}
 use Rattle.cqf_admission_trees.specs.Branches.{branches_of, places_of}
 use Rattle.cqf_admission_trees.proofs.BranchLemmas.{places_within}

@@ -1,4 +1,4 @@
-use Rattle.std.proofs.Common.{◌≡◌, ◌∙◌, ◌+◌, ℕ, Option, Some, None, refl, sym, subst, arith}
+use Rattle.std.proofs.Common.{◌≡◌, ◌∙◌, ◌+◌, ℕ, Option, Some, None, sym, subst, arith}
 use Rattle.std.specs.Prelude.{suc}
 use Rattle.arrayvec.specs.ArrayVec.{ArrayVec}
 use Rattle.cqf_model.specs.declared.topology.Hop.{Hop}
@@ -15,13 +15,11 @@ loop-place-preserved c =
     let place = c.loop-place.place in
     let next : suc place ≡ place + 1 = omega arith in
     subst (λ (k : ℕ). AreAdded d branch first c.match-link.tree.items k c.match-link.link) next (elim c.match-link.branch [
-      | in-Some w ↦ (let more = one_added d branch first c.loop-place.tree.items w.add_hop.new.tree.items place
-          (place + 1) c.loop-place.before c.loop-place.invariant w.in-Some.link
-          (sym c.link_behind-link.ensures ∙ w.in-Some.is) refl w.add_hop.ensures.kept w.add_hop.ensures.sparse in
+      | in-Some w ↦ (let more = one_added d branch first c.loop-place.tree.items w.add_hop.new.tree.items place c.loop-place.before c.loop-place.invariant w.in-Some.link
+          (sym c.link_behind-link.ensures ∙ w.in-Some.is) w.add_hop.ensures in
           subst (λ (o : Option ℕ). AreAdded d branch first c.match-link.tree.items (suc place) o) (sym w.link-is)
           (subst (λ (t : ArrayVec Hop). AreAdded d branch first t.items (suc place) (Some w.in-Some.link)) (sym w.tree-is) more))
-      | in_default w ↦ (let more = none_more d branch first c.loop-place.tree.items c.loop-place.tree.items place
-          (place + 1) c.loop-place.before c.loop-place.invariant (sym c.link_behind-link.ensures ∙ w.in_default.is) in
+      | in_default w ↦ (let more = none_more d branch first c.loop-place.tree.items c.loop-place.tree.items place c.loop-place.before c.loop-place.invariant (sym c.link_behind-link.ensures ∙ w.in_default.is) in
           subst (λ (o : Option ℕ). AreAdded d branch first c.match-link.tree.items (suc place) o) (sym (w.link-is ∙ w.in_default.is))
           (subst (λ (t : ArrayVec Hop). AreAdded d branch first t.items (suc place) None) (sym w.tree-is) more))
     ])

@@ -1,9 +1,10 @@
-use Rattle.std.proofs.Common.{◌≡◌, ◌∙◌, ◌+◌, fold, ap, sym, subst, arith, length, drop, List}
-use Rattle.std.specs.Prelude.{String}
+use Rattle.std.proofs.Common.{◌≡◌, ◌+◌, fold, ap, sym, subst, arith, length, drop, take, [], refl, List}
+use Rattle.std.specs.Prelude.{String, Vec}
 use Rattle.std.specs.List.{flat_map}
+use Rattle.std.proofs.lemmas.List.{take_all}
 use Rattle.std.specs.declared.alloc.Global.{Global}
 use Rattle.cqf_model.specs.History.{hops_along}
-use Rattle.cqf_admission_trees.specs.Branches.{AreNodes, branch_of, branches_of, keep_link}
+use Rattle.cqf_admission_trees.specs.Branches.{AreAsFarAsRoom, AreNodes, branch_of, branches_of, keep_link}
 use Rattle.cqf_admission_trees.proofs.NodeLemmas.{nodes_here, nodes_next, one_branch_more}
 use Rattle.cqf_admission_trees.proofs.TreeLemmas.{few_here}
 use Rattle.cqf_admission_trees.proofs.trees.tree_along.Goals as goal
@@ -17,14 +18,11 @@ add_branch-requires-clause-few_nodes c =
       ap (λ (xs : List (String Global)). length xs) c.as_slice.ensures.value,
     )
 
-pub add_branch-requires-clause-few_links : goal.add_branch-requires-clause-few_links
-add_branch-requires-clause-few_links c = c.cycle_time.ensures.accepted.few_links
-
 pub add_branch-requires-clause-nodes : goal.add_branch-requires-clause-nodes
 add_branch-requires-clause-nodes c =
     subst (λ (xs : List (String Global)). AreNodes c.args.domain.now (branch_of xs) c.loop-branch.rest.now) (sym c.as_slice.ensures.value)
     (nodes_here c.args.domain.now c.args.paths.now c.loop-branch.branch-index c.branch-item.result c.loop-branch.rest.now
-    c.loop-branch-test.true (sym c.branch-item.is) c.loop-branch.invariant.2)
+    c.loop-branch-test.true (sym c.branch-item.is) c.loop-branch.invariant.1)
 
 pub loop-branch-preserved : goal.loop-branch-preserved
 loop-branch-preserved c =
@@ -33,12 +31,20 @@ loop-branch-preserved c =
     let branch = c.branch-item.result in
     let counted : c.len.result ≡ length branch.items =
     omega (arith, c.len.ensures, c.as_slice.ensures.len, ap (λ (xs : List (String Global)). length xs) c.as_slice.ensures.value) in
-    let kept = c.add_branch.ensures.kept
-    ∙ ap (λ (xs : List (String Global)). fold keep_link c.loop-branch.tree.items (hops_along d (branch_of xs))) c.as_slice.ensures.value in (
-      one_branch_more d c.args.paths.now index branch c.loop-branch.tree.items c.add_branch.new.tree.items c.loop-branch-test.true
-          (sym c.branch-item.is) c.loop-branch.invariant.0 kept,
-      c.add_branch.ensures.sparse,
+    let whole = fold keep_link [] (flat_map (hops_along d) (branches_of (take index c.args.paths.now))) in
+    let far = subst (λ (xs : List (String Global)). AreAsFarAsRoom c.add_branch.new.tree.items (fold keep_link whole (hops_along d (branch_of xs))))
+    c.as_slice.ensures.value (c.add_branch.ensures whole c.loop-branch.invariant.0) in (
+      subst (AreAsFarAsRoom c.add_branch.new.tree.items)
+          (one_branch_more d c.args.paths.now index branch whole (fold keep_link whole (hops_along d (branch_of branch.items))) c.loop-branch-test.true
+          (sym c.branch-item.is) refl refl) far,
       subst (AreNodes d (flat_map (λ b. b) (branches_of (drop (index + 1) c.args.paths.now)))) (sym c.nodes_behind-rest.ensures)
-          (nodes_next d c.args.paths.now index branch c.loop-branch.rest.now c.loop-branch-test.true (sym c.branch-item.is) c.loop-branch.invariant.2
+          (nodes_next d c.args.paths.now index branch c.loop-branch.rest.now c.loop-branch-test.true (sym c.branch-item.is) c.loop-branch.invariant.1
           c.len.result counted),
     )
+
+pub returns : goal.returns
+returns c =
+    let paths = c.args.paths.now in
+    subst (λ (ps : List (Vec (String Global) Global)). AreAsFarAsRoom c.loop-branch.tree.items
+    (fold keep_link [] (flat_map (hops_along c.args.domain.now) (branches_of ps))))
+    (take_all c.loop-branch.branch-index paths (omega (arith, c.loop-branch-test.false))) c.loop-branch.invariant.0

@@ -1,11 +1,11 @@
 -- The hops of the branches so far have been added, and the nodes that are left are those of the others.
-use Rattle.std.proofs.Common.{◌≡◌, fold, take, drop, []}
+use Rattle.std.proofs.Common.{fold, take, drop, []}
 use Rattle.std.specs.List.{flat_map}
 use Rattle.cqf_model.specs.History.{hops_along}
-use Rattle.cqf_admission_trees.specs.Branches.{AreNodes, AreSparse, branches_of, keep_link}
+use Rattle.cqf_admission_trees.specs.Branches.{AreAsFarAsRoom, AreNodes, branches_of, keep_link}
 use Rattle.cqf_admission_trees.proofs.trees.tree_along.Given as goal
 
 abbrev pub invariant-loop-branch : goal.invariant-loop-branch
 invariant-loop-branch l =
-    (l.tree.items ≡ fold keep_link [] (flat_map (hops_along l.domain) (branches_of (take l.branch-index l.paths)))) × AreSparse l.domain l.tree.items
+    AreAsFarAsRoom l.tree.items (fold keep_link [] (flat_map (hops_along l.domain) (branches_of (take l.branch-index l.paths))))
     × AreNodes l.domain (flat_map (λ b. b) (branches_of (drop l.branch-index l.paths))) l.rest

@@ -9,6 +9,13 @@ use Rattle.cqf_bridge.specs.Taking.{PassesGate, class_in, passes_by, received_as
 use Rattle.cqf_bridge.proofs.Verdicts.{class_given, none_given, polices_none, polices_row, verdict_at_edge}
 use Rattle.cqf_bridge.proofs.policing.police_offer.Goals as goal
 
+pub pass_gate-requires-clause-paced : goal.pass_gate-requires-clause-paced
+pass_gate-requires-clause-paced c =
+    let rows = c.args.phase.table.now.rows in
+    let row = c.in-Some.row.now in
+    let found = ap option_copied (sym c.in-Some.is) ∙ c.row_named.ensures.found in
+    c.rows-order.ensures.paced row (find_member (λ r. is_text r.name c.args.name.now) rows row (sym found)).0
+
 pub returns-in_default-clause-polices : goal.returns-in_default-clause-polices
 returns-in_default-clause-polices c =
     let v = verdict_at_edge c.args.phase.domain.now c.args.phase.table.now.rows c.args.phase.number c.args.phase.cycle.0 c.args.gates.now

@@ -1,6 +1,11 @@
 use Rattle.std.proofs.Common.{◌∙◌, refl}
-use Rattle.cqf_instants.proofs.Steps.{may_put, next_way, starts_told}
+use Rattle.cqf_instants.proofs.Steps.{may_put, next_way, some_may_send, starts_told}
 use Rattle.cqf_instants.proofs.standing.tell_cycle.Goals as goal
+
+pub tell_links-requires-clause-some : goal.tell_links-requires-clause-some
+tell_links-requires-clause-some c =
+    rw (c.as_slice.ensures.value, c.as_slice-branches.ensures.value)
+    (some_may_send c.the_laws.ensures c.args.basis.now c.args.cycle c.args.standing.now c.requires.way c.requires.in_run c.ranges.cycle.fits)
 
 pub put_offers-standing-requires : goal.put_offers-standing-requires
 put_offers-standing-requires c =

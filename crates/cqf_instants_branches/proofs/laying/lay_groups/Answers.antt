@@ -12,7 +12,7 @@ loop-hop-preserved c =
     let tree = c.args.tree.now in
     let k = c.loop-hop.hop-index in
     let hop : Hop = get_or tree k no_hop in
-    let groups = c.loop-hop.groups in
+    let groups = c.loop-hop.groups.items in
     let after = c.lay_group.new.branches.items in
     let more = behind_more tree c.args.branches.now.items c.loop-hop.branches.items after k hop c.in_ok-many.many groups c.requires.few
     (c.requires.links k no_hop c.loop-hop-test.true) (slice_get-get_or tree k no_hop c.loop-hop-test.true) c.loop-hop.invariant c.in_ok-many.ensures in

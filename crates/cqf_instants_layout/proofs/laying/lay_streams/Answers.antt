@@ -10,8 +10,10 @@ pub loop-row-init : goal.loop-row-init
 loop-row-init c =
     let cycles = c.args.cycles in
     let rows = c.args.rows.now in
-    subst (λ (bs : List Branch). AreLaid cycles rows 0 bs c.in_ok-groups.groups.items) (sym c.new-branches.ensures.items)
-    (subst (λ (gs : List Group). AreLaid cycles rows 0 [] gs) (sym c.in_ok-groups.ensures.items) (lays_none cycles rows))
+    let none = subst (λ (gs : List Group). AreLaid cycles rows 0 [] gs) (sym c.in_ok-groups.ensures.items) (lays_none cycles rows) in (
+      subst (λ (bs : List Branch). AreLaid cycles rows 0 bs c.in_ok-groups.groups.items) (sym c.new-branches.ensures.items) none,
+      c.in_ok-behind.ensures,
+    )
 
 pub loop-row-preserved : goal.loop-row-preserved
 loop-row-preserved c =
@@ -19,6 +21,8 @@ loop-row-preserved c =
     let rows = c.args.rows.now in
     let place = c.loop-row.row-index in
     let row = c.row-item.result in
-    subst (λ (gs : List Group). AreLaid cycles rows (place + 1) c.lay_stream.new.branches.items gs) (sym c.in_ok-push.ensures.items)
-    (lays_more cycles rows place row c.loop-row.branches.items c.lay_stream.new.branches.items c.loop-row.groups.items c.in_ok-group.group
-    (slice_get_read rows (length rows) place row refl c.loop-row-test.true c.row-item.is) c.loop-row.invariant c.in_ok-group.ensures)
+    let more = lays_more cycles rows place row c.loop-row.branches.items c.lay_stream.new.branches.items c.loop-row.groups.items c.in_ok-group.group
+    (slice_get_read rows (length rows) place row refl c.loop-row-test.true c.row-item.is) c.loop-row.invariant.0 c.in_ok-group.ensures.lays in (
+      subst (λ (gs : List Group). AreLaid cycles rows (place + 1) c.lay_stream.new.branches.items gs) (sym c.in_ok-push.ensures.items) more,
+      c.in_ok-group.ensures.places,
+    )

@@ -2,7 +2,7 @@ use Rattle.std.proofs.Common.{◌∙◌, Some, ap}
 use Rattle.cqf_admission.specs.Asking.{asked_of}
 use Rattle.cqf_model.specs.History.{held_in, seals}
 use Rattle.cqf_program_placing.specs.Placing.{Unplaced}
-use Rattle.cqf_program_placing.proofs.AskLemmas.{refusal_entered, refused_answer, refused_due, short_is_there}
+use Rattle.cqf_program_placing.proofs.AskLemmas.{granted_answer, refusal_entered, refused_answer, refused_due, short_is_there}
 use Rattle.cqf_program_placing.proofs.asking.ask.Goals as goal
 
 -- a refusal for want of room names a link of the domain
@@ -26,3 +26,9 @@ returns c =
       answered = ap Unplaced c.fault_of_refusal.ensures ∙ answer.0;
       entered = answer.1;
     }
+
+-- it is placed, where it is granted
+pub returns-in-Ok-clause-answered : goal.returns-in-Ok-clause-answered
+returns-in-Ok-clause-answered c =
+    (granted_answer c.args.admission.now c.admit.new.self (asked_of c.args.request) c.args.domain.now c.requires.domain c.in-Ok.field-0
+    c.in-Ok.ensures.answers).0

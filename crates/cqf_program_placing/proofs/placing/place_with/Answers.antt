@@ -1,6 +1,6 @@
-use Rattle.std.proofs.Common.{◌∙◌, refl, string_bytes, subst}
+use Rattle.std.proofs.Common.{◌∙◌, string_bytes, subst}
 use Rattle.cqf_admission_trees.specs.Branches.{branches_of}
-use Rattle.cqf_model.specs.History.{Asked, held_in, seals}
+use Rattle.cqf_model.specs.History.{held_in, seals}
 use Rattle.cqf_program_placing.specs.Placing.{outcome_value}
 use Rattle.cqf_program_placing.specs.Routes.{IsUnrouted}
 use Rattle.cqf_program_placing.specs.Settled.{settled_value, way_value}
@@ -19,7 +19,7 @@ returns-in-Fault-clause-placed c =
 -- it is asked for with its branches
 pub returns-clause-placed : goal.returns-clause-placed
 returns-clause-placed c =
-    let asked : Asked = record { name = string_bytes c.in_ok-name.name; octets = c.args.octets; paths = branches_of c.in-Ok.paths.items } in
-    routed_so c.args.domain.now c.args.admission.now.entries (settled_value c.args.stream.now) c.args.octets c.cost-cost.result.0 asked
+    routed_so c.args.domain.now c.args.admission.now.entries (settled_value c.args.stream.now) c.args.octets c.cost-cost.result.0
+    (string_bytes c.in_ok-name.name) (branches_of c.in-Ok.paths.items)
     (outcome_value c.in_ok-outcome.outcome) c.ask.new.admission.entries c.cost-cost.ensures c.in-Ok.ensures.ok
-    (c.in_ok-name.ensures.ok ∙ c.as_str.ensures.value) refl c.in_ok-outcome.ensures.answered c.in_ok-outcome.ensures.entered
+    (c.in_ok-name.ensures.ok ∙ c.as_str.ensures.value) c.in_ok-outcome.ensures.answered c.in_ok-outcome.ensures.entered

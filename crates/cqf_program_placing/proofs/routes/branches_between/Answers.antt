@@ -1,15 +1,15 @@
-use Rattle.std.proofs.Common.{◌∙◌, ℕ, ap, arith, get_or, length, map, subst}
+use Rattle.std.proofs.Common.{◌∙◌, ℕ, ap, get_or, map, subst}
 use Rattle.arrayvec.specs.ArrayVec.{ArrayVec}
 use Rattle.cqf_admission_trees.specs.Branches.{branches_of}
 use Rattle.cqf_model.specs.declared.topology.Node.TheVariants.{Bridge}
 use Rattle.cqf_ways.specs.Listeners.{IsWaysFault}
 use Rattle.cqf_ways.specs.Ways.{has_room}
 use Rattle.cqf_program_placing.specs.Placing.{names_along}
-use Rattle.cqf_program_placing.proofs.RouteLemmas.{first_full, none_there, stands_there, ways_found}
+use Rattle.cqf_program_placing.proofs.RouteLemmas.{are_links, first_full, none_there, stands_there, ways_found}
 use Rattle.cqf_program_placing.proofs.routes.branches_between.Goals as goal
 
 pub first_ways-requires : goal.first_ways-requires
-first_ways-requires c = omega (arith, ap length c.requires.links, c.cycle_time-cycle_time.ensures.accepted.few_links)
+first_ways-requires c = are_links c.args.domain.now c.args.room.links.now c.requires.links c.cycle_time-cycle_time.ensures.accepted
 
 pub returns-in_ok-paths-in-Ok-clause-ok : goal.returns-in_ok-paths-in-Ok-clause-ok
 returns-in_ok-paths-in-Ok-clause-ok c = λ rows are.

@@ -1,11 +1,11 @@
-use Rattle.std.proofs.Common.{◌≡◌, ◌∙◌, None, Some, ap, arith, length, sym}
+use Rattle.std.proofs.Common.{◌≡◌, ◌∙◌, None, Some, ap, sym}
 use Rattle.cqf_model.specs.declared.topology.Node.TheVariants.{Bridge, Station}
 use Rattle.cqf_ways.specs.Ways.{short_link}
-use Rattle.cqf_program_placing.proofs.RouteLemmas.{first_of_all, full_found, must_lack, must_lead, short_inside}
+use Rattle.cqf_program_placing.proofs.RouteLemmas.{are_links, first_of_all, full_found, must_lack, must_lead, short_inside}
 use Rattle.cqf_program_placing.proofs.routes.full_to.Goals as goal
 
 pub first_way-requires : goal.first_way-requires
-first_way-requires c = omega (arith, ap length c.requires.links, c.cycle_time-cycle_time.ensures.accepted.few_links)
+first_way-requires c = are_links c.args.domain.now c.args.room.links.now c.requires.links c.cycle_time-cycle_time.ensures.accepted
 
 -- a way leads there
 pub unreachable-requires : goal.unreachable-requires

@@ -7,4 +7,4 @@ pub returns : goal.returns
 returns c =
     c.is_some.ensures
     ∙ found_is_led c.args.links.now _ (Bridge c.args.bridge) c.args.to c.first_way.result c.full_ways_have_a_short_link.ensures.for_nothing
-    (some_zeros _ c.requires) c.first_way.ensures
+    (some_zeros 4096 _ c.requires.few) c.first_way.ensures

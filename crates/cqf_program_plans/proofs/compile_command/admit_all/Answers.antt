@@ -1,4 +1,4 @@
-use Rattle.std.proofs.Common.{◌≡◌, ◌∙◌, ◌+◌, ◌<◌, ◌∷◌, [], List, ap, arith, length, map, refl, subst, sym}
+use Rattle.std.proofs.Common.{◌∙◌, ◌+◌, ◌<◌, ◌∷◌, [], List, ap, arith, length, map, refl, subst, sym}
 use Rattle.std.proofs.lemmas.List.{length-map}
 use Rattle.cqf_admission.specs.Asking.{asked_of}
 use Rattle.cqf_admission_ledger.specs.Forms.{IsRowOfGoodForm}

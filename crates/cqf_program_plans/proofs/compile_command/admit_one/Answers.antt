@@ -1,6 +1,6 @@
 use Rattle.std.proofs.Common.{◌+◌}
 use Rattle.cqf_admission_requests.specs.Orders.{request_at}
-use Rattle.cqf_program_plans.proofs.CompileLemmas.{granted-held, refused-ends}
+use Rattle.cqf_program_plans.proofs.CompileLemmas.{granted-goes_on, granted-held, refused-ends}
 use Rattle.cqf_program_plans.proofs.compile_command.admit_one.Goals as goal
 
 pub returns-in-Ok-clause-held : goal.returns-in-Ok-clause-held
@@ -9,6 +9,11 @@ returns-in-Ok-clause-held c =
     granted-held c.args.ledger.now.administration c.admit.new.self.administration
     (request_at c.args.ledger.now.requests c.args.place) c.in-Ok.receipt c.in-Ok.ensures.answers laws.goes_on laws.counted laws.granted laws.room
     c.requires.held
+
+pub returns-in-Ok-clause-ok : goal.returns-in-Ok-clause-ok
+returns-in-Ok-clause-ok c =
+    granted-goes_on c.args.ledger.now.administration c.admit.new.self.administration (request_at c.args.ledger.now.requests c.args.place)
+    c.in-Ok.receipt c.in-Ok.ensures.answers (c.args.place + 1)
 
 pub returns-in-Err : goal.returns-in-Err
 returns-in-Err c = record {

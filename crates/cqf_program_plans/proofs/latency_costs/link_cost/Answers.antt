@@ -1,7 +1,7 @@
 use Rattle.std.proofs.Common.{◌≤◌, ℕ, ap, arith, subst, sym}
 use Rattle.std.proofs.lemmas.List.Sums.{sum_by_more, sum_by_more_le}
 use Rattle.cqf_model.specs.declared.topology.Row.{Row}
-use Rattle.cqf_model.specs.Table.{cost_on}
+use Rattle.cqf_admission.specs.Rows.{cost_by_link}
 use Rattle.cqf_program_plans.proofs.latency_costs.link_cost.Goals as goal
 
 pub cost_on-total-requires : goal.cost_on-total-requires
@@ -12,7 +12,7 @@ cost_on-total-requires c =
 pub overflow_add-total : goal.overflow_add-total
 overflow_add-total c =
     let row = c.row-item.result in
-    let cost : Row → ℕ = λ r. cost_on r c.args.link in
+    let cost : Row → ℕ = λ r. cost_by_link r c.args.link in
     omega (
       arith,
       c.loop-row.invariant,
@@ -25,7 +25,7 @@ overflow_add-total c =
 pub loop-row-preserved : goal.loop-row-preserved
 loop-row-preserved c =
     let row = c.row-item.result in
-    let cost : Row → ℕ = λ r. cost_on r c.args.link in
+    let cost : Row → ℕ = λ r. cost_by_link r c.args.link in
     omega (
       arith,
       c.loop-row.invariant,

@@ -5,7 +5,7 @@ use Rattle.cqf_program_plans.proofs.load_laws.plan_fits.Goals as goal
 pub returns-clause-fits : goal.returns-clause-fits
 returns-clause-fits c d streams rows h =
     let laws = c.state_follows_history.ensures in (
-      λ found l inside. admitted_within laws.goes_on laws.counted laws.granted laws.room laws.held d streams rows h found l,
+      λ found l turn inside. admitted_within laws.goes_on laws.counted laws.granted laws.room laws.held d streams rows h found l turn,
       within_admitted laws.goes_on laws.counted laws.granted laws.room laws.held d streams rows h,
     )
 

@@ -1,6 +1,6 @@
 use Rattle.std.proofs.Common.{ℕ, ◌-◌, decimal, [], ◌∷◌, ap, ◌∙◌}
 use Rattle.cqf_model.specs.Domain.{budget}
-use Rattle.cqf_model.specs.Table.{link_cost}
+use Rattle.cqf_admission.specs.Costs.{most_cost}
 use Rattle.cqf_program_press.proofs.PressLemmas.{Puts-as, Puts-then}
 use Rattle.cqf_report.specs.Books.{name_of_link}
 use Rattle.cqf_program_telling.proofs.LineLemmas.{Puts-field}
@@ -14,7 +14,7 @@ returns g c =
     let rows = c.args.listing.now in
     let l = c.args.link in
     let most = budget d l in
-    let held = link_cost rows l in
+    let held = most_cost rows l in
     let is_most = c.budget_on-most.ensures.value in
     let is_held = c.cost_on-held.ensures.cost in
     let left = left_text most held in

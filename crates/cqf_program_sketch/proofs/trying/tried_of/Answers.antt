@@ -1,5 +1,6 @@
-use Rattle.std.proofs.Common.{◌∙◌, [], ap, length, map, sym}
+use Rattle.std.proofs.Common.{◌∙◌, [], ap, length, map, subst, sym}
 use Rattle.std.proofs.lemmas.List.{length-map}
+use Rattle.cqf_admission.specs.Tables.{AreOfEachCycle}
 use Rattle.cqf_program_placing.specs.Placing.{outcome_value}
 use Rattle.cqf_program_placing.specs.Settled.{settled_value}
 use Rattle.cqf_program_sketch.proofs.TriedLemmas.{length-placed}
@@ -14,3 +15,7 @@ candidate_of-requires-clause-each c =
     ∙ ap length c.in_ok-domain.ensures.outcomes
     ∙ length-placed placed.domain [] (map settled_value c.args.streams.now) placed.outcomes placed.entries c.requires
     ∙ length-map c.args.streams.now settled_value
+
+-- its rows are of streams of each cycle
+pub candidate_of-requires-clause-paced : goal.candidate_of-requires-clause-paced
+candidate_of-requires-clause-paced c = subst AreOfEachCycle (sym c.as_slice.ensures.value) c.in_ok-domain.ensures.paced

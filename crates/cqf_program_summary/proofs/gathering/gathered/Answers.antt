@@ -1,4 +1,4 @@
-use Rattle.std.proofs.Common.{◌≡◌, ◌∙◌, ◌+◌, ◌*◌, ◌<◌, ℕ, List, nat_lt, Some, ap, arith, get_or, length, refl, subst, sym}
+use Rattle.std.proofs.Common.{◌≡◌, ◌∙◌, ◌+◌, ◌-◌, ◌*◌, ◌≤◌, ◌<◌, ℕ, List, nat_lt, Some, ap, arith, get_or, length, refl, subst, sym}
 use Rattle.std.specs.Prelude.{slice_get}
 use Rattle.std.proofs.lemmas.List.{take_all}
 use Rattle.std.proofs.lemmas.Option.{slice_get_read}
@@ -22,6 +22,17 @@ pub put_those_of-requires-clause-followed : goal.put_those_of-requires-clause-fo
 put_those_of-requires-clause-followed c =
     record { whole = c.requires.followed.whole; is = (c.loop-place.invariant.so_far c.requires.followed.whole c.requires.followed.is).0 }
 
+pub add-requires-clause-within : goal.add-requires-clause-within
+add-requires-clause-within c =
+    let offers = c.args.ended.now.offers.now in
+    let place = c.loop-place.place in
+    let few : length offers ≤ 16777215 = c.requires.followed.is.is_over.few in
+    let inside : place < length offers = omega (arith, c.loop-place-test.true) in
+    let rest = 3372220014 - 201 * place in
+    let all : 201 * place + rest ≡ 3372220014 = omega arith in
+    subst (λ (k : ℕ). SummaryWithin k c.loop-place.sums) all
+    (summary_later (201 * place) rest c.loop-place.sums c.loop-place.invariant.within)
+
 pub loop-place-preserved : goal.loop-place-preserved
 loop-place-preserved c =
     let offers = c.args.ended.now.offers.now in
@@ -32,11 +43,11 @@ loop-place-preserved c =
     let inside : place < length offers = omega (arith, c.loop-place-test.true) in
     let read : slice_get offers place ≡ Some offer = slice_get_read offers (length offers) place offer refl inside c.index-ended-place.is in
     let at : slice_get (numbered offers) place ≡ Some x = numbered_at offers place offer read in
-    let next : 65 * place + 65 ≡ 65 * (place + 1) = omega arith in
+    let next : 201 * place + 201 ≡ 201 * (place + 1) = omega arith in
     elim c.if-is_run.branch [
       | then-is_run w ↦ record {
-        within = subst (SummaryWithin (65 * (place + 1))) (sym w.sums-is)
-            (subst (λ (k : ℕ). SummaryWithin k w.add.new.self) next (w.add.ensures.more (65 * place) c.loop-place.invariant.within));
+        within = subst (SummaryWithin (201 * (place + 1))) (sym w.sums-is)
+            (subst (λ (k : ℕ). SummaryWithin k w.add.new.self) next (w.add.ensures.more (201 * place) c.loop-place.invariant.within));
         so_far = λ whole followed.
             let over = over_of c.args.ended.now whole in
             let before = c.loop-place.invariant.so_far whole followed in
@@ -54,8 +65,8 @@ loop-place-preserved c =
             );
       }
       | else-is_run w ↦ record {
-        within = subst (SummaryWithin (65 * (place + 1))) (sym w.sums-is)
-            (subst (λ (k : ℕ). SummaryWithin k c.loop-place.sums) next (summary_later (65 * place) 65 c.loop-place.sums c.loop-place.invariant.within));
+        within = subst (SummaryWithin (201 * (place + 1))) (sym w.sums-is)
+            (subst (λ (k : ℕ). SummaryWithin k c.loop-place.sums) next (summary_later (201 * place) 201 c.loop-place.sums c.loop-place.invariant.within));
         so_far = λ whole followed.
             let over = over_of c.args.ended.now whole in
             let before = c.loop-place.invariant.so_far whole followed in

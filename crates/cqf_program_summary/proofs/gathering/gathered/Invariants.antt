@@ -9,7 +9,7 @@ use Rattle.cqf_program_summary.proofs.gathering.gathered.Given as goal
 
 abbrev pub invariant-loop-place : goal.invariant-loop-place
 invariant-loop-place l = record {
-  within : SummaryWithin (65 * l.place) l.sums;
+  within : SummaryWithin (201 * l.place) l.sums;
   so_far : (whole : ℕ → ℕ → Option Nanos) → IsFollowed (over_of l.ended whole) 0 l.initial.under_way →
       IsFollowed (over_of l.ended whole) l.place l.under_way × IsSummaryOfFirst (over_of l.ended whole) l.place l.initial.sums l.sums;
 }

@@ -7,16 +7,17 @@ use Rattle.cqf_program_summary.specs.Listing.{IsListing}
 use Rattle.cqf_program_summary.proofs.listing.list_streams.Goals as goal
 
 pub loop-request-init : goal.loop-request-init
-loop-request-init c = c.new-listing.ensures c.args.domain.now
+loop-request-init c = c.in_ok-listing.ensures c.args.domain.now
 
 pub loop-request-preserved : goal.loop-request-preserved
 loop-request-preserved c =
     let k = c.loop-request.request-index in
     let requests = c.args.requests.now in
     let item = c.request-item.result in
+    let after = c.in_ok-listing-2 in
     let grown : map asked_of (take (k + 1) requests) ≡ map asked_of (take k requests) ++ asked_of item ∷ [] =
     ap (map asked_of) (take_more requests k item c.loop-request-test.true)
     ∙ map-append asked_of (take k requests) (get_or requests k item ∷ [])
     ∙ ap (λ (r : Request). map asked_of (take k requests) ++ asked_of r ∷ []) (sym c.request-item.is) in
-    subst (λ (asked : List Asked). IsListing c.args.domain.now asked c.in_ok-listing.listing) (sym grown)
-    (c.in_ok-listing.ensures (map asked_of (take k requests)) c.loop-request.invariant)
+    subst (λ (asked : List Asked). IsListing c.args.domain.now asked after.listing) (sym grown)
+    (after.ensures (map asked_of (take k requests)) c.loop-request.invariant)

@@ -5,4 +5,4 @@ use Rattle.cqf_report.specs.ByLink.{AreListsByLink}
 use Rattle.cqf_report.proofs.links.octets_by_link.Given as goal
 
 abbrev pub invariant-loop-start : goal.invariant-loop-start
-invariant-loop-start l = AreListsByLink (take l.start-index l.starts) 256 (lists_of l.by_link.items)
+invariant-loop-start l = AreListsByLink (take l.start-index l.starts) 65536 (lists_of l.by_link.items)

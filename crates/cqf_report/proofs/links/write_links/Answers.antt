@@ -27,12 +27,12 @@ loop-link-preserved g c =
     let so_far = line_of_fields link_header ++ each_below (λ l. line_of_fields (link_fields d starts l)) link in
     let Written : List ℕ → Type 0 = λ text. HasWritten (λ (w : Vec ℕ Global). Some w.items) c.write_sums.new.writer text in
     let ends : c.name_of.result.now ≡ name_of_link d link = c.name_of.ensures.name ∙ ap (λ (x : Domain). name_of_link x link) c.in_ok-names.ensures in
-    let listed : AreListsByLink starts 256 (lists_of c.as_slice.result.now) =
-    subst (λ (lists : List (Vec ℕ Global)). AreListsByLink starts 256 (lists_of lists)) (sym c.as_slice.ensures.value)
-    (subst (λ (xs : List Started). AreListsByLink xs 256 (lists_of c.in_ok-by_link.by_link.items)) value c.in_ok-by_link.ensures) in
+    let listed : AreListsByLink starts 65536 (lists_of c.as_slice.result.now) =
+    subst (λ (lists : List (Vec ℕ Global)). AreListsByLink starts 65536 (lists_of lists)) (sym c.as_slice.ensures.value)
+    (subst (λ (xs : List Started). AreListsByLink xs 65536 (lists_of c.in_ok-by_link.by_link.items)) value c.in_ok-by_link.ensures) in
     let frames : c.sums_of_link-sums.result.frames ≡ frames_on link starts = c.sums_of_link-sums.ensures.frames starts listed in
     let octets : c.sums_of_link-sums.result.octets ≡ octets_on link starts = c.sums_of_link-sums.ensures.octets starts listed in
-    let below : link < 256 = omega (arith, c.loop-link-test.true, c.links-link-end.type_inv) in
+    let below : link < 65536 = omega (arith, c.loop-link-test.true, c.links-link-end.type_inv) in
     let from : c.from.result ≡ link = c.from.ensures in
     let inside : c.from.result < length c.in_ok-most.most.items = omega (arith, below, from, c.in_ok-most.ensures.all) in
     let most : c.index.result.now ≡ most_on link starts =

@@ -1,4 +1,5 @@
 use Rattle.std.proofs.Common.{◌∙◌, length, Ok, All, sym, ap, subst, arith}
+use Rattle.std.proofs.Math.Nat.{min-le_right}
 use Rattle.cqf_topology.specs.declared.faults.DomainFault.TheVariants.{Memory}
 use Rattle.cqf_topology.specs.DomainText.{IsNumberedDomain, joined, with_links, with_these}
 use Rattle.cqf_topology.specs.JoinedLink.{HasSmallEnds}
@@ -38,7 +39,8 @@ links_of-requires c =
     let n = numbered d bridges stations items c.requires (ap (joined bridges stations) (sym c.links.ensures) ∙ c.in_ok-joined.ensures) in
     let p = passes d c.as_slice.result.now (with_these d c.as_slice.result.now) c.in_ok-check.ensures in
     subst (All HasSmallEnds) (sym c.as_slice-2.ensures.value)
-    (joined-small d bridges stations items n (omega (arith, p.few_bridges, ap length n.bridges_are)) (omega (arith, p.few_stations, ap length n.stations_are)))
+    (joined-small d bridges stations items n (omega (arith, p.few_bridges, ap length n.bridges_are, min-le_right d.limits.bridges 1024))
+    (omega (arith, p.few_stations, ap length n.stations_are, min-le_right d.limits.stations 4096)))
 
 pub returns-clause-given : goal.returns-clause-given
 returns-clause-given c =

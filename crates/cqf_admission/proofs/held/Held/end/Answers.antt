@@ -6,7 +6,7 @@ use Rattle.cqf_admission.proofs.EndingLemmas.{ending_more, mapped_among}
 use Rattle.cqf_admission.proofs.HeldLemmas.{columns_ended}
 use Rattle.cqf_admission.proofs.MappedRows.{mapped_at, mapped_ended}
 use Rattle.cqf_admission.proofs.NumberedRows.{numbered_ended}
-use Rattle.cqf_admission.proofs.SumLemmas.{sums_stay}
+use Rattle.cqf_admission.proofs.SumLemmas.{sums_ended}
 use Rattle.cqf_admission.proofs.held.Held.end.Goals as goal
 
 pub invariant_of-self-2 : goal.invariant_of-self-2
@@ -24,13 +24,9 @@ invariant_of-self-2 c =
     let end : c.end_of.result ≡ end_of_row (arc_value c.in_ok-again.again) =
     c.end_of.ensures ∙ ap (λ (r : Row). end_of_row r) (c.deref-2.ensures ∙ sym c.in_ok-again.ensures) in
     let before = rw (c.as_slice.ensures.value, end) at c.place_among-among.ensures.before in
-    let behind = rw (c.as_slice.ensures.value, end) at c.place_among-among.ensures.behind in
-    let names = c.self.inside.names.keys in
-    let costs = c.self.inside.costs.items in
-    let masks = c.self.inside.masks.items in
-    let after = columns_ended names rows costs masks c.args.place c.args.cycle _ c.self.invariant.0 is in (
-      after,
-      sums_stay names names rows _ costs masks c.self.inside.sums c.self.invariant.0 after c.self.invariant.1,
+    let behind = rw (c.as_slice.ensures.value, end) at c.place_among-among.ensures.behind in (
+      columns_ended c.self.inside.names.keys rows c.args.place c.args.cycle _ c.self.invariant.0 is,
+      sums_ended rows _ c.self.inside.sums.items c.args.place c.args.cycle c.self.invariant.1 is,
       λ same. absurd cc,
       numbered_ended (arc_value c.self.inside.numbers) c.self.inside.numbered rows _ c.args.place c.args.cycle c.self.invariant.3 is,
       ending_more rows _ ending _ c.args.place c.place_among-among.result c.args.cycle (arc_value c.index.result.now) (arc_value c.in_ok-again.again)

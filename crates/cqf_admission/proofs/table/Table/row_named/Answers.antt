@@ -13,4 +13,4 @@ returns-clause-the_row c =
     let found : option_copied c.row_named.result ≡ row_named rows c.args.name.now = c.row_named.ensures
     ∙ ap (λ (rs : List Row). row_named rs c.args.name.now) c.deref.ensures in
     subst (λ (t : CycleTable). IsRowNamed t.rows c.args.name.now (option_copied c.row_named.result)) c.self.view_is
-    (subst (λ (o : Option Row). IsRowNamed rows c.args.name.now o) (sym found) (the_row_named rows c.args.name.now c.self.invariant))
+    (subst (λ (o : Option Row). IsRowNamed rows c.args.name.now o) (sym found) (the_row_named rows c.args.name.now c.self.invariant.0))

@@ -13,4 +13,4 @@ returns-clause-the_row c =
     let found : option_copied c.row_of.result ≡ row_of rows c.args.no = c.row_of.ensures
     ∙ ap (λ (rs : List Row). row_of rs c.args.no) c.deref.ensures in
     subst (λ (t : CycleTable). IsRowOf t.rows c.args.no (option_copied c.row_of.result)) c.self.view_is
-    (subst (λ (o : Option Row). IsRowOf rows c.args.no o) (sym found) (the_row_of rows c.args.no c.self.invariant))
+    (subst (λ (o : Option Row). IsRowOf rows c.args.no o) (sym found) (the_row_of rows c.args.no c.self.invariant.0))

@@ -18,7 +18,7 @@ invariant_of-self-2 c =
     c.self.invariant.0 c.self.invariant.4 c.args.self.now c.self.view_is c.reserve.ensures.items laws.goes_on laws.counted laws.lets_go c.args.seat
     (i.sealed + 1) c.empty.new.holdings.rows c.empty.new.self (record { 0 = i.sealed }) some c.empty.ensures.rows c.empty.ensures.slots refl
     refl c.enter.ensures in
-    (done.of, c.self.invariant.1, c.self.invariant.2, c.empty.ensures.names ∙ c.self.invariant.3, done.there)
+    (done.of, c.self.invariant.1, c.self.invariant.2, c.empty.ensures.names ∙ c.self.invariant.3, done.there, c.empty.ensures.links ∙ c.self.invariant.5)
 
 pub returns-clause-closes : goal.returns-clause-closes
 returns-clause-closes c =

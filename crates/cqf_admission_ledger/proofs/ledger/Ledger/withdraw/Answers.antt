@@ -3,6 +3,7 @@ use Rattle.cqf_admission_requests.specs.declared.orders.What.TheVariants.{Withdr
 use Rattle.cqf_admission_requests.specs.Orders.{StandsIn}
 use Rattle.cqf_topology.specs.declared.streams.Request.{Request}
 use Rattle.cqf_admission_ledger.specs.Forms.{FindsOpenForm, number_of_form}
+use Rattle.cqf_admission_ledger.specs.Holdings.{standing_of}
 use Rattle.cqf_admission_ledger.specs.Ledger.{Kept}
 use Rattle.cqf_admission_ledger.proofs.Calls.{withdraw_done, withdraw_refused}
 use Rattle.cqf_admission_ledger.proofs.ledger.Ledger.withdraw.Goals as goal
@@ -31,7 +32,7 @@ invariant_of-self-in-Err c =
     i.holdings.rows i.slots
     i.sealed c.self.invariant.0 c.self.invariant.4 c.args.self.now c.self.view_is c.reserve.ensures.items few laws.goes_on laws.counted laws.held c.args.seat
     c.args.from c.args.octets c.word_of-word.result.now c.in-Err.refused c.word_of-word.ensures stands finds c.enter-in-Err.ensures in
-    (done.of, c.self.invariant.1, c.self.invariant.2, c.self.invariant.3, done.there)
+    (done.of, c.self.invariant.1, c.self.invariant.2, c.self.invariant.3, done.there, c.self.invariant.5)
 
 pub returns-in-Err-clause-answers : goal.returns-in-Err-clause-answers
 returns-in-Err-clause-answers c =
@@ -71,10 +72,10 @@ invariant_of-self-in-Ok c =
     let done = withdraw_done i.domain.now i.requests.now i.script.now i.log.items c.reserve.new.self.items c.enter.new.log.items i.holdings.rows i.slots
     i.sealed c.self.invariant.0 c.self.invariant.4 c.args.self.now c.self.view_is c.reserve.ensures.items few laws.goes_on laws.counted laws.withdrawn laws.held
     c.streams_follow_history.ensures.withdrawn c.args.seat c.args.from c.args.octets c.word_of-word.result.now c.in-Ok.number
-    c.slot_of-slot.result c.stand.result
+    c.slot_of-slot.result (standing_of c.stand.result.now)
     c.end.new.self.rows c.put.new.self (record { no = c.in-Ok.number; effect = record { 0 = i.sealed } }) c.word_of-word.ensures stands opened c.stand.ensures
     c.slot_of-slot.ensures c.end.ensures.rows c.in_ok-put-in-Ok.ensures.more refl c.enter.ensures in
-    (done.of, c.self.invariant.1, c.self.invariant.2, c.end.ensures.names ∙ c.self.invariant.3, done.there)
+    (done.of, c.self.invariant.1, c.self.invariant.2, c.end.ensures.names ∙ c.self.invariant.3, done.there, c.end.ensures.links ∙ c.self.invariant.5)
 
 pub returns-in_ok-put-in-Ok-clause-answers : goal.returns-in_ok-put-in-Ok-clause-answers
 returns-in_ok-put-in-Ok-clause-answers c =
@@ -88,7 +89,7 @@ returns-in_ok-put-in-Ok-clause-answers c =
     (withdraw_done i.domain.now i.requests.now i.script.now i.log.items c.reserve.new.self.items c.enter.new.log.items i.holdings.rows i.slots
     i.sealed c.self.invariant.0 c.self.invariant.4 c.args.self.now c.self.view_is c.reserve.ensures.items few laws.goes_on laws.counted laws.withdrawn laws.held
     c.streams_follow_history.ensures.withdrawn c.args.seat c.args.from c.args.octets c.word_of-word.result.now c.in-Ok.number
-    c.slot_of-slot.result c.stand.result
+    c.slot_of-slot.result (standing_of c.stand.result.now)
     c.end.new.self.rows c.put.new.self (record { no = c.in-Ok.number; effect = record { 0 = i.sealed } }) c.word_of-word.ensures stands opened c.stand.ensures
     c.slot_of-slot.ensures c.end.ensures.rows c.in_ok-put-in-Ok.ensures.more refl c.enter.ensures).answers
 
@@ -104,6 +105,6 @@ returns-in_ok-put-in-Ok-clause-held c =
     (withdraw_done i.domain.now i.requests.now i.script.now i.log.items c.reserve.new.self.items c.enter.new.log.items i.holdings.rows i.slots
     i.sealed c.self.invariant.0 c.self.invariant.4 c.args.self.now c.self.view_is c.reserve.ensures.items few laws.goes_on laws.counted laws.withdrawn laws.held
     c.streams_follow_history.ensures.withdrawn c.args.seat c.args.from c.args.octets c.word_of-word.result.now c.in-Ok.number
-    c.slot_of-slot.result c.stand.result
+    c.slot_of-slot.result (standing_of c.stand.result.now)
     c.end.new.self.rows c.put.new.self (record { no = c.in-Ok.number; effect = record { 0 = i.sealed } }) c.word_of-word.ensures stands opened c.stand.ensures
     c.slot_of-slot.ensures c.end.ensures.rows c.in_ok-put-in-Ok.ensures.more refl c.enter.ensures).holds

@@ -1,9 +1,7 @@
 -- The class is open up to the first entry of the turned list that closes it.
-use Rattle.std.proofs.Common.{ℕ, ◌≡◌, ◌+◌, ◌-◌, ◌<◌, List, map, take, ap, sym, ◌∙◌, length, arith}
+use Rattle.std.proofs.Common.{◌≡◌, take, ap, ◌∙◌, length, arith}
 use Rattle.std.proofs.lemmas.List.{length-take}
-use Rattle.std.proofs.lemmas.List.Sums.{prefix_len-le-length}
-use Rattle.cqf_lanes.specs.Kernels.{open_run_of, has_bit}
-use Rattle.cqf_model.specs.GateList.{Entry, round_of}
+use Rattle.cqf_model.specs.GateList.{round_of}
 use Rattle.cqf_gates.proofs.OpenSpans.{turned_to, run_of_turned, all-open, open-always, open-to_end, run_inside}
 use Rattle.cqf_gates.proofs.transmission.TxList.open_for.Goals as goal
 

@@ -10,9 +10,9 @@ use Rattle.cqf_program_summary.proofs.fares.Fares.add_each.Goals as goal
 pub add-requires : goal.add-requires
 add-requires c =
     let place = c.loop-place.place in
-    let most : 64999936 + place + (63 - place) ≡ 64999999 = omega (arith, c.loop-place-test.true, c.requires.few) in
+    let most : 3372220015 + place + (199 - place) ≡ 3372220214 = omega (arith, c.loop-place-test.true, c.requires.few) in
     subst (λ (n : ℕ). FareWithin n c.loop-place.self) most
-    (fare_later (64999936 + place) (63 - place) c.loop-place.self (c.loop-place.invariant.more 64999936 c.requires.within))
+    (fare_later (3372220015 + place) (199 - place) c.loop-place.self (c.loop-place.invariant.more 3372220015 c.requires.within))
 
 pub loop-place-preserved : goal.loop-place-preserved
 loop-place-preserved c =
@@ -32,6 +32,6 @@ loop-place-preserved c =
 pub returns-clause-more : goal.returns-clause-more
 returns-clause-more c = λ many is.
     let place = c.loop-place.place in
-    let most : many + place + (64 - place) ≡ many + 64 = omega (arith, c.loop-place.auto.place-end, c.requires.few) in
+    let most : many + place + (200 - place) ≡ many + 200 = omega (arith, c.loop-place.auto.place-end, c.requires.few) in
     subst (λ (n : ℕ). FareWithin n c.loop-place.self) most
-    (fare_later (many + place) (64 - place) c.loop-place.self (c.loop-place.invariant.more many is))
+    (fare_later (many + place) (200 - place) c.loop-place.self (c.loop-place.invariant.more many is))

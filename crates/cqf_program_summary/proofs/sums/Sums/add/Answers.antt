@@ -55,8 +55,8 @@ returns-in-Some-clause-more c = λ many is.
     let was : FareWithin many old = subst (FareWithin many) (sym c.index_mut.ensures.value)
     (All-get_or (FareWithin many) items place old (place_within name items place old found) before.fares) in
     record {
-      fares = All-set (FareWithin (many + 65)) items place c.add_offer.new.self (c.add_offer.ensures.more many was) (fares_later many 65 items before.fares);
-      others = others_later many 65 c.self.inside.others before.others;
+      fares = All-set (FareWithin (many + 201)) items place c.add_offer.new.self (c.add_offer.ensures.more many was) (fares_later many 201 items before.fares);
+      others = others_later many 201 c.self.inside.others before.others;
     }
 
 pub returns-in-None-clause-sums : goal.returns-in-None-clause-sums

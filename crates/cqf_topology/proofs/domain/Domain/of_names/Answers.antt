@@ -1,4 +1,5 @@
-use Rattle.std.proofs.Common.{◌≡◌, ◌<◌, ◌∙◌, length, sym, ap, arith}
+use Rattle.std.proofs.Common.{◌≡◌, ◌<◌, ◌≤◌, ◌∙◌, length, sym, subst, ap, arith}
+use Rattle.cqf_model.specs.Limits.{bridges_within, links_within, stations_within}
 use Rattle.cqf_topology.specs.declared.faults.DomainFault.TheVariants.{Memory}
 use Rattle.cqf_topology.specs.DomainText.{first_long_delay, first_long_gap, with_these}
 use Rattle.cqf_topology.proofs.Accepted.{checked-accepted, checked-numbered}
@@ -20,12 +21,14 @@ invariant_of-result c =
     let guard = c.guard.result in
     let n = c.in_ok-links.ensures.numbered in
     let p = passes t links (with_these t links) (sym (checked-numbered t bridges stations links n) ∙ c.in_ok-links.ensures.given) in
+    let same_limits : t.limits ≡ c.limits.result = sym c.limits.ensures in
     let same_guard : guard ≡ t.guard = c.guard.ensures in
     let same_cycle : c.cycle_time.result ≡ t.cycle_time = c.cycle_time.ensures in
     let short : guard < c.cycle_time.result = omega (arith, p.short, same_guard, same_cycle) in
-    checked-accepted t (record { cycle_time = c.cycle_time.result; guard = guard; bridges = bridges; stations = stations; links = links })
+    checked-accepted t (record { limits = c.limits.result; cycle_time = c.cycle_time.result; guard = guard; bridges = bridges; stations = stations; links = links })
     n same_cycle same_guard (no-link-twice links p.no_twice) short
     (ap (λ g. first_long_delay g links) same_guard ∙ p.no_delay)
     (ap (λ g. first_long_gap g links) same_guard ∙ p.no_gap)
-    (omega (arith, p.few_bridges, ap length n.bridges_are)) (omega (arith, p.few_stations, ap length n.stations_are))
-    p.few_links
+    (subst (λ l. length bridges ≤ bridges_within l) same_limits (omega (arith, p.few_bridges, ap length n.bridges_are)))
+    (subst (λ l. length stations ≤ stations_within l) same_limits (omega (arith, p.few_stations, ap length n.stations_are)))
+    (subst (λ l. length links ≤ links_within l) same_limits p.few_links)

@@ -6,7 +6,7 @@ use Rattle.cqf_ways.proofs.ends.Ends.before.Goals as goal
 
 pub loop-link-init : goal.loop-link-init
 loop-link-init c =
-    none_marked (open_to c.args.room.links.now (has_room c.args.room.left.now c.args.room.cost)) (is_in c.args.self.now) _ (no_marks 256)
+    none_marked (open_to c.args.room.links.now (has_room c.args.room.left.now c.args.room.cost)) (is_in c.args.self.now) _ (no_marks 1024)
 
 pub loop-link-preserved : goal.loop-link-preserved
 loop-link-preserved c = one_marked _ _ c.loop-link.link _ _ c.loop-link.invariant c.mark.ensures

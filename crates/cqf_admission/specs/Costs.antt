@@ -1,0 +1,15 @@
+-- What streams cost of a link at most (profile).
+use Rattle.std.specs.Prelude.{ℕ, ◌-◌, List, [], ◌∷◌, fold, max}
+use Rattle.cqf_lists.specs.Lists.{each_below}
+use Rattle.cqf_model.specs.declared.topology.Row.{Row}
+use Rattle.cqf_model.specs.Domain.{Domain, budget}
+use Rattle.cqf_model.specs.Limits.{most_every}
+use Rattle.cqf_model.specs.Table.{link_cost}
+
+-- the most that they cost of it in a cycle
+abbrev pub most_cost : List Row → ℕ → ℕ
+most_cost rows l = fold max 0 (each_below (λ cycle. link_cost rows l cycle ∷ []) most_every)
+
+-- and what it has left in each cycle, in octets
+abbrev pub left_beside : Domain → List Row → ℕ → ℕ
+left_beside d rows l = budget d l - most_cost rows l

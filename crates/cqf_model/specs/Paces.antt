@@ -1,0 +1,12 @@
+-- In which cycles a stream's frames are on their way (profile).
+use Rattle.std.specs.Prelude.{ℕ, ◌+◌, ◌%◌, ◌==◌, Bool}
+use Rattle.cqf_model.specs.declared.topology.Pace.{Pace}
+
+-- the pace of a stream that is offered in each cycle
+abbrev pub each_cycle : Pace
+each_cycle = record { pause = 0; phase = 0 }
+
+-- whether a stream's frames are so deep on their way in the cycle: offered in the cycles of the stream's phase, they are on a
+-- link as many cycles later as the link is deep
+abbrev pub is_turn : Pace → ℕ → ℕ → Bool
+is_turn pace depth cycle = (pace.phase + depth) % (pace.pause + 1) == cycle % (pace.pause + 1)
