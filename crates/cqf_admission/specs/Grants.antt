@@ -13,6 +13,7 @@ use Rattle.cqf_model.specs.Table.{row_named}
 use Rattle.cqf_laws_history.specs.StateLaws.{granted_row}
 use Rattle.cqf_model.specs.Limits.{most_reserved, most_streams}
 use Rattle.cqf_admission.specs.declared.judged.Judged.{Judged}
+use Rattle.cqf_admission.specs.Judging.{row_by}
 use Rattle.cqf_admission.specs.Rows.{IsCountable, costs_on}
 
 -- the streams are offered in each cycle, within the limits of a reservation, and within each link's budget
@@ -29,18 +30,6 @@ pub record IsGranted (d : Domain) (rows : List Row) (asked : Asked) (number : �
   pub few : length rows < most_streams
   pub paced : row.pace ≡ each_cycle
   pub countable : IsCountable (length d.links) row
-
--- the row by what a request of good form is, of a number and from a cycle on
-abbrev pub row_by : Judged → ℕ → ℕ → Cycle → Row
-row_by judged octets number effect = record {
-  no = number;
-  name = judged.name;
-  octets = octets;
-  pace = each_cycle;
-  tree = record { items = judged.tree.items };
-  admitted = effect;
-  withdrawn = None;
-}
 
 -- a look at a request gives what its row is by, whatever its number and its first cycle, or the first reason against it
 abbrev pub Weighs : Domain → List Row → Asked → Result Judged Refused → Type 0

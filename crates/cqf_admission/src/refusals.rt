@@ -2,13 +2,13 @@
 ghost use Rattle.std.specs.Prelude.{◌≡◌, ◌<◌, ◌≤◌, ◌^◌, length, All, IfOk};
 ghost use Rattle.cqf_admission.specs.Asking.{asked_of};
 ghost use Rattle.cqf_admission_trees.specs.Branches.{branches_of, places_of};
-ghost use Rattle.cqf_admission.specs.Grants.{CanBeAsked, FindsOpen, Grants, HaveNames, Weighs, row_by};
+ghost use Rattle.cqf_admission.specs.Grants.{CanBeAsked, FindsOpen, Grants, HaveNames, Weighs};
 ghost use Rattle.cqf_admission.specs.Judging.{left_by, short_by};
 ghost use Rattle.cqf_admission.specs.Rows.{costs_on};
 
 use crate::held::Held;
 use crate::judged::{Judged, judge};
-use cqf_model::{EACH_CYCLE, Hop, Refused, Row, Tree};
+use cqf_model::{Hop, Refused, Row};
 use cqf_topology::{Domain, Request};
 use cqf_units::{Cycle, Memory, Name, budget};
 use std::alloc::Global;
@@ -77,27 +77,6 @@ fn weigh(domain: &Domain, held: &Held, request: &Request) -> Result<Judged, Refu
     }
 }
 
-/// The row of a request of good form that takes a number and begins with a cycle, unless memory runs out.
-fn row_of(
-    alloc: Global,
-    judged: &Judged,
-    octets: u32,
-    no: u32,
-    effect: Cycle,
-) -> Result<Row, Memory>
-    ensures { IfOk result (λ row. row ≡ row_by judged.now octets no effect) }
-{
-    Ok(Row {
-        no,
-        name: judged.name.copied(),
-        octets,
-        pace: EACH_CYCLE,
-        tree: Tree::new(alloc, judged.tree.as_slice())?,
-        admitted: effect,
-        withdrawn: None,
-    })
-}
-
 /// The row of a request that takes a number and begins with a cycle, or the first reason against it; unless there is none, and memory
 /// runs out.
 pub(crate) fn grant(
@@ -114,7 +93,7 @@ pub(crate) fn grant(
     ensures { IfOk result (λ granted. Grants domain.now held.now.rows (asked_of request.now) no effect granted) }
 {
     match weigh(domain, held, request) {
-        Ok(judged) => Ok(Ok(row_of(alloc, &judged, request.octets, no, effect)?)),
+        Ok(judged) => Ok(Ok(judged.into_row(alloc, request.octets, no, effect)?)),
         Err(refused) => Ok(Err(refused)),
     }
 }

@@ -13,7 +13,7 @@ use Rattle.cqf_model.specs.declared.history.Refused.TheVariants.{NameHeld}
 use Rattle.cqf_model.specs.declared.topology.Hop.{Hop}
 use Rattle.cqf_model.specs.Domain.{Domain, IsAccepted, budget, octet_time_of}
 use Rattle.cqf_model.specs.History.{Asked, Recorded, held_in, next_number, pace_of, refusal_of, refused_if, seals, tree_of}
-use Rattle.cqf_model.specs.Table.{is_held}
+use Rattle.cqf_model.specs.Table.{is_held, links_in}
 use Rattle.cqf_model.proofs.Hops.{hops_apart, hops_inside}
 use Rattle.cqf_laws_history.specs.StateLaws.{HeldAreSound, granted_row}
 use Rattle.cqf_topology.specs.declared.streams.Request.{Request}
@@ -60,9 +60,8 @@ module _ (d : Domain) (requests : List Request) (entries : List Recorded) (stand
 
 module _ (d : Domain) (requests : List Request) (asked : Asked) (j : Judgement) (g : IsJudgementOf d requests asked j) where
   -- its links are the domain's
-  inside : All (λ (l : ℕ). l < length d.links) j.links.items
-  inside = subst (All (λ (l : ℕ). l < length d.links)) (sym g.linked)
-      (All-map (λ (l : ℕ). l < length d.links) (λ (hop : Hop). hop.link) (tree_of d asked.paths) (hops_inside d asked.paths))
+  inside : All (λ (hop : Hop). hop.link < length d.links) j.tree.items
+  inside = subst (All (λ (hop : Hop). hop.link < length d.links)) (sym g.linked) (hops_inside d asked.paths)
 
   -- it is the stream that is granted, as it's held
   pub judged_stand : (number cycle : ℕ) → stand_by j ≡ stand_of (number_of_form requests) cycle (granted_row d number cycle asked)
@@ -71,7 +70,7 @@ module _ (d : Domain) (requests : List Request) (asked : Asked) (j : Judgement) 
       λ i. record {
         name = g.numbered i;
         cost = g.costs i;
-        links = g.linked i;
+        links = links_in (g.linked i);
         residence = g.resides i;
         withdrawn = None;
         held = sym now i;
@@ -88,15 +87,15 @@ module _ (d : Domain) (requests : List Request) (entries : List Recorded) (stand
     (r : AreOf d requests entries stands slots sealed) (sound : HeldAreSound) (ok : IsAccepted d) (asked : Asked) (own : pace_of asked ≡ each_cycle) where
   module _ (j : Judgement) (g : IsJudgementOf d requests asked j) where
     -- the reasons against it are those that the figures tell
-    refusal_told : refusal_of d (held_in d entries (seals entries)) asked ≡ stand_refusal d stands j.name j.cost j.links.items
+    refusal_told : refusal_of d (held_in d entries (seals entries)) asked ≡ stand_refusal d stands j.name j.cost (links_in j.tree.items)
     refusal_told =
         refusal_later d (held_in d entries (seals entries)) asked g.none
-        ∙ sym (state_told d requests entries asked stands j.name j.cost j.links.items r.known r.running.paced own r.are_streams g.numbered g.costs g.linked)
+        ∙ sym (state_told d requests entries asked stands j.name j.cost (links_in j.tree.items) r.known r.running.paced own r.are_streams g.numbered g.costs (ap links_in g.linked))
 
     -- its cost has room in a sum
-    fits : (l : ℕ) → held_cost stands l + part_on j.links.items j.cost l < 2 ^ 64
+    fits : (l : ℕ) → held_cost stands l + part_on (links_in j.tree.items) j.cost l < 2 ^ 64
     fits l =
-        let part : part_on j.links.items j.cost l ≤ j.cost = part_within (list_any (λ k. k == l) j.links.items) j.cost in
+        let part : part_on (links_in j.tree.items) j.cost l ≤ j.cost = part_within (list_any (λ k. k == l) (links_in j.tree.items)) j.cost in
         let most : budget d l ≤ d.cycle_time - d.guard = div-le_self (d.cycle_time - d.guard) (octet_time_of d l) in
         omega (
           arith,
@@ -131,8 +130,8 @@ module _ (d : Domain) (requests : List Request) (entries : List Recorded) (stand
         named = of.known;
         free = free_where_none stands j.name (first_not_due (is_taken stands j.name) _ (sym w));
         along = record {
-          inside = inside d requests asked j of;
-          apart = subst (AllPairs (λ (a b : ℕ). a ≢ b)) (sym of.linked) (hops_apart d asked.paths);
+          inside = All-map (λ (l : ℕ). l < length d.links) (λ (hop : Hop). hop.link) j.tree.items (inside d requests asked j of);
+          apart = subst (λ (hops : List Hop). AllPairs (λ (a b : ℕ). a ≢ b) (links_in hops)) (sym of.linked) (hops_apart d asked.paths);
         };
         fits = fits j of;
       })

@@ -6,10 +6,11 @@ use Rattle.cqf_lists.specs.Lists.{or_else}
 use Rattle.cqf_units.specs.Timing.{cost_of}
 use Rattle.cqf_model.specs.declared.history.Refused.{Refused}
 use Rattle.cqf_model.specs.declared.history.Refused.TheVariants.{AlreadyWithdrawn, BudgetShort, NameHeld, NotHeld, TooManyStreams}
+use Rattle.cqf_model.specs.declared.topology.Hop.{Hop}
 use Rattle.cqf_model.specs.declared.topology.Row.{Row}
 use Rattle.cqf_model.specs.Domain.{Domain, budget}
-use Rattle.cqf_model.specs.History.{Asked, refused_at, refused_if}
-use Rattle.cqf_model.specs.Table.{links_of, residence}
+use Rattle.cqf_model.specs.History.{Asked, refused_at, refused_if, tree_of}
+use Rattle.cqf_model.specs.Table.{links_in, residence}
 use Rattle.cqf_laws_history.specs.StateLaws.{granted_row}
 use Rattle.cqf_topology.specs.declared.streams.Request.{Request}
 use Rattle.cqf_admission_requests.specs.Names.{has_name}
@@ -32,7 +33,7 @@ pub record IsJudgementOf (d : Domain) (requests : List Request) (asked : Asked) 
   pub known : judgement.name < length requests
   pub costs : judgement.cost ≡ cost_of asked.octets
   pub resides : judgement.residence ≡ residence (granted_row d 0 0 asked)
-  pub linked : judgement.links.items ≡ links_of (granted_row d 0 0 asked)
+  pub linked : judgement.tree.items ≡ tree_of d asked.paths
   pub most_octets : asked.octets ≤ most_reserved
 
 -- a request of good form, and its row as that of number 0 and of cycle 0
@@ -61,7 +62,7 @@ IsSeen (Good judgement) = ⊤
 abbrev pub CanBeWeighed : Domain → ℕ → Form → Type 0
 CanBeWeighed d names Unseen = ⊥
 CanBeWeighed d names (Bad refused) = ⊤
-CanBeWeighed d names (Good judgement) = (judgement.name < names) × All (λ (l : ℕ). l < length d.links) judgement.links.items
+CanBeWeighed d names (Good judgement) = (judgement.name < names) × All (λ (hop : Hop). hop.link < length d.links) judgement.tree.items
 
 -- whether a name is held, what a link has left beside those that are held, and which links have too little for a cost
 abbrev pub is_taken : List Standing → ℕ → Bool
@@ -84,7 +85,7 @@ abbrev pub stand_by : Judgement → Standing
 stand_by judgement = record {
   name = judgement.name;
   cost = judgement.cost;
-  links = judgement.links.items;
+  links = links_in judgement.tree.items;
   residence = judgement.residence;
   withdrawn = None;
   held = true;
@@ -94,7 +95,7 @@ stand_by judgement = record {
 abbrev pub Weighs : Domain → List Standing → Form → Option Refused → Type 0
 Weighs d stands Unseen found = ⊥
 Weighs d stands (Bad reason) found = found ≡ Some reason
-Weighs d stands (Good judgement) found = found ≡ stand_refusal d stands judgement.name judgement.cost judgement.links.items
+Weighs d stands (Good judgement) found = found ≡ stand_refusal d stands judgement.name judgement.cost (links_in judgement.tree.items)
 
 -- the form is good, and the stream is the one by it
 abbrev pub IsGood : Form → Type 0

@@ -2,6 +2,7 @@
 use Rattle.std.specs.Prelude.{ℕ, ◌≡◌, ◌≢◌, ◌-◌, ◌<◌, ◌^◌, ◌⊎◌, All, AllPairs, Bool, Contains, List, Option, Some, true, false, if◌then◌else◌, length, slice_index_or, sum_by, ◌==◌}
 use Rattle.std.specs.List.{list_any}
 use Rattle.cqf_units.specs.declared.reservations.Cycle.{Cycle}
+use Rattle.cqf_model.specs.Table.{links_in}
 use Rattle.cqf_admission_trees.specs.Sums.{part_on}
 use Rattle.cqf_admission_ledger.specs.declared.holdings.Stand.{Stand}
 
@@ -19,7 +20,7 @@ abbrev pub standing_of : Stand → Standing
 standing_of stand = record {
   name = stand.name;
   cost = stand.cost;
-  links = stand.links.items;
+  links = links_in stand.tree.items;
   residence = stand.residence;
   withdrawn = stand.withdrawn;
   held = stand.held;

@@ -2,9 +2,11 @@
 ghost use Rattle.std.specs.Prelude.{◌≡◌, ◌+◌, ◌-◌, ◌<◌, ◌≤◌, ◌^◌, ℕ, [], ◌∷◌, ◌++◌, length, true, IfOk, OnOk};
 ghost use Rattle.std.specs.Prelude.{MatchOption, replicate, slice_index_or, slice_set, vec_len, vec_capacity};
 ghost use Rattle.cqf_admission_trees.specs.Sums.{part_on};
+ghost use Rattle.cqf_model.specs.Table.{links_in};
 ghost use Rattle.cqf_admission_ledger.specs.Holdings.{AreAlong, IsFree, IsHolder, IsHeldAt, Standing, holding_ended, held_cost, held_count, released, standing_of};
 
 use cqf_admission_trees::{add_on, take_on};
+use cqf_model::Tree;
 use cqf_units::{Cycle, Memory};
 use std::alloc::Global;
 use std::marker::Model;
@@ -12,14 +14,14 @@ use std::marker::Model;
 /// No stream's number: fewer are ever accepted.
 const NOBODY: u32 = 4_294_967_295;
 
-/// A stream that was accepted: the number of its name, its cost in each of its cycles, its links, for how long it stays, when it
+/// A stream that was accepted: the number of its name, its cost in each of its cycles, its tree, for how long it stays, when it
 /// was withdrawn, and whether it is held.
 #[derive(Drop)]
 pub(crate) struct Stand {
     pub name: usize,
     pub cost: u32,
-    /// In the order of its tree.
-    pub links: Vec<u16>,
+    /// Where it goes.
+    pub tree: Tree,
     /// For how many cycles behind its withdrawal it is held on.
     pub residence: u8,
     pub withdrawn: Option<Cycle>,
@@ -142,14 +144,14 @@ impl Holdings {
         requires held { stand.held ≡ true }
         requires named { stand.name < self.old.names }
         requires free { IsFree self.old.rows stand.name }
-        requires along { AreAlong self.old.links stand.links.items }
-        requires fits { (l : ℕ) → l < self.old.links → held_cost self.old.rows l + part_on stand.links.items stand.cost l < 2 ^ 64 }
+        requires along { AreAlong self.old.links (links_in stand.tree.items) }
+        requires fits { (l : ℕ) → l < self.old.links → held_cost self.old.rows l + part_on (links_in stand.tree.items) stand.cost l < 2 ^ 64 }
         ensures rows { self.new.rows ≡ self.old.rows ++ standing_of stand ∷ [] }
         ensures names { self.new.names ≡ self.old.names }
         ensures links { self.new.links ≡ self.old.links }
     {
         let number = self.rows.len() as u32;
-        add_on(&mut self.sums, stand.links.as_slice(), stand.cost);
+        add_on(&mut self.sums, stand.tree.as_slice(), stand.cost);
         self.by_name[stand.name] = number;
         self.rows.push(stand).unwrap();
         self.count += 1;
@@ -175,7 +177,7 @@ impl Holdings {
         let place = number as usize;
         let stand = &self.rows[place];
         let name = stand.name;
-        take_on(&mut self.sums, stand.links.as_slice(), stand.cost);
+        take_on(&mut self.sums, stand.tree.as_slice(), stand.cost);
         self.by_name[name] = NOBODY;
         self.rows[place].held = false;
         self.count -= 1;

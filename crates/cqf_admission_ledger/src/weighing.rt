@@ -1,13 +1,14 @@
 //! Why streams are refused for what is held, and which of them can be withdrawn.
 ghost use Rattle.std.specs.Prelude.{◌≡◌, ◌+◌, ◌<◌, ◌≤◌, ◌^◌, ℕ, All, IfOk, length};
 ghost use Rattle.cqf_model.specs.Domain.{IsAccepted, budget};
+ghost use Rattle.cqf_model.specs.Table.{links_in};
 ghost use Rattle.cqf_admission_ledger.specs.Forms.{CanBeWeighed, FindsOpenForm, IsGood, IsStandBy, Weighs, left_by, number_of_form, stand_by, stand_refusal, stand_short};
 ghost use Rattle.cqf_admission_ledger.specs.Holdings.{held_cost, standing_of};
 
 use crate::forms::{Form, Judgement};
 use crate::holdings::{Holdings, Stand};
 use cqf_admission_requests::Names;
-use cqf_model::Refused;
+use cqf_model::{Hop, Refused};
 use cqf_topology::Domain;
 use cqf_units::{Memory, budget};
 use std::alloc::Global;
@@ -48,14 +49,14 @@ fn left_of(domain: &Domain, holdings: &Holdings, link: u16) -> u32
 }
 
 /// Why some links have no room for a cost beside the held streams: the first that has less left, if one has.
-fn short_of(domain: &Domain, holdings: &Holdings, cost: u32, links: &[u16]) -> Option<Refused>
-    requires inside { All (λ link. link < length domain.now.links) links.now }
+fn short_of(domain: &Domain, holdings: &Holdings, cost: u32, tree: &[Hop]) -> Option<Refused>
+    requires inside { All (λ hop. hop.link < length domain.now.links) tree.now }
     requires columns { holdings.now.links ≡ length domain.now.links }
     requires within { (l : ℕ) → l < length domain.now.links → held_cost holdings.now.rows l ≤ budget domain.now l }
-    ensures { result ≡ stand_short domain.now holdings.now.rows cost links.now }
+    ensures { result ≡ stand_short domain.now holdings.now.rows cost (links_in tree.now) }
 {
-    for link in links {
-        let link = *link;
+    for hop in tree {
+        let link = hop.link;
         let left = left_of(domain, holdings, link);
         if left < cost {
             return Some(Refused::BudgetShort { link, left });
@@ -67,10 +68,10 @@ fn short_of(domain: &Domain, holdings: &Holdings, cost: u32, links: &[u16]) -> O
 /// The first reason against a stream for what is held.
 fn refusal_of(domain: &Domain, holdings: &Holdings, judgement: &Judgement) -> Option<Refused>
     requires named { judgement.now.name < holdings.now.names }
-    requires inside { All (λ link. link < length domain.now.links) judgement.now.links.items }
+    requires inside { All (λ hop. hop.link < length domain.now.links) judgement.now.tree.items }
     requires columns { holdings.now.links ≡ length domain.now.links }
     requires within { (l : ℕ) → l < length domain.now.links → held_cost holdings.now.rows l ≤ budget domain.now l }
-    ensures { result ≡ stand_refusal domain.now holdings.now.rows judgement.now.name judgement.now.cost judgement.now.links.items }
+    ensures { result ≡ stand_refusal domain.now holdings.now.rows judgement.now.name judgement.now.cost (links_in judgement.now.tree.items) }
 {
     if holdings.holder(judgement.name).is_some() {
         return Some(Refused::NameHeld);
@@ -78,7 +79,7 @@ fn refusal_of(domain: &Domain, holdings: &Holdings, judgement: &Judgement) -> Op
     if holdings.count() >= domain.limits().streams_within() {
         return Some(Refused::TooManyStreams);
     }
-    short_of(domain, holdings, judgement.cost, judgement.links.as_slice())
+    short_of(domain, holdings, judgement.cost, judgement.tree.as_slice())
 }
 
 /// The first reason against the stream of a request: for its form, or else for what is held.
@@ -102,7 +103,7 @@ fn stand_of(alloc: Global, judgement: &Judgement) -> Result<Stand, Memory>
     Ok(Stand {
         name: judgement.name,
         cost: judgement.cost,
-        links: Vec::from_slice(alloc, judgement.links.as_slice())?,
+        tree: judgement.tree.try_copy(alloc)?,
         residence: judgement.residence,
         withdrawn: None,
         held: true,

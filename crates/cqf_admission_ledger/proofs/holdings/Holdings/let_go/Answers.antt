@@ -1,5 +1,7 @@
 use Rattle.std.proofs.Common.{◌≡◌, ◌-◌, ◌<◌, ◌^◌, ◌∙◌, ℕ, List, arith, ap, false, get_or, length, map, set, subst, sym, true}
 use Rattle.std.proofs.lemmas.List.{length-map}
+use Rattle.cqf_model.specs.declared.topology.Hop.{Hop}
+use Rattle.cqf_model.specs.Table.{links_in}
 use Rattle.cqf_admission_trees.specs.Sums.{AreLessOn, HaveOn}
 use Rattle.cqf_admission_ledger.specs.Holdings.{HaveFigures, IsHeldAt, Standing, Stands, released, standing_of}
 use Rattle.cqf_admission_ledger.specs.declared.holdings.Stand.{Stand}
@@ -45,7 +47,7 @@ take_on-requires-clause-held c =
     let low : number < length stands = omega (arith, held.inside, length-map stands standing_of) in
     let is : stand ≡ get_or rows number stand = sym (mapped_there standing_of stands number old stand low c.index-stand.ensures) in
     let is_held : stand.held ≡ true = ap (λ (x : Standing). x.held) is ∙ held.held stand in
-    subst (λ (links : List ℕ). HaveOn c.self.inside.sums.items links stand.cost) (sym c.as_slice.ensures.value) (goes_within rows c.self.inside.by_name.items c.self.inside.sums.items c.self.inside.count c.self.invariant number (record { 0 = 0 }) stand held.inside is is_held)
+    subst (λ (hops : List Hop). HaveOn c.self.inside.sums.items (links_in hops) stand.cost) (sym c.as_slice.ensures.value) (goes_within rows c.self.inside.by_name.items c.self.inside.sums.items c.self.inside.count c.self.invariant number (record { 0 = 0 }) stand held.inside is is_held)
 
 pub index_mut-requires : goal.index_mut-requires
 index_mut-requires c =
@@ -89,7 +91,7 @@ invariant_of-self c =
     let is_held : stand.held ≡ true = ap (λ (x : Standing). x.held) is ∙ held.held stand in
     let there : c.index_mut-2.result.now ≡ old = read_same stands number c.index_mut-2.result.now old low c.index_mut-2.ensures.value c.index-stand.ensures in
     let gone : Stand → List Standing = λ x. map standing_of (set stands number (record x { held = false })) in
-    let taken = subst (λ (links : List ℕ). AreLessOn c.self.inside.sums.items links stand.cost c.take_on.new.sums.items) c.as_slice.ensures.value c.take_on.ensures in
+    let taken = subst (λ (hops : List Hop). AreLessOn c.self.inside.sums.items (links_in hops) stand.cost c.take_on.new.sums.items) c.as_slice.ensures.value c.take_on.ensures in
     subst (λ (rs : List Standing). HaveFigures rs (set c.self.inside.by_name.items stand.name (2 ^ 32 - 1)) c.take_on.new.sums.items (c.self.inside.count - 1)) (sym (ap gone there ∙ map_set standing_of stands number (record old { held = false })))
     (figures_less rows c.self.inside.by_name.items c.self.inside.sums.items c.self.inside.count c.self.invariant number (record { 0 = 0 }) stand held.inside is
     is_held c.take_on.new.sums.items taken)
