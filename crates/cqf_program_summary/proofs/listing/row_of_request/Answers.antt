@@ -11,4 +11,4 @@ returns-in-Ok-clause-countable c =
     let judged = c.in-Ok.judged in
     let is = c.in-Ok.ensures in
     let effect : Cycle = record { 0 = 0 } in
-    granted_counted d asked _ c.cycle_time-cycle_time.ensures.accepted (row_granted d 0 effect asked judged.name judged.tree is.named is.linked) is.most_octets
+    granted_counted d asked _ c.cycle_time-cycle_time.ensures.accepted (row_granted d 0 effect asked judged.name judged.tree.items is.named is.linked) is.most_octets
