@@ -157,8 +157,8 @@ impl<'s> Ledger<'s> {
         let effect = Cycle(self.sealed);
         match weigh(self.domain, &self.holdings, &self.forms[place]) {
             None => {
-                let stand = stand_by(self.alloc, &self.forms[place])?;
                 let no = self.holdings.len();
+                let stand = stand_by(self.alloc, &self.forms[place], no, effect)?;
                 let receipt = Receipt { no, effect };
                 self.holdings.push(stand);
                 enter(
@@ -219,7 +219,7 @@ impl<'s> Ledger<'s> {
         let word = word_of(self.script, from, octets);
         match find_open(&self.names, &self.holdings, word) {
             Ok(number) => {
-                let slot = slot_of(self.sealed, self.holdings.stand(number).residence);
+                let slot = slot_of(self.sealed, self.holdings.stand(number).row.residence());
                 self.slots.put(slot, number)?;
                 self.holdings.end(number, effect);
                 let receipt = Receipt { no: number, effect };
