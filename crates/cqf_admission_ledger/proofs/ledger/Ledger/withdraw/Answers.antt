@@ -1,4 +1,4 @@
-use Rattle.std.proofs.Common.{◌∙◌, ◌-◌, ◌<◌, List, Ok, Err, length, ap, sym, subst, refl, arith}
+use Rattle.std.proofs.Common.{◌∙◌, ◌+◌, ◌-◌, ◌<◌, ◌%◌, ℕ, List, Ok, Err, length, ap, sym, subst, refl, arith}
 use Rattle.cqf_admission_requests.specs.declared.orders.What.TheVariants.{Withdraw}
 use Rattle.cqf_admission_requests.specs.Orders.{StandsIn}
 use Rattle.cqf_topology.specs.declared.streams.Request.{Request}
