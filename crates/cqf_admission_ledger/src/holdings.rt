@@ -1,5 +1,5 @@
 //! Accepted streams by number, of which some are held.
-ghost use Rattle.std.specs.Prelude.{◌≡◌, ◌+◌, ◌-◌, ◌<◌, ◌≤◌, ◌^◌, ℕ, [], ◌∷◌, ◌++◌, length, true, IfOk, OnOk};
+ghost use Rattle.std.specs.Prelude.{◌≡◌, ◌+◌, ◌-◌, ◌<◌, ◌≤◌, ◌^◌, ℕ, [], ◌∷◌, ◌++◌, length, map, true, IfOk, OnOk};
 ghost use Rattle.std.specs.Prelude.{MatchOption, replicate, slice_index_or, slice_set, vec_len, vec_capacity};
 ghost use Rattle.cqf_admission.specs.Rows.{IsCountable, cost_by_link};
 ghost use Rattle.cqf_admission_ledger.specs.Holdings.{IsFree, IsHolder, IsHeldAt, Standing, holding_ended, held_cost, held_count, released, standing_of};
@@ -176,5 +176,16 @@ impl Holdings {
         self.by_name[name] = NOBODY;
         self.rows[place].held = false;
         self.count -= 1;
+    }
+
+    /// The rows of the streams, by number, unless memory runs out.
+    pub(crate) fn into_rows(self, alloc: Global) -> Result<Vec<Row>, Memory>
+        ensures { IfOk result (λ rows. rows.items ≡ map (λ (stand : Standing). stand.row) self.rows) }
+    {
+        let mut rows = Vec::with_capacity(alloc, self.rows.len())?;
+        for stand in self.rows {
+            rows.push(stand.row)?;
+        }
+        Ok(rows)
     }
 }
