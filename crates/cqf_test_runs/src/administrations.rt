@@ -1,6 +1,7 @@
 //! Administrations whose calls are those of a script, with the tables of the cycles that they close.
 ghost use Rattle.std.specs.Prelude.{◌≡◌, ◌≤◌, IfOk, length};
 ghost use Rattle.cqf_laws_report.specs.Judged.{StandInOrder};
+ghost use Rattle.cqf_model.specs.Limits.{most_rows};
 ghost use Rattle.cqf_model.specs.Run.{AreOffers};
 ghost use Rattle.cqf_instants_layout.specs.History.{SomeHistory};
 
@@ -106,7 +107,7 @@ pub(crate) fn judged(
 ) -> Result<(Vec<Row>, Vec<Judgement>), Memory>
     requires offers { AreOffers admission.now.domain offers.now }
     requires order { StandInOrder offers.now }
-    requires few { length offers.now ≤ 1000000 }
+    requires few { length offers.now ≤ most_rows }
     ensures history { IfOk result (λ judged. SomeHistory admission.now.domain cycles judged.0.items offers.now judged.1.items) }
     ensures one_each { IfOk result (λ judged. length judged.1.items ≡ length offers.now) }
 {

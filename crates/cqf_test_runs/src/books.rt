@@ -1,5 +1,6 @@
 //! The text of a small history's book, put while its starts are found, and worked out by hand.
 ghost use Rattle.std.specs.Prelude.{◌≡◌, ◌≤◌, length};
+ghost use Rattle.cqf_model.specs.Limits.{most_rows};
 ghost use Rattle.cqf_laws_report.specs.Judged.{StandInOrder};
 ghost use Rattle.cqf_model.specs.Run.{AreOffers};
 
@@ -68,7 +69,7 @@ fn told_of(alloc: Global, domain: &Domain, pass: Pass, sheet: Sheet) -> Vec<u8>
 fn tells(alloc: Global, admission: &Admission, offers: &[Offer], cycles: u32, wanted: &[u8]) -> bool
     requires offers { AreOffers admission.now.domain offers.now }
     requires order { StandInOrder offers.now }
-    requires few { length offers.now ≤ 1000000 }
+    requires few { length offers.now ≤ most_rows }
 {
     let domain = admission.domain();
     let Ok((granted, covered)) = judged(alloc, admission, cycles, offers) else {

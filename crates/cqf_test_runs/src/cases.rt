@@ -1,12 +1,13 @@
 //! Runs of small histories, and whether they come out as worked out by hand.
 ghost use Rattle.std.specs.Prelude.{◌≤◌, length};
+ghost use Rattle.cqf_model.specs.Limits.{most_rows};
 ghost use Rattle.cqf_laws_report.specs.Judged.{StandInOrder};
 ghost use Rattle.cqf_model.specs.Run.{AreOffers};
 
 use crate::administrations::{Administration, administered};
 use crate::ways::{Wanted, agree};
 use cqf_laws_report::offers_stand_in_order;
-use cqf_model::{Background, Offer};
+use cqf_model::{Background, MOST_ROWS, Offer};
 use cqf_report::read_offers;
 use cqf_test_fixtures::{Backing, are_background, background_of};
 use cqf_topology::Domain;
@@ -38,9 +39,9 @@ fn comes_out_with(
 ) -> bool
     requires offers { AreOffers administration.now.admission.domain offers.now }
     requires order { StandInOrder offers.now }
-    requires few { length offers.now ≤ 1000000 }
+    requires few { length offers.now ≤ most_rows }
 {
-    background.len() <= 1_000_000
+    background.len() <= MOST_ROWS as usize
         && are_background(administration.admission.domain(), background)
         && agree(alloc, administration, cycles, offers, background, wanted)
 }

@@ -1,5 +1,6 @@
 //! The book of a run by both ways: by exact instants, and by bridges with ports and gates.
 ghost use Rattle.std.specs.Prelude.{◌≤◌, length};
+ghost use Rattle.cqf_model.specs.Limits.{most_rows};
 ghost use Rattle.cqf_laws_report.specs.Judged.{StandInOrder};
 ghost use Rattle.cqf_model.specs.Run.{AreBackground, AreOffers};
 
@@ -78,9 +79,9 @@ fn exact_book(
 ) -> Result<Book, Memory>
     requires offers { AreOffers admission.now.domain offers.now }
     requires order { StandInOrder offers.now }
-    requires few { length offers.now ≤ 1000000 }
+    requires few { length offers.now ≤ most_rows }
     requires background { AreBackground admission.now.domain background.now }
-    requires few_background { length background.now ≤ 1000000 }
+    requires few_background { length background.now ≤ most_rows }
 {
     let domain = admission.domain();
     let (granted, covered) = judged(alloc, admission, cycles, offers)?;
@@ -102,9 +103,9 @@ fn plain_book(
     background: &[Background],
 ) -> Option<Book>
     requires offers { AreOffers administration.now.admission.domain offers.now }
-    requires few { length offers.now ≤ 1000000 }
+    requires few { length offers.now ≤ most_rows }
     requires background { AreBackground administration.now.admission.domain background.now }
-    requires few_background { length background.now ≤ 1000000 }
+    requires few_background { length background.now ≤ most_rows }
 {
     let many = cycles as usize;
     let tables = administration.tables.as_slice();
@@ -131,9 +132,9 @@ pub(crate) fn agree(
 ) -> bool
     requires offers { AreOffers administration.now.admission.domain offers.now }
     requires order { StandInOrder offers.now }
-    requires few { length offers.now ≤ 1000000 }
+    requires few { length offers.now ≤ most_rows }
     requires background { AreBackground administration.now.admission.domain background.now }
-    requires few_background { length background.now ≤ 1000000 }
+    requires few_background { length background.now ≤ most_rows }
 {
     let Ok(exact) = exact_book(alloc, &administration.admission, cycles, offers, background) else {
         return false;
