@@ -13,16 +13,21 @@ use cqf_admission::{Call, Entry};
 use cqf_admission_ledger::{Logged, What};
 use cqf_admission_trees::{count_places, find_tree};
 use cqf_laws_history::streams_follow_history;
-use cqf_model::{EACH_CYCLE, Receipt, Reply, Row};
+use cqf_model::{EACH_CYCLE, Receipt, Reply, Row, Tree};
 use cqf_topology::{Domain, Request};
 use cqf_units::{Memory, Name};
 use std::alloc::{AllocError, Global};
 
-/// The row of a request that was granted, with its receipt.
-fn row_of(domain: &Domain, request: &Request, receipt: Receipt) -> Row
+/// The row of a request that was granted, with its receipt, unless memory runs out.
+fn row_of(
+    alloc: Global,
+    domain: &Domain,
+    request: &Request,
+    receipt: Receipt,
+) -> Result<Row, Memory>
     requires admissible { IsAdmissible domain.now (asked_of request.now) }
     requires places { places_of (branches_of request.now.paths.items) < 2 ^ 64 }
-    ensures { result ≡ granted_row domain.now receipt.no receipt.effect.0 (asked_of request.now) }
+    ensures { IfOk result (λ row. row ≡ granted_row domain.now receipt.no receipt.effect.0 (asked_of request.now)) }
 {
     let Some(name) = Name::new(request.name.as_bytes()) else {
         unreachable!();
@@ -30,15 +35,15 @@ fn row_of(domain: &Domain, request: &Request, receipt: Receipt) -> Row
     let Ok(tree) = find_tree(domain, request.paths.as_slice()) else {
         unreachable!();
     };
-    Row {
+    Ok(Row {
         no: receipt.no,
         name,
         octets: request.octets,
         pace: EACH_CYCLE,
-        tree,
+        tree: Tree::new(alloc, tree.as_slice())?,
         admitted: receipt.effect,
         withdrawn: None,
-    }
+    })
 }
 
 /// Ends the stream of a receipt's number from its effect on.
@@ -72,7 +77,8 @@ pub fn granted_streams(
                 if count_places(request.paths.as_slice()).is_none() {
                     return Err(AllocError);
                 }
-                rows.push(row_of(domain, request, receipt))?;
+                let row = row_of(alloc, domain, request, receipt)?;
+                rows.push(row)?;
             }
             Call::Withdraw(_) => end_stream(&mut rows, receipt),
             Call::Seal => {}
@@ -121,7 +127,8 @@ pub fn granted_of_log(
                 if count_places(request.paths.as_slice()).is_none() {
                     return Err(AllocError);
                 }
-                rows.push(row_of(domain, request, receipt))?;
+                let row = row_of(alloc, domain, request, receipt)?;
+                rows.push(row)?;
             }
             What::Withdraw { .. } => end_stream(&mut rows, receipt),
             What::Seal => {}

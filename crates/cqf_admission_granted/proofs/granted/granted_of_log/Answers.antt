@@ -12,7 +12,7 @@ use Rattle.cqf_admission_ledger.specs.Ledger.{recorded_in}
 use Rattle.cqf_admission_granted.specs.Granted.{EndsAt, IsAdmissible}
 use Rattle.cqf_admission_granted.proofs.Steps.{granted, is_there, nothing, recorded_at, sealed, withdrawn}
 use Rattle.cqf_admission_granted.proofs.granted.granted_of_log.Goals as goal
-use Rattle.cqf_admission_granted.proofs.granted.granted_of_log.Goals.{in-Admit+else-place-requests+else-is_none+in_ok-push-in-Admit, in-Withdraw, in-Seal}
+use Rattle.cqf_admission_granted.proofs.granted.granted_of_log.Goals.{in-Admit+else-place-requests+else-is_none+in_ok-row-in-Admit+in_ok-push-in-Admit, in-Withdraw, in-Seal}
 
 -- what is read beyond a log
 abbrev first : Logged
@@ -69,7 +69,7 @@ loop-logged-preserved c =
     let at = recorded_at recorded c.args.log.now k item c.loop-logged-test.true (get_or_default c.args.log.now k first item c.loop-logged-test.true) in
     let receipt = c.in-Some.receipt in
     elim c.match-logged.branch [
-      | in-Admit+else-place-requests+else-is_none+in_ok-push-in-Admit w ↦
+      | in-Admit+else-place-requests+else-is_none+in_ok-row-in-Admit+in_ok-push-in-Admit w ↦
           (let place = w.in-Admit.place in
           let step = granted d all c.requires k (recorded item) at c.streams_follow_history.ensures.granted (request_at (map asked_of rs) place) receipt
           (ap (act_in (map asked_of rs) script) w.in-Admit.is) c.in-Some.ensures in
@@ -79,7 +79,7 @@ loop-logged-preserved c =
           ∙ ap asked_of (sym w.index-requests-place.is) in
           rw w.rows-is
           (w.in_ok-push-in-Admit.ensures.items
-          ∙ (λ i. c.loop-logged.invariant i ++ (w.row_of.ensures ∙ ap (λ (asked : Asked). granted_row d receipt.no receipt.effect.0 asked) (sym own)) i ∷ [])
+          ∙ (λ i. c.loop-logged.invariant i ++ (w.in_ok-row-in-Admit.ensures ∙ ap (λ (asked : Asked). granted_row d receipt.no receipt.effect.0 asked) (sym own)) i ∷ [])
           ∙ sym step.1))
       | in-Withdraw w ↦ rw w.rows-is
           (sym ((withdrawn d all c.requires k (recorded item) at c.streams_follow_history.ensures.withdrawn
