@@ -120,14 +120,14 @@ refusal_held d rows asked held =
 pub row_granted : (d : Domain) (number : ℕ) (effect : Cycle) (asked : Asked) (name : List ℕ) (tree : List Hop) → name ≡ asked.name →
     tree ≡ tree_of d asked.paths →
     (let row : Row = record {
-        no = number;
-        name = name;
-        octets = asked.octets;
-        pace = pace_of asked;
-        tree = record { items = tree };
-        admitted = effect;
-        withdrawn = None;
-      } in
+      no = number;
+      name = name;
+      octets = asked.octets;
+      pace = pace_of asked;
+      tree = record { items = tree };
+      admitted = effect;
+      withdrawn = None;
+    } in
     row) ≡ granted_row d number effect.0 asked
 row_granted d number effect asked name tree named linked =
     λ i. record {

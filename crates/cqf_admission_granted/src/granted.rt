@@ -1,16 +1,13 @@
 //! The rows of granted streams, entry by entry.
-ghost use Rattle.std.specs.Prelude.{◌≡◌, ◌<◌, ◌^◌, false, IfOk, MatchOption, length, map};
+ghost use Rattle.std.specs.Prelude.{◌≡◌, ◌<◌, ◌^◌, IfOk, length, map};
 ghost use Rattle.cqf_admission.specs.Admission.{recorded_of};
 ghost use Rattle.cqf_admission.specs.Asking.{asked_of};
-ghost use Rattle.cqf_admission_granted.specs.Granted.{EndsAt, IsAdmissible, accepts};
-ghost use Rattle.cqf_admission_ledger.specs.Ledger.{recorded_in};
+ghost use Rattle.cqf_admission_granted.specs.Granted.{EndsAt, IsAdmissible};
 ghost use Rattle.cqf_laws_history.specs.StateLaws.{granted_row};
-ghost use Rattle.cqf_model.specs.declared.history.Reply.TheVariants.{Accepted};
 ghost use Rattle.cqf_model.specs.History.{IsLegalHistory, streams_of};
 ghost use Rattle.cqf_admission_trees.specs.Branches.{branches_of, places_of};
 
 use cqf_admission::{Call, Entry};
-use cqf_admission_ledger::{Logged, What};
 use cqf_admission_trees::{count_places, find_tree};
 use cqf_laws_history::streams_follow_history;
 use cqf_model::{EACH_CYCLE, Receipt, Reply, Row, Tree};
@@ -82,56 +79,6 @@ pub fn granted_streams(
             }
             Call::Withdraw(_) => end_stream(&mut rows, receipt),
             Call::Seal => {}
-        }
-    }
-    Ok(rows)
-}
-
-/// The receipt of an entry that was accepted.
-fn receipt_of(logged: &Logged) -> Option<Receipt>
-    ensures { MatchOption result (accepts logged.now.reply ≡ false) (λ receipt. logged.now.reply ≡ Accepted receipt) }
-{
-    match logged.reply {
-        Reply::Accepted(receipt) => Some(receipt),
-        Reply::Refused(_) | Reply::Sealed => None,
-    }
-}
-
-/// The streams that a log of the domain ever granted, by number, where these are its requests and this is its script. The time
-/// grows with the entries, and with the requests that were granted.
-///
-/// # Errors
-/// Where a growth is refused.
-pub fn granted_of_log(
-    alloc: Global,
-    domain: &Domain,
-    requests: &[Request],
-    script: &[u8],
-    log: &[Logged],
-) -> Result<Vec<Row>, Memory>
-    requires { IsLegalHistory domain.now (map (recorded_in (map asked_of requests.now) script.now) log.now) }
-    ensures { IfOk result (λ rows. rows.items ≡ streams_of domain.now (map (recorded_in (map asked_of requests.now) script.now) log.now)) }
-{
-    streams_follow_history();
-    let mut rows = Vec::new(alloc);
-    for logged in log {
-        let Some(receipt) = receipt_of(logged) else {
-            continue;
-        };
-        match logged.what {
-            What::Admit(place) => {
-                if place >= requests.len() {
-                    unreachable!();
-                }
-                let request = &requests[place];
-                if count_places(request.paths.as_slice()).is_none() {
-                    return Err(AllocError);
-                }
-                let row = row_of(alloc, domain, request, receipt)?;
-                rows.push(row)?;
-            }
-            What::Withdraw { .. } => end_stream(&mut rows, receipt),
-            What::Seal => {}
         }
     }
     Ok(rows)

@@ -112,15 +112,6 @@ impl<'s> Ledger<'s> {
         self.log.as_slice()
     }
 
-    /// All entries, in order, of a ledger that is over. It takes no memory.
-    pub fn into_log(self) -> Vec<Logged>
-        ensures entries { map (recorded_in self.entry.requests self.entry.script) result.items ≡ self.entry.administration.entries }
-        ensures legal { IsLegalHistory self.entry.administration.domain self.entry.administration.entries }
-        ensures there { AreThere self.entry.requests self.entry.script result.items }
-    {
-        self.log
-    }
-
     /// All entries, in order, and the rows of all streams that were ever granted, by number, of a ledger that is over.
     ///
     /// # Errors

@@ -59,11 +59,7 @@ fn costs_with(costs: Vec<u64>, row: &Option<Row>) -> Vec<u64>
 }
 
 /// The row of a request, as if it were the first of all; none where its octets or its path are refused.
-fn row_of_request(
-    alloc: Global,
-    domain: &Domain,
-    request: &Request,
-) -> Result<Option<Row>, Memory>
+fn row_of_request(alloc: Global, domain: &Domain, request: &Request) -> Result<Option<Row>, Memory>
     ensures row { IfOk result (λ row. row ≡ row_of_stream domain.now (asked_of request.now)) }
     ensures countable { IfOk result MayBeCounted }
 {
@@ -122,12 +118,7 @@ impl Listing {
     }
 
     /// The listing with the stream of a request behind those before it, where it is told of. No memory has room for 2^32 of them.
-    fn with(
-        self,
-        alloc: Global,
-        domain: &Domain,
-        request: &Request,
-    ) -> Result<Listing, Memory>
+    fn with(self, alloc: Global, domain: &Domain, request: &Request) -> Result<Listing, Memory>
         requires { (before : List Asked) × IsListing domain.now before self }
         ensures { IfOk result (λ after. (before : List Asked) → IsListing domain.now before self →
             IsListing domain.now (before ++ asked_of request.now ∷ []) after) }
