@@ -1,6 +1,6 @@
 //! The rows of held streams, as tables share them.
 ghost use Rattle.std.specs.Arc.{arc_value};
-ghost use Rattle.std.specs.Prelude.{◌≡◌, ◌<◌, ◌≤◌, ℕ, [], false, AllPairs, IfOk, List, count_by, length, map, nat_lt};
+ghost use Rattle.std.specs.Prelude.{◌≡◌, ◌≢◌, [], false, AllPairs, IfOk, List, count_by, map, nat_lt};
 ghost use Rattle.cqf_model.specs.declared.topology.Row.{Row as ARow};
 ghost use Rattle.cqf_model.specs.Domain.{Domain};
 ghost use Rattle.cqf_model.specs.History.{Recorded, held_in, next_number, seals};
@@ -50,13 +50,7 @@ impl Model for Tabling {
 fn count_below(rows: &[Arc<Row>], below: u32) -> usize
     ensures { result ≡ count_by (λ (row : ARow). nat_lt row.no below) (map (λ row. arc_value row) rows.now) }
 {
-    let mut count = 0;
-    for row in rows {
-        if row.no < below {
-            count += 1;
-        }
-    }
-    count
+    rows.iter().filter(|row| row.no < below).count()
 }
 
 impl Tabling {
