@@ -1,5 +1,5 @@
 -- What tables are made from.
-use Rattle.std.specs.Prelude.{ℕ, ◌≡◌, ◌<◌, ◌≤◌, Bool, Contains, List, true}
+use Rattle.std.specs.Prelude.{ℕ, ◌≡◌, ◌<◌, ◌≤◌, ◌&&◌, Bool, Contains, List, not, true}
 use Rattle.cqf_model.specs.declared.topology.Row.{Row}
 use Rattle.cqf_model.specs.Domain.{Domain}
 use Rattle.cqf_model.specs.History.{Recorded, held_in, next_number, seals}
@@ -25,3 +25,10 @@ pub record SomeTables (figures : Figures) (tables : Tables) : Type 0 where
   pub entries : List Recorded
   pub is : IsStateOf domain entries figures
   pub are : AreTablesOf domain entries tables
+
+-- they are noted as changed, or not
+pub record IsNoted (before after : Tables) (changed : Bool) : Type 0 where
+  pub listed : after.listed ≡ before.listed
+  pub current : after.is_current ≡ (before.is_current && not changed)
+  pub numbers : after.numbers ≡ before.numbers
+  pub below : after.below ≡ before.below

@@ -115,9 +115,7 @@ impl Admission {
             }
             Err(refused) => Err(refused),
         };
-        if answer.is_ok() {
-            self.tabling.note_change();
-        }
+        self.tabling.note(answer.is_ok());
         let admit = Call::Admit(asked);
         enter(&mut self.history, seat, admit, reply_of(answer));
         answer
@@ -140,9 +138,7 @@ impl Admission {
         self.history.reserve(1)?;
         state_follows_history();
         let answer = self.state.withdraw(self.alloc, name)?;
-        if answer.is_ok() {
-            self.tabling.note_change();
-        }
+        self.tabling.note(answer.is_ok());
         let withdraw = Call::Withdraw(asked);
         enter(&mut self.history, seat, withdraw, reply_of(answer));
         answer
@@ -162,9 +158,8 @@ impl Admission {
         let listed = self.tabling.share(self.alloc, &self.state)?;
         self.history.reserve(1)?;
         state_follows_history();
-        if self.state.seal() {
-            self.tabling.note_change();
-        }
+        let ends = self.state.seal();
+        self.tabling.note(ends);
         enter(&mut self.history, seat, Call::Seal, Reply::Sealed);
         Ok(Table::new(cycle, listed))
     }

@@ -1,11 +1,11 @@
 //! The rows of held streams, as tables share them.
 ghost use Rattle.std.specs.Arc.{arc_value};
-ghost use Rattle.std.specs.Prelude.{◌≡◌, ◌≢◌, [], false, AllPairs, IfOk, List, count_by, map, nat_lt};
+ghost use Rattle.std.specs.Prelude.{◌≡◌, ◌≢◌, [], AllPairs, IfOk, List, count_by, map, nat_lt};
 ghost use Rattle.cqf_model.specs.declared.topology.Row.{Row as ARow};
 ghost use Rattle.cqf_model.specs.Domain.{Domain};
 ghost use Rattle.cqf_model.specs.History.{Recorded, held_in, next_number, seals};
 ghost use Rattle.cqf_admission.specs.State.{IsStateOf};
-ghost use Rattle.cqf_admission.specs.Tabling.{AreTablesOf, SomeTables};
+ghost use Rattle.cqf_admission.specs.Tabling.{AreTablesOf, IsNoted, SomeTables};
 
 use crate::listed::Listed;
 use crate::numbers::Numbers;
@@ -68,14 +68,11 @@ impl Tabling {
         })
     }
 
-    /// Notes that other rows are held than those of the last table.
-    pub(crate) fn note_change(&mut self)
-        ensures listed { self.new.listed ≡ self.old.listed }
-        ensures current { self.new.is_current ≡ false }
-        ensures numbers { self.new.numbers ≡ self.old.numbers }
-        ensures below { self.new.below ≡ self.old.below }
+    /// Notes whether other rows are held than before.
+    pub(crate) fn note(&mut self, changed: bool)
+        ensures { IsNoted self.old self.new changed }
     {
-        self.is_current = false;
+        self.is_current = self.is_current && !changed;
     }
 
     /// Numbers the names of the held rows anew, where too many stand behind those that are found by their numbers.
