@@ -1,0 +1,11 @@
+pub mod HeldNumbers
+pub mod Figures
+pub mod Lists
+pub mod LetGo
+pub mod EachRow
+pub mod MappedRows
+pub mod TableLemmas
+pub mod SharedRows
+pub mod HeldLemmas
+pub mod SumLemmas
+pub mod CostLemmas
