@@ -57,7 +57,9 @@ index-requires c =
     ap (λ (ns : List ℕ). get_or ns c.loop-number.number-index 0) c.deref-number-items.ensures.value in
     let low : c.loop-number.number-index < length c.self.inside.held.items =
     omega (arith, c.loop-number-test.true, ap (λ (ns : List ℕ). length ns) c.deref-number-items.ensures.value) in
-    inside c.self.inside.rows.items c.self.inside.held.items c.self.invariant.numbers c.loop-number.number-index number low number_is
+    let there : number < length c.self.inside.rows.items =
+    inside c.self.inside.rows.items c.self.inside.held.items c.self.invariant.numbers c.loop-number.number-index number low number_is in
+    omega (arith, there, c.self.inside.rows.ok.0)
 
 pub loop-number-preserved : goal.loop-number-preserved
 loop-number-preserved c =
