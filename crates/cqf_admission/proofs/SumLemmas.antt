@@ -1,4 +1,4 @@
--- The sums by link of what held streams cost.
+-- What streams cost by link.
 use Rattle.std.proofs.Common.{◌≡◌, ℕ, List, sym}
 use Rattle.std.specs.Prelude.{Contains}
 use Rattle.cqf_model.specs.declared.topology.Row.{Row}

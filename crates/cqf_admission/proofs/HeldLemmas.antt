@@ -1,0 +1,27 @@
+-- Names of rows, and the places of rows by name.
+use Rattle.std.proofs.Common.{◌≡◌, ℕ, ◌+◌, Bool, cond, List, Some, None, [], ◌∷◌, nat_eq, length, position, refl, ap, ◌∙◌}
+use Rattle.std.specs.Prelude.{map, not, nat_lt}
+use Rattle.std.specs.List.{list_any, prefix_len}
+use Rattle.std.specs.Cmp.Lexicographic.{pointwise}
+use Rattle.std.proofs.lemmas.List.{length-map}
+use Rattle.cqf_model.proofs.Texts.{pointwise-is_text}
+use Rattle.cqf_model.specs.declared.topology.Row.{Row}
+use Rattle.cqf_model.specs.Domain.{is_text}
+use Rattle.cqf_lists.proofs.Any.{list_any-map}
+
+-- how many fail before the first that passes, of a mapped list
+prefix_len-map : {X Y : Type 0} (p : Y → Bool) (f : X → Y) (xs : List X) → prefix_len p (map f xs) ≡ prefix_len (λ x. p (f x)) xs
+prefix_len-map p f [] = refl
+prefix_len-map p f (x ∷ xs) = ap (λ (n : ℕ). cond (p (f x)) (1 + n) 0) (prefix_len-map p f xs)
+
+-- the first place that passes, of a mapped list
+pub position-map : {X Y : Type 0} (p : Y → Bool) (f : X → Y) (xs : List X) → position p (map f xs) ≡ position (λ x. p (f x)) xs
+position-map p f xs =
+    ap (λ (n : ℕ). cond (nat_lt n (length (map f xs))) (Some n) None) (prefix_len-map (λ y. not (p y)) f xs)
+    ∙ ap (λ (n : ℕ). cond (nat_lt (prefix_len (λ x. not (p (f x))) xs) n) (Some (prefix_len (λ x. not (p (f x))) xs)) None) (length-map xs f)
+
+-- a name stands among the names where its row stands among the rows
+pub name_among : (name : List ℕ) (rows : List Row) →
+    list_any (pointwise nat_eq name) (map (λ (row : Row). row.name) rows) ≡ list_any (λ (row : Row). is_text row.name name) rows
+name_among name rows =
+    list_any-map (pointwise nat_eq name) (λ (row : Row). row.name) rows ∙ (λ i. list_any (λ (row : Row). pointwise-is_text name row.name i) rows)
