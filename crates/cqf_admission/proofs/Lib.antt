@@ -1,0 +1,16 @@
+pub mod EachRow
+pub mod SumLemmas
+pub mod TableLemmas
+pub mod Lists
+pub mod GrantLemmas
+pub mod Streams
+pub mod Ring
+pub mod Whole
+pub mod Told
+pub mod Taken
+pub mod RunLemmas
+pub mod Found
+pub mod Running
+pub mod Weighed
+pub mod Withdrawing
+pub mod StateCalls

@@ -126,7 +126,7 @@ fn refusal_of(domain: &Domain, holdings: &Holdings, form: GoodForm<'_>) -> Optio
     requires octets { form.octets ≤ most_reserved }
     requires columns { holdings.now.links ≡ length domain.now.links }
     requires within { (l : ℕ) → l < length domain.now.links → held_cost holdings.now.rows l ≤ budget domain.now l }
-    ensures { result ≡ stand_refusal domain.now holdings.now.rows form.name.now (cost_of form.octets) (links_in form.tree.now) }
+    ensures { result ≡ stand_refusal domain.now holdings.now.rows form.entry.name.now (cost_of form.entry.octets) (links_in form.entry.tree.now) }
 {
     if holdings.holder(form.name).is_some() {
         return Some(Refused::NameHeld);
@@ -140,7 +140,7 @@ fn refusal_of(domain: &Domain, holdings: &Holdings, form: GoodForm<'_>) -> Optio
 /// The row of a request of good form, of a number and from a cycle on, unless memory runs out.
 fn row_by(alloc: Global, form: GoodForm<'_>, no: u32, admitted: Cycle) -> Result<Row, Memory>
     requires { length form.tree.now ≤ most_hops }
-    ensures { IfOk result (λ row. row ≡ row_by form no admitted) }
+    ensures { IfOk result (λ row. row ≡ row_by form.entry no admitted) }
 {
     Ok(Row {
         no,
@@ -226,7 +226,7 @@ impl State {
     ) -> Result<Result<Receipt, Refused>, Memory>
         requires history { SomeHistory domain.now self.old }
         requires request { SomeRequest domain.now form }
-        ensures admits { IfOk result (AdmitsForm domain.now form self.old self.new) }
+        ensures admits { IfOk result (AdmitsForm domain.now form.entry self.old self.new) }
         ensures same { OnErr result (StaysSo self.old self.new) }
     {
         state_follows_history();
