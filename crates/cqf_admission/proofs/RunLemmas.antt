@@ -1,6 +1,6 @@
 -- An administration that runs on the held streams in place of its history.
 use Rattle.std.proofs.Common.{◌≡◌, ℕ, ◌+◌, ◌-◌, ◌<◌, ◌≤◌, Bool, true, false, cond, List, Option, Some, None, [], ◌∷◌, ◌&&◌, not, length}
-use Rattle.std.proofs.Common.{position, refl, ap, ◌∙◌, sym, arith, subst, length-append}
+use Rattle.std.proofs.Common.{position, refl, ap, sym, arith, subst, length-append}
 use Rattle.std.specs.Prelude.{Result, Err, if◌then◌else◌, nat_le, nat_lt, is_none, filter, Contains}
 use Rattle.std.specs.List.{flat_map, list_any}
 use Rattle.std.proofs.lemmas.Bool.{both_ways}

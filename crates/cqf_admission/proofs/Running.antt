@@ -13,7 +13,7 @@ use Rattle.cqf_model.specs.declared.history.Refused.{Refused}
 use Rattle.cqf_model.specs.declared.history.Reply.TheVariants.{Accepted, Sealed, Refused as RefusedFor}
 use Rattle.cqf_model.specs.declared.topology.Row.{Row}
 use Rattle.cqf_model.specs.Domain.{Domain}
-use Rattle.cqf_model.specs.History.{Act, Admits, Asked, IsLegalHistory, Recorded, Seals, admit_reply, held_in, is_seal, next_number, pace_of, refusal_of}
+use Rattle.cqf_model.specs.History.{Act, Admits, Asked, Recorded, Seals, admit_reply, held_in, is_seal, next_number, pace_of, refusal_of}
 use Rattle.cqf_model.specs.History.{reply_to, seals, streams_of}
 use Rattle.cqf_model.specs.Limits.{most_calls, most_cycles}
 use Rattle.cqf_model.specs.Paces.{each_cycle}

@@ -1,5 +1,5 @@
 -- What the figures tell of held streams is so.
-use Rattle.std.proofs.Common.{◌≡◌, ℕ, ◌<◌, ◌-◌, Bool, true, false, cond, List, Some, [], ◌∷◌, find, get_or, length}
+use Rattle.std.proofs.Common.{◌≡◌, ℕ, ◌-◌, Bool, true, false, cond, List, Some, [], ◌∷◌, find, get_or, length}
 use Rattle.std.proofs.Common.{nat_lt, refl, sym, ap, ◌∙◌}
 use Rattle.std.specs.Prelude.{Contains, ◌&&◌, nat_le}
 use Rattle.std.specs.List.{list_any}

@@ -1,5 +1,5 @@
 -- What a request of good form is beside the figures.
-use Rattle.std.proofs.Common.{◌≡◌, ℕ, ◌+◌, ◌-◌, ◌<◌, ◌≤◌, ◌^◌, Bool, true, false, List, Option, Some, None, length, refl, sym, ap, ◌∙◌, subst, arith}
+use Rattle.std.proofs.Common.{◌≡◌, ℕ, ◌+◌, ◌-◌, ◌<◌, ◌≤◌, ◌^◌, Bool, true, false, List, Option, None, length, refl, sym, ap, ◌∙◌, subst, arith}
 use Rattle.std.specs.Prelude.{All, ◌==◌, if◌then◌else◌}
 use Rattle.std.specs.List.{list_any}
 use Rattle.std.proofs.Math.Nat.{div-le_self}
@@ -10,12 +10,10 @@ use Rattle.cqf_units.specs.declared.reservations.Cycle.{Cycle}
 use Rattle.cqf_model.specs.declared.history.Refused.{Refused}
 use Rattle.cqf_model.specs.declared.history.Refused.TheVariants.{NameHeld}
 use Rattle.cqf_model.specs.declared.topology.Hop.{Hop}
-use Rattle.cqf_model.specs.declared.topology.Row.{Row}
 use Rattle.cqf_model.specs.Domain.{Domain, IsAccepted, budget, octet_time_of}
 use Rattle.cqf_model.specs.History.{Asked, Recorded, held_in, next_number, refusal_of, refused_if, seals, streams_of}
-use Rattle.cqf_model.specs.Limits.{most_hops, most_reserved}
-use Rattle.cqf_model.specs.Paces.{each_cycle}
-use Rattle.cqf_model.specs.Table.{links_in, links_of}
+use Rattle.cqf_model.specs.Limits.{most_hops}
+use Rattle.cqf_model.specs.Table.{links_in}
 use Rattle.cqf_model.proofs.Hops.{hops_inside}
 use Rattle.cqf_laws_history.specs.StateLaws.{HeldAreSound, granted_row}
 use Rattle.cqf_laws_history.proofs.Granted.{granted_fits_a_row}
