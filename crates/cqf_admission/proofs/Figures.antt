@@ -226,9 +226,10 @@ module _ (rows : List Standing) (under : List ℕ → Option ℕ) (held sums : L
         | inl same ↦ (
             let this : get_or (set rows number (with_row s (ended s.row cycle))) other d ≡ with_row s (ended s.row cycle) =
             ap (λ (n : ℕ). get_or (set rows number (with_row s (ended s.row cycle))) n d) same ∙ here rows number (with_row s (ended s.row cycle)) inside d in
-            let old : get_or rows other d ≡ s = ap (λ (n : ℕ). get_or rows n d) same ∙ was d in
-            (ap (λ (x : Standing). x.held) this ∙ sym (ap (λ (x : Standing). x.held) old),
-                ap (λ (x : Standing). x.row.name) this ∙ sym (ap (λ (x : Standing). x.row.name) old)))
+            let old : get_or rows other d ≡ s = ap (λ (n : ℕ). get_or rows n d) same ∙ was d in (
+              ap (λ (x : Standing). x.held) this ∙ sym (ap (λ (x : Standing). x.held) old),
+              ap (λ (x : Standing). x.row.name) this ∙ sym (ap (λ (x : Standing). x.row.name) old),
+            ))
         | inr differ ↦ (
             let this = elsewhere rows number (with_row s (ended s.row cycle)) inside other d differ in
             (ap (λ (x : Standing). x.held) this, ap (λ (x : Standing). x.row.name) this))

@@ -89,9 +89,9 @@ held_from from [] number among = absurd (contains_none number among)
 held_from from (x ∷ rows) number among = elim (cases_Bool x.held) [
   | inl t ↦ elim (contains_cases from (numbers_from (from + 1) rows) number
       (subst (λ (b : Bool). Contains (in_front b from (numbers_from (from + 1) rows)) number) t among)) [
-    | inl here ↦ (zero, omega (arith, here), record { inside = omega arith; held = λ d. t })
-    | inr later ↦ held_later from x rows number (held_from (from + 1) rows number later)
-  ]
+        | inl here ↦ (zero, omega (arith, here), record { inside = omega arith; held = λ d. t })
+        | inr later ↦ held_later from x rows number (held_from (from + 1) rows number later)
+      ]
   | inr f ↦
       held_later from x rows number
       (held_from (from + 1) rows number (subst (λ (b : Bool). Contains (in_front b from (numbers_from (from + 1) rows)) number) f among))

@@ -161,8 +161,13 @@ pub tables_less : (d : Domain) (entries : List Recorded) (e : Recorded) (before 
 tables_less d entries e before after true cycle are noted held stays =
     tables_kept d entries e before after are noted.numbers noted.below
     (λ now. absurd (never_current before.is_current (sym noted.current ∙ now)))
-    (λ row c low. (row, (contains_from_filter (λ (x : Row). is_held x cycle) (held_in d entries (seals entries)) row
-    (subst (λ (rs : List Row). Contains rs row) held c)).0, refl, refl))
+    (λ row c low. (
+      row,
+      (contains_from_filter (λ (x : Row). is_held x cycle) (held_in d entries (seals entries)) row
+          (subst (λ (rs : List Row). Contains rs row) held c)).0,
+      refl,
+      refl,
+    ))
 tables_less d entries e before after false cycle are noted held stays = tables_same d entries e before after are noted (stays refl)
 
 -- what stands alike is held alike

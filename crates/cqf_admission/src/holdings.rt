@@ -71,7 +71,10 @@ fn copied_stands(alloc: Global, stands: &[Stand]) -> Result<Vec<Stand>, Memory>
     let mut copies = Vec::with_capacity(alloc, stands.len())?;
     for stand in stands {
         let row = Arc::try_clone(&stand.row)?;
-        copies.push(Stand { row, held: stand.held })?;
+        copies.push(Stand {
+            row,
+            held: stand.held,
+        })?;
     }
     Ok(copies)
 }
@@ -178,7 +181,11 @@ impl Holdings {
         let name = row.name.copied();
         let row = Arc::new(alloc, row)?;
         self.by_name.insert(name, number)?;
-        add_on(&mut self.sums, row.tree.as_slice(), cost(Octets(row.octets)).0);
+        add_on(
+            &mut self.sums,
+            row.tree.as_slice(),
+            cost(Octets(row.octets)).0,
+        );
         self.held.push(number).unwrap();
         self.rows.push(Stand { row, held: true }).unwrap();
         Ok(())
@@ -202,7 +209,11 @@ impl Holdings {
     {
         let place = number as usize;
         let row = &self.rows[place].row;
-        take_on(&mut self.sums, row.tree.as_slice(), cost(Octets(row.octets)).0);
+        take_on(
+            &mut self.sums,
+            row.tree.as_slice(),
+            cost(Octets(row.octets)).0,
+        );
         let _ = self.by_name.remove(&row.name);
         take_out(&mut self.held, number);
         self.rows[place].held = false;

@@ -146,7 +146,9 @@ impl<'s> Ledger<'s> {
         let answer = match &self.forms[place] {
             Form::Unseen => unreachable!(),
             Form::Bad(refused) => Err(*refused),
-            Form::Good(row) => self.state.admit(self.alloc, self.domain, GoodForm::of_row(row))?,
+            Form::Good(row) => self
+                .state
+                .admit(self.alloc, self.domain, GoodForm::of_row(row))?,
         };
         enter(&mut self.log, seat, What::Admit(place), reply_of(answer));
         answer

@@ -34,17 +34,21 @@ returns-then-is_some c =
     let rows = c.args.holdings.now.rows in
     let holder : IsHolder rows c.in-Some.name c.in-Some-holder.number =
     subst (λ (o : Option ℕ). MatchOption o (IsFree rows c.in-Some.name) (IsHolder rows c.in-Some.name)) c.in-Some-holder.is c.holder.ensures in
-    inr (refl, c.in-Some-holder.number,
-    (subst (λ (name : List ℕ). IsHolder rows name c.in-Some-holder.number) named holder,
-    λ d. ap (λ (row : Row). is_some row.withdrawn) (c.row.ensures d) ∙ sym c.is_some.ensures ∙ c.if-is_some.true))
+    inr (
+      refl,
+      c.in-Some-holder.number,
+      (
+        subst (λ (name : List ℕ). IsHolder rows name c.in-Some-holder.number) named holder,
+        λ d. ap (λ (row : Row). is_some row.withdrawn) (c.row.ensures d) ∙ sym c.is_some.ensures ∙ c.if-is_some.true,
+      ),
+    )
 
 pub returns : goal.returns
 returns c =
     let named : c.in-Some.name ≡ c.args.word.now = c.in-Some.ensures.value ∙ c.as_bytes.ensures.value in
     let rows = c.args.holdings.now.rows in
     let holder : IsHolder rows c.in-Some.name c.in-Some-holder.number =
-    subst (λ (o : Option ℕ). MatchOption o (IsFree rows c.in-Some.name) (IsHolder rows c.in-Some.name)) c.in-Some-holder.is c.holder.ensures in
-    (
+    subst (λ (o : Option ℕ). MatchOption o (IsFree rows c.in-Some.name) (IsHolder rows c.in-Some.name)) c.in-Some-holder.is c.holder.ensures in (
       subst (λ (name : List ℕ). IsHolder rows name c.in-Some-holder.number) named holder,
       λ d. ap (λ (r : Row). r.withdrawn) (c.row.ensures d) ∙ none_from c.row.result.now.withdrawn (sym c.is_some.ensures ∙ c.if-is_some.false),
     )

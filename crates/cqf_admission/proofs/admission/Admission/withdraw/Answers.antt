@@ -30,8 +30,12 @@ module _ (c : goal.After-enter) where
   entries = map recorded_of c.self.inside.history.items
 
   few : length entries - c.self.inside.state.sealed < 100000
-  few = omega (arith, few_calls c.is_full.result c.len.result c.self.inside.state.sealed c.if-is_full.false c.is_full.ensures, c.len.ensures,
-      length-map c.self.inside.history.items recorded_of)
+  few = omega (
+    arith,
+    few_calls c.is_full.result c.len.result c.self.inside.state.sealed c.if-is_full.false c.is_full.ensures,
+    c.len.ensures,
+    length-map c.self.inside.history.items recorded_of,
+  )
 
   -- the call as it is entered
   after_is : map recorded_of c.enter.new.history.items ≡ entries_with entries c.args.seat (Withdraws c.args.name.now) c.in_ok-answer.answer
@@ -50,12 +54,12 @@ module _ (c : goal.After-enter) where
 
 pub invariant_of-self-2 : goal.invariant_of-self-2
 invariant_of-self-2 c = (
-      (entered c).of,
-      subst (λ (es : List Recorded). AreTablesOf c.self.inside.domain es c.note.new.self) (sym (after_is c))
-          (tabled c.self.inside.domain (entries c) c.args.seat c.args.name.now c.self.inside.tabling c.note.new.self c.in_ok-answer.answer c.self.invariant.1
-          (subst (IsNoted c.self.inside.tabling c.note.new.self) c.is_ok.ensures.value c.note.ensures)
-          (c.in_ok-answer.ensures.withdraws c.self.inside.domain (entries c) c.args.seat c.self.invariant.0 (few c)).1),
-    )
+  (entered c).of,
+  subst (λ (es : List Recorded). AreTablesOf c.self.inside.domain es c.note.new.self) (sym (after_is c))
+      (tabled c.self.inside.domain (entries c) c.args.seat c.args.name.now c.self.inside.tabling c.note.new.self c.in_ok-answer.answer c.self.invariant.1
+      (subst (IsNoted c.self.inside.tabling c.note.new.self) c.is_ok.ensures.value c.note.ensures)
+      (c.in_ok-answer.ensures.withdraws c.self.inside.domain (entries c) c.args.seat c.self.invariant.0 (few c)).1),
+)
 
 pub returns-clause-answers : goal.returns-clause-answers
 returns-clause-answers c =

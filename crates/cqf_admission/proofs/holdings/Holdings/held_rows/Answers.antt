@@ -37,8 +37,12 @@ module _ (stands : List Stand) (held : List ℕ) (are : held ≡ numbers_from 0 
   next_is : (stand : Stand) → stand ≡ get_or stands number stand → get_or (wanted stands) place (arc_value stand.row) ≡ arc_value stand.row
   next_is stand there =
       mapped_there (λ (s : Standing). s.row) (filter (λ (s : Standing). s.held) (map standing_of stands)) place (standing_of stand) (arc_value stand.row)
-      (omega (arith, low, wanted_many stands held are,
-      length-map (filter (λ (s : Standing). s.held) (map standing_of stands)) (λ (s : Standing). s.row)))
+      (omega (
+        arith,
+        low,
+        wanted_many stands held are,
+        length-map (filter (λ (s : Standing). s.held) (map standing_of stands)) (λ (s : Standing). s.row),
+      ))
       (held_in_place (map standing_of stands) place number (standing_of stand) (omega (arith, low, ap (λ (ns : List ℕ). length ns) are))
       (is_there ∙ ap (λ (ns : List ℕ). get_or ns place number) are) (sym (mapped_there standing_of stands number stand (standing_of stand) inside there)))
 
@@ -77,7 +81,11 @@ returns c =
     let stands = c.self.inside.rows.items in
     let held = c.self.inside.held.items in
     let all : length (wanted stands) ≤ c.loop-number.number-index =
-    omega (arith, c.loop-number-test.false, wanted_many stands held c.self.invariant.numbers,
-    ap (λ (ns : List ℕ). length ns) c.deref-number-items.ensures.value) in
+    omega (
+      arith,
+      c.loop-number-test.false,
+      wanted_many stands held c.self.invariant.numbers,
+      ap (λ (ns : List ℕ). length ns) c.deref-number-items.ensures.value,
+    ) in
     c.loop-number.invariant ∙ take_all c.loop-number.number-index (wanted stands) all
     ∙ ap (λ (h : Stands). map (λ (stand : Standing). stand.row) (filter (λ (stand : Standing). stand.held) h.rows)) c.self.view_is

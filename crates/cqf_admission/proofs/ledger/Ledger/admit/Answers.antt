@@ -30,7 +30,7 @@ module _ (rs : List Request) (place : ℕ) (read : Request) (low : place < lengt
   request = get_or rs place read
 
   pub request_there : request ≡ get_or rs place request
-  request_there = sym (get_or_default rs place read request low)
+  request_there = get_or_default rs place read request low
 
 pub see-requires : goal.see-requires
 see-requires c =
@@ -87,4 +87,3 @@ invariant_of-self-in_err-answer-in-Good c =
       seen c,
       subst (AreThere asked i.script.now) (sym c.reserve.ensures.items) c.self.invariant.2,
     )
-

@@ -16,7 +16,7 @@ invariant_of-self c =
     omega (arith, subst (λ (k : Kept). c.args.place < length k.requests) (sym c.self.view_is) c.requires.there, length-map rs asked_of) in
     let some = some_request rs c.args.place low in
     let request = get_or rs c.args.place some in
-    let is : request ≡ get_or rs c.args.place request = get_or_default rs c.args.place request some low in
+    let is : request ≡ get_or rs c.args.place request = get_or_default rs c.args.place some request low in
     let of : IsRowOfGoodForm i.domain.now (asked_of request) c.in_ok-try_copy.field-0 =
     subst (IsRowOfGoodForm i.domain.now (asked_of request)) (sym c.in_ok-try_copy.ensures) (rw (asked_at rs c.args.place request low is) at c.requires.row) in
     (c.self.invariant.0, forms_set i.domain.now rs i.forms.items c.args.place request (Good c.in_ok-try_copy.field-0) c.self.invariant.1 low is of, c.self.invariant.2)

@@ -26,8 +26,12 @@ logged c =
     let word = word_at i.script.now c.args.from c.args.octets in
     let e : Logged = record { seat = c.args.seat; what = Withdraw c.args.from c.args.octets; reply = c.reply_of.result } in
     let few : length entries - i.state.sealed < 100000 =
-    omega (arith, few_calls c.is_full.result c.len.result i.state.sealed c.if-is_full.false c.is_full.ensures, c.len.ensures,
-    length-map i.log.items (recorded_in asked i.script.now)) in
+    omega (
+      arith,
+      few_calls c.is_full.result c.len.result i.state.sealed c.if-is_full.false c.is_full.ensures,
+      c.len.ensures,
+      length-map i.log.items (recorded_in asked i.script.now),
+    ) in
     let is : after ≡ entries_with entries c.args.seat (Withdraws word) answer =
     logged_behind asked i.script.now i.log.items c.reserve.new.self.items c.enter.new.log.items e c.reserve.ensures.items c.enter.ensures
     ∙ ap (with_entry entries c.args.seat (Withdraws word)) c.reply_of.ensures in

@@ -25,7 +25,7 @@ returns-in-Some-clause-admits c =
     let i = c.self.inside in
     let before : Figures = record { stands = i.holdings.rows; room = i.holdings.room; links = i.holdings.links; slots = i.slots; sealed = i.sealed } in
     let laws = c.state_follows_history.ensures in
-    subst (λ (f : Figures). AdmitsForm c.args.domain.now c.args.form f before (Err c.in-Some.refused)) c.self.view_is
+    subst (λ (f : Figures). AdmitsForm c.args.domain.now c.args.form f f (Err c.in-Some.refused)) c.self.view_is
     (admits_refused laws.goes_on laws.counted laws.held before before c.args.domain.now c.args.form c.in-Some.refused (sym c.refusal_of.ensures ∙ c.in-Some.is)
     (record { stands = refl; links = refl; slots = refl; sealed = refl }))
 
@@ -65,9 +65,9 @@ push-requires-clause-fits c =
     let new = is_new c.args.domain.now h.entries before h.is c.requires.request.asked c.args.form c.requires.request.is c.state_follows_history.ensures.held
     c.know_domain.ensures (sym c.refusal_of.ensures ∙ c.in_default.is) in
     λ l low.
-        subst (λ (rows : List Standing). held_cost rows l + cost_by_link c.in_ok-row.row l < 2 ^ 64) (sym c.reserve.ensures.rows)
-        (subst (λ (row : Row). held_cost i.holdings.rows l + cost_by_link row l < 2 ^ 64) (sym c.in_ok-row.ensures)
-        (new.fits l c.len-no.result (record { 0 = i.sealed })))
+    subst (λ (rows : List Standing). held_cost rows l + cost_by_link c.in_ok-row.row l < 2 ^ 64) (sym c.reserve.ensures.rows)
+    (subst (λ (row : Row). held_cost i.holdings.rows l + cost_by_link row l < 2 ^ 64) (sym c.in_ok-row.ensures)
+    (new.fits l c.len-no.result (record { 0 = i.sealed })))
 
 pub returns-clause-admits : goal.returns-clause-admits
 returns-clause-admits c =

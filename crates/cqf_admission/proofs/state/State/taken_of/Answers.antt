@@ -17,7 +17,7 @@ prove-unreachable-requires c =
     let h = subst (SomeHistory d) (sym c.self.view_is) c.requires.history in
     let most : c.budget-most.result.0 ≡ budget d c.args.link =
     c.budget-most.ensures
-    ∙ (λ k. budget_of (c.cycle_time.ensures.value k) (c.guard.ensures k) (option_map_or (λ (link : Link). nanos_of_octet link.rate) (sym c.link.ensures k) 0)) in
+    ∙ (λ k. budget_of (c.cycle_time.ensures.value k) (c.guard.ensures k) (option_map_or (λ (link : Link). nanos_of_octet link.rate) (sym c.link-rate.ensures k) 0)) in
     omega (arith, c.if-prove.true, within d h.entries before h.is c.state_follows_history.ensures.held c.args.link, most, c.cost_on-taken.ensures)
 
 pub returns-clause-held : goal.returns-clause-held

@@ -24,7 +24,7 @@ returns-in_ok-put-in-Ok-clause-withdraws c =
     (withdraws_open laws.goes_on laws.counted laws.held before after c.args.word.now laws.withdrawn c.streams_follow_history.ensures.withdrawn no
     c.slot_of-slot.result row (arc_value c.in_ok-ended-in-Ok.ended) receipt c.in-Ok.ensures c.row.ensures
     (c.slot_of-slot.ensures ∙ ap (λ (n : ℕ). (i.sealed + n) % 128) c.residence.ensures)
-    (c.in_ok-ended-in-Ok.ensures ∙ ap (λ (r : Row). ended r effect) (sym (c.row-2.ensures (held_by row)) ∙ c.row.ensures (held_by row)))
+    (c.in_ok-ended-in-Ok.ensures ∙ ap (λ (r : Row). ended r effect) (sym (c.row-in-Ok.ensures (held_by row)) ∙ c.row.ensures (held_by row)))
     c.end.ensures.rows c.end.ensures.links c.in_ok-put-in-Ok.ensures.more refl refl)
 
 pub returns-in-Err-clause-withdraws : goal.returns-in-Err-clause-withdraws
@@ -32,6 +32,6 @@ returns-in-Err-clause-withdraws c =
     let i = c.self.inside in
     let before : Figures = record { stands = i.holdings.rows; room = i.holdings.room; links = i.holdings.links; slots = i.slots; sealed = i.sealed } in
     let laws = c.state_follows_history.ensures in
-    subst (λ (f : Figures). WithdrawsName c.args.word.now f before (Err c.in-Err.refused)) c.self.view_is
+    subst (λ (f : Figures). WithdrawsName c.args.word.now f f (Err c.in-Err.refused)) c.self.view_is
     (withdraws_refused laws.goes_on laws.counted laws.held before before c.args.word.now c.in-Err.refused c.in-Err.ensures
     (record { stands = refl; links = refl; slots = refl; sealed = refl }))
