@@ -1,6 +1,7 @@
-use Rattle.std.proofs.Common.{◌≡◌, ◌<◌, ◌∙◌, arith, ap, get_or, length, subst, sym}
+use Rattle.std.proofs.Common.{◌≡◌, ◌<◌, ◌∙◌, arith, ap, get_or, length, map, subst, sym}
 use Rattle.std.proofs.lemmas.List.{get_or_default, length-map}
-use Rattle.cqf_model.specs.declared.topology.Row.{Row}
+use Rattle.cqf_model.specs.History.{Asked}
+use Rattle.cqf_admission_requests.specs.Orders.{request_at}
 use Rattle.cqf_admission.specs.Asking.{asked_of}
 use Rattle.cqf_admission.specs.Forms.{IsRowOfGoodForm}
 use Rattle.cqf_admission.specs.Ledger.{Kept}
@@ -17,6 +18,9 @@ invariant_of-self c =
     let some = some_request rs c.args.place low in
     let request = get_or rs c.args.place some in
     let is : request ≡ get_or rs c.args.place request = get_or_default rs c.args.place some request low in
+    let given : IsRowOfGoodForm i.domain.now (request_at (map asked_of rs) c.args.place) c.args.row.now =
+    subst (λ (k : Kept). IsRowOfGoodForm k.administration.domain (request_at k.requests c.args.place) c.args.row.now) (sym c.self.view_is) c.requires.row in
     let of : IsRowOfGoodForm i.domain.now (asked_of request) c.in_ok-try_copy.field-0 =
-    subst (IsRowOfGoodForm i.domain.now (asked_of request)) (sym c.in_ok-try_copy.ensures) (rw (asked_at rs c.args.place request low is) at c.requires.row) in
+    subst (IsRowOfGoodForm i.domain.now (asked_of request)) (sym c.in_ok-try_copy.ensures)
+    (subst (λ (asked : Asked). IsRowOfGoodForm i.domain.now asked c.args.row.now) (asked_at rs c.args.place request low is) given) in
     (c.self.invariant.0, forms_set i.domain.now rs i.forms.items c.args.place request (Good c.in_ok-try_copy.field-0) c.self.invariant.1 low is of, c.self.invariant.2)
