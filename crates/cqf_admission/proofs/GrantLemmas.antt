@@ -6,7 +6,6 @@ use Rattle.std.specs.List.{flat_map, list_any, position_or_len}
 use Rattle.std.proofs.lemmas.Bool.{and_from, both_ways, cases_Bool, eq-eqb, le-leb, ltb-false, lt-leb, ltb-true}
 use Rattle.std.proofs.lemmas.Option.{cond_some, slice_get_past}
 use Rattle.std.proofs.lemmas.List.Folds.{find_at}
-use Rattle.arrayvec.specs.ArrayVec.{ArrayVec}
 use Rattle.cqf_units.specs.Name.{is_name}
 use Rattle.cqf_units.specs.Timing.{cost_of}
 use Rattle.cqf_units.specs.declared.reservations.Cycle.{Cycle}
@@ -118,9 +117,17 @@ refusal_held d rows asked held =
     ap (λ (b : Bool). or_else (refused_if b NameHeld) (or_else (refused_if (nat_le (streams_within d.limits) (length rows)) TooManyStreams) last)) held
 
 -- a row by its name and its tree
-pub row_granted : (d : Domain) (number : ℕ) (effect : Cycle) (asked : Asked) (name : List ℕ) (tree : ArrayVec Hop) → name ≡ asked.name →
-    tree.items ≡ tree_of d asked.paths →
-    (let row : Row = record { no = number; name = name; octets = asked.octets; pace = pace_of asked; tree = tree; admitted = effect; withdrawn = None } in
+pub row_granted : (d : Domain) (number : ℕ) (effect : Cycle) (asked : Asked) (name : List ℕ) (tree : List Hop) → name ≡ asked.name →
+    tree ≡ tree_of d asked.paths →
+    (let row : Row = record {
+      no = number;
+      name = name;
+      octets = asked.octets;
+      pace = pace_of asked;
+      tree = record { items = tree };
+      admitted = effect;
+      withdrawn = None;
+    } in
     row) ≡ granted_row d number effect.0 asked
 row_granted d number effect asked name tree named linked =
     λ i. record {

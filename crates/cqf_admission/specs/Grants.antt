@@ -12,6 +12,8 @@ use Rattle.cqf_model.specs.Paces.{each_cycle}
 use Rattle.cqf_model.specs.Table.{row_named}
 use Rattle.cqf_laws_history.specs.StateLaws.{granted_row}
 use Rattle.cqf_model.specs.Limits.{most_reserved, most_streams}
+use Rattle.cqf_admission.specs.declared.judged.Judged.{Judged}
+use Rattle.cqf_admission.specs.Judging.{row_by}
 use Rattle.cqf_admission.specs.Rows.{IsCountable, costs_on}
 
 -- the streams are offered in each cycle, within the limits of a reservation, and within each link's budget
@@ -29,7 +31,12 @@ pub record IsGranted (d : Domain) (rows : List Row) (asked : Asked) (number : �
   pub paced : row.pace ≡ each_cycle
   pub countable : IsCountable (length d.links) row
 
--- a look at a request gives its row, or the first reason against it
+-- a look at a request gives what its row is by, whatever its number and its first cycle, or the first reason against it
+abbrev pub Weighs : Domain → List Row → Asked → Result Judged Refused → Type 0
+Weighs d rows asked (Ok judged) = (number : ℕ) (effect : Cycle) → IsGranted d rows asked number effect (row_by judged asked.octets number effect)
+Weighs d rows asked (Err refused) = refusal_of d rows asked ≡ Some refused
+
+-- and so the row
 abbrev pub Grants : Domain → List Row → Asked → ℕ → Cycle → Result Row Refused → Type 0
 Grants d rows asked number effect (Ok row) = IsGranted d rows asked number effect row
 Grants d rows asked number effect (Err refused) = refusal_of d rows asked ≡ Some refused

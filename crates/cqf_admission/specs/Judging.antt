@@ -8,6 +8,8 @@ use Rattle.cqf_model.specs.declared.history.Refused.TheVariants.{BadName, BadOct
 use Rattle.cqf_model.specs.declared.topology.Hop.{Hop}
 use Rattle.cqf_model.specs.declared.topology.Row.{Row}
 use Rattle.cqf_model.specs.declared.topology.Pace.{Pace}
+use Rattle.cqf_units.specs.declared.reservations.Cycle.{Cycle}
+use Rattle.cqf_model.specs.Paces.{each_cycle}
 use Rattle.cqf_model.specs.Domain.{Domain, budget}
 use Rattle.cqf_model.specs.History.{Asked, is_pace, left_on, refused_at, refused_if, short_link, tree_of}
 use Rattle.cqf_model.specs.Table.{links_in}
@@ -41,6 +43,18 @@ pub record IsOfGoodForm (d : Domain) (asked : Asked) (judged : Judged) : Type 0 
   pub costs : judged.cost.0 ≡ cost_of asked.octets
   pub linked : judged.tree.items ≡ tree_of d asked.paths
   pub most_octets : asked.octets ≤ most_reserved
+
+-- the row by what a request of good form is, of a number and from a cycle on
+abbrev pub row_by : Judged → ℕ → ℕ → Cycle → Row
+row_by judged octets number effect = record {
+  no = number;
+  name = judged.name;
+  octets = octets;
+  pace = each_cycle;
+  tree = record { items = judged.tree.items };
+  admitted = effect;
+  withdrawn = None;
+}
 
 -- a look at a request by itself gives what it is, or the first reason against its form
 abbrev pub Judges : Domain → Asked → Result Judged Refused → Type 0

@@ -114,7 +114,9 @@ impl Admission {
             no: self.next,
             effect,
         };
-        match grant(&self.domain, &self.held, request, self.next, effect) {
+        let (no, alloc) = (self.next, self.alloc);
+        let granted = grant(alloc, &self.domain, &self.held, request, no, effect)?;
+        match granted {
             Ok(row) => {
                 self.held.push(self.alloc, row)?;
                 self.next += 1;

@@ -84,8 +84,7 @@ fn add_row(sums: &mut Vec<u64>, row: &Row)
     requires room { HaveRoomOn sums.old.items (links_of row.now) (cost_of row.now.octets) }
     ensures { AreMoreOn sums.old.items (links_of row.now) (cost_of row.now.octets) sums.new.items }
 {
-    let links = row.links();
-    add_on(sums, links.as_slice(), cost(Octets(row.octets)).0);
+    add_on(sums, row.tree.as_slice(), cost(Octets(row.octets)).0);
 }
 
 /// Takes what a row costs from the sums of its links.
@@ -94,8 +93,7 @@ fn take_row(sums: &mut Vec<u64>, row: &Row)
     requires held { HaveOn sums.old.items (links_of row.now) (cost_of row.now.octets) }
     ensures { AreLessOn sums.old.items (links_of row.now) (cost_of row.now.octets) sums.new.items }
 {
-    let links = row.links();
-    take_on(sums, links.as_slice(), cost(Octets(row.octets)).0);
+    take_on(sums, row.tree.as_slice(), cost(Octets(row.octets)).0);
 }
 
 /// How many of the rows that are found by their numbers are left without the one at a place.
@@ -239,7 +237,7 @@ impl Held {
         ensures links { self.new.links ≡ self.old.links }
         ensures same { OnErr result (self.new ≡ self.old) }
     {
-        let mut row = self.rows[place].copied();
+        let mut row = self.rows[place].try_copy(alloc)?;
         row.withdrawn = Some(cycle);
         let ended = Arc::new(alloc, row)?;
         let again = Arc::try_clone(&ended)?;

@@ -1,16 +1,17 @@
 //! Why a request is refused, or the row that it gets.
-ghost use Rattle.std.specs.Prelude.{◌≡◌, ◌<◌, ◌≤◌, ◌^◌, length, All};
+ghost use Rattle.std.specs.Prelude.{◌≡◌, ◌<◌, ◌≤◌, ◌^◌, length, All, IfOk};
 ghost use Rattle.cqf_admission.specs.Asking.{asked_of};
 ghost use Rattle.cqf_admission_trees.specs.Branches.{branches_of, places_of};
-ghost use Rattle.cqf_admission.specs.Grants.{CanBeAsked, FindsOpen, Grants, HaveNames};
+ghost use Rattle.cqf_admission.specs.Grants.{CanBeAsked, FindsOpen, Grants, HaveNames, Weighs};
 ghost use Rattle.cqf_admission.specs.Judging.{left_by, short_by};
 ghost use Rattle.cqf_admission.specs.Rows.{costs_on};
 
 use crate::held::Held;
 use crate::judged::{Judged, judge};
-use cqf_model::{EACH_CYCLE, Hop, Refused, Row};
+use cqf_model::{Hop, Refused, Row};
 use cqf_topology::{Domain, Request};
-use cqf_units::{Cycle, Name, budget};
+use cqf_units::{Cycle, Memory, Name, budget};
+use std::alloc::Global;
 
 /// What a link has left of its budget beside the held streams, in octets a cycle.
 pub(crate) fn left_of(domain: &Domain, held: &Held, link: u16) -> u32
@@ -56,18 +57,12 @@ fn short_of(domain: &Domain, held: &Held, octets: u32, tree: &[Hop]) -> Option<R
     None
 }
 
-/// The row of a request that takes a number and begins with a cycle, or the first reason against it.
-pub(crate) fn grant(
-    domain: &Domain,
-    held: &Held,
-    request: &Request,
-    no: u32,
-    effect: Cycle,
-) -> Result<Row, Refused>
+/// What a request is by itself that nothing speaks against, or the first reason that does.
+fn weigh(domain: &Domain, held: &Held, request: &Request) -> Result<Judged, Refused>
     requires sound { CanBeAsked domain.now held.now.rows }
     requires columns { held.now.links ≡ length domain.now.links }
     requires places { places_of (branches_of request.now.paths.items) < 2 ^ 64 }
-    ensures { Grants domain.now held.now.rows (asked_of request.now) no effect result }
+    ensures { Weighs domain.now held.now.rows (asked_of request.now) result }
 {
     let judged = judge(domain, request)?;
     if held.place_of(&judged.name).is_some() {
@@ -76,19 +71,31 @@ pub(crate) fn grant(
     if held.len() >= domain.limits().streams_within() {
         return Err(Refused::TooManyStreams);
     }
-    if let Some(refused) = short_of(domain, held, judged.cost.0, judged.tree.as_slice()) {
-        return Err(refused);
+    match short_of(domain, held, judged.cost.0, judged.tree.as_slice()) {
+        Some(refused) => Err(refused),
+        None => Ok(judged),
     }
-    let Judged { name, tree, .. } = judged;
-    Ok(Row {
-        no,
-        name,
-        octets: request.octets,
-        pace: EACH_CYCLE,
-        tree,
-        admitted: effect,
-        withdrawn: None,
-    })
+}
+
+/// The row of a request that takes a number and begins with a cycle, or the first reason against it; unless there is none, and memory
+/// runs out.
+pub(crate) fn grant(
+    alloc: Global,
+    domain: &Domain,
+    held: &Held,
+    request: &Request,
+    no: u32,
+    effect: Cycle,
+) -> Result<Result<Row, Refused>, Memory>
+    requires sound { CanBeAsked domain.now held.now.rows }
+    requires columns { held.now.links ≡ length domain.now.links }
+    requires places { places_of (branches_of request.now.paths.items) < 2 ^ 64 }
+    ensures { IfOk result (λ granted. Grants domain.now held.now.rows (asked_of request.now) no effect granted) }
+{
+    match weigh(domain, held, request) {
+        Ok(judged) => Ok(Ok(judged.into_row(alloc, request.octets, no, effect)?)),
+        Err(refused) => Ok(Err(refused)),
+    }
 }
 
 /// The place and number of the stream of a name that isn't withdrawn, or why there is none.

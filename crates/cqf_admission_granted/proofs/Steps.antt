@@ -1,14 +1,13 @@
 -- What an entry more makes of the streams that were granted.
-use Rattle.std.proofs.Common.{◌≡◌, ℕ, ◌+◌, ◌<◌, ◌≤◌, ◌∷◌, [], ◌++◌, List, true, false, Option, Some, None, inl, inr}
+use Rattle.std.proofs.Common.{◌≡◌, ℕ, ◌+◌, ◌<◌, ◌≤◌, ◌∷◌, [], ◌++◌, List, true, false, Option, Some, None}
 use Rattle.std.proofs.Common.{refl, sym, ap, ◌∙◌, arith, length, take, map, Contains, option_map, cond, drop}
 use Rattle.std.proofs.Common.{length-take-le}
 use Rattle.std.specs.Prelude.{nat_lt, slice_get, slice_index_or, slice_set}
-use Rattle.std.proofs.lemmas.Bool.{cases_lt, false_from_ne_true, ltb-true}
+use Rattle.std.proofs.lemmas.Bool.{false_from_ne_true, ltb-true}
 use Rattle.std.proofs.lemmas.Grind.{take_at_read}
-use Rattle.std.proofs.lemmas.List.{get_or_past, length-append, take-take, take-append-drop}
+use Rattle.std.proofs.lemmas.List.{length-append, take-take, take-append-drop}
 use Rattle.std.proofs.lemmas.List.Sums.{count_by-le-length, sum_by-append}
 use Rattle.std.proofs.lemmas.Option.{get_or_from_slice_get, same_Some, slice_get-map, slice_get_read, slice_get_within}
-use Rattle.cqf_units.specs.Name.{is_name}
 use Rattle.cqf_units.specs.declared.reservations.Cycle.{Cycle}
 use Rattle.cqf_lists.specs.Lists.{or_else}
 use Rattle.cqf_lists.proofs.Members.{contains_from_filter, place_of_member}
@@ -31,7 +30,6 @@ use Rattle.cqf_laws_history.proofs.Granted.{granted as granted_so}
 use Rattle.cqf_laws_history.proofs.Growth.{streams_same}
 use Rattle.cqf_laws_history.proofs.Sound.{named_is_held}
 use Rattle.cqf_laws_history.proofs.Numbers.{numbered, one_ends}
-use Rattle.cqf_admission_requests.specs.Orders.{request_at}
 use Rattle.cqf_admission_granted.specs.Granted.{EndsAt, IsAdmissible, accepts}
 
 -- the receipt of an answer that accepts
@@ -197,11 +195,3 @@ pub recorded_at : {X : Type 0} (recorded : X → Recorded) (entries : List X) (k
     slice_get (map recorded entries) k ≡ Some (recorded item)
 recorded_at recorded entries k item inside is =
     slice_get-map recorded entries k ∙ ap (option_map recorded) (slice_get_read entries (length entries) k item refl inside is)
-
--- a request that is granted is one of the requests: what stands for none has no name
-pub is_there : {d : Domain} (requests : List Asked) (place : ℕ) → IsAdmissible d (request_at requests place) → place < length requests
-is_there requests place admitted = elim (cases_lt place (length requests)) [
-  | inl low ↦ low
-  | inr past ↦ absurd (true_not_false (sym admitted.named ∙ ap (λ (asked : Asked). is_name asked.name)
-      (get_or_past requests place (record { name = []; octets = 0; every = 1; phase = 0; paths = [] }) past)))
-]

@@ -1,28 +1,30 @@
 //! The rows of granted streams, entry by entry.
-ghost use Rattle.std.specs.Prelude.{◌≡◌, ◌<◌, ◌^◌, false, IfOk, MatchOption, length, map};
+ghost use Rattle.std.specs.Prelude.{◌≡◌, ◌<◌, ◌^◌, IfOk, length, map};
 ghost use Rattle.cqf_admission.specs.Admission.{recorded_of};
 ghost use Rattle.cqf_admission.specs.Asking.{asked_of};
-ghost use Rattle.cqf_admission_granted.specs.Granted.{EndsAt, IsAdmissible, accepts};
-ghost use Rattle.cqf_admission_ledger.specs.Ledger.{recorded_in};
+ghost use Rattle.cqf_admission_granted.specs.Granted.{EndsAt, IsAdmissible};
 ghost use Rattle.cqf_laws_history.specs.StateLaws.{granted_row};
-ghost use Rattle.cqf_model.specs.declared.history.Reply.TheVariants.{Accepted};
 ghost use Rattle.cqf_model.specs.History.{IsLegalHistory, streams_of};
 ghost use Rattle.cqf_admission_trees.specs.Branches.{branches_of, places_of};
 
 use cqf_admission::{Call, Entry};
-use cqf_admission_ledger::{Logged, What};
 use cqf_admission_trees::{count_places, find_tree};
 use cqf_laws_history::streams_follow_history;
-use cqf_model::{EACH_CYCLE, Receipt, Reply, Row};
+use cqf_model::{EACH_CYCLE, Receipt, Reply, Row, Tree};
 use cqf_topology::{Domain, Request};
 use cqf_units::{Memory, Name};
 use std::alloc::{AllocError, Global};
 
-/// The row of a request that was granted, with its receipt.
-fn row_of(domain: &Domain, request: &Request, receipt: Receipt) -> Row
+/// The row of a request that was granted, with its receipt, unless memory runs out.
+fn row_of(
+    alloc: Global,
+    domain: &Domain,
+    request: &Request,
+    receipt: Receipt,
+) -> Result<Row, Memory>
     requires admissible { IsAdmissible domain.now (asked_of request.now) }
     requires places { places_of (branches_of request.now.paths.items) < 2 ^ 64 }
-    ensures { result ≡ granted_row domain.now receipt.no receipt.effect.0 (asked_of request.now) }
+    ensures { IfOk result (λ row. row ≡ granted_row domain.now receipt.no receipt.effect.0 (asked_of request.now)) }
 {
     let Some(name) = Name::new(request.name.as_bytes()) else {
         unreachable!();
@@ -30,15 +32,15 @@ fn row_of(domain: &Domain, request: &Request, receipt: Receipt) -> Row
     let Ok(tree) = find_tree(domain, request.paths.as_slice()) else {
         unreachable!();
     };
-    Row {
+    Ok(Row {
         no: receipt.no,
         name,
         octets: request.octets,
         pace: EACH_CYCLE,
-        tree,
+        tree: Tree::new(alloc, tree.as_slice())?,
         admitted: receipt.effect,
         withdrawn: None,
-    }
+    })
 }
 
 /// Ends the stream of a receipt's number from its effect on.
@@ -72,59 +74,11 @@ pub fn granted_streams(
                 if count_places(request.paths.as_slice()).is_none() {
                     return Err(AllocError);
                 }
-                rows.push(row_of(domain, request, receipt))?;
+                let row = row_of(alloc, domain, request, receipt)?;
+                rows.push(row)?;
             }
             Call::Withdraw(_) => end_stream(&mut rows, receipt),
             Call::Seal => {}
-        }
-    }
-    Ok(rows)
-}
-
-/// The receipt of an entry that was accepted.
-fn receipt_of(logged: &Logged) -> Option<Receipt>
-    ensures { MatchOption result (accepts logged.now.reply ≡ false) (λ receipt. logged.now.reply ≡ Accepted receipt) }
-{
-    match logged.reply {
-        Reply::Accepted(receipt) => Some(receipt),
-        Reply::Refused(_) | Reply::Sealed => None,
-    }
-}
-
-/// The streams that a log of the domain ever granted, by number, where these are its requests and this is its script. The time
-/// grows with the entries, and with the requests that were granted.
-///
-/// # Errors
-/// Where a growth is refused.
-pub fn granted_of_log(
-    alloc: Global,
-    domain: &Domain,
-    requests: &[Request],
-    script: &[u8],
-    log: &[Logged],
-) -> Result<Vec<Row>, Memory>
-    requires { IsLegalHistory domain.now (map (recorded_in (map asked_of requests.now) script.now) log.now) }
-    ensures { IfOk result (λ rows. rows.items ≡ streams_of domain.now (map (recorded_in (map asked_of requests.now) script.now) log.now)) }
-{
-    streams_follow_history();
-    let mut rows = Vec::new(alloc);
-    for logged in log {
-        let Some(receipt) = receipt_of(logged) else {
-            continue;
-        };
-        match logged.what {
-            What::Admit(place) => {
-                if place >= requests.len() {
-                    unreachable!();
-                }
-                let request = &requests[place];
-                if count_places(request.paths.as_slice()).is_none() {
-                    return Err(AllocError);
-                }
-                rows.push(row_of(domain, request, receipt))?;
-            }
-            What::Withdraw { .. } => end_stream(&mut rows, receipt),
-            What::Seal => {}
         }
     }
     Ok(rows)

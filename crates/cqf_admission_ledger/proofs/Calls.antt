@@ -7,6 +7,7 @@ use Rattle.cqf_model.specs.declared.history.Refused.{Refused}
 use Rattle.cqf_model.specs.declared.history.Reply.TheVariants.{Accepted, Sealed, Refused as RefusedFor}
 use Rattle.cqf_model.specs.declared.topology.Row.{Row}
 use Rattle.cqf_model.specs.Domain.{Domain, IsAccepted}
+use Rattle.cqf_model.specs.Table.{residence}
 use Rattle.cqf_model.specs.History.{Act, Admits, Asked, Recorded, Withdraws, admit_reply, held_in, next_number, pace_of, reply_to, seals}
 use Rattle.cqf_model.specs.Paces.{each_cycle}
 use Rattle.cqf_laws_history.specs.StateLaws.{GrantedIsHeld, HeldAreSound, HistoryGoesOn, SealLetsGo, SealsAreCounted, WithdrawnIsHeldOn, ended_row, granted_row}
@@ -87,7 +88,7 @@ module _ (d : Domain) (requests : List Request) (script : List ℕ) (log reserve
   pub admit_granted : HistoryGoesOn → SealsAreCounted → HeldAreSound → GrantedIsHeld → GrantedIsLast → IsAccepted d →
       (seat place : ℕ) (request : Request) (form : Form)
       (stand : Standing) (grown : List Standing) (receipt : Receipt) →
-      place < length requests → request ≡ get_or requests place request → IsFormOf d requests (asked_of request) form → Weighs d stands form None → IsStandBy form stand →
+      place < length requests → request ≡ get_or requests place request → IsFormOf d requests (asked_of request) form → Weighs d stands form None → IsStandBy form receipt.no receipt.effect stand →
       receipt ≡ record { no = length stands; effect = record { 0 = sealed } } → grown ≡ stands ++ stand ∷ [] →
       after ≡ reserved ++ record { seat = seat; what = Admit place; reply = Accepted receipt } ∷ [] →
       Called d requests script before after grown slots sealed seat (λ k. Admits (request_at k.requests place)) (Ok receipt)
@@ -96,7 +97,8 @@ module _ (d : Domain) (requests : List Request) (script : List ℕ) (log reserve
       let e : Logged = record { seat = seat; what = Admit place; reply = Accepted receipt } in
       let asked = request_at (map asked_of requests) place in
       let of_asked : IsFormOf d requests asked form = subst (λ (a : Asked). IsFormOf d requests a form) (sym (asked_at requests place request low is)) of in
-      let new = weighs_one d requests entries stands slots sealed r sound ok asked (own place request low is) form stand of_asked weighs by in
+      let new = weighs_one d requests entries stands slots sealed r sound ok asked (own place request low is) form stand receipt of_asked weighs by
+      is_receipt in
       called seat (λ k. Admits (request_at k.requests place)) (Ok receipt)
       (λ k. held_of k.administration ++ granted_row k.administration.domain receipt.no receipt.effect.0 (request_at k.requests place) ∷ []) grown slots
       (granted_leaves d requests entries (entries_of requests script after) stands slots sealed r goes_on count grants last seat asked
@@ -126,7 +128,7 @@ module _ (d : Domain) (requests : List Request) (script : List ℕ) (log reserve
       (seat from octets : ℕ) (word : List ℕ) (number slot : ℕ)
       (stand : Standing) (less : List Standing) (more : List (List ℕ)) (receipt : Receipt) →
       word ≡ word_at script from octets → StandsIn (map asked_of requests) script (Withdraw from octets) →
-      IsOpenFormAt stands (number_of_form requests word) number → ((s : Standing) → get_or stands number s ≡ stand) → slot ≡ (sealed + stand.residence) % 128 →
+      IsOpenFormAt stands (number_of_form requests word) number → ((s : Standing) → get_or stands number s ≡ stand) → slot ≡ (sealed + residence stand.row) % 128 →
       ((s : Standing) → less ≡ set stands number (holding_ended (get_or stands number s) (record { 0 = sealed }))) →
       more ≡ set slots slot (get_or slots slot [] ++ number ∷ []) → receipt ≡ record { no = number; effect = record { 0 = sealed } } →
       after ≡ reserved ++ record { seat = seat; what = Withdraw from octets; reply = Accepted receipt } ∷ [] →

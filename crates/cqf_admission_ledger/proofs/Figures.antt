@@ -6,14 +6,22 @@ use Rattle.std.specs.Prelude.{Contains, if◌then◌else◌, zero, suc}
 use Rattle.std.proofs.lemmas.Bool.{cases_lt, both_ways}
 use Rattle.std.proofs.lemmas.List.{get_or-set_same, get_or-set_other, get_or_append_left, get_or_push, get_or-replicate, length-replicate, length-set}
 use Rattle.std.proofs.lemmas.List.Sums.{sum_by-cons, sum_by_push, sum_by-set}
+use Rattle.cqf_units.specs.Timing.{cost_of}
 use Rattle.cqf_units.specs.declared.reservations.Cycle.{Cycle}
+use Rattle.cqf_model.specs.Table.{links_of}
+use Rattle.cqf_model.specs.declared.topology.Row.{Row}
+use Rattle.cqf_admission.specs.Rows.{IsCountable, ended}
 use Rattle.cqf_admission_trees.specs.Sums.{AreLessOn, AreMoreOn, HaveOn, HaveRoomOn, part_on}
 use Rattle.cqf_lists.proofs.Members.{contains_cases, contains_here, contains_later, contains_none, contains_one}
 use Rattle.std.proofs.lemmas.List.Elements.{Contains-append_cases, Contains-get_or}
 use Rattle.cqf_admission_ledger.specs.Holdings.{Standing}
-use Rattle.cqf_admission_ledger.specs.Holdings.{AreAlong, HaveFigures, IsFree, IsHeldAt, IsHolder}
+use Rattle.cqf_admission_ledger.specs.Holdings.{HaveFigures, IsFree, IsHeldAt, IsHolder}
 use Rattle.cqf_admission_ledger.specs.Holdings.{holding_ended, held_cost, held_count, held_one, held_part}
 use Rattle.cqf_admission_ledger.specs.Holdings.{released}
+
+-- what is withdrawn can be counted as before
+ended_countable : (links : ℕ) (row : Row) (cycle : Cycle) → IsCountable links row → IsCountable links (ended row cycle)
+ended_countable links row cycle is = record { octets = is.octets; inside = is.inside; apart = is.apart }
 
 -- two numbers are the same, or not
 pub same_or_not : (a b : ℕ) → (a ≡ b) ⊎ (a ≢ b)
@@ -26,8 +34,8 @@ same_or_not a b = elim (cases_lt a b) [
 ]
 
 -- what is held of a stream that is held, and of one that isn't
-part_held : (l : ℕ) (s : Standing) → s.held ≡ true → held_part l s ≡ part_on s.links s.cost l
-part_held l s e = ap (λ (b : Bool). if b then part_on s.links s.cost l else 0) e
+part_held : (l : ℕ) (s : Standing) → s.held ≡ true → held_part l s ≡ part_on (links_of s.row) (cost_of s.row.octets) l
+part_held l s e = ap (λ (b : Bool). if b then part_on (links_of s.row) (cost_of s.row.octets) l else 0) e
 
 one_held : (s : Standing) → s.held ≡ true → held_one s ≡ 1
 one_held s e = ap (λ (b : Bool). if b then 1 else 0) e
@@ -154,13 +162,13 @@ module _ (rows : List Standing) (by_name sums : List ℕ) (count : ℕ) (h : Hav
           (omega (arith, named, length-set by_name s.name (length rows)), get_or-set_same by_name s.name (length rows) 0 named ∙ sym is_last))
     ]
 
-    pub figures_more : (more : List ℕ) → AreAlong (length sums) s.links → AreMoreOn sums s.links s.cost more →
+    pub figures_more : (more : List ℕ) → IsCountable (length sums) s.row → AreMoreOn sums (links_of s.row) (cost_of s.row.octets) more →
         HaveFigures after (set by_name s.name (length rows)) more (count + 1)
     figures_more more own by = record {
-      along = λ stand among. subst (λ (n : ℕ). AreAlong n stand.links) (sym by.as_many)
+      along = λ stand among. subst (λ (n : ℕ). IsCountable n stand.row) (sym by.as_many)
           (elim (Contains-append_cases rows (s ∷ []) stand (subst (λ (xs : List Standing). Contains xs stand) grown among)) [
             | inl earlier ↦ h.along stand earlier
-            | inr new ↦ subst (λ (x : Standing). AreAlong (length sums) x.links) (contains_one s stand new) own
+            | inr new ↦ subst (λ (x : Standing). IsCountable (length sums) x.row) (contains_one s stand new) own
           ]);
       costs = λ l shorter.
           let low : l < length sums = omega (arith, shorter, by.as_many) in
@@ -189,12 +197,12 @@ module _ (rows : List Standing) (by_name sums : List ℕ) (count : ℕ) (h : Hav
     own_among : Contains rows s
     own_among = subst (Contains rows) (sym is) (Contains-get_or rows number s inside)
 
-    pub own_along : AreAlong (length sums) s.links
+    pub own_along : IsCountable (length sums) s.row
     own_along = h.along s own_among
 
-    stays_along : (stand other : Standing) → AreAlong (length sums) other.links → Contains (set rows number other) stand → AreAlong (length sums) stand.links
+    stays_along : (stand other : Standing) → IsCountable (length sums) other.row → Contains (set rows number other) stand → IsCountable (length sums) stand.row
     stays_along stand other own among = elim (contains_from_set rows number other stand among) [
-      | inl same ↦ subst (λ (x : Standing). AreAlong (length sums) x.links) same own
+      | inl same ↦ subst (λ (x : Standing). IsCountable (length sums) x.row) same own
       | inr earlier ↦ h.along stand earlier
     ]
 
@@ -214,7 +222,7 @@ module _ (rows : List Standing) (by_name sums : List ℕ) (count : ℕ) (h : Hav
 
     pub figures_ended : HaveFigures (set rows number (holding_ended s cycle)) by_name sums count
     figures_ended = record {
-      along = λ stand among. stays_along stand (holding_ended s cycle) (h.along s own_among) among;
+      along = λ stand among. stays_along stand (holding_ended s cycle) (ended_countable (length sums) s.row cycle (h.along s own_among)) among;
       costs = λ l low.
           let total = sum_by-set (held_part l) rows number (holding_ended s cycle) s inside in
           let same : held_part l (get_or rows number s) ≡ held_part l (holding_ended s cycle) = ap (held_part l) (was s) in
@@ -259,10 +267,10 @@ module _ (rows : List Standing) (by_name sums : List ℕ) (count : ℕ) (h : Hav
           omega (arith, total, one, h.counted)
 
       -- and its part is in the sums
-      pub goes_within : HaveOn sums s.links s.cost
+      pub goes_within : HaveOn sums (links_of s.row) (cost_of s.row.octets)
       goes_within l low =
           let total = sum_by-set (held_part l) rows number (released s) s inside in
-          let part : held_part l (get_or rows number s) ≡ part_on s.links s.cost l = ap (held_part l) (was s) ∙ part_held l s is_held in
+          let part : held_part l (get_or rows number s) ≡ part_on (links_of s.row) (cost_of s.row.octets) l = ap (held_part l) (was s) ∙ part_held l s is_held in
           omega (arith, total, part, h.costs l low)
 
       -- a stream that is held yet is another
@@ -316,14 +324,14 @@ module _ (rows : List Standing) (by_name sums : List ℕ) (count : ℕ) (h : Hav
           subst (λ (n : ℕ). (n < length (set by_name s.name (2 ^ 32 - 1))) × (get_or (set by_name s.name (2 ^ 32 - 1)) n 0 ≡ other)) (sym same)
           (omega (arith, old.0, length-set by_name s.name (2 ^ 32 - 1)), get_or-set_other by_name s.name name (2 ^ 32 - 1) 0 apart ∙ old.1)
 
-      pub figures_less : (less : List ℕ) → AreLessOn sums s.links s.cost less →
+      pub figures_less : (less : List ℕ) → AreLessOn sums (links_of s.row) (cost_of s.row.octets) less →
           HaveFigures (set rows number (released s)) (set by_name s.name (2 ^ 32 - 1)) less (count - 1)
       figures_less less by = record {
-        along = λ stand among. subst (λ (n : ℕ). AreAlong n stand.links) (sym by.as_many) (stays_along stand (released s) (h.along s own_among) among);
+        along = λ stand among. subst (λ (n : ℕ). IsCountable n stand.row) (sym by.as_many) (stays_along stand (released s) (h.along s own_among) among);
         costs = λ l shorter.
             let low : l < length sums = omega (arith, shorter, by.as_many) in
             let total = sum_by-set (held_part l) rows number (released s) s inside in
-            let part : held_part l (get_or rows number s) ≡ part_on s.links s.cost l = ap (held_part l) (was s) ∙ part_held l s is_held in
+            let part : held_part l (get_or rows number s) ≡ part_on (links_of s.row) (cost_of s.row.octets) l = ap (held_part l) (was s) ∙ part_held l s is_held in
             omega (arith, total, part, by.each l low, h.costs l low);
         counted =
             let total = sum_by-set held_one rows number (released s) s inside in

@@ -107,6 +107,6 @@ module _ (d : Domain) (requests : List Request) (entries : List Recorded) (stand
     | inl none ↦ ap (withdraw_reply (seals entries)) (none_found name none.1) ∙ ap RefusedFor (sym none.0)
     | inr ended ↦ (
         let f = found sound name ended.1 ended.2.0 in
-        let over : is_some f.row.withdrawn ≡ true = ap (λ (s : Standing). is_some s.withdrawn) (sym (f.is (as_stand f.row))) ∙ ended.2.1 (as_stand f.row) in
+        let over : is_some f.row.withdrawn ≡ true = ap (λ (s : Standing). is_some s.row.withdrawn) (sym (f.is (as_stand f.row))) ∙ ended.2.1 (as_stand f.row) in
         ap (withdraw_reply (seals entries)) f.named ∙ ended_reply (seals entries) f.row.no f.row.withdrawn over ∙ ap RefusedFor (sym ended.0))
   ]

@@ -9,6 +9,7 @@ use Rattle.std.proofs.lemmas.Bool.{and_parts, both_ways, cases_Bool, cases_lt, e
 use Rattle.std.proofs.lemmas.List.{get_or-set_same, get_or-set_other, get_or_append_left, get_or_push, length-set}
 use Rattle.std.proofs.lemmas.List.Elements.{Contains-append_cases}
 use Rattle.cqf_units.specs.declared.reservations.Cycle.{Cycle}
+use Rattle.cqf_model.specs.Table.{residence}
 use Rattle.cqf_lists.proofs.Members.{any_member, contains_none, contains_one, member_any}
 use Rattle.cqf_lists.proofs.Pairs.{pairs_append, pairs_none, pairs_one}
 use Rattle.cqf_admission_ledger.specs.Holdings.{Standing}
@@ -32,22 +33,22 @@ any_more number other (x ∷ xs) = ap (λ (b : Bool). (x == other) || b) (any_mo
 
 -- what stands in one slot stands in no other
 one_slot : (stand : Standing) (slot other : ℕ) → in_slot slot stand ≡ true → other ≢ slot → in_slot other stand ≡ false
-one_slot stand slot other here differ = by_end stand.withdrawn refl
+one_slot stand slot other here differ = by_end stand.row.withdrawn refl
   where
-    by_end : (o : Option Cycle) → stand.withdrawn ≡ o → in_slot other stand ≡ false
-    by_end None e = ap (λ (x : Option Cycle). stand.held && option_map_or (λ (w : Cycle). (w.0 + stand.residence) % 128 == other) x false) e
+    by_end : (o : Option Cycle) → stand.row.withdrawn ≡ o → in_slot other stand ≡ false
+    by_end None e = ap (λ (x : Option Cycle). stand.held && option_map_or (λ (w : Cycle). (w.0 + residence stand.row) % 128 == other) x false) e
         ∙ and_none stand.held
       where
         and_none : (b : Bool) → (b && false) ≡ false
         and_none true = refl
         and_none false = refl
     by_end (Some w) e =
-        let parts = and_parts stand.held (option_map_or (λ (x : Cycle). (x.0 + stand.residence) % 128 == slot) stand.withdrawn false) here in
-        let is : ((w.0 + stand.residence) % 128 == slot) ≡ true =
-        sym (ap (λ (x : Option Cycle). option_map_or (λ (y : Cycle). (y.0 + stand.residence) % 128 == slot) x false) e) ∙ parts.1 in
-        let no : ((w.0 + stand.residence) % 128 == other) ≡ false =
-        ne_eqb ((w.0 + stand.residence) % 128) other (λ same. differ (sym same ∙ eqb-true ((w.0 + stand.residence) % 128) slot is)) in
-        ap (λ (x : Option Cycle). stand.held && option_map_or (λ (y : Cycle). (y.0 + stand.residence) % 128 == other) x false) e
+        let parts = and_parts stand.held (option_map_or (λ (x : Cycle). (x.0 + residence stand.row) % 128 == slot) stand.row.withdrawn false) here in
+        let is : ((w.0 + residence stand.row) % 128 == slot) ≡ true =
+        sym (ap (λ (x : Option Cycle). option_map_or (λ (y : Cycle). (y.0 + residence stand.row) % 128 == slot) x false) e) ∙ parts.1 in
+        let no : ((w.0 + residence stand.row) % 128 == other) ≡ false =
+        ne_eqb ((w.0 + residence stand.row) % 128) other (λ same. differ (sym same ∙ eqb-true ((w.0 + residence stand.row) % 128) slot is)) in
+        ap (λ (x : Option Cycle). stand.held && option_map_or (λ (y : Cycle). (y.0 + residence stand.row) % 128 == other) x false) e
         ∙ ap (λ (b : Bool). stand.held && b) no ∙ and_none stand.held
       where
         and_none : (b : Bool) → (b && false) ≡ false
@@ -114,10 +115,10 @@ module _ (stands : List Standing) (slots : List (List ℕ)) (r : IsRing stands s
 
   -- ---- one withdrawn
   module _ (number : ℕ) (cycle : Cycle) (stand : Standing) (held : IsHeldAt stands number) (was : (d : Standing) → get_or stands number d ≡ stand)
-      (open_end : stand.withdrawn ≡ None) (slot : ℕ) (is_slot : slot ≡ (cycle.0 + stand.residence) % 128) (low : slot < 128) where
+      (open_end : stand.row.withdrawn ≡ None) (slot : ℕ) (is_slot : slot ≡ (cycle.0 + residence stand.row) % 128) (low : slot < 128) where
     -- it stood in no slot
     in_none : (other : ℕ) → in_slot other stand ≡ false
-    in_none other = ap (λ (x : Option Cycle). stand.held && option_map_or (λ (w : Cycle). (w.0 + stand.residence) % 128 == other) x false) open_end
+    in_none other = ap (λ (x : Option Cycle). stand.held && option_map_or (λ (w : Cycle). (w.0 + residence stand.row) % 128 == other) x false) open_end
         ∙ and_none stand.held
       where
         and_none : (b : Bool) → (b && false) ≡ false
@@ -130,7 +131,7 @@ module _ (stands : List Standing) (slots : List (List ℕ)) (r : IsRing stands s
     -- and stands in one now
     in_one : (other : ℕ) → in_slot other (holding_ended stand cycle) ≡ (slot == other)
     in_one other =
-        ap (λ (b : Bool). b && ((cycle.0 + stand.residence) % 128 == other)) (sym (ap (λ (x : Standing). x.held) (was stand)) ∙ held.held stand)
+        ap (λ (b : Bool). b && ((cycle.0 + residence stand.row) % 128 == other)) (sym (ap (λ (x : Standing). x.held) (was stand)) ∙ held.held stand)
         ∙ ap (λ (n : ℕ). n == other) (sym is_slot)
 
     here : get_or (set slots slot (get_or slots slot [] ++ number ∷ [])) slot [] ≡ get_or slots slot [] ++ number ∷ []
@@ -212,7 +213,7 @@ module _ (stands : List Standing) (slots : List (List ℕ)) (r : IsRing stands s
 
 -- ---- one stream more, that isn't withdrawn
 
-pub ring_pushed : (stands : List Standing) (slots : List (List ℕ)) → IsRing stands slots → (s : Standing) → s.withdrawn ≡ None → IsRing (stands ++ s ∷ []) slots
+pub ring_pushed : (stands : List Standing) (slots : List (List ℕ)) → IsRing stands slots → (s : Standing) → s.row.withdrawn ≡ None → IsRing (stands ++ s ∷ []) slots
 ring_pushed stands slots r s live = record {
   as_many = r.as_many;
   lists = λ slot number d low below. elim (cases_lt number (length stands)) [
@@ -228,7 +229,7 @@ ring_pushed stands slots r s live = record {
   where
     -- the new one stands in no slot
     no_slot : (slot : ℕ) → in_slot slot s ≡ false
-    no_slot slot = ap (λ (o : Option Cycle). s.held && option_map_or (λ (w : Cycle). (w.0 + s.residence) % 128 == slot) o false) live ∙ and_none s.held
+    no_slot slot = ap (λ (o : Option Cycle). s.held && option_map_or (λ (w : Cycle). (w.0 + residence s.row) % 128 == slot) o false) live ∙ and_none s.held
       where
         and_none : (b : Bool) → (b && false) ≡ false
         and_none true = refl

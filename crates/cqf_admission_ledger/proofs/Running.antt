@@ -149,7 +149,7 @@ module _ (d : Domain) (requests : List Request) (entries after : List Recorded) 
           | inr one ↦ subst (λ (x : Row). number_of_form requests x.name < length requests) (contains_one new row one) known
         ];
         ring = subst (λ (ss : List Standing). IsRing ss slots) (sym more)
-            (ring_pushed stands slots r.ring stand (ap (λ (s : Standing). s.withdrawn) is_stand));
+            (ring_pushed stands slots r.ring stand (ap (λ (s : Standing). s.row.withdrawn) is_stand));
       };
       answers = answered goes_on count seat (Admits asked) (Ok receipt) refl few due entered refl;
       holds =

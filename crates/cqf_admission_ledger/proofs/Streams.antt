@@ -7,9 +7,8 @@ use Rattle.std.proofs.lemmas.Bool.{both_ways, cases_Bool}
 use Rattle.std.proofs.lemmas.List.{get_or-map, length-map}
 use Rattle.std.proofs.lemmas.List.Elements.{Contains-get_or}
 use Rattle.std.proofs.lemmas.List.Sums.{sum_by-cons}
-use Rattle.cqf_units.specs.Timing.{cost_of}
 use Rattle.cqf_model.specs.declared.topology.Row.{Row}
-use Rattle.cqf_model.specs.Table.{is_held, links_of, residence}
+use Rattle.cqf_model.specs.Table.{is_held}
 use Rattle.cqf_admission.specs.Rows.{cost_by_link, costs_on}
 use Rattle.cqf_laws_history.proofs.Sound.{held_less}
 use Rattle.cqf_laws_history.specs.LedgerLaws.{ends_in}
@@ -125,7 +124,7 @@ let_go_is_next_cycle number rows cycle slot after begun lists gone =
         row = get_or rows k (first rows inside)
 
         with_flag : Row → Bool → Standing
-        with_flag r b = record { name = number r.name; cost = cost_of r.octets; links = links_of r; residence = residence r; withdrawn = r.withdrawn; held = b }
+        with_flag r b = record { name = number r.name; row = r; held = b }
 
         by_flags : (held ends : Bool) → (if held && ends then with_flag row false else with_flag row held) ≡ with_flag row (held && not ends)
         by_flags true true = refl

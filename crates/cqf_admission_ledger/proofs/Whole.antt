@@ -37,7 +37,7 @@ RingStaysSealed =
 abbrev pub RingStaysWithdrawn : Type 0
 RingStaysWithdrawn =
     (stands : List Standing) (slots : List (List ℕ)) (number slot : ℕ) (cycle : Cycle) (stand : Standing) → IsRing stands slots → IsHeldAt stands number →
-    ((d : Standing) → slice_index_or stands number d ≡ stand) → stand.withdrawn ≡ None → slot ≡ (cycle.0 + stand.residence) % 128 → slot < 128 →
+    ((d : Standing) → slice_index_or stands number d ≡ stand) → stand.row.withdrawn ≡ None → slot ≡ (cycle.0 + residence stand.row) % 128 → slot < 128 →
     IsRing (slice_set stands number (holding_ended stand cycle)) (slice_set slots slot (slice_index_or slots slot [] ++ number ∷ []))
 
 -- a held row stands in the slot of the next cycle if it ends there

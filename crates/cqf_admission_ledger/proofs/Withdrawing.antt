@@ -51,7 +51,7 @@ module _ (d : Domain) (requests : List Request) (entries after : List Recorded) 
     (sound : HeldAreSound)
     (ends : WithdrawnEnds) (seat : ℕ) (name : List ℕ) (number slot : ℕ) (stand : Standing) (less : List Standing) (more : List (List ℕ)) (receipt : Receipt)
     (few : length entries - sealed < 100000) (opened : IsOpenFormAt stands (number_of_form requests name) number)
-    (is_stand : (s : Standing) → get_or stands number s ≡ stand) (is_slot : slot ≡ (sealed + stand.residence) % 128)
+    (is_stand : (s : Standing) → get_or stands number s ≡ stand) (is_slot : slot ≡ (sealed + residence stand.row) % 128)
     (is_less : (s : Standing) → less ≡ set stands number (holding_ended (get_or stands number s) (record { 0 = sealed })))
     (is_more : more ≡ set slots slot (get_or slots slot [] ++ number ∷ []))
     (is_receipt : receipt ≡ record { no = number; effect = record { 0 = sealed } })
@@ -60,7 +60,7 @@ module _ (d : Domain) (requests : List Request) (entries after : List Recorded) 
   f = found d requests entries stands slots sealed r sound name number opened.0
 
   open_end : f.row.withdrawn ≡ None
-  open_end = ap (λ (s : Standing). s.withdrawn) (sym (f.is stand)) ∙ opened.1 stand
+  open_end = ap (λ (s : Standing). s.row.withdrawn) (sym (f.is stand)) ∙ opened.1 stand
 
   due : reply_to d entries (Withdraws name) ≡ Accepted receipt
   due = ap (withdraw_reply (seals entries)) f.named ∙ ap (withdraw_row (seals entries) f.row.no) open_end
@@ -92,14 +92,7 @@ module _ (d : Domain) (requests : List Request) (entries after : List Recorded) 
   ends_so = ap (λ (b : Bool). with_flag b) held_on
     where
       with_flag : Bool → Standing
-      with_flag b = record {
-        name = number_of_form requests f.row.name;
-        cost = cost_of f.row.octets;
-        links = links_of f.row;
-        residence = residence f.row;
-        withdrawn = Some (record { 0 = seals entries });
-        held = b;
-      }
+      with_flag b = record { name = number_of_form requests f.row.name; row = over; held = b }
 
   cycle : seals after ≡ seals entries
   cycle = sealed_same d requests entries after stands slots sealed r goes_on count seat (Withdraws name) (Ok receipt) refl few due entered
@@ -138,8 +131,8 @@ module _ (d : Domain) (requests : List Request) (entries after : List Recorded) 
           (subst (λ (ss : List Standing). IsRing ss (set slots slot (get_or slots slot [] ++ number ∷ [])))
           (ap (λ (s : Standing). set stands number (holding_ended s (record { 0 = sealed }))) (sym (is_stand stand)) ∙ sym (is_less stand))
           (ring_stays_withdrawn stands slots number slot (record { 0 = sealed }) stand r.ring opened.0.is_held is_stand
-          (ap (λ (s : Standing). s.withdrawn) (sym (is_stand stand)) ∙ opened.1 stand) is_slot
-          (subst (λ (n : ℕ). n < 128) (sym is_slot) (mod-lt (sealed + stand.residence) (omega arith)))));
+          (ap (λ (s : Standing). s.row.withdrawn) (sym (is_stand stand)) ∙ opened.1 stand) is_slot
+          (subst (λ (n : ℕ). n < 128) (sym is_slot) (mod-lt (sealed + residence stand.row) (omega arith)))));
     };
     answers = answered d requests entries after stands slots sealed r goes_on count seat (Withdraws name) (Ok receipt) refl few due entered refl;
     holds =

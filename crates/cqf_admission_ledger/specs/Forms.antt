@@ -4,12 +4,14 @@ use Rattle.std.specs.Prelude.{Option, Some, None, Result, Ok, Err, slice_index_o
 use Rattle.std.specs.List.{list_any, position_or_len}
 use Rattle.cqf_lists.specs.Lists.{or_else}
 use Rattle.cqf_units.specs.Timing.{cost_of}
+use Rattle.cqf_units.specs.declared.reservations.Cycle.{Cycle}
 use Rattle.cqf_model.specs.declared.history.Refused.{Refused}
 use Rattle.cqf_model.specs.declared.history.Refused.TheVariants.{AlreadyWithdrawn, BudgetShort, NameHeld, NotHeld, TooManyStreams}
+use Rattle.cqf_model.specs.declared.topology.Hop.{Hop}
 use Rattle.cqf_model.specs.declared.topology.Row.{Row}
 use Rattle.cqf_model.specs.Domain.{Domain, budget}
 use Rattle.cqf_model.specs.History.{Asked, refused_at, refused_if}
-use Rattle.cqf_model.specs.Table.{links_of, residence}
+use Rattle.cqf_model.specs.Table.{links_of}
 use Rattle.cqf_laws_history.specs.StateLaws.{granted_row}
 use Rattle.cqf_topology.specs.declared.streams.Request.{Request}
 use Rattle.cqf_admission_requests.specs.Names.{has_name}
@@ -30,9 +32,7 @@ pub record IsJudgementOf (d : Domain) (requests : List Request) (asked : Asked) 
   pub none : form_refusal d asked ≡ None
   pub numbered : judgement.name ≡ number_of_form requests asked.name
   pub known : judgement.name < length requests
-  pub costs : judgement.cost ≡ cost_of asked.octets
-  pub resides : judgement.residence ≡ residence (granted_row d 0 0 asked)
-  pub linked : judgement.links.items ≡ links_of (granted_row d 0 0 asked)
+  pub is : judgement.row ≡ granted_row d 0 0 asked
   pub most_octets : asked.octets ≤ most_reserved
 
 -- a request of good form, and its row as that of number 0 and of cycle 0
@@ -61,7 +61,7 @@ IsSeen (Good judgement) = ⊤
 abbrev pub CanBeWeighed : Domain → ℕ → Form → Type 0
 CanBeWeighed d names Unseen = ⊥
 CanBeWeighed d names (Bad refused) = ⊤
-CanBeWeighed d names (Good judgement) = (judgement.name < names) × All (λ (l : ℕ). l < length d.links) judgement.links.items
+CanBeWeighed d names (Good judgement) = (judgement.name < names) × All (λ (hop : Hop). hop.link < length d.links) judgement.row.tree.items × (judgement.row.octets ≤ most_reserved)
 
 -- whether a name is held, what a link has left beside those that are held, and which links have too little for a cost
 abbrev pub is_taken : List Standing → ℕ → Bool
@@ -79,14 +79,11 @@ stand_refusal d stands name cost links =
     or_else (refused_if (is_taken stands name) NameHeld)
     (or_else (refused_if (nat_le (streams_within d.limits) (held_count stands)) TooManyStreams) (stand_short d stands cost links))
 
--- the stream of a request of good form, as it is held
-abbrev pub stand_by : Judgement → Standing
-stand_by judgement = record {
+-- the stream of a request of good form, as it is held, of a number and from a cycle on
+abbrev pub stand_by : Judgement → ℕ → Cycle → Standing
+stand_by judgement number effect = record {
   name = judgement.name;
-  cost = judgement.cost;
-  links = judgement.links.items;
-  residence = judgement.residence;
-  withdrawn = None;
+  row = record judgement.row { no = number; admitted = effect };
   held = true;
 }
 
@@ -94,7 +91,7 @@ stand_by judgement = record {
 abbrev pub Weighs : Domain → List Standing → Form → Option Refused → Type 0
 Weighs d stands Unseen found = ⊥
 Weighs d stands (Bad reason) found = found ≡ Some reason
-Weighs d stands (Good judgement) found = found ≡ stand_refusal d stands judgement.name judgement.cost judgement.links.items
+Weighs d stands (Good judgement) found = found ≡ stand_refusal d stands judgement.name (cost_of judgement.row.octets) (links_of judgement.row)
 
 -- the form is good, and the stream is the one by it
 abbrev pub IsGood : Form → Type 0
@@ -102,17 +99,17 @@ IsGood Unseen = ⊥
 IsGood (Bad refused) = ⊥
 IsGood (Good judgement) = ⊤
 
-abbrev pub IsStandBy : Form → Standing → Type 0
-IsStandBy Unseen stand = ⊥
-IsStandBy (Bad refused) stand = ⊥
-IsStandBy (Good judgement) stand = stand ≡ stand_by judgement
+abbrev pub IsStandBy : Form → ℕ → Cycle → Standing → Type 0
+IsStandBy Unseen number effect stand = ⊥
+IsStandBy (Bad refused) number effect stand = ⊥
+IsStandBy (Good judgement) number effect stand = stand ≡ stand_by judgement number effect
 
 -- a look for the stream of a name that isn't withdrawn gives its number, or why there is none
 abbrev pub IsOpenFormAt : List Standing → ℕ → ℕ → Type 0
-IsOpenFormAt stands name number = IsHolder stands name number × ((d : Standing) → (slice_index_or stands number d).withdrawn ≡ None)
+IsOpenFormAt stands name number = IsHolder stands name number × ((d : Standing) → (slice_index_or stands number d).row.withdrawn ≡ None)
 
 abbrev pub IsEndedAt : List Standing → ℕ → ℕ → Type 0
-IsEndedAt stands name number = IsHolder stands name number × ((d : Standing) → is_some (slice_index_or stands number d).withdrawn ≡ true)
+IsEndedAt stands name number = IsHolder stands name number × ((d : Standing) → is_some (slice_index_or stands number d).row.withdrawn ≡ true)
 
 abbrev pub FindsOpenForm : List Standing → ℕ → ℕ → Result ℕ Refused → Type 0
 FindsOpenForm stands names name (Ok number) = IsOpenFormAt stands name number

@@ -2,28 +2,18 @@
 use Rattle.std.specs.Prelude.{ℕ, ◌≡◌, ◌≢◌, ◌-◌, ◌<◌, ◌^◌, ◌⊎◌, All, AllPairs, Bool, Contains, List, Option, Some, true, false, if◌then◌else◌, length, slice_index_or, sum_by, ◌==◌}
 use Rattle.std.specs.List.{list_any}
 use Rattle.cqf_units.specs.declared.reservations.Cycle.{Cycle}
-use Rattle.cqf_admission_trees.specs.Sums.{part_on}
+use Rattle.cqf_model.specs.declared.topology.Row.{Row}
+use Rattle.cqf_admission.specs.Rows.{IsCountable, cost_by_link, ended}
 use Rattle.cqf_admission_ledger.specs.declared.holdings.Stand.{Stand}
 
--- a stream that was accepted: the number of its name, its cost in each of its cycles, its links, for how many cycles behind its
--- withdrawal it is held on, when it was withdrawn, and whether it is held
+-- a stream that was accepted: the number of its name, its row, and whether it is held
 pub record Standing : Type 0 where
   pub name : ℕ
-  pub cost : ℕ
-  pub links : List ℕ
-  pub residence : ℕ
-  pub withdrawn : Option Cycle
+  pub row : Row
   pub held : Bool
 
 abbrev pub standing_of : Stand → Standing
-standing_of stand = record {
-  name = stand.name;
-  cost = stand.cost;
-  links = stand.links.items;
-  residence = stand.residence;
-  withdrawn = stand.withdrawn;
-  held = stand.held;
-}
+standing_of stand = record { name = stand.name; row = stand.row; held = stand.held }
 
 -- accepted streams by number, how many names there are, how many streams more have room, and of how many links sums are kept
 pub record Stands : Type 0 where
@@ -34,7 +24,7 @@ pub record Stands : Type 0 where
 
 -- what those that are held cost of a link, and how many they are
 abbrev pub held_part : ℕ → Standing → ℕ
-held_part l stand = if stand.held then part_on stand.links stand.cost l else 0
+held_part l stand = if stand.held then cost_by_link stand.row l else 0
 
 abbrev pub held_cost : List Standing → ℕ → ℕ
 held_cost rows l = sum_by (held_part l) rows
@@ -47,7 +37,7 @@ held_count rows = sum_by held_one rows
 
 -- a stream that was withdrawn, and one that is held no more
 abbrev pub holding_ended : Standing → Cycle → Standing
-holding_ended stand cycle = record stand { withdrawn = Some cycle }
+holding_ended stand cycle = record stand { row = ended stand.row cycle }
 
 abbrev pub released : Standing → Standing
 released stand = record stand { held = false }
@@ -65,15 +55,10 @@ pub record IsHolder (rows : List Standing) (name number : ℕ) : Type 0 where
 abbrev pub IsFree : List Standing → ℕ → Type 0
 IsFree rows name = (number : ℕ) → IsHeldAt rows number → (d : Standing) → (slice_index_or rows number d).name ≢ name
 
--- links of so many, each once
-pub record AreAlong (links : ℕ) (some : List ℕ) : Type 0 where
-  pub inside : All (λ (l : ℕ). l < links) some
-  pub apart : AllPairs (λ (a b : ℕ). a ≢ b) some
-
 -- the figures are those of the streams: the sums, the number of held ones, and by name the number of the one that is held
 -- under it, where 2^32 - 1 stands for none
 pub record HaveFigures (rows : List Standing) (by_name sums : List ℕ) (count : ℕ) : Type 0 where
-  pub along : (stand : Standing) → Contains rows stand → AreAlong (length sums) stand.links
+  pub along : (stand : Standing) → Contains rows stand → IsCountable (length sums) stand.row
   pub costs : (l : ℕ) → l < length sums → slice_index_or sums l 0 ≡ held_cost rows l
   pub counted : count ≡ held_count rows
   pub few : length rows < 2 ^ 32

@@ -2,12 +2,13 @@
 use Rattle.std.specs.Prelude.{ℕ, ◌≡◌, ◌≢◌, ◌+◌, ◌<◌, ◌%◌, List, [], Bool, false, ◌==◌, ◌&&◌, AllPairs, Contains, length, slice_index_or}
 use Rattle.std.specs.Option.{option_map_or}
 use Rattle.std.specs.List.{list_any}
+use Rattle.cqf_model.specs.Table.{residence}
 use Rattle.cqf_units.specs.declared.reservations.Cycle.{Cycle}
 use Rattle.cqf_admission_ledger.specs.Holdings.{Standing}
 
 -- whether a stream is held and ends, in a cycle that stands in this slot
 abbrev pub in_slot : ℕ → Standing → Bool
-in_slot slot stand = stand.held && option_map_or (λ (w : Cycle). (w.0 + stand.residence) % 128 == slot) stand.withdrawn false
+in_slot slot stand = stand.held && option_map_or (λ (w : Cycle). (w.0 + residence stand.row) % 128 == slot) stand.row.withdrawn false
 
 -- each slot lists, once each, just the numbers of those that are held and end there
 pub record IsRing (stands : List Standing) (slots : List (List ℕ)) : Type 0 where

@@ -1,6 +1,5 @@
 //! What requests are by themselves, each looked over once.
 ghost use Rattle.std.specs.Prelude.{◌≡◌, ◌≤◌, Contains, IfOk, OnOk, length};
-ghost use Rattle.cqf_model.specs.Table.{links_of, residence};
 ghost use Rattle.cqf_admission.specs.Asking.{asked_of};
 ghost use Rattle.cqf_admission_ledger.specs.Forms.{AreUnseen, IsFormOf, IsRowOfGoodForm, IsSeen};
 ghost use Rattle.cqf_model.specs.Limits.{most_reserved};
@@ -8,9 +7,9 @@ ghost use Rattle.cqf_model.specs.Limits.{most_reserved};
 use cqf_admission::judge;
 use cqf_admission_requests::Names;
 use cqf_admission_trees::count_places;
-use cqf_model::{EACH_CYCLE, Refused, Row};
+use cqf_model::{Refused, Row};
 use cqf_topology::{Domain, Request};
-use cqf_units::{Cycle, Memory, Octets, cost};
+use cqf_units::{Cycle, Memory};
 use std::alloc::{AllocError, Global};
 
 /// A request of good form.
@@ -18,12 +17,8 @@ use std::alloc::{AllocError, Global};
 pub(crate) struct Judgement {
     /// The place of the first request of its name.
     pub name: usize,
-    /// What its stream costs of each link of its tree, in octets a cycle.
-    pub cost: u32,
-    /// For how many cycles behind its withdrawal the stream is held on.
-    pub residence: u8,
-    /// The links, in the order of the tree.
-    pub links: Vec<u16>,
+    /// Its row, as that of number 0 and of cycle 0.
+    pub row: Row,
 }
 
 /// What is known of a request's form.
@@ -35,23 +30,6 @@ pub(crate) enum Form {
     Bad(Refused),
     /// There is none.
     Good(Judgement),
-}
-
-/// What a stream is by its row, with the number of its name and its cost.
-fn judgement_of(alloc: Global, name: usize, cost: Octets, row: &Row) -> Result<Judgement, Memory>
-    ensures name { IfOk result (λ judgement. judgement.name ≡ name) }
-    ensures cost { IfOk result (λ judgement. judgement.cost ≡ cost.0) }
-    ensures residence { IfOk result (λ judgement. judgement.residence ≡ residence row.now) }
-    ensures links { IfOk result (λ judgement. judgement.links.items ≡ links_of row.now) }
-{
-    let links = row.links();
-    let residence = row.residence();
-    Ok(Judgement {
-        name,
-        cost: cost.0,
-        residence,
-        links: Vec::from_slice(alloc, links.as_slice())?,
-    })
 }
 
 /// Looks a request over.
@@ -76,16 +54,8 @@ pub(crate) fn look_over(
     };
     match judge(domain, request) {
         Ok(judged) => {
-            let row = Row {
-                no: 0,
-                name: judged.name,
-                octets: request.octets,
-                pace: EACH_CYCLE,
-                tree: judged.tree,
-                admitted: Cycle(0),
-                withdrawn: None,
-            };
-            Ok(Form::Good(judgement_of(alloc, name, judged.cost, &row)?))
+            let row = judged.into_row(alloc, request.octets, 0, Cycle(0))?;
+            Ok(Form::Good(Judgement { name, row }))
         }
         Err(refused) => Ok(Form::Bad(refused)),
     }
@@ -107,8 +77,8 @@ fn form_by_row(
     let Some(name) = names.place_of(request.name.as_str()) else {
         unreachable!();
     };
-    let judgement = judgement_of(alloc, name, cost(Octets(row.octets)), row)?;
-    Ok(Form::Good(judgement))
+    let row = row.try_copy(alloc)?;
+    Ok(Form::Good(Judgement { name, row }))
 }
 
 /// Takes a request's form from its row, as that of number 0 and of cycle 0.

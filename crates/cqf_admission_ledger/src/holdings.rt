@@ -1,28 +1,23 @@
 //! Accepted streams by number, of which some are held.
-ghost use Rattle.std.specs.Prelude.{◌≡◌, ◌+◌, ◌-◌, ◌<◌, ◌≤◌, ◌^◌, ℕ, [], ◌∷◌, ◌++◌, length, true, IfOk, OnOk};
+ghost use Rattle.std.specs.Prelude.{◌≡◌, ◌+◌, ◌-◌, ◌<◌, ◌≤◌, ◌^◌, ℕ, [], ◌∷◌, ◌++◌, length, map, true, IfOk, OnOk};
 ghost use Rattle.std.specs.Prelude.{MatchOption, replicate, slice_index_or, slice_set, vec_len, vec_capacity};
-ghost use Rattle.cqf_admission_trees.specs.Sums.{part_on};
-ghost use Rattle.cqf_admission_ledger.specs.Holdings.{AreAlong, IsFree, IsHolder, IsHeldAt, Standing, holding_ended, held_cost, held_count, released, standing_of};
+ghost use Rattle.cqf_admission.specs.Rows.{IsCountable, cost_by_link};
+ghost use Rattle.cqf_admission_ledger.specs.Holdings.{IsFree, IsHolder, IsHeldAt, Standing, holding_ended, held_cost, held_count, released, standing_of};
 
 use cqf_admission_trees::{add_on, take_on};
-use cqf_units::{Cycle, Memory};
+use cqf_model::Row;
+use cqf_units::{Cycle, Memory, Octets, cost};
 use std::alloc::Global;
 use std::marker::Model;
 
 /// No stream's number: fewer are ever accepted.
 const NOBODY: u32 = 4_294_967_295;
 
-/// A stream that was accepted: the number of its name, its cost in each of its cycles, its links, for how long it stays, when it
-/// was withdrawn, and whether it is held.
+/// A stream that was accepted: the number of its name, its row, and whether it is held.
 #[derive(Drop)]
 pub(crate) struct Stand {
     pub name: usize,
-    pub cost: u32,
-    /// In the order of its tree.
-    pub links: Vec<u16>,
-    /// For how many cycles behind its withdrawal it is held on.
-    pub residence: u8,
-    pub withdrawn: Option<Cycle>,
+    pub row: Row,
     pub held: bool,
 }
 
@@ -142,14 +137,15 @@ impl Holdings {
         requires held { stand.held ≡ true }
         requires named { stand.name < self.old.names }
         requires free { IsFree self.old.rows stand.name }
-        requires along { AreAlong self.old.links stand.links.items }
-        requires fits { (l : ℕ) → l < self.old.links → held_cost self.old.rows l + part_on stand.links.items stand.cost l < 2 ^ 64 }
+        requires countable { IsCountable self.old.links stand.row }
+        requires fits { (l : ℕ) → l < self.old.links → held_cost self.old.rows l + cost_by_link stand.row l < 2 ^ 64 }
         ensures rows { self.new.rows ≡ self.old.rows ++ standing_of stand ∷ [] }
         ensures names { self.new.names ≡ self.old.names }
         ensures links { self.new.links ≡ self.old.links }
     {
         let number = self.rows.len() as u32;
-        add_on(&mut self.sums, stand.links.as_slice(), stand.cost);
+        let cost = cost(Octets(stand.row.octets));
+        add_on(&mut self.sums, stand.row.tree.as_slice(), cost.0);
         self.by_name[stand.name] = number;
         self.rows.push(stand).unwrap();
         self.count += 1;
@@ -162,7 +158,7 @@ impl Holdings {
         ensures names { self.new.names ≡ self.old.names }
         ensures links { self.new.links ≡ self.old.links }
     {
-        self.rows[number as usize].withdrawn = Some(cycle);
+        self.rows[number as usize].row.withdrawn = Some(cycle);
     }
 
     /// Lets go of a stream that is held.
@@ -175,9 +171,21 @@ impl Holdings {
         let place = number as usize;
         let stand = &self.rows[place];
         let name = stand.name;
-        take_on(&mut self.sums, stand.links.as_slice(), stand.cost);
+        let cost = cost(Octets(stand.row.octets));
+        take_on(&mut self.sums, stand.row.tree.as_slice(), cost.0);
         self.by_name[name] = NOBODY;
         self.rows[place].held = false;
         self.count -= 1;
+    }
+
+    /// The rows of the streams, by number, unless memory runs out.
+    pub(crate) fn into_rows(self, alloc: Global) -> Result<Vec<Row>, Memory>
+        ensures { IfOk result (λ rows. rows.items ≡ map (λ (stand : Standing). stand.row) self.rows) }
+    {
+        let mut rows = Vec::with_capacity(alloc, self.rows.len())?;
+        for stand in self.rows {
+            rows.push(stand.row)?;
+        }
+        Ok(rows)
     }
 }

@@ -1,7 +1,7 @@
 //! The administration of streams by figures, over requests and a script that stand elsewhere.
 ghost use Rattle.std.specs.Prelude.{ℕ, ◌≡◌, ◌≤◌, ◌<◌, ◌+◌, [], map, length, IfOk};
 ghost use Rattle.cqf_model.specs.Domain.{budget};
-ghost use Rattle.cqf_model.specs.History.{Admits, IsLegalHistory, Withdraws, seals};
+ghost use Rattle.cqf_model.specs.History.{Admits, IsLegalHistory, Withdraws, seals, streams_of};
 ghost use Rattle.cqf_model.specs.Table.{link_cost};
 ghost use Rattle.cqf_admission_requests.specs.declared.orders.What.TheVariants.{Withdraw};
 ghost use Rattle.cqf_admission_requests.specs.Orders.{StandsIn, request_at, word_at};
@@ -112,13 +112,18 @@ impl<'s> Ledger<'s> {
         self.log.as_slice()
     }
 
-    /// All entries, in order, of a ledger that is over. It takes no memory.
-    pub fn into_log(self) -> Vec<Logged>
-        ensures entries { map (recorded_in self.entry.requests self.entry.script) result.items ≡ self.entry.administration.entries }
+    /// All entries, in order, and the rows of all streams that were ever granted, by number, of a ledger that is over.
+    ///
+    /// # Errors
+    /// Where a growth is refused.
+    pub fn into_parts(self) -> Result<(Vec<Logged>, Vec<Row>), Memory>
+        ensures entries { IfOk result (λ parts. map (recorded_in self.entry.requests self.entry.script) parts.0.items ≡ self.entry.administration.entries) }
         ensures legal { IsLegalHistory self.entry.administration.domain self.entry.administration.entries }
-        ensures there { AreThere self.entry.requests self.entry.script result.items }
+        ensures there { IfOk result (λ parts. AreThere self.entry.requests self.entry.script parts.0.items) }
+        ensures rows { IfOk result (λ parts. parts.1.items ≡ streams_of self.entry.administration.domain self.entry.administration.entries) }
     {
-        self.log
+        let rows = self.holdings.into_rows(self.alloc)?;
+        Ok((self.log, rows))
     }
 
     /// The next cycle to be closed to changes: the number of Seals so far. A call has its effect from this cycle on.
@@ -157,8 +162,8 @@ impl<'s> Ledger<'s> {
         let effect = Cycle(self.sealed);
         match weigh(self.domain, &self.holdings, &self.forms[place]) {
             None => {
-                let stand = stand_by(self.alloc, &self.forms[place])?;
                 let no = self.holdings.len();
+                let stand = stand_by(self.alloc, &self.forms[place], no, effect)?;
                 let receipt = Receipt { no, effect };
                 self.holdings.push(stand);
                 enter(
@@ -219,7 +224,7 @@ impl<'s> Ledger<'s> {
         let word = word_of(self.script, from, octets);
         match find_open(&self.names, &self.holdings, word) {
             Ok(number) => {
-                let slot = slot_of(self.sealed, self.holdings.stand(number).residence);
+                let slot = slot_of(self.sealed, self.holdings.stand(number).row.residence());
                 self.slots.put(slot, number)?;
                 self.holdings.end(number, effect);
                 let receipt = Receipt { no: number, effect };

@@ -1,12 +1,23 @@
 -- Sums by link, one link more.
 use Rattle.std.proofs.Common.{◌≡◌, ◌≢◌, ℕ, ◌+◌, ◌-◌, ◌<◌, ◌≤◌, ◌^◌, ◌∙◌, ◌==◌, ◌||◌, Bool, true, List, length, get_or, set, take, ap, arith, refl, subst, subst₂, sym, false, inl, inr}
-use Rattle.std.specs.Prelude.{All, AllPairs, if◌then◌else◌, slice_index_or}
+use Rattle.std.specs.Prelude.{None, All, AllPairs, if◌then◌else◌, slice_index_or}
 use Rattle.std.specs.List.{list_any}
 use Rattle.std.proofs.lemmas.Bool.{cases_eq, eq-eqb, ne_eqb}
-use Rattle.std.proofs.lemmas.List.{get_or-set_other, get_or-set_same, get_or-take, get_or_default, length-set, length-take-le}
+use Rattle.std.proofs.lemmas.List.{get_or-map, length-map, get_or-set_other, get_or-set_same, get_or-take, get_or_default, length-set, length-take-le}
 use Rattle.std.proofs.lemmas.List.Elements.{All-get_or}
 use Rattle.std.proofs.lemmas.List.Folds.{list_any_at, list_any_more, list_any_none}
+use Rattle.cqf_model.specs.declared.topology.Hop.{Hop}
+use Rattle.cqf_model.specs.Table.{links_in}
 use Rattle.cqf_admission_trees.specs.Sums.{AreLessOn, AreMoreOn, HaveOn, HaveRoomOn, part_on}
+
+-- the hop that is taken where there is none
+abbrev pub no_hop : Hop
+no_hop = record { link = 0; depth = 0; from = None }
+
+-- the link of a hop stands at its place among the links
+pub link_at : (hops : List Hop) (k : ℕ) (none : Hop) → k < length hops → (k < length (links_in hops)) × ((get_or hops k none).link ≡ get_or (links_in hops) k 0)
+link_at hops k none inside =
+    (omega (arith, inside, length-map hops (λ (hop : Hop). hop.link)), sym (get_or-map (λ (hop : Hop). hop.link) hops k none 0 inside))
 
 -- neither is the first alone
 or_neither : (b : Bool) → (b || false) ≡ b

@@ -18,6 +18,7 @@ mod ports;
 mod refusals;
 mod rows;
 mod topology;
+mod trees;
 
 pub use frames::{Backed, Background, Book, Dropped, Offer, Offered, Page, Reason, Sent, Started};
 pub use gates::{OpenFor, StreamEntry};
@@ -29,3 +30,4 @@ pub use limits::{
 };
 pub use ports::{Arrival, Start};
 pub use topology::{EACH_CYCLE, Hop, Link, Node, Pace, Row};
+pub use trees::Tree;

@@ -1,20 +1,11 @@
 //! What a row says of its stream: in which cycles it is live and held, and where it goes.
-ghost use Rattle.std.specs.Prelude.{◌≡◌, ◌<◌, ◌==◌, ◌&&◌, ◌+◌, ◌↔◌, ◌⊎◌, true, nat_lt, IsBitSet, ℕ};
+ghost use Rattle.std.specs.Prelude.{◌≡◌, ◌<◌, ◌==◌, ◌&&◌, ◌+◌, nat_lt, IfOk};
 ghost use Rattle.std.specs.List.{list_any};
-ghost use Rattle.cqf_model.specs.Table.{crosses, goes_to, is_held, is_live, links_of, residence, same_way};
+ghost use Rattle.cqf_model.specs.Table.{crosses, goes_to, is_held, is_live, residence, same_way};
 
 use crate::{Hop, Row};
-use arrayvec::ArrayVec;
-use cqf_units::Cycle;
-
-/// The same hops again.
-fn copied_tree(tree: &ArrayVec<Hop, 200>) -> ArrayVec<Hop, 200>
-    ensures { result.items ≡ tree.now.items }
-{
-    let mut copied = ArrayVec::new();
-    copied.try_extend_from_slice(tree.as_slice()).unwrap();
-    copied
-}
+use cqf_units::{Cycle, Memory};
+use std::alloc::Global;
 
 /// Whether a frame comes the same way: from the edge, or by the same link.
 fn is_same_way(from: Option<u16>, way: Option<u16>) -> bool
@@ -98,29 +89,18 @@ impl Row {
         leads_on(self.tree.as_slice(), way, link)
     }
 
-    /// The links by which the stream goes, in the order of its tree.
-    pub fn links(&self) -> ArrayVec<u16, 200>
-        ensures { result.items ≡ links_of self.now }
+    /// The same row once more, unless memory runs out.
+    pub fn try_copy(&self, alloc: Global) -> Result<Row, Memory>
+        ensures { IfOk result (λ row. row ≡ self.now) }
     {
-        let mut links = ArrayVec::new();
-        for hop in self.tree.as_slice() {
-            links.push(hop.link);
-        }
-        links
-    }
-
-    /// The same row once more. A row lies in place and needs no memory, so this can't fail.
-    pub fn copied(&self) -> Row
-        ensures { result ≡ self.now }
-    {
-        Row {
+        Ok(Row {
             no: self.no,
             name: self.name.copied(),
             octets: self.octets,
             pace: self.pace,
-            tree: copied_tree(&self.tree),
+            tree: self.tree.try_copy(alloc)?,
             admitted: self.admitted,
             withdrawn: self.withdrawn,
-        }
+        })
     }
 }

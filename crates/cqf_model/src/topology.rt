@@ -1,6 +1,6 @@
 //! Links, and the streams that a table holds.
 
-use arrayvec::ArrayVec;
+use crate::trees::Tree;
 use cqf_units::{Cycle, Name, Rate};
 
 /// A node of a domain, by its number among the bridges or among the stations.
@@ -55,7 +55,7 @@ pub struct Row {
     pub octets: u32,
     pub pace: Pace,
     /// The hops of its tree, in the order in which their links first stand in the branches.
-    pub tree: ArrayVec<Hop, 200>,
+    pub tree: Tree,
     /// The first cycle in which the stream is live.
     pub admitted: Cycle,
     /// The first cycle in which it is live no more, where it was withdrawn.

@@ -6,13 +6,13 @@ ghost use Rattle.cqf_admission_trees.specs.Branches.{branches_of, places_of};
 ghost use Rattle.cqf_model.specs.Domain.{is_text};
 ghost use Rattle.cqf_model.specs.History.{Asked};
 ghost use Rattle.cqf_model.specs.declared.topology.Row.{Row as ARow};
-ghost use Rattle.cqf_program_plans.specs.Listing.{Lists};
+ghost use Rattle.cqf_program_plans.specs.Listing.{Weighs};
 ghost use Rattle.cqf_program_plans.specs.LoadOutput.{listed_from};
 ghost use Rattle.cqf_program_stop.specs.Stops.{IsRefused};
 
 use cqf_admission::{Judged, judge};
 use cqf_admission_trees::count_places;
-use cqf_model::{EACH_CYCLE, Refused, Row};
+use cqf_model::{Refused, Row};
 use cqf_program_plans::stream_stop;
 use cqf_program_stop::Stop;
 use cqf_topology::{Domain, Request};
@@ -26,10 +26,11 @@ fn has_name(rows: &[Row], name: &Name) -> bool
     rows.iter().any(|row| row.name == *name)
 }
 
-/// The row of a request behind others, which asks for less than 2^64 places, or the first reason against it but that a link has no room.
-fn look_over(domain: &Domain, rows: &[Row], request: &Request) -> Result<Row, Refused>
+/// The first reason but that a link has no room against a request beside others, which asks for less than 2^64 places, or what it is by
+/// itself.
+fn weigh(domain: &Domain, rows: &[Row], request: &Request) -> Result<Judged, Refused>
     requires { places_of (branches_of request.now.paths.items) < 2 ^ 64 }
-    ensures { Lists domain.now rows.now (asked_of request.now) result }
+    ensures { Weighs domain.now rows.now (asked_of request.now) result }
 {
     let judged = judge(domain, request)?;
     if has_name(rows, &judged.name) {
@@ -38,16 +39,7 @@ fn look_over(domain: &Domain, rows: &[Row], request: &Request) -> Result<Row, Re
     if rows.len() >= domain.limits().streams_within() {
         return Err(Refused::TooManyStreams);
     }
-    let Judged { name, tree, .. } = judged;
-    Ok(Row {
-        no: rows.len() as u32,
-        name,
-        octets: request.octets,
-        pace: EACH_CYCLE,
-        tree,
-        admitted: Cycle(0),
-        withdrawn: None,
-    })
+    Ok(judged)
 }
 
 /// The row of a request behind others, or the end where it is refused.
@@ -65,8 +57,13 @@ pub(crate) fn row_of(
     if count_places(request.paths.as_slice()).is_none() {
         return Err(Stop::memory(alloc));
     }
-    match look_over(domain, rows, request) {
-        Ok(row) => Ok(row),
+    match weigh(domain, rows, request) {
+        Ok(judged) => {
+            match judged.into_row(alloc, request.octets, rows.len() as u32, Cycle(0)) {
+                Ok(row) => Ok(row),
+                Err(_) => Err(Stop::memory(alloc)),
+            }
+        }
         Err(refused) => Err(stream_stop(alloc, rows.len() + 1, refused)),
     }
 }

@@ -223,7 +223,7 @@ fn rows_of_table(alloc: Global, table: &Table) -> Result<Vec<Row>, Memory>
 {
     let mut rows = Vec::new(alloc);
     for row in table.rows() {
-        rows.push(row.copied())?;
+        rows.push(row.try_copy(alloc)?)?;
     }
     Ok(rows)
 }

@@ -8,7 +8,8 @@ use Rattle.cqf_model.specs.declared.topology.Row.{Row}
 use Rattle.cqf_model.specs.Domain.{Domain, is_text}
 use Rattle.cqf_model.specs.History.{Asked, pace_of, refused_if}
 use Rattle.cqf_laws_history.specs.StateLaws.{granted_row}
-use Rattle.cqf_admission.specs.Judging.{form_refusal}
+use Rattle.cqf_admission.specs.declared.judged.Judged.{Judged}
+use Rattle.cqf_admission.specs.Judging.{form_refusal, row_by}
 use Rattle.cqf_program_plans.specs.Fitting.{streams_on}
 use Rattle.cqf_model.specs.Limits.{most_links, most_streams, streams_within}
 use Rattle.cqf_admission.specs.Rows.{IsCountable, costs_on}
@@ -45,6 +46,11 @@ pub record IsListed (d : Domain) (rows : List Row) (asked : Asked) (row : Row) :
   pub countable : IsCountable (length d.links) row
   pub few : length rows < most_streams
   pub free : list_any (λ (other : Row). is_text other.name row.name) rows ≡ false
+
+-- and one at what it is by itself, what its row is by
+abbrev pub Weighs : Domain → List Row → Asked → Result Judged Refused → Type 0
+Weighs d rows asked (Ok judged) = IsListed d rows asked (row_by judged asked.octets (length rows) (record { 0 = 0 }))
+Weighs d rows asked (Err refused) = listing_refusal d rows asked ≡ Some refused
 
 abbrev pub Lists : Domain → List Row → Asked → Result Row Refused → Type 0
 Lists d rows asked (Ok row) = IsListed d rows asked row

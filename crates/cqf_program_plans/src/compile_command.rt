@@ -13,13 +13,13 @@ ghost use Rattle.cqf_admission_requests.specs.Orders.{request_at};
 ghost use Rattle.cqf_program_stop.specs.Stops.{EndsWith, IsRefused};
 
 use crate::compile_outputs::ConfigOutput;
-use cqf_admission::{Judged, judge};
+use cqf_admission::judge;
 use cqf_admission_ledger::{Ledger, Receipt, Refused};
 use cqf_admission_trees::count_places;
 use cqf_compile::compile;
 use cqf_gates::{compiled_list, write_tx};
 use cqf_laws_history::state_follows_history;
-use cqf_model::{EACH_CYCLE, Row};
+use cqf_model::Row;
 use cqf_program_press::Sheet;
 use cqf_program_scenario::{domain_part, streams_part, two_parts};
 use cqf_program_stop::{REFUSED, Stop};
@@ -76,15 +76,10 @@ fn row_at(alloc: Global, domain: &Domain, request: &Request, place: usize) -> Re
         return Err(Stop::memory(alloc));
     }
     match judge(domain, request) {
-        Ok(Judged { name, tree, .. }) => Ok(Row {
-            no: 0,
-            name,
-            octets: request.octets,
-            pace: EACH_CYCLE,
-            tree,
-            admitted: Cycle(0),
-            withdrawn: None,
-        }),
+        Ok(judged) => match judged.into_row(alloc, request.octets, 0, Cycle(0)) {
+            Ok(row) => Ok(row),
+            Err(_) => Err(Stop::memory(alloc)),
+        },
         Err(refused) => Err(stream_stop(alloc, place + 1, refused)),
     }
 }

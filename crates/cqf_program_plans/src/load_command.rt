@@ -30,7 +30,10 @@ fn list_one(
     if count_places(request.paths.as_slice()).is_none() {
         return Err(Stop::memory(alloc));
     }
-    match listing.look_over(domain, request) {
+    let Ok(looked) = listing.look_over(alloc, domain, request) else {
+        return Err(Stop::memory(alloc));
+    };
+    match looked {
         Ok(row) => match listing.with(row) {
             Ok(after) => Ok(after),
             Err(_) => Err(Stop::memory(alloc)),

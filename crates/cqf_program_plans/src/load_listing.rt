@@ -4,7 +4,7 @@ ghost use Rattle.std.specs.List.{list_any};
 ghost use Rattle.cqf_model.specs.Domain.{is_text};
 ghost use Rattle.cqf_admission_trees.specs.Branches.{branches_of, places_of};
 ghost use Rattle.cqf_admission.specs.Asking.{asked_of};
-ghost use Rattle.cqf_program_plans.specs.Listing.{Lists};
+ghost use Rattle.cqf_program_plans.specs.Listing.{Lists, Weighs};
 ghost use Rattle.cqf_program_plans.specs.Fitting.{streams_on};
 ghost use Rattle.cqf_program_plans.specs.Adding.{AddsWhere};
 ghost use Rattle.cqf_admission.specs.Costs.{most_cost};
@@ -14,7 +14,7 @@ ghost use Rattle.cqf_model.specs.Paces.{each_cycle};
 
 use cqf_admission::{Judged, judge};
 use cqf_admission_trees::add_on;
-use cqf_model::{EACH_CYCLE, MOST_LINKS, Refused, Row};
+use cqf_model::{MOST_LINKS, Refused, Row};
 use cqf_topology::{Domain, Request};
 use cqf_units::{Cycle, Memory, Name, Octets, cost};
 use indexmap::IndexSet;
@@ -56,8 +56,7 @@ fn add_where(by_link: &mut Vec<u64>, row: &Row, number: u32)
     requires low { (l : ℕ) → l < most_links → slice_index_or by_link.old.items l 0 < 2 ^ 32 }
     ensures { AddsWhere by_link.old.items row.now number by_link.new.items }
 {
-    let links = row.links();
-    add_on(by_link, links.as_slice(), number);
+    add_on(by_link, row.tree.as_slice(), number);
 }
 
 impl Listing {
@@ -108,11 +107,10 @@ impl Listing {
         self.crossing[usize::from(link)]
     }
 
-    /// The row of a request behind the others, which asks for less than 2^64 places, or the first reason against it but that
-    /// a link has no room.
-    pub(crate) fn look_over(&self, domain: &Domain, request: &Request) -> Result<Row, Refused>
+    /// The first reason but that a link has no room against a request that asks for less than 2^64 places, or what it is by itself.
+    fn weigh(&self, domain: &Domain, request: &Request) -> Result<Judged, Refused>
         requires { places_of (branches_of request.now.paths.items) < 2 ^ 64 }
-        ensures { Lists domain.now self.now (asked_of request.now) result }
+        ensures { Weighs domain.now self.now (asked_of request.now) result }
     {
         let judged = judge(domain, request)?;
         if self.has_name(&judged.name) {
@@ -121,16 +119,27 @@ impl Listing {
         if self.len() >= domain.limits().streams_within() {
             return Err(Refused::TooManyStreams);
         }
-        let Judged { name, tree, .. } = judged;
-        Ok(Row {
-            no: self.len() as u32,
-            name,
-            octets: request.octets,
-            pace: EACH_CYCLE,
-            tree,
-            admitted: Cycle(0),
-            withdrawn: None,
-        })
+        Ok(judged)
+    }
+
+    /// The row of a request behind the others, which asks for less than 2^64 places, or the first reason against it but that
+    /// a link has no room; unless there is none, and memory runs out.
+    pub(crate) fn look_over(
+        &self,
+        alloc: Global,
+        domain: &Domain,
+        request: &Request,
+    ) -> Result<Result<Row, Refused>, Memory>
+        requires { places_of (branches_of request.now.paths.items) < 2 ^ 64 }
+        ensures { IfOk result (λ looked. Lists domain.now self.now (asked_of request.now) looked) }
+    {
+        match self.weigh(domain, request) {
+            Ok(judged) => {
+                let row = judged.into_row(alloc, request.octets, self.len() as u32, Cycle(0))?;
+                Ok(Ok(row))
+            }
+            Err(refused) => Ok(Err(refused)),
+        }
     }
 
     /// The listing with a row more behind the others, of a name that isn't listed, unless memory runs out.

@@ -3,15 +3,11 @@ use Rattle.std.specs.Prelude.{ℕ, ◌≡◌, ◌+◌, ◌≤◌, ◌<◌, All, 
 use Rattle.cqf_units.specs.Timing.{cycle_at}
 use Rattle.cqf_units.specs.declared.timing.Nanos.{Nanos}
 use Rattle.cqf_instants.specs.Meaning.{Given as GivenRun}
-use Rattle.cqf_instants.specs.Progress.{AreStartsOf, IsBasisOf, Progress}
+use Rattle.cqf_instants.specs.Progress.{IsBasisOf}
 use Rattle.cqf_instants.specs.declared.basis.Basis.{Basis}
-use Rattle.cqf_admission_ledger.specs.declared.logs.Logged.{Logged}
 use Rattle.cqf_model.specs.declared.frames.Offer.{Offer}
 use Rattle.cqf_model.specs.declared.frames.Started.{Started}
-use Rattle.cqf_model.specs.Book.{Contents}
 use Rattle.cqf_laws_report.specs.Judged.{StandInOrder}
-use Rattle.cqf_program_scenario.specs.declared.given.Given.{Given}
-use Rattle.cqf_program_scenario.specs.Ran.{IsRunOf}
 use Rattle.cqf_program_runs.specs.declared.deliveries_made.Noted.{Noted}
 use Rattle.cqf_program_runs.specs.declared.deliveries_reading.PlannedGiven.{PlannedGiven}
 use Rattle.cqf_program_runs.specs.declared.delivery.Delivery.{Delivery}
@@ -62,13 +58,6 @@ pub record IsNotedOf (cycles : ℕ) (planned : PlannedGiven) (noted : Noted) (un
   pub whole : ℕ → ℕ → Option Nanos
   pub followed : IsFollowed (over_by planned cycles noted whole) 0 under_way
   pub are : AreDeliveriesOf cycles planned (deliveries_over (over_by planned cycles noted whole))
-
--- a pass tells the starts of the book of a scenario with this log
-pub record IsPassOf (cycles : ℕ) (given : Given) (log : List Logged) (pass : Progress) : Type 0 where
-  pub book : Contents
-  pub ran : IsRunOf cycles given log book
-  pub starts : AreStartsOf pass.basis book.starts
-  pub fresh : pass.told ≡ 0
 
 -- what an output of deliveries is told from
 pub record Ending : Type 0 where

@@ -6,13 +6,14 @@ ghost use Rattle.cqf_admission_requests.specs.Orders.{StandsIn};
 ghost use Rattle.cqf_program_scenario.specs.Calls.{history_of};
 ghost use Rattle.cqf_program_scenario.specs.Closing.{MayBeRun, scenario_given};
 ghost use Rattle.cqf_program_scenario.specs.Logged.{HasOrders};
+ghost use Rattle.cqf_program_scenario.specs.Ran.{IsRan};
 ghost use Rattle.cqf_program_stop.specs.Stops.{EndsWith, IsRefused};
 ghost use Rattle.cqf_program_runs.specs.Checked.{complaint_line, finished, is_bad, unfinished_line, well_line};
 ghost use Rattle.cqf_program_runs.specs.Deliveries.{fate_of};
 ghost use Rattle.cqf_program_runs.specs.CheckOutput.{IsCheckRefusal, IsChecked};
 ghost use Rattle.cqf_program_runs.specs.Counting.{checked_over};
 ghost use Rattle.cqf_program_runs.specs.Ending.{over_of};
-ghost use Rattle.cqf_program_runs.specs.Following.{AreDeliveriesTold, CanFollow, IsFollowed, IsNotedOf, IsPassOf, TellsDeliveriesOf};
+ghost use Rattle.cqf_program_runs.specs.Following.{AreDeliveriesTold, CanFollow, IsFollowed, IsNotedOf, TellsDeliveriesOf};
 ghost use Rattle.cqf_units.specs.declared.timing.Nanos.{Nanos as AnInstant};
 ghost use Rattle.cqf_program_runs.specs.Checking.{IsCheckedGiven, IsRefusedGiven};
 ghost use Rattle.cqf_program_runs.specs.DeliveriesOutput.{IsDeliveriesOutput};
@@ -21,7 +22,7 @@ ghost use Rattle.cqf_program_runs.specs.RefusedCalls.{first_refused, is_refused,
 ghost use Rattle.cqf_model.specs.Limits.{most_cycles};
 
 use crate::checked::no_counts;
-use crate::deliveries_made::{Noted, later_offers, noted_of, noted_of_scenario, pass_of};
+use crate::deliveries_made::{Noted, later_offers, noted_of, noted_of_scenario};
 use crate::deliveries_outputs::DeliveriesOutput;
 use crate::deliveries_reading::{PlannedGiven, read_planned_given};
 use crate::few::Few;
@@ -30,9 +31,8 @@ use crate::refused_calls::{first_refused, refused_line};
 use crate::under_way::UnderWay;
 use crate::{Counts, Delivery, complaint_about, first_bad, unfinished_line, well_line};
 use cqf_admission_ledger::Logged;
-use cqf_instants::Pass;
 use cqf_program_press::Sheet;
-use cqf_program_scenario::Given;
+use cqf_program_scenario::{Given, Ran, run_given};
 use cqf_program_stop::{REFUSED, Stop};
 use cqf_units::Memory;
 use std::alloc::Global;
@@ -167,17 +167,16 @@ fn check_frames(
     alloc: Global,
     cycles: u32,
     planned: &PlannedGiven,
-    entries: &[Logged],
-    pass: Pass,
+    ran: Ran,
 ) -> Result<Vec<u8>, Stop>
     requires short { cycles ≤ most_cycles }
     requires may { MayBeRun cycles (scenario_given planned.now.given) }
     requires granted { first_refused (history_of cycles (scenario_given planned.now.given)) ≡ None }
-    requires ran { IsPassOf cycles planned.now.given entries.now pass }
+    requires ran { IsRan cycles planned.now.given ran }
     ensures ok { IfOk result (λ line. IsCheckedGiven cycles planned.now (Ok line.items)) }
     ensures err { IfErr result (IsRefusedGiven cycles planned.now) }
 {
-    match noted_of(alloc, cycles, planned, entries, pass) {
+    match noted_of(alloc, cycles, planned, ran) {
         Ok((noted, under_way)) => check_noted(alloc, cycles, planned, &noted, under_way),
         Err(_) => Err(Stop::memory(alloc)),
     }
@@ -197,22 +196,16 @@ fn refused_stop(alloc: Global, given: &Given, number: usize, logged: &Logged) ->
 }
 
 /// What is told of a scenario that was run.
-fn check_ran(
-    alloc: Global,
-    cycles: u32,
-    planned: &PlannedGiven,
-    entries: &[Logged],
-    pass: Pass,
-) -> Result<Vec<u8>, Stop>
+fn check_ran(alloc: Global, cycles: u32, planned: &PlannedGiven, ran: Ran) -> Result<Vec<u8>, Stop>
     requires short { cycles ≤ most_cycles }
     requires may { MayBeRun cycles (scenario_given planned.now.given) }
-    requires ran { IsPassOf cycles planned.now.given entries.now pass }
+    requires ran { IsRan cycles planned.now.given ran }
     ensures ok { IfOk result (λ line. IsCheckedGiven cycles planned.now (Ok line.items)) }
     ensures err { IfErr result (IsRefusedGiven cycles planned.now) }
 {
-    match first_refused(entries) {
+    match first_refused(ran.entries.as_slice()) {
         Some((number, logged)) => Err(refused_stop(alloc, &planned.given, number, &logged)),
-        None => check_frames(alloc, cycles, planned, entries, pass),
+        None => check_frames(alloc, cycles, planned, ran),
     }
 }
 
@@ -224,8 +217,8 @@ fn check_scenario(alloc: Global, cycles: u32, planned: &PlannedGiven) -> Result<
     ensures ok { IfOk result (λ line. IsCheckedGiven cycles planned.now (Ok line.items)) }
     ensures err { IfErr result (IsRefusedGiven cycles planned.now) }
 {
-    match pass_of(alloc, cycles, &planned.given) {
-        Ok((entries, pass)) => check_ran(alloc, cycles, planned, entries.as_slice(), pass),
+    match run_given(alloc, cycles, &planned.given) {
+        Ok(ran) => check_ran(alloc, cycles, planned, ran),
         Err(_) => Err(Stop::memory(alloc)),
     }
 }

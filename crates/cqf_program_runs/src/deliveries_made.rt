@@ -8,23 +8,21 @@ ghost use Rattle.cqf_model.specs.Shift.{offer_cycle};
 ghost use Rattle.cqf_model.specs.Traffic.{numbered};
 ghost use Rattle.cqf_program_scenario.specs.Closing.{MayBeRun, scenario_given};
 ghost use Rattle.cqf_program_scenario.specs.Logged.{HasOrders};
+ghost use Rattle.cqf_program_scenario.specs.Ran.{IsRan};
 ghost use Rattle.cqf_program_runs.specs.Deadlines.{deadline_in};
 ghost use Rattle.cqf_program_runs.specs.Ending.{over_by, over_of};
-ghost use Rattle.cqf_program_runs.specs.Following.{IsNotedOf, IsPassOf};
+ghost use Rattle.cqf_program_runs.specs.Following.{IsNotedOf};
 ghost use Rattle.cqf_model.specs.Limits.{end_of_offers, most_cycles};
 
 use crate::Deadlines;
 use crate::deliveries_reading::PlannedGiven;
 use crate::made::Ended;
 use crate::under_way::UnderWay;
-use cqf_admission_granted::granted_of_log;
-use cqf_admission_ledger::Logged;
-use cqf_instants::Pass;
-use cqf_instants_coverage::{Judgement, cover};
+use cqf_instants_coverage::Judgement;
 use cqf_laws_history::tables_are_orderly;
 use cqf_laws_report::offers_are_judged;
 use cqf_model::{Offer, Row};
-use cqf_program_scenario::{Given, Ran, run_given};
+use cqf_program_scenario::{Ran, run_given};
 use cqf_topology::Domain;
 use cqf_units::{Memory, cycle_of};
 use std::alloc::Global;
@@ -84,55 +82,39 @@ fn dues_of_scenario(alloc: Global, planned: &PlannedGiven) -> Result<Vec<Option<
     dues_of(alloc, &deadlines, planned.given.offers.as_slice())
 }
 
-/// What is noted of a scenario that was run over so many cycles, with this log and the pass that tells its starts, and its frames under way.
+/// What is noted of a scenario that was run over so many cycles, by what came of it, and its frames under way, whose starts are still to be
+/// told.
 pub(crate) fn noted_of(
     alloc: Global,
     cycles: u32,
     planned: &PlannedGiven,
-    entries: &[Logged],
-    pass: Pass,
+    ran: Ran,
 ) -> Result<(Noted, UnderWay), Memory>
     requires short { cycles ≤ most_cycles }
     requires may { MayBeRun cycles (scenario_given planned.now.given) }
-    requires ran { IsPassOf cycles planned.now.given entries.now pass }
+    requires ran { IsRan cycles planned.now.given ran }
     ensures { IfOk result (λ made. IsNotedOf cycles planned.now made.0 made.1) }
 {
     offers_are_judged();
     tables_are_orderly();
-    let given = &planned.given;
-    let domain = &given.domain;
+    let domain = &planned.given.domain;
     // the domain is accepted: a fact for the instants
     let _accepted = domain.cycle_time();
-    let requests = given.requests.as_slice();
-    let script = given.script.as_slice();
-    let offers = given.offers.as_slice();
-    let granted = granted_of_log(alloc, domain, requests, script, entries)?;
-    let rows = granted.as_slice();
-    let judgements = cover(alloc, domain, rows, offers)?;
+    let offers = planned.given.offers.as_slice();
+    let Ran {
+        rows,
+        judgements,
+        book,
+        ..
+    } = ran;
     let dues = dues_of_scenario(alloc, planned)?;
-    let under_way = UnderWay::new(alloc, domain, rows, offers, pass)?;
+    let under_way = UnderWay::new(alloc, domain, rows.as_slice(), offers, book.into_pass())?;
     let noted = Noted {
-        rows: granted,
+        rows,
         judgements,
         dues,
     };
     Ok((noted, under_way))
-}
-
-/// The log of a scenario's history over so many cycles, 0 to 100,000, and the pass that tells its starts.
-pub(crate) fn pass_of(
-    alloc: Global,
-    cycles: u32,
-    given: &Given,
-) -> Result<(Vec<Logged>, Pass), Memory>
-    requires short { cycles ≤ most_cycles }
-    requires may { MayBeRun cycles (scenario_given given.now) }
-    requires stand { HasOrders given.now }
-    ensures { IfOk result (λ ran. IsPassOf cycles given.now ran.0.items ran.1) }
-{
-    let ran = run_given(alloc, cycles, given)?;
-    let Ran { entries, book } = ran;
-    Ok((entries, book.into_pass()))
 }
 
 /// What is noted of a scenario over so many cycles, 0 to 100,000, and its frames under way, whose starts are still to be told.
@@ -149,8 +131,8 @@ pub fn noted_of_scenario(
     requires stand { HasOrders planned.now.given }
     ensures { IfOk result (λ made. IsNotedOf cycles planned.now made.0 made.1) }
 {
-    let (entries, pass) = pass_of(alloc, cycles, &planned.given)?;
-    noted_of(alloc, cycles, planned, entries.as_slice(), pass)
+    let ran = run_given(alloc, cycles, &planned.given)?;
+    noted_of(alloc, cycles, planned, ran)
 }
 
 /// Whether an offer is of a cycle that isn't run.

@@ -35,8 +35,7 @@ pub(crate) fn carried_columns(
     // the domain is accepted and the history legal: facts for the room in the columns
     let _accepted = domain.cycle_time();
     let _legal = log.entries();
-    let rows = log.granted(alloc)?;
-    let rows = rows.as_slice();
+    let rows = log.granted();
     let judgements = cover(alloc, domain, rows, offers)?;
     columns_of(alloc, domain, rows, offers, judgements.as_slice(), cycles)
 }

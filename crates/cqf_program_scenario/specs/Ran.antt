@@ -3,6 +3,7 @@ use Rattle.std.specs.Prelude.{ℕ, ◌≡◌, List, map}
 use Rattle.cqf_model.specs.Book.{Contents}
 use Rattle.cqf_model.specs.History.{IsLegalHistory, seals}
 use Rattle.cqf_admission.specs.Asking.{asked_of}
+use Rattle.cqf_instants_layout.specs.History.{IsLaidOutHistoryOf}
 use Rattle.cqf_program_telling.specs.ExactBooks.{TellsBook}
 use Rattle.cqf_admission_ledger.specs.declared.logs.Logged.{Logged}
 use Rattle.cqf_admission_ledger.specs.Running.{AreThere}
@@ -21,6 +22,8 @@ pub record IsRunOf (cycles : ℕ) (given : Given) (log : List Logged) (book : Co
   pub closed : seals (entries_in given log) ≡ cycles
   pub is_book : IsBookOfScenario cycles (scenario_given given) book
 
--- the log, and the book ready to be told
-abbrev pub IsRan : ℕ → Given → Ran → Type 0
-IsRan cycles given ran = TellsBook ran.book (IsRunOf cycles given ran.entries.items)
+-- the log, the streams that it granted with what becomes of the offers by them, and the book ready to be told
+pub record IsRan (cycles : ℕ) (given : Given) (ran : Ran) : Type 0 where
+  pub told : TellsBook ran.book (IsRunOf cycles given ran.entries.items)
+  pub history : IsLaidOutHistoryOf given.domain cycles ran.rows.items given.offers.items ran.judgements.items
+      (history_of cycles (scenario_given given))

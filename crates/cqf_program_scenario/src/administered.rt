@@ -30,7 +30,7 @@ fn log_given(alloc: Global, cycles: u32, given: Given) -> Result<Administered, M
     requires stand { HasOrders given }
     ensures { IfOk result (λ made. IsAdministered cycles (scenario_given given) made) }
 {
-    let entries = log_of(alloc, cycles, &given)?;
+    let (entries, rows) = log_of(alloc, cycles, &given)?;
     let Given {
         domain,
         requests,
@@ -39,7 +39,7 @@ fn log_given(alloc: Global, cycles: u32, given: Given) -> Result<Administered, M
         ..
     } = given;
     Ok(Administered {
-        log: Log::new(domain, requests, script, entries),
+        log: Log::new(domain, requests, script, entries, rows),
         offers,
     })
 }

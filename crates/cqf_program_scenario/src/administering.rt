@@ -2,7 +2,7 @@
 ghost use Rattle.std.specs.Prelude.{◌≡◌, ◌-◌, ◌≤◌, ◌<◌, [], All, Err, IfOk, map};
 ghost use Rattle.cqf_admission.specs.Asking.{asked_of};
 ghost use Rattle.cqf_admission_ledger.specs.Running.{AreThere};
-ghost use Rattle.cqf_model.specs.History.{IsLegalHistory, Seals, seals};
+ghost use Rattle.cqf_model.specs.History.{IsLegalHistory, Seals, seals, streams_of};
 ghost use Rattle.cqf_admission_requests.specs.declared.orders.Ordered.{Ordered as AnOrdered};
 ghost use Rattle.cqf_admission_requests.specs.Orders.{StandsIn, act_in, ordered_in};
 ghost use Rattle.cqf_program_scenario.specs.Calls.{HasRoom, HasRoomFor, history_of, seals_by, with_call, with_calls};
@@ -16,6 +16,7 @@ use cqf_admission::SealFault;
 use cqf_admission_ledger::{Ledger, Logged};
 use cqf_admission_requests::{Ordered, What};
 use cqf_laws_history::state_follows_history;
+use cqf_model::Row;
 use cqf_units::Memory;
 use std::alloc::{AllocError, Global};
 
@@ -91,15 +92,20 @@ fn close_all(ledger: &mut Ledger<'_>, seat: u16, cycles: u32) -> Result<(), Memo
     Ok(())
 }
 
-/// The log of a scenario's history over so many cycles.
-pub(crate) fn log_of(alloc: Global, cycles: u32, given: &Given) -> Result<Vec<Logged>, Memory>
+/// The log of a scenario's history over so many cycles, and the streams that it ever granted, by number.
+pub(crate) fn log_of(
+    alloc: Global,
+    cycles: u32,
+    given: &Given,
+) -> Result<(Vec<Logged>, Vec<Row>), Memory>
     requires short { cycles ≤ most_cycles }
     requires room { HasRoom cycles [] (map (ordered_in (map asked_of given.now.requests.items) given.now.script.items) given.now.orders.items) }
     requires stand { HasOrders given.now }
-    ensures entries { IfOk result (λ log. entries_in given.now log.items ≡ history_of cycles (scenario_given given.now)) }
-    ensures legal { IfOk result (λ log. IsLegalHistory given.now.domain (entries_in given.now log.items)) }
-    ensures there { IfOk result (λ log. AreThere (map asked_of given.now.requests.items) given.now.script.items log.items) }
-    ensures all { IfOk result (λ log. seals (entries_in given.now log.items) ≡ cycles) }
+    ensures entries { IfOk result (λ made. entries_in given.now made.0.items ≡ history_of cycles (scenario_given given.now)) }
+    ensures legal { IfOk result (λ made. IsLegalHistory given.now.domain (entries_in given.now made.0.items)) }
+    ensures there { IfOk result (λ made. AreThere (map asked_of given.now.requests.items) given.now.script.items made.0.items) }
+    ensures all { IfOk result (λ made. seals (entries_in given.now made.0.items) ≡ cycles) }
+    ensures rows { IfOk result (λ made. made.1.items ≡ streams_of given.now.domain (entries_in given.now made.0.items)) }
 {
     let requests = given.requests.as_slice();
     let script = given.script.as_slice();
@@ -107,5 +113,5 @@ pub(crate) fn log_of(alloc: Global, cycles: u32, given: &Given) -> Result<Vec<Lo
     let mut ledger = Ledger::new(alloc, &given.domain, requests, script)?;
     carry_out_all(&mut ledger, orders, cycles)?;
     close_all(&mut ledger, given.sealer, cycles)?;
-    Ok(ledger.into_log())
+    ledger.into_parts()
 }

@@ -1,16 +1,13 @@
 //! The log of a scenario's history, with what its entries stand for.
-ghost use Rattle.std.specs.Prelude.{◌≡◌, IfOk, map};
+ghost use Rattle.std.specs.Prelude.{◌≡◌, map};
 ghost use Rattle.cqf_admission.specs.Asking.{asked_of};
 ghost use Rattle.cqf_admission_ledger.specs.Ledger.{recorded_in};
 ghost use Rattle.cqf_admission_ledger.specs.Running.{AreThere};
 ghost use Rattle.cqf_model.specs.History.{IsLegalHistory, streams_of};
 
-use cqf_admission_granted::granted_of_log;
 use cqf_admission_ledger::Logged;
 use cqf_model::Row;
 use cqf_topology::{Domain, Request};
-use cqf_units::Memory;
-use std::alloc::Global;
 use std::marker::Model;
 
 /// The log of a legal history of a domain, with the requests and the script's text in which its entries stand. To those who hold
@@ -21,14 +18,16 @@ pub struct Log {
     requests: Vec<Request>,
     script: Vec<u8>,
     entries: Vec<Logged>,
+    /// The streams that were ever granted, by number.
+    rows: Vec<Row>,
 }
 
 impl Model for Log {
-    ghost use Rattle.std.specs.Prelude.{map};
+    ghost use Rattle.std.specs.Prelude.{◌≡◌, map};
     ghost use Rattle.cqf_admission.specs.Asking.{asked_of};
     ghost use Rattle.cqf_admission_ledger.specs.Ledger.{Kept, recorded_in};
     ghost use Rattle.cqf_admission_ledger.specs.Running.{AreThere};
-    ghost use Rattle.cqf_model.specs.History.{IsLegalHistory};
+    ghost use Rattle.cqf_model.specs.History.{IsLegalHistory, streams_of};
 
     ghost Value = { Kept };
 
@@ -42,19 +41,23 @@ impl Model for Log {
     } };
 
     ghost invariant = { λ l. IsLegalHistory l.domain (map (recorded_in (map asked_of l.requests.items) l.script.items) l.entries.items)
-        × AreThere (map asked_of l.requests.items) l.script.items l.entries.items };
+        × AreThere (map asked_of l.requests.items) l.script.items l.entries.items
+        × (l.rows.items ≡ streams_of l.domain (map (recorded_in (map asked_of l.requests.items) l.script.items) l.entries.items)) };
 }
 
 impl Log {
-    /// The log of these entries, of a legal history of the domain, over these requests and this script's text.
+    /// The log of these entries, of a legal history of the domain that granted the streams of these rows, over these requests and this
+    /// script's text.
     pub(crate) fn new(
         domain: Domain,
         requests: Vec<Request>,
         script: Vec<u8>,
         entries: Vec<Logged>,
+        rows: Vec<Row>,
     ) -> Log
         requires legal { IsLegalHistory domain (map (recorded_in (map asked_of requests.items) script.items) entries.items) }
         requires there { AreThere (map asked_of requests.items) script.items entries.items }
+        requires rows { rows.items ≡ streams_of domain (map (recorded_in (map asked_of requests.items) script.items) entries.items) }
         ensures domain { result.administration.domain ≡ domain }
         ensures entries { result.administration.entries ≡ map (recorded_in (map asked_of requests.items) script.items) entries.items }
     {
@@ -63,6 +66,7 @@ impl Log {
             requests,
             script,
             entries,
+            rows,
         }
     }
 
@@ -96,17 +100,10 @@ impl Log {
         self.entries.as_slice()
     }
 
-    /// The streams that the history ever granted, by number. The time grows with the entries, and with the requests that were
-    /// granted.
-    ///
-    /// # Errors
-    /// Where a growth is refused.
-    pub fn granted(&self, alloc: Global) -> Result<Vec<Row>, Memory>
-        ensures { IfOk result (λ rows. rows.items ≡ streams_of self.now.administration.domain self.now.administration.entries) }
+    /// The streams that the history ever granted, by number.
+    pub fn granted(&self) -> &[Row]
+        ensures { result.now ≡ streams_of self.now.administration.domain self.now.administration.entries }
     {
-        let requests = self.requests.as_slice();
-        let script = self.script.as_slice();
-        let entries = self.entries.as_slice();
-        granted_of_log(alloc, &self.domain, requests, script, entries)
+        self.rows.as_slice()
     }
 }

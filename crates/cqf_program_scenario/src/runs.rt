@@ -1,11 +1,10 @@
 //! A scenario, run on one thread.
 ghost use Rattle.std.specs.Prelude.{◌≡◌, ◌≤◌, IfErr, IfOk};
 ghost use Rattle.cqf_program_telling.specs.ExactBooks.{TellsBook};
-ghost use Rattle.cqf_model.specs.History.{IsLegalHistory, seals};
 ghost use Rattle.cqf_program_scenario.specs.Books.{IsBookOfScenario, IsSimulated};
 ghost use Rattle.cqf_program_scenario.specs.Calls.{history_of};
 ghost use Rattle.cqf_program_scenario.specs.Closing.{MayBeRun, scenario_given};
-ghost use Rattle.cqf_program_scenario.specs.Logged.{HasOrders, entries_in};
+ghost use Rattle.cqf_program_scenario.specs.Logged.{HasOrders};
 ghost use Rattle.cqf_program_scenario.specs.Ran.{IsRan};
 ghost use Rattle.cqf_program_scenario.specs.Scenario.{scenario_input};
 ghost use Rattle.cqf_program_stop.specs.Stops.{IsRefused};
@@ -16,6 +15,8 @@ use crate::exact::exact_book;
 use crate::given::{Given, read_given};
 use crate::logs::Log;
 use cqf_admission_ledger::Logged;
+use cqf_instants_coverage::{Judgement, cover};
+use cqf_model::Row;
 use cqf_program_stop::Stop;
 use cqf_program_telling::ExactBook;
 use cqf_units::Memory;
@@ -26,6 +27,10 @@ use std::alloc::Global;
 pub struct Ran {
     /// The log of its history, over its own requests and script.
     pub entries: Vec<Logged>,
+    /// The streams that were ever granted, by number.
+    pub rows: Vec<Row>,
+    /// What becomes of each offer, by its place.
+    pub judgements: Vec<Judgement>,
     pub book: ExactBook,
 }
 
@@ -34,22 +39,6 @@ pub struct Ran {
 pub struct Simulated {
     pub log: Log,
     pub book: ExactBook,
-}
-
-/// The book of a scenario that has this log, by the exact instants at which its frames start.
-fn book_by_log(
-    alloc: Global,
-    cycles: u32,
-    given: &Given,
-    entries: &[Logged],
-) -> Result<ExactBook, Memory>
-    requires may { MayBeRun cycles (scenario_given given.now) }
-    requires entries { entries_in given.now entries.now ≡ history_of cycles (scenario_given given.now) }
-    requires legal { IsLegalHistory given.now.domain (entries_in given.now entries.now) }
-    requires closed { seals (entries_in given.now entries.now) ≡ cycles }
-    ensures { IfOk result (λ parts. TellsBook parts (IsBookOfScenario cycles (scenario_given given.now))) }
-{
-    exact_book(alloc, cycles, given, entries)
 }
 
 /// Runs a scenario over so many cycles, 0 to 100,000: its calls are applied in order, and then the cycles that are still open are
@@ -65,9 +54,20 @@ pub fn run_given(alloc: Global, cycles: u32, given: &Given) -> Result<Ran, Memor
     requires stand { HasOrders given.now }
     ensures { IfOk result (λ ran. IsRan cycles given.now ran) }
 {
-    let entries = log_of(alloc, cycles, given)?;
-    let book = book_by_log(alloc, cycles, given, entries.as_slice())?;
-    Ok(Ran { entries, book })
+    let (entries, rows) = log_of(alloc, cycles, given)?;
+    let judgements = cover(
+        alloc,
+        &given.domain,
+        rows.as_slice(),
+        given.offers.as_slice(),
+    )?;
+    let book = exact_book(alloc, cycles, given, rows.as_slice(), judgements.as_slice())?;
+    Ok(Ran {
+        entries,
+        rows,
+        judgements,
+        book,
+    })
 }
 
 /// Runs the scenario of an input.
@@ -79,14 +79,19 @@ fn simulate_given(alloc: Global, cycles: u32, given: Given) -> Result<Simulated,
     ensures entries { IfOk result (λ made. made.log.administration.entries ≡ history_of cycles (scenario_given given)) }
     ensures book { IfOk result (λ made. TellsBook made.book (IsBookOfScenario cycles (scenario_given given))) }
 {
-    let Ran { entries, book } = run_given(alloc, cycles, &given)?;
+    let Ran {
+        entries,
+        rows,
+        book,
+        ..
+    } = run_given(alloc, cycles, &given)?;
     let Given {
         domain,
         requests,
         script,
         ..
     } = given;
-    let log = Log::new(domain, requests, script, entries);
+    let log = Log::new(domain, requests, script, entries, rows);
     Ok(Simulated { log, book })
 }
 

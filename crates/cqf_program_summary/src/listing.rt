@@ -8,9 +8,9 @@ ghost use Rattle.cqf_model.specs.Limits.{most_links};
 ghost use Rattle.cqf_program_summary.specs.Listing.{AddsCost, AreBounded, CostsWith, IsListing, ListsOne, MayBeCounted};
 ghost use Rattle.cqf_program_summary.specs.Told.{row_of_stream};
 
-use cqf_admission::{Judged, judge};
+use cqf_admission::judge;
 use cqf_admission_trees::{add_on, count_places};
-use cqf_model::{EACH_CYCLE, MOST_LINKS, Row};
+use cqf_model::{MOST_LINKS, Row};
 use cqf_topology::{Domain, Request};
 use cqf_units::{Cycle, Memory, Name, Octets, cost};
 use indexmap::IndexSet;
@@ -41,8 +41,7 @@ fn add(costs: &mut Vec<u64>, row: &Row)
     requires bounded { AreBounded costs.old.items }
     ensures { AddsCost costs.old.items row.now costs.new.items }
 {
-    let links = row.links();
-    add_on(costs, links.as_slice(), cost(Octets(row.octets)).0);
+    add_on(costs, row.tree.as_slice(), cost(Octets(row.octets)).0);
 }
 
 /// By link, what a stream costs of it more: nothing where it has no row.
@@ -60,7 +59,7 @@ fn costs_with(costs: Vec<u64>, row: &Option<Row>) -> Vec<u64>
 }
 
 /// The row of a request, as if it were the first of all; none where its octets or its path are refused.
-fn row_of_request(domain: &Domain, request: &Request) -> Result<Option<Row>, Memory>
+fn row_of_request(alloc: Global, domain: &Domain, request: &Request) -> Result<Option<Row>, Memory>
     ensures row { IfOk result (λ row. row ≡ row_of_stream domain.now (asked_of request.now)) }
     ensures countable { IfOk result MayBeCounted }
 {
@@ -70,18 +69,7 @@ fn row_of_request(domain: &Domain, request: &Request) -> Result<Option<Row>, Mem
         return Err(AllocError);
     }
     match judge(domain, request) {
-        Ok(judged) => {
-            let Judged { name, tree, .. } = judged;
-            Ok(Some(Row {
-                no: 0,
-                name,
-                octets: request.octets,
-                pace: EACH_CYCLE,
-                tree,
-                admitted: Cycle(0),
-                withdrawn: None,
-            }))
-        }
+        Ok(judged) => Ok(Some(judged.into_row(alloc, request.octets, 0, Cycle(0))?)),
         Err(_) => Ok(None),
     }
 }
@@ -130,7 +118,7 @@ impl Listing {
     }
 
     /// The listing with the stream of a request behind those before it, where it is told of. No memory has room for 2^32 of them.
-    fn with(self, domain: &Domain, request: &Request) -> Result<Listing, Memory>
+    fn with(self, alloc: Global, domain: &Domain, request: &Request) -> Result<Listing, Memory>
         requires { (before : List Asked) × IsListing domain.now before self }
         ensures { IfOk result (λ after. (before : List Asked) → IsListing domain.now before self →
             IsListing domain.now (before ++ asked_of request.now ∷ []) after) }
@@ -144,7 +132,7 @@ impl Listing {
         if self.names.len() >= u32::MAX as usize {
             return Err(AllocError);
         }
-        let row = row_of_request(domain, request)?;
+        let row = row_of_request(alloc, domain, request)?;
         let after = self.push(name, row)?;
         Ok(after)
     }
@@ -160,7 +148,7 @@ pub(crate) fn list_streams(
 {
     let mut listing = Listing::new(alloc)?;
     for request in requests {
-        listing = listing.with(domain, request)?;
+        listing = listing.with(alloc, domain, request)?;
     }
     Ok(listing)
 }

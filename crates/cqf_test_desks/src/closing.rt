@@ -41,7 +41,7 @@ fn is_same(ours: &Table, theirs: &Table, rows: usize) -> bool {
                 && our.octets == 1500
                 && their.octets == 1500
                 && our.withdrawn == their.withdrawn
-                && our.tree == their.tree
+                && our.tree.as_slice() == their.tree.as_slice()
         }
         (None, None) => rows == 0,
         _ => false,

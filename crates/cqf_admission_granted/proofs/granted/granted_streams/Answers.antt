@@ -7,7 +7,7 @@ use Rattle.std.specs.Prelude.{string_bytes}
 use Rattle.cqf_admission_granted.specs.Granted.{EndsAt}
 use Rattle.cqf_admission_granted.proofs.Steps.{granted, not_accepted, nothing, recorded_at, sealed, withdrawn}
 use Rattle.cqf_admission_granted.proofs.granted.granted_streams.Goals as goal
-use Rattle.cqf_admission_granted.proofs.granted.granted_streams.Goals.{in-Admit+else-is_none+in_ok-push-in-Admit, in-Withdraw, in-Seal}
+use Rattle.cqf_admission_granted.proofs.granted.granted_streams.Goals.{in-Admit+else-is_none+in_ok-row-in-Admit+in_ok-push-in-Admit, in-Withdraw, in-Seal}
 
 pub loop-entry-preserved-in_default : goal.loop-entry-preserved-in_default
 loop-entry-preserved-in_default c =
@@ -48,9 +48,9 @@ loop-entry-preserved c =
     let at = recorded_at recorded_of entries k item c.loop-entry-test.true c.entry-item.is in
     let receipt = c.in-Accepted.receipt in
     elim c.match-entry-2.branch [
-      | in-Admit+else-is_none+in_ok-push-in-Admit w ↦ rw w.rows-is
+      | in-Admit+else-is_none+in_ok-row-in-Admit+in_ok-push-in-Admit w ↦ rw w.rows-is
           (w.in_ok-push-in-Admit.ensures.items
-          ∙ (λ i. c.loop-entry.invariant i ++ w.row_of.ensures i ∷ [])
+          ∙ (λ i. c.loop-entry.invariant i ++ w.in_ok-row-in-Admit.ensures i ∷ [])
           ∙ sym (granted d all c.requires k (recorded_of item) at c.streams_follow_history.ensures.granted (asked_of w.in-Admit.request) receipt
           (ap act_of w.in-Admit.is) c.in-Accepted.is).1)
       | in-Withdraw w ↦ rw w.rows-is

@@ -1,7 +1,8 @@
 -- The number has come to the sums of the links so far.
 use Rattle.std.proofs.Common.{take}
+use Rattle.cqf_model.specs.Table.{links_in}
 use Rattle.cqf_admission_trees.specs.Sums.{AreMoreOn}
 use Rattle.cqf_admission_trees.proofs.sums.add_on.Given as goal
 
-abbrev pub invariant-loop-link : goal.invariant-loop-link
-invariant-loop-link l = AreMoreOn l.fn.sums.items (take l.link-index l.links) l.number l.sums.items
+abbrev pub invariant-loop-hop : goal.invariant-loop-hop
+invariant-loop-hop l = AreMoreOn l.fn.sums.items (take l.hop-index (links_in l.tree)) l.number l.sums.items

@@ -1,32 +1,37 @@
-use Rattle.std.proofs.Common.{◌<◌, ◌-◌, ◌+◌, ℕ, List, arith, get_or, length, set, subst, sym, take}
-use Rattle.std.proofs.lemmas.List.{take_all}
+use Rattle.std.proofs.Common.{◌<◌, ◌∙◌, ◌-◌, ◌+◌, ℕ, List, arith, get_or, length, set, subst, sym, take}
+use Rattle.std.proofs.lemmas.List.{length-map, take_all}
 use Rattle.std.proofs.lemmas.List.Elements.{All-get_or}
+use Rattle.cqf_model.specs.declared.topology.Hop.{Hop}
+use Rattle.cqf_model.specs.Table.{links_in}
 use Rattle.cqf_admission_trees.specs.Sums.{AreLessOn}
-use Rattle.cqf_admission_trees.proofs.SumLemmas.{less_step, held_step}
+use Rattle.cqf_admission_trees.proofs.SumLemmas.{held_step, less_step, link_at, no_hop}
 use Rattle.cqf_admission_trees.proofs.sums.take_on.Goals as goal
 
 pub index_mut-requires : goal.index_mut-requires
 index_mut-requires c =
-    let sums = c.args.sums.now.items in
-    let low : get_or c.args.links.now c.loop-link.link-index 0 < length sums =
-    All-get_or (λ (l : ℕ). l < length sums) c.args.links.now c.loop-link.link-index 0 c.loop-link-test.true c.requires.inside in
-    omega (arith, low, c.from-place.ensures, c.loop-link.invariant.as_many)
+    let at = link_at c.args.tree.now c.loop-hop.hop-index no_hop c.loop-hop-test.true in
+    let low = All-get_or (λ (l : ℕ). l < length c.args.sums.now.items) (links_in c.args.tree.now) c.loop-hop.hop-index 0 at.0 c.requires.inside in
+    omega (arith, low, c.from-place.ensures, at.1, c.loop-hop.invariant.as_many)
 
 pub overflow_sub-index_mut : goal.overflow_sub-index_mut
 overflow_sub-index_mut c =
-    let step = held_step c.args.links.now c.loop-link.link-index c.requires.apart c.loop-link-test.true c.args.sums.now.items c.loop-link.sums.items c.args.number
-    c.from-place.result c.index_mut.result.now c.from-place.ensures c.requires.inside c.index_mut.ensures.value c.requires.held c.loop-link.invariant in
+    let at = link_at c.args.tree.now c.loop-hop.hop-index no_hop c.loop-hop-test.true in
+    let step = held_step (links_in c.args.tree.now) c.loop-hop.hop-index c.requires.apart at.0 c.args.sums.now.items c.loop-hop.sums.items c.args.number
+    c.from-place.result c.index_mut.result.now (c.from-place.ensures ∙ at.1) c.requires.inside c.index_mut.ensures.value c.requires.held c.loop-hop.invariant in
     omega (arith, step.1, c.from.ensures)
 
-pub loop-link-preserved : goal.loop-link-preserved
-loop-link-preserved c =
-    let now = c.loop-link.sums.items in
+pub loop-hop-preserved : goal.loop-hop-preserved
+loop-hop-preserved c =
+    let now = c.loop-hop.sums.items in
     let here = c.index_mut.result.now in
-    subst (λ (n : ℕ). AreLessOn c.args.sums.now.items (take (c.loop-link.link-index + 1) c.args.links.now) c.args.number (set now c.from-place.result (here - n))) (sym c.from.ensures)
-    (less_step c.args.links.now c.loop-link.link-index c.requires.apart c.loop-link-test.true c.args.sums.now.items now c.args.number c.from-place.result here
-    c.from-place.ensures c.requires.inside c.index_mut.ensures.value c.loop-link.invariant)
+    let at = link_at c.args.tree.now c.loop-hop.hop-index no_hop c.loop-hop-test.true in
+    subst (λ (n : ℕ). AreLessOn c.args.sums.now.items (take (c.loop-hop.hop-index + 1) (links_in c.args.tree.now)) c.args.number (set now c.from-place.result (here - n)))
+    (sym c.from.ensures)
+    (less_step (links_in c.args.tree.now) c.loop-hop.hop-index c.requires.apart at.0 c.args.sums.now.items now c.args.number c.from-place.result here
+    (c.from-place.ensures ∙ at.1) c.requires.inside c.index_mut.ensures.value c.loop-hop.invariant)
 
 pub returns : goal.returns
 returns c =
-    subst (λ (links : List ℕ). AreLessOn c.args.sums.now.items links c.args.number c.loop-link.sums.items)
-    (take_all c.loop-link.link-index c.args.links.now (omega (arith, c.loop-link-test.false))) c.loop-link.invariant
+    let long = length-map c.args.tree.now (λ (hop : Hop). hop.link) in
+    subst (λ (links : List ℕ). AreLessOn c.args.sums.now.items links c.args.number c.loop-hop.sums.items)
+    (take_all c.loop-hop.hop-index (links_in c.args.tree.now) (omega (arith, c.loop-hop-test.false, long))) c.loop-hop.invariant

@@ -6,6 +6,6 @@ use Rattle.cqf_program_hops.proofs.gathering.book_of.Goals as goal
 
 pub returns : goal.returns
 returns c =
-    let told = c.in_ok-ran.ensures in
+    let told = c.in_ok-ran.ensures.told in
     subst (λ (book : Contents). IsBookOfScenario c.args.cycles (scenario_given c.args.given.now) book)
     (sym (c.in_ok-gathered.ensures told.0 told.1)) told.2.is_book

@@ -7,9 +7,10 @@ use Rattle.cqf_program_plans.proofs.load_command.list_one.Goals as goal
 
 pub with-requires-clause-countable : goal.with-requires-clause-countable
 with-requires-clause-countable c =
-    countable_within c.in-Ok.row _ _ (few_links c.args.domain.now c.cycle_time-cycle_time.ensures.accepted) c.in-Ok.ensures.countable
+    countable_within c.in-Ok-looked.row _ _ (few_links c.args.domain.now c.cycle_time-cycle_time.ensures.accepted)
+    (rw c.in-Ok-looked.is at c.in-Ok.ensures).countable
 
 pub returns-in-Err-clause-err : goal.returns-in-Err-clause-err
 returns-in-Err-clause-err c =
-    refused_ends c.args.domain.now c.args.listing (asked_of c.args.request.now) c.in-Err.refused (c.len.result + 1) c.stream_stop.result c.in-Err.ensures
+    refused_ends c.args.domain.now c.args.listing (asked_of c.args.request.now) c.in-Err.refused (c.len.result + 1) c.stream_stop.result (rw c.in-Err.is at c.in-Ok.ensures)
     (ap (λ (n : ℕ). n + 1) c.len.ensures) c.stream_stop.ensures.refused c.stream_stop.ensures.memory

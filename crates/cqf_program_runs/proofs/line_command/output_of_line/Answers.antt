@@ -15,7 +15,7 @@ run_given-requires-clause-may c =
 -- and its book is the line's
 pub returns : goal.returns
 returns c =
-    let told = c.in_ok-ran.ensures in
+    let told = c.in_ok-ran.ensures.told in
     let d = c.in_ok-given.given.domain in
     let text = text_of_book d told.0 in (
       text,

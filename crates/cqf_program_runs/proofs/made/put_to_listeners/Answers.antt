@@ -17,7 +17,7 @@ push-requires c =
     let d = c.args.domain.now in
     few_listed (λ (hop : Hop). is_station (end_of d hop.link))
     (delivery_to d (whole_in d c.args.row.now c.args.slot.now) c.args.deadline c.args.x.now)
-    c.as_slice-hop-items.result.now c.loop-hop.hop-index c.loop-hop.here c.loop-hop-test.true c.as_slice-hop-items.ensures.fits c.loop-hop.invariant
+    c.as_slice-hop-items.result.now c.loop-hop.hop-index c.loop-hop.here c.loop-hop-test.true c.as_slice-hop-items.ensures.few c.loop-hop.invariant
 
 pub loop-hop-preserved : goal.loop-hop-preserved
 loop-hop-preserved c =

@@ -20,17 +20,17 @@ grant-requires-clause-columns c = c.reserve-2.ensures.links ∙ c.self.invariant
 
 pub push-requires-clause-countable : goal.push-requires-clause-countable
 push-requires-clause-countable c =
-    subst (λ (links : ℕ). IsCountable links c.in-Ok.row) (sym (c.reserve-2.ensures.links ∙ c.self.invariant.1)) c.in-Ok.ensures.countable
+    subst (λ (links : ℕ). IsCountable links c.in-Ok.row) (sym (c.reserve-2.ensures.links ∙ c.self.invariant.1)) (rw c.in-Ok.is at c.in_ok-granted.ensures).countable
 
 pub push-requires-clause-live : goal.push-requires-clause-live
-push-requires-clause-live c = ap (λ (r : Row). r.withdrawn) c.in-Ok.ensures.is
+push-requires-clause-live c = ap (λ (r : Row). r.withdrawn) (rw c.in-Ok.is at c.in_ok-granted.ensures).is
 
 pub invariant_of-self-in-Ok : goal.invariant_of-self-in-Ok
 invariant_of-self-in-Ok c =
     let laws = c.state_follows_history.ensures in (
       (request_granted laws.goes_on laws.counted laws.granted c.args.seat c.in_ok-asked.asked (asked_of c.args.request.now) c.self.invariant.0 c.self.view_is
           (omega (arith, c.if-len-self-ge-MOST_CALLS.false, c.len.ensures)) (ap asked_by c.in_ok-asked.ensures) c.reserve.ensures.items c.enter.ensures
-          c.reserve-2.ensures.same c.in-Ok.ensures c.in_ok-push-in-Ok.ensures.rows).running,
+          c.reserve-2.ensures.same (rw c.in-Ok.is at c.in_ok-granted.ensures) c.in_ok-push-in-Ok.ensures.rows).running,
       c.in_ok-push-in-Ok.ensures.links ∙ c.reserve-2.ensures.links ∙ c.self.invariant.1,
     )
 
@@ -39,14 +39,14 @@ returns-in_ok-push-in-Ok-clause-held c =
     let laws = c.state_follows_history.ensures in
     (request_granted laws.goes_on laws.counted laws.granted c.args.seat c.in_ok-asked.asked (asked_of c.args.request.now) c.self.invariant.0 c.self.view_is
     (omega (arith, c.if-len-self-ge-MOST_CALLS.false, c.len.ensures)) (ap asked_by c.in_ok-asked.ensures) c.reserve.ensures.items c.enter.ensures
-    c.reserve-2.ensures.same c.in-Ok.ensures c.in_ok-push-in-Ok.ensures.rows).held
+    c.reserve-2.ensures.same (rw c.in-Ok.is at c.in_ok-granted.ensures) c.in_ok-push-in-Ok.ensures.rows).held
 
 pub invariant_of-self-in-Err : goal.invariant_of-self-in-Err
 invariant_of-self-in-Err c =
     let laws = c.state_follows_history.ensures in (
       (request_refused laws.goes_on laws.counted laws.refused c.args.seat c.in_ok-asked.asked (asked_of c.args.request.now) c.in-Err.refused c.self.invariant.0
           c.self.view_is (omega (arith, c.if-len-self-ge-MOST_CALLS.false, c.len.ensures)) (ap asked_by c.in_ok-asked.ensures) c.reserve.ensures.items
-          c.enter-in-Err.ensures c.reserve-2.ensures.same c.in-Err.ensures).running,
+          c.enter-in-Err.ensures c.reserve-2.ensures.same (rw c.in-Err.is at c.in_ok-granted.ensures)).running,
       c.reserve-2.ensures.links ∙ c.self.invariant.1,
     )
 
@@ -55,11 +55,11 @@ returns-in-Err-clause-answers c =
     let laws = c.state_follows_history.ensures in
     (request_refused laws.goes_on laws.counted laws.refused c.args.seat c.in_ok-asked.asked (asked_of c.args.request.now) c.in-Err.refused c.self.invariant.0
     c.self.view_is (omega (arith, c.if-len-self-ge-MOST_CALLS.false, c.len.ensures)) (ap asked_by c.in_ok-asked.ensures) c.reserve.ensures.items
-    c.enter-in-Err.ensures c.reserve-2.ensures.same c.in-Err.ensures).answers
+    c.enter-in-Err.ensures c.reserve-2.ensures.same (rw c.in-Err.is at c.in_ok-granted.ensures)).answers
 
 pub returns-in-Err-clause-held : goal.returns-in-Err-clause-held
 returns-in-Err-clause-held c =
     let laws = c.state_follows_history.ensures in
     (request_refused laws.goes_on laws.counted laws.refused c.args.seat c.in_ok-asked.asked (asked_of c.args.request.now) c.in-Err.refused c.self.invariant.0
     c.self.view_is (omega (arith, c.if-len-self-ge-MOST_CALLS.false, c.len.ensures)) (ap asked_by c.in_ok-asked.ensures) c.reserve.ensures.items
-    c.enter-in-Err.ensures c.reserve-2.ensures.same c.in-Err.ensures).held
+    c.enter-in-Err.ensures c.reserve-2.ensures.same (rw c.in-Err.is at c.in_ok-granted.ensures)).held

@@ -13,7 +13,7 @@ pub invariant_of-self-2 : goal.invariant_of-self-2
 invariant_of-self-2 c =
     let rows : List Row = map (λ row. arc_value row) c.self.inside.rows.items in
     let inside : c.args.place < length rows = omega (arith, c.requires, ap (λ (h : HeldRows). length h.rows) c.self.view_is) in
-    let ends = c.in_ok-ended.ensures.ok ∙ ap (λ (r : Row). ended r c.args.cycle) (c.copied-row.ensures ∙ c.deref.ensures) in
+    let ends = c.in_ok-ended.ensures.ok ∙ ap (λ (r : Row). ended r c.args.cycle) (c.in_ok-row.ensures ∙ c.deref.ensures) in
     let is = mapped_ended (λ row. arc_value row) c.self.inside.rows.items c.args.place c.index.result.now c.in_ok-ended.ended c.args.cycle inside
     c.index.ensures ends in
     let ending : List Row = map (λ row. arc_value row) c.self.inside.ending.items in
@@ -37,7 +37,7 @@ pub returns-clause-rows : goal.returns-clause-rows
 returns-clause-rows c =
     let rows : List Row = map (λ row. arc_value row) c.self.inside.rows.items in
     let inside : c.args.place < length rows = omega (arith, c.requires, ap (λ (h : HeldRows). length h.rows) c.self.view_is) in
-    let ends = c.in_ok-ended.ensures.ok ∙ ap (λ (r : Row). ended r c.args.cycle) (c.copied-row.ensures ∙ c.deref.ensures) in
+    let ends = c.in_ok-ended.ensures.ok ∙ ap (λ (r : Row). ended r c.args.cycle) (c.in_ok-row.ensures ∙ c.deref.ensures) in
     mapped_ended (λ row. arc_value row) c.self.inside.rows.items c.args.place c.index.result.now c.in_ok-ended.ended c.args.cycle inside
     c.index.ensures ends
     ∙ ap (λ (h : HeldRows). ended_at h.rows c.args.place c.args.cycle) c.self.view_is

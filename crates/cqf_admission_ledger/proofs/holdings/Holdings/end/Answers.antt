@@ -16,7 +16,7 @@ invariant_of-self c =
     let low : number < length stands = omega (arith, inside, length-map stands standing_of) in
     let is : stand ≡ get_or rows number stand = sym (mapped_there standing_of stands number old stand low c.index_mut.ensures.value) in
     subst (λ (rs : List Standing). HaveFigures rs c.self.inside.by_name.items c.self.inside.sums.items c.self.inside.count)
-    (sym (map_set standing_of stands number (record old { withdrawn = Some c.args.cycle })))
+    (sym (map_set standing_of stands number (record old { row = record old.row { withdrawn = Some c.args.cycle } })))
     (figures_ended rows c.self.inside.by_name.items c.self.inside.sums.items c.self.inside.count c.self.invariant number c.args.cycle stand inside is)
 
 pub returns-clause-rows : goal.returns-clause-rows
@@ -26,6 +26,6 @@ returns-clause-rows c = λ d.
     let number = c.args.number in
     let old = c.index_mut.result.now in
     let low : number < length stands = omega (arith, c.requires, ap (λ (h : Stands). length h.rows) c.self.view_is, length-map stands standing_of) in
-    map_set standing_of stands number (record old { withdrawn = Some c.args.cycle })
+    map_set standing_of stands number (record old { row = record old.row { withdrawn = Some c.args.cycle } })
     ∙ ap (λ (s : Standing). set rows number (holding_ended s c.args.cycle)) (sym (mapped_there standing_of stands number old d low c.index_mut.ensures.value))
     ∙ ap (λ (h : Stands). set h.rows number (holding_ended (get_or h.rows number d) c.args.cycle)) c.self.view_is

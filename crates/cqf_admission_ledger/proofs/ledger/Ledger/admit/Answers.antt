@@ -2,8 +2,9 @@ use Rattle.std.proofs.Common.{◌≡◌, ◌∙◌, ℕ, ◌-◌, ◌<◌, List,
 use Rattle.std.proofs.lemmas.List.{get_or_default, length-map}
 use Rattle.cqf_topology.specs.declared.streams.Request.{Request}
 use Rattle.cqf_admission.specs.Asking.{asked_of}
+use Rattle.cqf_admission.specs.Rows.{IsCountable}
 use Rattle.cqf_admission_ledger.specs.declared.forms.Form.{Form}
-use Rattle.cqf_admission_ledger.specs.Holdings.{AreAlong, Standing, standing_of}
+use Rattle.cqf_admission_ledger.specs.Holdings.{Standing, standing_of}
 use Rattle.cqf_admission_ledger.specs.declared.logs.Logged.{Logged}
 use Rattle.cqf_admission_ledger.specs.Forms.{IsFormOf, IsSeen, IsStandBy}
 use Rattle.cqf_admission_ledger.specs.Ledger.{Kept}
@@ -114,8 +115,8 @@ invariant_of-self-in_err-stand-in-None c =
       c.reserve-2.ensures.links ∙ c.self.invariant.5,
     )
 
-pub push-requires-clause-along : goal.push-requires-clause-along
-push-requires-clause-along c =
+pub push-requires-clause-countable : goal.push-requires-clause-countable
+push-requires-clause-countable c =
     let i = c.self.inside in
     let d = i.domain.now in
     let rs = i.requests.now in
@@ -135,12 +136,40 @@ push-requires-clause-along c =
     (subst (λ (names : List Request). IsFormOf d names (asked_of request) form) c.self.invariant.2 c.in_ok-see.ensures.form) in
     let stood = c.index-in-None.result.now in
     let there : stood ≡ form = put_there i.forms.items c.args.place form stood (omega (arith, low, c.self.invariant.1.as_many)) c.index-in-None.ensures in
-    let by : IsStandBy read (standing_of c.in_ok-stand-in-None.stand) =
-    subst (λ (f : Form). IsStandBy f (standing_of c.in_ok-stand-in-None.stand)) (there ∙ sym at) c.in_ok-stand-in-None.ensures in
+    let by : IsStandBy read c.len-no.result (record { 0 = i.sealed }) (standing_of c.in_ok-stand-in-None.stand) =
+    subst (λ (f : Form). IsStandBy f c.len-no.result (record { 0 = i.sealed }) (standing_of c.in_ok-stand-in-None.stand)) (there ∙ sym at) c.in_ok-stand-in-None.ensures in
     let stand = standing_of c.in_ok-stand-in-None.stand in
-    subst (λ (many : ℕ). AreAlong many stand.links) (sym (c.reserve-2.ensures.links ∙ c.self.invariant.5))
+    subst (λ (many : ℕ). IsCountable many stand.row) (sym (c.reserve-2.ensures.links ∙ c.self.invariant.5))
     (weighs_one d rs (entries_of rs script i.log.items) c.reserve-2.new.self.rows i.slots i.sealed r laws.held c.know_domain.ensures (asked_of request) refl read
-    (standing_of c.in_ok-stand-in-None.stand) of c.in-None.ensures by).along
+    (standing_of c.in_ok-stand-in-None.stand) (record { no = c.len-no.result; effect = record { 0 = i.sealed } }) of c.in-None.ensures by
+    (λ k. record { no = c.len-no.ensures k; effect = record { 0 = i.sealed } })).countable
+
+pub push-requires-clause-free : goal.push-requires-clause-free
+push-requires-clause-free c =
+    let i = c.self.inside in
+    let d = i.domain.now in
+    let rs = i.requests.now in
+    let script = i.script.now in
+    let low : c.args.place < length rs =
+    omega (arith, subst (λ (k : Kept). c.args.place < length k.requests) (sym c.self.view_is) c.requires, length-map rs asked_of) in
+    let request = get_or rs c.args.place c.index-self-place.result in
+    let is : request ≡ get_or rs c.args.place request = get_or_default rs c.args.place c.index-self-place.result request low in
+    let r : AreOf d rs (entries_of rs script i.log.items) c.reserve-2.new.self.rows i.slots i.sealed =
+    subst (λ (ss : List Standing). AreOf d rs (entries_of rs script i.log.items) ss i.slots i.sealed) (sym c.reserve-2.ensures.rows) c.self.invariant.0 in
+    let laws = c.state_follows_history.ensures in
+    let form = c.see.new.form in
+    let read = c.index.result.now in
+    let at : read ≡ form = put_there i.forms.items c.args.place form read (omega (arith, low, c.self.invariant.1.as_many)) c.index.ensures in
+    let of : IsFormOf d rs (asked_of request) read =
+    subst (λ (f : Form). IsFormOf d rs (asked_of request) f) (sym at)
+    (subst (λ (names : List Request). IsFormOf d names (asked_of request) form) c.self.invariant.2 c.in_ok-see.ensures.form) in
+    let stood = c.index-in-None.result.now in
+    let there : stood ≡ form = put_there i.forms.items c.args.place form stood (omega (arith, low, c.self.invariant.1.as_many)) c.index-in-None.ensures in
+    let by : IsStandBy read c.len-no.result (record { 0 = i.sealed }) (standing_of c.in_ok-stand-in-None.stand) =
+    subst (λ (f : Form). IsStandBy f c.len-no.result (record { 0 = i.sealed }) (standing_of c.in_ok-stand-in-None.stand)) (there ∙ sym at) c.in_ok-stand-in-None.ensures in
+    (weighs_one d rs (entries_of rs script i.log.items) c.reserve-2.new.self.rows i.slots i.sealed r laws.held c.know_domain.ensures (asked_of request) refl read
+    (standing_of c.in_ok-stand-in-None.stand) (record { no = c.len-no.result; effect = record { 0 = i.sealed } }) of c.in-None.ensures by
+    (λ k. record { no = c.len-no.ensures k; effect = record { 0 = i.sealed } })).free
 
 pub push-requires-clause-fits : goal.push-requires-clause-fits
 push-requires-clause-fits c =
@@ -163,10 +192,11 @@ push-requires-clause-fits c =
     (subst (λ (names : List Request). IsFormOf d names (asked_of request) form) c.self.invariant.2 c.in_ok-see.ensures.form) in
     let stood = c.index-in-None.result.now in
     let there : stood ≡ form = put_there i.forms.items c.args.place form stood (omega (arith, low, c.self.invariant.1.as_many)) c.index-in-None.ensures in
-    let by : IsStandBy read (standing_of c.in_ok-stand-in-None.stand) =
-    subst (λ (f : Form). IsStandBy f (standing_of c.in_ok-stand-in-None.stand)) (there ∙ sym at) c.in_ok-stand-in-None.ensures in
+    let by : IsStandBy read c.len-no.result (record { 0 = i.sealed }) (standing_of c.in_ok-stand-in-None.stand) =
+    subst (λ (f : Form). IsStandBy f c.len-no.result (record { 0 = i.sealed }) (standing_of c.in_ok-stand-in-None.stand)) (there ∙ sym at) c.in_ok-stand-in-None.ensures in
     λ l inside. (weighs_one d rs (entries_of rs script i.log.items) c.reserve-2.new.self.rows i.slots i.sealed r laws.held c.know_domain.ensures (asked_of request) refl read
-    (standing_of c.in_ok-stand-in-None.stand) of c.in-None.ensures by).fits l
+    (standing_of c.in_ok-stand-in-None.stand) (record { no = c.len-no.result; effect = record { 0 = i.sealed } }) of c.in-None.ensures by
+    (λ k. record { no = c.len-no.ensures k; effect = record { 0 = i.sealed } })).fits l
 
 pub invariant_of-self-in-None : goal.invariant_of-self-in-None
 invariant_of-self-in-None c =
@@ -189,8 +219,8 @@ invariant_of-self-in-None c =
     (subst (λ (names : List Request). IsFormOf d names (asked_of request) form) c.self.invariant.2 c.in_ok-see.ensures.form) in
     let stood = c.index-in-None.result.now in
     let there : stood ≡ form = put_there i.forms.items c.args.place form stood (omega (arith, low, c.self.invariant.1.as_many)) c.index-in-None.ensures in
-    let by : IsStandBy read (standing_of c.in_ok-stand-in-None.stand) =
-    subst (λ (f : Form). IsStandBy f (standing_of c.in_ok-stand-in-None.stand)) (there ∙ sym at) c.in_ok-stand-in-None.ensures in
+    let by : IsStandBy read c.len-no.result (record { 0 = i.sealed }) (standing_of c.in_ok-stand-in-None.stand) =
+    subst (λ (f : Form). IsStandBy f c.len-no.result (record { 0 = i.sealed }) (standing_of c.in_ok-stand-in-None.stand)) (there ∙ sym at) c.in_ok-stand-in-None.ensures in
     let few : length i.log.items - i.sealed < 100000 = omega (arith, c.if-len-self-ge-MOST_CALLS.false, c.len.ensures) in
     let known = forms_set d rs i.names i.forms.items c.args.place request form c.self.invariant.1 c.self.invariant.2 low is c.in_ok-see.ensures.form in
     let done = admit_granted d rs script i.log.items c.reserve.new.self.items c.enter.new.log.items c.reserve-2.new.self.rows i.slots i.sealed r
@@ -229,8 +259,8 @@ returns-in_ok-stand-in-None-clause-answers c =
     (subst (λ (names : List Request). IsFormOf d names (asked_of request) form) c.self.invariant.2 c.in_ok-see.ensures.form) in
     let stood = c.index-in-None.result.now in
     let there : stood ≡ form = put_there i.forms.items c.args.place form stood (omega (arith, low, c.self.invariant.1.as_many)) c.index-in-None.ensures in
-    let by : IsStandBy read (standing_of c.in_ok-stand-in-None.stand) =
-    subst (λ (f : Form). IsStandBy f (standing_of c.in_ok-stand-in-None.stand)) (there ∙ sym at) c.in_ok-stand-in-None.ensures in
+    let by : IsStandBy read c.len-no.result (record { 0 = i.sealed }) (standing_of c.in_ok-stand-in-None.stand) =
+    subst (λ (f : Form). IsStandBy f c.len-no.result (record { 0 = i.sealed }) (standing_of c.in_ok-stand-in-None.stand)) (there ∙ sym at) c.in_ok-stand-in-None.ensures in
     let few : length i.log.items - i.sealed < 100000 = omega (arith, c.if-len-self-ge-MOST_CALLS.false, c.len.ensures) in
     (admit_granted d rs script i.log.items c.reserve.new.self.items c.enter.new.log.items c.reserve-2.new.self.rows i.slots i.sealed r
     c.self.invariant.4 c.args.self.now c.self.view_is c.reserve.ensures.items few laws.goes_on laws.counted laws.held laws.granted
@@ -261,8 +291,8 @@ returns-in_ok-stand-in-None-clause-held c =
     (subst (λ (names : List Request). IsFormOf d names (asked_of request) form) c.self.invariant.2 c.in_ok-see.ensures.form) in
     let stood = c.index-in-None.result.now in
     let there : stood ≡ form = put_there i.forms.items c.args.place form stood (omega (arith, low, c.self.invariant.1.as_many)) c.index-in-None.ensures in
-    let by : IsStandBy read (standing_of c.in_ok-stand-in-None.stand) =
-    subst (λ (f : Form). IsStandBy f (standing_of c.in_ok-stand-in-None.stand)) (there ∙ sym at) c.in_ok-stand-in-None.ensures in
+    let by : IsStandBy read c.len-no.result (record { 0 = i.sealed }) (standing_of c.in_ok-stand-in-None.stand) =
+    subst (λ (f : Form). IsStandBy f c.len-no.result (record { 0 = i.sealed }) (standing_of c.in_ok-stand-in-None.stand)) (there ∙ sym at) c.in_ok-stand-in-None.ensures in
     let few : length i.log.items - i.sealed < 100000 = omega (arith, c.if-len-self-ge-MOST_CALLS.false, c.len.ensures) in
     (admit_granted d rs script i.log.items c.reserve.new.self.items c.enter.new.log.items c.reserve-2.new.self.rows i.slots i.sealed r
     c.self.invariant.4 c.args.self.now c.self.view_is c.reserve.ensures.items few laws.goes_on laws.counted laws.held laws.granted

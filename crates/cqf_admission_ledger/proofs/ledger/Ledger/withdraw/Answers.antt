@@ -1,4 +1,4 @@
-use Rattle.std.proofs.Common.{◌∙◌, ◌-◌, ◌<◌, List, Ok, Err, length, ap, sym, subst, refl, arith}
+use Rattle.std.proofs.Common.{◌∙◌, ◌+◌, ◌-◌, ◌<◌, ◌%◌, ℕ, List, Ok, Err, length, ap, sym, subst, refl, arith}
 use Rattle.cqf_admission_requests.specs.declared.orders.What.TheVariants.{Withdraw}
 use Rattle.cqf_admission_requests.specs.Orders.{StandsIn}
 use Rattle.cqf_topology.specs.declared.streams.Request.{Request}
@@ -74,7 +74,7 @@ invariant_of-self-in-Ok c =
     c.streams_follow_history.ensures.withdrawn c.args.seat c.args.from c.args.octets c.word_of-word.result.now c.in-Ok.number
     c.slot_of-slot.result (standing_of c.stand.result.now)
     c.end.new.self.rows c.put.new.self (record { no = c.in-Ok.number; effect = record { 0 = i.sealed } }) c.word_of-word.ensures stands opened c.stand.ensures
-    c.slot_of-slot.ensures c.end.ensures.rows c.in_ok-put-in-Ok.ensures.more refl c.enter.ensures in
+    (c.slot_of-slot.ensures ∙ ap (λ (n : ℕ). (i.sealed + n) % 128) c.residence.ensures) c.end.ensures.rows c.in_ok-put-in-Ok.ensures.more refl c.enter.ensures in
     (done.of, c.self.invariant.1, c.self.invariant.2, c.end.ensures.names ∙ c.self.invariant.3, done.there, c.end.ensures.links ∙ c.self.invariant.5)
 
 pub returns-in_ok-put-in-Ok-clause-answers : goal.returns-in_ok-put-in-Ok-clause-answers
@@ -91,7 +91,7 @@ returns-in_ok-put-in-Ok-clause-answers c =
     c.streams_follow_history.ensures.withdrawn c.args.seat c.args.from c.args.octets c.word_of-word.result.now c.in-Ok.number
     c.slot_of-slot.result (standing_of c.stand.result.now)
     c.end.new.self.rows c.put.new.self (record { no = c.in-Ok.number; effect = record { 0 = i.sealed } }) c.word_of-word.ensures stands opened c.stand.ensures
-    c.slot_of-slot.ensures c.end.ensures.rows c.in_ok-put-in-Ok.ensures.more refl c.enter.ensures).answers
+    (c.slot_of-slot.ensures ∙ ap (λ (n : ℕ). (i.sealed + n) % 128) c.residence.ensures) c.end.ensures.rows c.in_ok-put-in-Ok.ensures.more refl c.enter.ensures).answers
 
 pub returns-in_ok-put-in-Ok-clause-held : goal.returns-in_ok-put-in-Ok-clause-held
 returns-in_ok-put-in-Ok-clause-held c =
@@ -107,4 +107,4 @@ returns-in_ok-put-in-Ok-clause-held c =
     c.streams_follow_history.ensures.withdrawn c.args.seat c.args.from c.args.octets c.word_of-word.result.now c.in-Ok.number
     c.slot_of-slot.result (standing_of c.stand.result.now)
     c.end.new.self.rows c.put.new.self (record { no = c.in-Ok.number; effect = record { 0 = i.sealed } }) c.word_of-word.ensures stands opened c.stand.ensures
-    c.slot_of-slot.ensures c.end.ensures.rows c.in_ok-put-in-Ok.ensures.more refl c.enter.ensures).holds
+    (c.slot_of-slot.ensures ∙ ap (λ (n : ℕ). (i.sealed + n) % 128) c.residence.ensures) c.end.ensures.rows c.in_ok-put-in-Ok.ensures.more refl c.enter.ensures).holds

@@ -1,25 +1,12 @@
-use Rattle.std.proofs.Common.{◌≡◌, ◌<◌, ◌∙◌, ℕ, List, false, ap, arith, length, sym}
-use Rattle.std.specs.List.{list_any}
-use Rattle.cqf_admission.proofs.GrantLemmas.{row_granted}
+use Rattle.std.proofs.Common.{◌∙◌, ℕ, ap, subst, sym}
 use Rattle.cqf_admission.specs.Asking.{asked_of}
-use Rattle.cqf_laws_history.specs.StateLaws.{granted_row}
+use Rattle.cqf_admission.specs.Judging.{row_by}
 use Rattle.cqf_model.specs.declared.topology.Row.{Row}
-use Rattle.cqf_model.specs.Domain.{is_text}
-use Rattle.cqf_model.specs.Limits.{streams_within}
-use Rattle.cqf_program_plans.proofs.LookedOver.{is_listed}
+use Rattle.cqf_program_plans.specs.Listing.{IsListed}
 use Rattle.cqf_program_plans.proofs.load_listing.Listing.look_over.Goals as goal
 
-pub returns : goal.returns
-returns c =
-    let d = c.args.domain.now in
-    let rows : List Row = c.args.self.now in
-    let asked = asked_of c.args.request.now in
-    let judged = c.in_ok-judged.judged in
-    let form = c.in_ok-judged.ensures in
-    let free : list_any (λ (other : Row). is_text other.name asked.name) rows ≡ false =
-    ap (λ (n : List ℕ). list_any (λ (other : Row). is_text other.name n) rows) (sym form.named) ∙ sym c.has_name.ensures ∙ c.if-has_name.false in
-    let few : length rows < streams_within d.limits =
-    omega (arith, c.if-len-streams_within.false, c.len.ensures, c.streams_within.ensures, ap streams_within c.limits.ensures) in
-    is_listed d rows asked _ form.none form.most_octets free few
-    (row_granted d c.len-2.result (record { 0 = 0 }) asked judged.name judged.tree form.named form.linked
-    ∙ ap (λ (n : ℕ). granted_row d n 0 asked) c.len-2.ensures)
+pub returns-in_ok-row-in-Ok : goal.returns-in_ok-row-in-Ok
+returns-in_ok-row-in-Ok c =
+    subst (λ (row : Row). IsListed c.args.domain.now c.args.self.now (asked_of c.args.request.now) row)
+    (sym (c.in_ok-row-in-Ok.ensures ∙ ap (λ (n : ℕ). row_by c.in-Ok.judged c.args.request.now.octets n (record { 0 = 0 })) c.len.ensures))
+    c.in-Ok.ensures

@@ -6,7 +6,7 @@ use Rattle.cqf_model.specs.declared.topology.Row.{Row}
 use Rattle.cqf_model.specs.Domain.{is_text}
 use Rattle.cqf_model.specs.Limits.{streams_within}
 use Rattle.cqf_program_plans.proofs.LookedOver.{is_listed}
-use Rattle.cqf_program_offers.proofs.judging.look_over.Goals as goal
+use Rattle.cqf_program_offers.proofs.judging.weigh.Goals as goal
 
 pub returns : goal.returns
 returns c =
@@ -19,4 +19,4 @@ returns c =
     ap (λ (n : List ℕ). list_any (λ (other : Row). is_text other.name n) rows) (sym form.named) ∙ sym c.has_name.ensures ∙ c.if-has_name.false in
     let few : length rows < streams_within d.limits = omega (arith, c.streams_within.ensures, ap streams_within c.limits.ensures) in
     is_listed d rows asked _ form.none form.most_octets free few
-    (row_granted d (length rows) (record { 0 = 0 }) asked judged.name judged.tree form.named form.linked)
+    (row_granted d (length rows) (record { 0 = 0 }) asked judged.name judged.tree.items form.named form.linked)

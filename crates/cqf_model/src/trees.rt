@@ -1,0 +1,53 @@
+//! Where a stream goes.
+ghost use Rattle.std.specs.Prelude.{◌≡◌, ◌≤◌, IfOk, length};
+ghost use Rattle.cqf_model.specs.Limits.{most_hops};
+
+use crate::Hop;
+use cqf_units::Memory;
+use std::alloc::Global;
+use std::marker::Model;
+
+/// The hops of a stream's branches, at most 200, each link once, in the order in which the links first stand in the branches (profile).
+#[derive(Debug, Drop)]
+pub struct Tree {
+    hops: Vec<Hop>,
+}
+
+impl Model for Tree {
+    ghost use Rattle.std.specs.Prelude.{◌≤◌, length};
+    ghost use Rattle.cqf_model.specs.Limits.{most_hops};
+    ghost use Rattle.cqf_model.specs.Trees.{Hops};
+
+    ghost Value = { Hops };
+
+    ghost view = { λ t. record { items = t.hops.items } };
+
+    ghost invariant = { λ t. length t.hops.items ≤ most_hops };
+}
+
+impl Tree {
+    /// A tree of these hops, unless memory runs out.
+    pub fn new(alloc: Global, hops: &[Hop]) -> Result<Tree, Memory>
+        requires { length hops.now ≤ most_hops }
+        ensures { IfOk result (λ tree. tree.items ≡ hops.now) }
+    {
+        Ok(Tree {
+            hops: Vec::from_slice(alloc, hops)?,
+        })
+    }
+
+    /// The hops.
+    pub fn as_slice(&self) -> &[Hop]
+        ensures value { result.now ≡ self.now.items }
+        ensures few { length result.now ≤ most_hops }
+    {
+        self.hops.as_slice()
+    }
+
+    /// The same tree once more, unless memory runs out.
+    pub fn try_copy(&self, alloc: Global) -> Result<Tree, Memory>
+        ensures { IfOk result (λ tree. tree ≡ self.now) }
+    {
+        Tree::new(alloc, self.hops.as_slice())
+    }
+}
