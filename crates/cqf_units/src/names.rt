@@ -8,8 +8,9 @@ use std::alloc::AllocError;
 use std::fmt;
 use std::marker::Model;
 
-/// The name of a bridge, a station or a stream: 1 to 32 bytes of `a` to `z`, `0` to `9`, `-` and `_` (profile).
-#[derive(PartialEq, Eq, Hash, Drop)]
+/// The name of a bridge, a station or a stream: 1 to 32 bytes of `a` to `z`, `0` to `9`, `-` and `_` (profile). Names are ordered as
+/// their bytes are.
+#[derive(PartialEq, Eq, PartialOrd, Ord, Hash, Drop)]
 pub struct Name {
     bytes: ArrayVec<u8, 32>,
 }
