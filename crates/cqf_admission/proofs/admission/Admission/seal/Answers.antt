@@ -1,53 +1,52 @@
-use Rattle.std.proofs.Common.{◌∙◌, ◌+◌, ◌≤◌, Contains, ap, arith, filter, map, refl, sym, subst}
+-- A Seal's table has what is held, and its entry is the next one.
+use Rattle.std.proofs.Common.{◌≡◌, ◌∙◌, ◌<◌, ◌+◌, ◌≢◌, ◌++◌, ◌∷◌, [], List, ap, arith, false, filter, map, refl, subst, sym}
+use Rattle.std.specs.Arc.{arc_value}
+use Rattle.std.specs.Prelude.{AllPairs, Contains}
+use Rattle.cqf_model.specs.declared.history.Reply.TheVariants.{Sealed}
 use Rattle.cqf_model.specs.declared.topology.Row.{Row}
+use Rattle.cqf_model.specs.Domain.{Domain}
+use Rattle.cqf_model.specs.History.{Recorded, Seals, held_in, next_number, seals, table_at}
+use Rattle.cqf_model.specs.Paces.{each_cycle}
 use Rattle.cqf_model.specs.Table.{is_held}
-use Rattle.cqf_admission.specs.Admission.{recorded_of}
-use Rattle.cqf_admission.specs.Rows.{HeldRows}
-use Rattle.cqf_admission.specs.Tables.{AreInOrder, AreOfEachCycle}
-use Rattle.cqf_admission.proofs.CallLemmas.{sealed_leaves}
+use Rattle.cqf_laws_history.specs.StateLaws.{AreHeld, with_entry}
+use Rattle.cqf_admission.proofs.TableLemmas.{trees_go_along_links}
+use Rattle.cqf_admission.specs.declared.entries.Call.TheVariants.{Seal}
+use Rattle.cqf_admission.specs.Admission.{Administration, LetsGo, recorded_of}
+use Rattle.cqf_admission.specs.State.{IsStateOf, LeavesSealed, stands_in}
+use Rattle.cqf_admission.specs.Tables.{AreTrees}
+use Rattle.cqf_admission.specs.Tabling.{AreTablesOf}
+use Rattle.cqf_admission.proofs.Entered.{entered_behind}
+use Rattle.cqf_admission.proofs.Tabled.{held_alike, tables_less}
 use Rattle.cqf_admission.proofs.admission.Admission.seal.Goals as goal
 
-pub invariant_of-self-2 : goal.invariant_of-self-2
-invariant_of-self-2 c =
-    let laws = c.state_follows_history.ensures in (
-      (sealed_leaves laws.goes_on laws.counted laws.lets_go laws.closes laws.held c.args.seat
-          (record { cycle = c.self.inside.sealed; rows = c.self.inside.held.rows }) c.self.invariant.0 c.self.view_is
-          (omega (arith, c.if-self-ge-MOST_SEALS.false)) c.reserve.ensures.items c.enter.ensures
-          (c.let_go.ensures.rows ∙ ap (λ (h : HeldRows). filter (λ (row : Row). is_held row (c.self.inside.sealed + 1)) h.rows) c.share.ensures.same)
-          refl refl).running,
-      c.let_go.ensures.links ∙ ap (λ (h : HeldRows). h.links) c.share.ensures.same ∙ c.self.invariant.1,
-    )
+module _ (c : goal.After-enter) where
+  abbrev entries : List Recorded
+  entries = map recorded_of c.self.inside.history.items
 
-pub let_go-requires : goal.let_go-requires
-let_go-requires c =
-    let held = c.state_follows_history.ensures.held c.self.inside.domain
-    (map recorded_of c.self.inside.history.items) c.self.inside.held.rows c.self.inside.next c.self.invariant.0.legal c.self.invariant.0.state in
-    subst (λ (h : HeldRows). (row : Row) → Contains h.rows row → row.admitted.0 ≤ c.self.inside.sealed + 1) (sym c.share.ensures.same)
-    (λ row among. omega (arith, held.begun row among, c.self.invariant.0.counted))
+  abbrev with_seal : List Recorded
+  with_seal = with_entry entries c.args.seat Seals Sealed
+
+  after_is : map recorded_of c.enter.new.history.items ≡ with_seal
+  after_is =
+      entered_behind c.self.inside.history.items c.reserve.new.self.items c.enter.new.history.items
+      (record { seat = c.args.seat; call = Seal; reply = Sealed }) Seals c.reserve.ensures.items c.enter.ensures refl
+
+  leaves : LeavesSealed c.self.inside.domain entries c.seal-ends.new.self c.args.seat
+  leaves = c.seal-ends.ensures.closes c.self.inside.domain entries c.args.seat c.self.invariant.0
+
+  listed_is : arc_value c.in_ok-listed.listed ≡ held_in c.self.inside.domain entries (seals entries)
+  listed_is = c.in_ok-listed.ensures.rows c.self.inside.domain entries c.self.invariant.0 c.self.invariant.1
+
+  sound : AreHeld c.self.inside.domain (held_in c.self.inside.domain entries (seals entries)) (next_number c.self.inside.domain entries) (seals entries)
+  sound = c.state_follows_history.ensures.held c.self.inside.domain entries (held_in c.self.inside.domain entries (seals entries))
+      (next_number c.self.inside.domain entries) c.self.invariant.0.0.running.legal (record { held = refl; number = refl })
 
 pub new-requires-clause-order : goal.new-requires-clause-order
-new-requires-clause-order c =
-    let held = c.state_follows_history.ensures.held c.self.inside.domain
-    (map recorded_of c.self.inside.history.items) c.self.inside.held.rows c.self.inside.next c.self.invariant.0.legal c.self.invariant.0.state in
-    subst AreInOrder (sym c.in_ok-listed.ensures.rows) (record { numbers = held.numbers; names = held.names })
+new-requires-clause-order c = record {
+  numbers = subst (AllPairs (λ (a b : Row). a.no < b.no)) (sym (listed_is c)) (sound c).numbers;
+  names = subst (AllPairs (λ (a b : Row). a.name ≢ b.name)) (sym (listed_is c)) (sound c).names;
+}
 
 pub new-requires-clause-paced : goal.new-requires-clause-paced
-new-requires-clause-paced c = subst AreOfEachCycle (sym c.in_ok-listed.ensures.rows) c.self.invariant.0.paced
-
-pub returns-clause-closes : goal.returns-clause-closes
-returns-clause-closes c =
-    let laws = c.state_follows_history.ensures in
-    (sealed_leaves laws.goes_on laws.counted laws.lets_go laws.closes laws.held c.args.seat c.new.result c.self.invariant.0 c.self.view_is
-    (omega (arith, c.if-self-ge-MOST_SEALS.false)) c.reserve.ensures.items c.enter.ensures
-    (c.let_go.ensures.rows ∙ ap (λ (h : HeldRows). filter (λ (row : Row). is_held row (c.self.inside.sealed + 1)) h.rows) c.share.ensures.same)
-    c.new.ensures.cycle
-    (c.new.ensures.rows ∙ c.in_ok-listed.ensures.rows)).closes
-
-pub returns-clause-lets_go : goal.returns-clause-lets_go
-returns-clause-lets_go c =
-    let laws = c.state_follows_history.ensures in
-    (sealed_leaves laws.goes_on laws.counted laws.lets_go laws.closes laws.held c.args.seat c.new.result c.self.invariant.0 c.self.view_is
-    (omega (arith, c.if-self-ge-MOST_SEALS.false)) c.reserve.ensures.items c.enter.ensures
-    (c.let_go.ensures.rows ∙ ap (λ (h : HeldRows). filter (λ (row : Row). is_held row (c.self.inside.sealed + 1)) h.rows) c.share.ensures.same)
-    c.new.ensures.cycle
-    (c.new.ensures.rows ∙ c.in_ok-listed.ensures.rows)).lets_go
+new-requires-clause-paced c = λ row among.
+    c.self.invariant.0.0.running.paced row (subst (λ (rows : List Row). Contains rows row) (listed_is c) among)
