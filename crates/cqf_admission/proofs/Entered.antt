@@ -11,7 +11,8 @@ use Rattle.cqf_model.specs.Limits.{most_calls}
 use Rattle.cqf_laws_history.specs.StateLaws.{HistoryGoesOn, SealsAreCounted, with_entry}
 use Rattle.cqf_admission.specs.declared.entries.Entry.{Entry}
 use Rattle.cqf_admission.specs.Admission.{Answers, HoldsOneMore, act_of, recorded_of}
-use Rattle.cqf_admission.specs.Judging.{form_refusal}
+use Rattle.cqf_admission.specs.Judging.{IsOfGoodForm, form_refusal}
+use Rattle.cqf_admission.specs.declared.judged.Judged.{Judged}
 use Rattle.cqf_model.specs.declared.topology.Row.{Row}
 use Rattle.cqf_topology.specs.declared.streams.Request.{Request}
 use Rattle.cqf_admission.specs.Asking.{asked_of}
@@ -74,6 +75,18 @@ good_form d request row form is name octets tree = record {
   name = name ∙ ap (λ (r : Row). r.name) is.is;
   octets = octets ∙ ap (λ (r : Row). r.octets) is.is;
   tree = tree ∙ ap (λ (r : Row). r.tree.items) is.is;
+  most_octets = is.most_octets;
+  own = refl;
+}
+
+-- and so is one that was judged
+pub judged_form : (d : Domain) (request : Request) (judged : Judged) (form : GoodForm) → IsOfGoodForm d (asked_of request) judged →
+    form.name.now ≡ judged.name → form.octets ≡ request.octets → form.tree.now ≡ judged.tree.items → IsGoodFormOf d (asked_of request) form
+judged_form d request judged form is name octets tree = record {
+  none = is.none;
+  name = name ∙ is.named;
+  octets = octets;
+  tree = tree ∙ is.linked;
   most_octets = is.most_octets;
   own = refl;
 }
