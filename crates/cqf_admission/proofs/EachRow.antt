@@ -1,5 +1,5 @@
 -- What each of some rows has, each has where one comes.
-use Rattle.std.proofs.Common.{◌≡◌, List, [], ◌∷◌, ◌++◌, Contains, subst, inl, inr}
+use Rattle.std.proofs.Common.{List, [], ◌∷◌, ◌++◌, Contains, subst, inl, inr}
 use Rattle.std.proofs.lemmas.List.Elements.{Contains-append_cases}
 use Rattle.cqf_lists.proofs.Members.{contains_one}
 use Rattle.cqf_model.specs.declared.topology.Row.{Row}

@@ -1,5 +1,5 @@
 -- The figures of streams with one more, with one that has another row, and with one let go.
-use Rattle.std.proofs.Common.{◌≡◌, ◌≢◌, ℕ, ◌+◌, ◌-◌, ◌<◌, ◌≤◌, ◌^◌, ◌⊎◌, Bool, true, false, replicate, List, [], ◌∷◌, Option, Some, None, MatchOption}
+use Rattle.std.proofs.Common.{◌≡◌, ◌≢◌, ℕ, ◌+◌, ◌<◌, ◌^◌, ◌⊎◌, Bool, true, false, replicate, List, [], ◌∷◌, Option, Some, None, MatchOption}
 use Rattle.std.proofs.Common.{◌++◌, get_or, set, length, refl, sym, ap, ◌∙◌, subst, subst₂}
 use Rattle.std.proofs.Common.{arith, inl, inr, length-append}
 use Rattle.std.specs.Prelude.{Contains, if◌then◌else◌, zero, suc}
@@ -25,7 +25,7 @@ use Rattle.cqf_lists.proofs.Members.{contains_cases, contains_here, contains_lat
 use Rattle.std.proofs.lemmas.List.Elements.{Contains-append_cases, Contains-get_or}
 use Rattle.cqf_admission.specs.Rows.{IsCountable, ended}
 use Rattle.cqf_admission.specs.Holdings.{HaveFigures, IsEnded, IsFree, IsHeldAt, IsHolder, Standing}
-use Rattle.cqf_admission.specs.Holdings.{held_cost, held_part, held_under, numbers_from, released, with_row}
+use Rattle.cqf_admission.specs.Holdings.{held_cost, held_part, held_under, released, with_row}
 use Rattle.cqf_admission.proofs.HeldNumbers.{numbers_pushed, numbers_released, numbers_stay, without}
 
 -- what is withdrawn can be counted as before

@@ -11,7 +11,7 @@ use Rattle.cqf_admission.specs.Asking.{asked_of}
 use Rattle.cqf_admission.specs.declared.forms.Form.{Form}
 use Rattle.cqf_admission.specs.declared.forms.Form.TheVariants.{Unseen}
 use Rattle.cqf_admission.specs.declared.logs.Logged.{Logged}
-use Rattle.cqf_admission.specs.Forms.{AreUnseen, IsFormOf}
+use Rattle.cqf_admission.specs.Forms.{IsFormOf}
 use Rattle.cqf_admission.specs.Ledger.{recorded_in}
 use Rattle.cqf_admission.specs.Running.{AreForms, AreThere}
 use Rattle.cqf_admission.proofs.Figures.{same_or_not}
@@ -63,13 +63,6 @@ forms_set d requests forms place request form known low is of = record {
     | inr differ ↦ subst (IsFormOf d (asked_of (get_or requests k other))) (sym (get_or-set_other forms place k form Unseen differ))
         (known.each k other below)
   ];
-}
-
--- where nothing is known all that is known is so
-pub forms_unseen : (d : Domain) (requests : List Request) (forms : List Form) → length forms ≡ length requests → AreUnseen forms → AreForms d requests forms
-forms_unseen d requests forms many unseen = record {
-  as_many = many;
-  each = λ place request low. subst (IsFormOf d (asked_of (get_or requests place request))) (sym (unseen place (omega (arith, low, many)))) tt;
 }
 
 -- what was put at a place stands there

@@ -1,5 +1,5 @@
 -- What the figures are behind each call.
-use Rattle.std.proofs.Common.{◌≡◌, ℕ, ◌+◌, ◌-◌, ◌%◌, List, Some, None, Ok, Err, [], ◌∷◌, ◌++◌, get_or, set, length, ap, ◌∙◌}
+use Rattle.std.proofs.Common.{◌≡◌, ℕ, ◌+◌, ◌%◌, List, Some, None, Ok, Err, [], ◌∷◌, ◌++◌, get_or, set, length, ap, ◌∙◌}
 use Rattle.cqf_units.specs.Timing.{cost_of}
 use Rattle.cqf_model.specs.declared.history.Receipt.{Receipt}
 use Rattle.cqf_model.specs.declared.history.Refused.{Refused}

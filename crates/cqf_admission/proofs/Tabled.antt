@@ -1,5 +1,5 @@
 -- Tables of held streams, of which the first are found by the numbers of their names.
-use Rattle.std.proofs.Common.{◌≡◌, ◌∙◌, ◌≢◌, ◌+◌, ◌<◌, ◌≤◌, ◌++◌, ◌∷◌, [], ℕ, Bool, List, Some, true, false, ap, arith, cond, count_by, filter, inl, inr, length}
+use Rattle.std.proofs.Common.{◌≡◌, ◌∙◌, ◌<◌, ◌≤◌, ◌++◌, ◌∷◌, [], ℕ, Bool, List, Some, true, false, ap, arith, cond, count_by, filter, inl, inr, length}
 use Rattle.std.proofs.Common.{length-append, map, nat_lt, refl, subst, suc, sym, take}
 use Rattle.std.specs.Prelude.{◌==◌, ◌&&◌, All, AllPairs, Contains, if◌then◌else◌, not}
 use Rattle.std.proofs.lemmas.Bool.{cases_lt, le-ltb, lt-ltb}

@@ -53,18 +53,6 @@ module _ (d : Domain) (entries : List Recorded) (before : Figures) (r : IsStateO
       let held = sound d entries (held_in d entries (seals entries)) (next_number d entries) r.0.running.legal (record { held = refl; number = refl }) in
       omega (arith, ap (λ (ss : List Standing). held_cost ss l) r.0.are_streams, costs d entries l, costs_by_link (held_in d entries (seals entries)) l 0 r.0.running.paced, held.loads l 0)
 
--- no number is beyond those of a row
-pub numbers_few : (d : Domain) (entries : List Recorded) (before : Figures) → IsStateOf d entries before → length before.stands + 1 < 2 ^ 32
-numbers_few d entries before r =
-    omega (
-      arith,
-      ap (λ (ss : List Standing). length ss) r.0.are_streams,
-      length-map (streams_of d entries) (stand_of (seals entries)),
-      r.0.running.few,
-      r.0.running.counted,
-      r.0.running.legal.few_calls,
-    )
-
 module _ (d : Domain) (asked : Asked) (form : GoodForm) (g : IsGoodFormOf d asked form) where
   -- its links are the domain's
   pub inside : All (λ (hop : Hop). hop.link < length d.links) form.tree.now

@@ -1,5 +1,5 @@
 -- What the streams of a history have.
-use Rattle.std.specs.Prelude.{ℕ, ◌≡◌, true, Contains, List}
+use Rattle.std.specs.Prelude.{◌≡◌, true, Contains, List}
 use Rattle.cqf_units.specs.Name.{is_name}
 use Rattle.cqf_model.specs.declared.topology.Row.{Row}
 

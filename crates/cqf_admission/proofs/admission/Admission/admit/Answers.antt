@@ -11,7 +11,6 @@ use Rattle.cqf_model.specs.History.{Admits, Asked, Recorded, admit_reply, held_i
 use Rattle.cqf_laws_history.specs.StateLaws.{granted_row, with_entry}
 use Rattle.cqf_admission.specs.declared.admission.Admission.TheInside.{Inside}
 use Rattle.cqf_admission.specs.declared.entries.Call.TheVariants.{Admit}
-use Rattle.cqf_admission.specs.declared.judged.Judged.{Judged}
 use Rattle.cqf_admission.specs.Admission.{Administration, Answers, HoldsOneMore, recorded_of, reply_of}
 use Rattle.cqf_admission.specs.Asking.{asked_by, asked_of}
 use Rattle.cqf_admission.specs.Judging.{Judges}

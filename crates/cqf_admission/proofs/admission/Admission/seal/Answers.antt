@@ -1,13 +1,10 @@
 -- A Seal's table has what is held, and its entry is the next one.
-use Rattle.std.proofs.Common.{◌≡◌, ◌∙◌, ◌<◌, ◌+◌, ◌≢◌, ◌++◌, ◌∷◌, [], List, ap, arith, false, filter, map, refl, subst, sym}
-use Rattle.std.specs.Arc.{arc_value}
+use Rattle.std.proofs.Common.{◌≡◌, ◌∙◌, ◌<◌, ◌+◌, ◌≢◌, List, ap, arith, map, refl, subst, sym}
 use Rattle.std.specs.Prelude.{AllPairs, Contains, Ok}
 use Rattle.cqf_model.specs.declared.history.Reply.TheVariants.{Sealed}
 use Rattle.cqf_model.specs.declared.topology.Row.{Row}
 use Rattle.cqf_model.specs.Domain.{Domain}
 use Rattle.cqf_model.specs.History.{IsLegalHistory, Recorded, Seals, held_in, next_number, seals, table_at}
-use Rattle.cqf_model.specs.Paces.{each_cycle}
-use Rattle.cqf_model.specs.Table.{is_held}
 use Rattle.cqf_laws_history.specs.StateLaws.{AreHeld, HeldAreSound, with_entry}
 use Rattle.cqf_admission.proofs.TableLemmas.{trees_go_along_links}
 use Rattle.cqf_admission.specs.declared.entries.Call.TheVariants.{Seal}

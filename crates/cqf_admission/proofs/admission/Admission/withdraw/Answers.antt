@@ -1,4 +1,4 @@
-use Rattle.std.proofs.Common.{◌≡◌, ◌∙◌, ◌-◌, ◌<◌, ◌∷◌, ℕ, List, Ok, Err, ap, arith, length, map, subst, sym}
+use Rattle.std.proofs.Common.{◌≡◌, ◌∙◌, ◌-◌, ◌<◌, ℕ, List, Ok, Err, ap, arith, length, map, subst, sym}
 use Rattle.std.proofs.lemmas.List.{length-map}
 use Rattle.std.specs.Prelude.{Result, is_ok}
 use Rattle.cqf_model.specs.declared.history.Receipt.{Receipt}
@@ -7,9 +7,8 @@ use Rattle.cqf_model.specs.History.{Recorded, Withdraws}
 use Rattle.cqf_model.specs.Domain.{Domain}
 use Rattle.cqf_laws_history.specs.StateLaws.{with_entry}
 use Rattle.cqf_admission.specs.declared.entries.Call.TheVariants.{Withdraw}
-use Rattle.cqf_admission.specs.declared.entries.Entry.{Entry}
 use Rattle.cqf_admission.specs.Admission.{Administration, Answers, EndsOne, recorded_of, reply_of}
-use Rattle.cqf_admission.specs.State.{IsStateOf, Leaves, entries_with, of_entries}
+use Rattle.cqf_admission.specs.State.{entries_with, of_entries}
 use Rattle.cqf_admission.specs.Tabling.{AreTablesOf, IsNoted, Tables}
 use Rattle.cqf_admission.proofs.Entered.{Entered, entered_behind, entered_with, few_calls}
 use Rattle.cqf_admission.proofs.Tabled.{tables_ended, tables_same}

@@ -1,5 +1,5 @@
 -- A request is answered by its form and the state, and its entry is the next one.
-use Rattle.std.proofs.Common.{◌≡◌, ◌∙◌, ◌-◌, ◌<◌, ℕ, List, Result, Err, ap, arith, get_or, length, map, set, subst, subst₂, sym}
+use Rattle.std.proofs.Common.{◌≡◌, ◌∙◌, ◌-◌, ◌<◌, ℕ, List, Result, ap, arith, get_or, length, map, set, subst, subst₂, sym}
 use Rattle.std.proofs.lemmas.List.{get_or_default, length-map}
 use Rattle.cqf_model.specs.declared.history.Receipt.{Receipt}
 use Rattle.cqf_model.specs.declared.history.Refused.{Refused}

@@ -1,4 +1,4 @@
-use Rattle.std.proofs.Common.{◌≡◌, ◌<◌, ◌∙◌, arith, ap, get_or, length, map, subst, sym}
+use Rattle.std.proofs.Common.{◌≡◌, ◌<◌, arith, get_or, length, map, subst, sym}
 use Rattle.std.proofs.lemmas.List.{get_or_default, length-map}
 use Rattle.cqf_model.specs.History.{Asked}
 use Rattle.cqf_admission_requests.specs.Orders.{request_at}

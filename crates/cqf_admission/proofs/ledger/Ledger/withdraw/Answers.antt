@@ -1,10 +1,10 @@
 use Rattle.std.proofs.Common.{◌≡◌, ◌∙◌, ◌-◌, ◌<◌, ℕ, List, ap, arith, length, map, subst, sym}
 use Rattle.std.proofs.lemmas.List.{length-map}
-use Rattle.cqf_model.specs.History.{Recorded, Withdraws}
+use Rattle.cqf_model.specs.History.{Withdraws}
 use Rattle.cqf_laws_history.specs.StateLaws.{with_entry}
 use Rattle.cqf_admission_requests.specs.Orders.{StandsIn, word_at}
 use Rattle.cqf_admission_requests.specs.declared.orders.What.TheVariants.{Withdraw}
-use Rattle.cqf_admission.specs.Admission.{Answers, reply_of}
+use Rattle.cqf_admission.specs.Admission.{Answers}
 use Rattle.cqf_admission.specs.Asking.{asked_of}
 use Rattle.cqf_admission.specs.declared.logs.Logged.{Logged}
 use Rattle.cqf_admission.specs.Ledger.{Kept, recorded_in}

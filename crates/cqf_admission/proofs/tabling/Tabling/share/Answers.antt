@@ -11,7 +11,7 @@ use Rattle.cqf_admission.specs.Holdings.{Standing}
 use Rattle.cqf_admission.specs.Numbers.{AreNumbered}
 use Rattle.cqf_admission.specs.State.{Figures, IsStateOf}
 use Rattle.cqf_admission.specs.Streams.{stand_of}
-use Rattle.cqf_admission.specs.Tabling.{AreTablesOf, Tables}
+use Rattle.cqf_admission.specs.Tabling.{AreTablesOf}
 use Rattle.cqf_admission.proofs.Tabled.{below_are_numbered}
 use Rattle.cqf_admission.proofs.tabling.Tabling.share.Goals as goal
 
