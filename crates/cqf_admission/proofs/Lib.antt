@@ -4,7 +4,6 @@ pub mod Entered
 pub mod Figures
 pub mod Found
 pub mod GrantLemmas
-pub mod HeldLemmas
 pub mod HeldNumbers
 pub mod LetGo
 pub mod Lists

@@ -13,8 +13,7 @@ ghost use Rattle.cqf_admission_requests.specs.Orders.{request_at};
 ghost use Rattle.cqf_program_stop.specs.Stops.{EndsWith, IsRefused};
 
 use crate::compile_outputs::ConfigOutput;
-use cqf_admission::judge;
-use cqf_admission::{Ledger, Receipt, Refused};
+use cqf_admission::{Ledger, Receipt, Refused, judge};
 use cqf_admission_trees::count_places;
 use cqf_compile::compile;
 use cqf_gates::{compiled_list, write_tx};

@@ -12,8 +12,7 @@ ghost use Rattle.cqf_model.specs.Limits.{most_cycles};
 
 use crate::calls::entered;
 use crate::given::Given;
-use cqf_admission::SealFault;
-use cqf_admission::{Ledger, Logged};
+use cqf_admission::{Ledger, Logged, SealFault};
 use cqf_admission_requests::{Ordered, What};
 use cqf_laws_history::state_follows_history;
 use cqf_model::Row;
