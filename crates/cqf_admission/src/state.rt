@@ -3,7 +3,7 @@
 ghost use Rattle.std.specs.Arc.{arc_value};
 ghost use Rattle.std.specs.Prelude.{◌≡◌, ◌-◌, ◌<◌, ◌≤◌, ℕ, [], false, All, IfOk, List, OnErr, length, map, nat_le};
 ghost use Rattle.cqf_units.specs.Timing.{cost_of};
-ghost use Rattle.cqf_model.specs.Domain.{Domain as ADomain, IsAccepted, budget};
+ghost use Rattle.cqf_model.specs.Domain.{Domain as ADomain, budget};
 ghost use Rattle.cqf_model.specs.History.{Recorded, held_in, seals, streams_of};
 ghost use Rattle.cqf_model.specs.Limits.{most_calls, most_cycles, most_hops, most_reserved};
 ghost use Rattle.cqf_model.specs.Table.{links_in};
@@ -80,14 +80,6 @@ impl Model for State {
       slots = s.slots;
       sealed = s.sealed;
     } };
-}
-
-/// A domain is accepted.
-fn know_domain(domain: &Domain)
-    ensures { IsAccepted domain.now }
-{
-    // the domain is accepted: a fact
-    let _ = domain.cycle_time();
 }
 
 /// What a link has left of its budget beside the held streams, in octets a cycle.
@@ -231,7 +223,7 @@ impl State {
     {
         state_follows_history();
         streams_follow_history();
-        know_domain(domain);
+        domain.know();
         if let Some(refused) = refusal_of(domain, &self.holdings, form) {
             return Ok(Err(refused));
         }

@@ -64,7 +64,7 @@ fn row_of_request(alloc: Global, domain: &Domain, request: &Request) -> Result<O
     ensures countable { IfOk result MayBeCounted }
 {
     // the domain is accepted: it has no more links than are represented
-    let _cycle_time = domain.cycle_time();
+    domain.know();
     if count_places(request.paths.as_slice()).is_none() {
         return Err(AllocError);
     }

@@ -68,7 +68,7 @@ impl Sums {
             IfOk result (λ sums. sums ≡ summary_by domain.now (told_streams (map asked_of requests.now)) due [] []) }
     {
         // the domain is accepted: it has no more links than are represented
-        let _cycle_time = domain.cycle_time();
+        domain.know();
         let listing = list_streams(alloc, domain, requests)?;
         let due = Deadlines::new(alloc, requests, deadlines)?;
         let fares = fares_of(

@@ -189,6 +189,16 @@ impl Domain {
         Nanos(u64::from(self.cycle_time))
     }
 
+    /// Does nothing, and makes known to a proof what was seen to when the domain was read: it is accepted, its names are apart, and no
+    /// link of it stands twice.
+    pub fn know(&self)
+        ensures accepted { IsAccepted self.now }
+        ensures names { IsDomain self.now }
+    {
+        // a use of a field: with it the invariant is known
+        let _ = &self.limits;
+    }
+
     /// The guard time: no transmission gate is open in the last so many nanoseconds of a cycle (profile).
     pub fn guard(&self) -> Nanos
         ensures { result.0 ≡ self.now.guard }

@@ -35,7 +35,7 @@ row_by-requires c =
     let before : Figures = record { stands = i.holdings.rows; room = i.holdings.room; links = i.holdings.links; slots = i.slots; sealed = i.sealed } in
     let h = subst (SomeHistory c.args.domain.now) (sym c.self.view_is) c.requires.history in
     (is_new c.args.domain.now h.entries before h.is c.requires.request.asked c.args.form c.requires.request.is c.state_follows_history.ensures.held
-    c.know_domain.ensures (sym c.refusal_of.ensures ∙ c.in_default.is)).few_hops
+    c.know.ensures.accepted (sym c.refusal_of.ensures ∙ c.in_default.is)).few_hops
 
 pub push-requires-clause-free : goal.push-requires-clause-free
 push-requires-clause-free c =
@@ -43,7 +43,7 @@ push-requires-clause-free c =
     let before : Figures = record { stands = i.holdings.rows; room = i.holdings.room; links = i.holdings.links; slots = i.slots; sealed = i.sealed } in
     let h = subst (SomeHistory c.args.domain.now) (sym c.self.view_is) c.requires.history in
     let new = is_new c.args.domain.now h.entries before h.is c.requires.request.asked c.args.form c.requires.request.is c.state_follows_history.ensures.held
-    c.know_domain.ensures (sym c.refusal_of.ensures ∙ c.in_default.is) in
+    c.know.ensures.accepted (sym c.refusal_of.ensures ∙ c.in_default.is) in
     subst (λ (rows : List Standing). IsFree rows c.in_ok-row.row.name) (sym c.reserve.ensures.rows)
     (subst (IsFree i.holdings.rows) (sym (ap (λ (row : Row). row.name) c.in_ok-row.ensures)) new.free)
 
@@ -53,7 +53,7 @@ push-requires-clause-countable c =
     let before : Figures = record { stands = i.holdings.rows; room = i.holdings.room; links = i.holdings.links; slots = i.slots; sealed = i.sealed } in
     let h = subst (SomeHistory c.args.domain.now) (sym c.self.view_is) c.requires.history in
     let new = is_new c.args.domain.now h.entries before h.is c.requires.request.asked c.args.form c.requires.request.is c.state_follows_history.ensures.held
-    c.know_domain.ensures (sym c.refusal_of.ensures ∙ c.in_default.is) in
+    c.know.ensures.accepted (sym c.refusal_of.ensures ∙ c.in_default.is) in
     subst (λ (links : ℕ). IsCountable links c.in_ok-row.row) (sym (c.reserve.ensures.links ∙ h.is.1))
     (subst (IsCountable (length c.args.domain.now.links)) (sym c.in_ok-row.ensures) (new.countable c.len-no.result (record { 0 = i.sealed })))
 
@@ -63,7 +63,7 @@ push-requires-clause-fits c =
     let before : Figures = record { stands = i.holdings.rows; room = i.holdings.room; links = i.holdings.links; slots = i.slots; sealed = i.sealed } in
     let h = subst (SomeHistory c.args.domain.now) (sym c.self.view_is) c.requires.history in
     let new = is_new c.args.domain.now h.entries before h.is c.requires.request.asked c.args.form c.requires.request.is c.state_follows_history.ensures.held
-    c.know_domain.ensures (sym c.refusal_of.ensures ∙ c.in_default.is) in
+    c.know.ensures.accepted (sym c.refusal_of.ensures ∙ c.in_default.is) in
     λ l low.
     subst (λ (rows : List Standing). held_cost rows l + cost_by_link c.in_ok-row.row l < 2 ^ 64) (sym c.reserve.ensures.rows)
     (subst (λ (row : Row). held_cost i.holdings.rows l + cost_by_link row l < 2 ^ 64) (sym c.in_ok-row.ensures)
@@ -80,7 +80,7 @@ returns-clause-admits c =
     let laws = c.state_follows_history.ensures in
     let many : c.len-no.result ≡ length i.holdings.rows = c.len-no.ensures ∙ ap (λ (rows : List Standing). length rows) c.reserve.ensures.rows in
     subst (λ (f : Figures). AdmitsForm c.args.domain.now c.args.form f after (Ok receipt)) c.self.view_is
-    (admits_granted laws.goes_on laws.counted laws.held before after c.args.domain.now c.args.form c.know_domain.ensures laws.granted
+    (admits_granted laws.goes_on laws.counted laws.held before after c.args.domain.now c.args.form c.know.ensures.accepted laws.granted
     c.streams_follow_history.ensures.granted c.in_ok-row.row receipt (sym c.refusal_of.ensures ∙ c.in_default.is) (λ k. record { no = many k; effect = effect })
     (c.in_ok-row.ensures ∙ ap (λ (no : ℕ). row_by c.args.form no effect) many)
     (c.in_ok-push.ensures.rows ∙ ap (λ (rows : List Standing). rows ++ held_by c.in_ok-row.row ∷ []) c.reserve.ensures.rows) (c.push.ensures.links ∙ c.reserve.ensures.links) refl refl)
