@@ -16,7 +16,7 @@ pub loop-offer-init : goal.loop-offer-init
 loop-offer-init c =
     covers_none c.args.domain.now c.args.rows.now c.args.offers.now (λ name. get (slice_cmp nat_cmp) c.new-last.result name) c.in_ok-used.used.items
     c.in_ok-judgements.judgements.items
-    (λ name. ap (lookup (is_at (slice_cmp nat_cmp name))) c.new-last.ensures) c.in_ok-used.ensures c.in_ok-judgements.ensures.items
+    (λ name. ap (lookup (is_at (slice_cmp nat_cmp name))) c.new-last.ensures.empty) c.in_ok-used.ensures c.in_ok-judgements.ensures.items
 
 pub begin-requires-clause-within : goal.begin-requires-clause-within
 begin-requires-clause-within c = c.loop-offer.invariant.within
