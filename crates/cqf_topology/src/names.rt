@@ -1,5 +1,5 @@
 //! Names by number.
-ghost use Rattle.std.specs.Prelude.{◌≡◌, [], ◌∷◌, ◌++◌, false, IfOk, OnErr, OnOk, length};
+ghost use Rattle.std.specs.Prelude.{◌≡◌, ◌<◌, [], ◌∷◌, ◌++◌, false, IfOk, IfSome, OnErr, OnOk, length};
 ghost use Rattle.cqf_topology.specs.DomainText.{is_among, place_of};
 
 use cqf_units::{Memory, Name};
@@ -63,7 +63,8 @@ impl NameList {
 
     /// The name's number.
     pub fn number_of(&self, name: &Name) -> Option<usize>
-        ensures { result ≡ place_of name.now self.now.keys }
+        ensures number { result ≡ place_of name.now self.now.keys }
+        ensures within { IfSome result (λ number. number < length self.now.keys) }
     {
         self.numbers.get(name).copied()
     }
