@@ -1,11 +1,9 @@
 -- The reasons against a request, one after the other.
 use Rattle.std.proofs.Common.{◌≡◌, ℕ, ◌+◌, ◌<◌, ◌≤◌, Bool, true, false, cond, List, Option, Some, None, [], ◌∷◌, ◌&&◌, not, length, position, refl, ap, ◌∙◌}
 use Rattle.std.proofs.Common.{◌==◌, subst, sym, arith, inl, inr, nat_lt, get_or, add-one}
-use Rattle.std.specs.Prelude.{Contains, find, is_none, is_some, nat_le, slice_get}
-use Rattle.std.specs.List.{flat_map, list_any, position_or_len}
-use Rattle.std.proofs.lemmas.Bool.{and_from, both_ways, cases_Bool, eq-eqb, le-leb, ltb-false, lt-leb, ltb-true}
-use Rattle.std.proofs.lemmas.Option.{cond_some, slice_get_past}
-use Rattle.std.proofs.lemmas.List.Folds.{find_at}
+use Rattle.std.specs.Prelude.{Contains, find, is_none, is_some, nat_le}
+use Rattle.std.specs.List.{flat_map, list_any}
+use Rattle.std.proofs.lemmas.Bool.{and_from, both_ways, cases_Bool, eq-eqb, le-leb, lt-leb}
 use Rattle.cqf_units.specs.Name.{is_name}
 use Rattle.cqf_units.specs.Timing.{cost_of}
 use Rattle.cqf_units.specs.declared.reservations.Cycle.{Cycle}
@@ -101,21 +99,6 @@ refusal_last d rows asked free few =
     ap (λ (b : Bool). or_else (refused_if b NameHeld) (or_else (refused_if (nat_le (streams_within d.limits) (length rows)) TooManyStreams) last)) free
     ∙ ap (λ (b : Bool). or_else (refused_if b TooManyStreams) last) (lt-leb (streams_within d.limits) (length rows) few)
 
--- too many streams are refused where the name is free
-pub refusal_many : (d : Domain) (rows : List Row) (asked : Asked) → list_any (λ (row : Row). is_text row.name asked.name) rows ≡ false →
-    streams_within d.limits ≤ length rows → state_refusal d rows asked ≡ Some TooManyStreams
-refusal_many d rows asked free many =
-    let last = short_refusal d rows (cost_of asked.octets) (pace_of asked) (tree_of d asked.paths) in
-    ap (λ (b : Bool). or_else (refused_if b NameHeld) (or_else (refused_if (nat_le (streams_within d.limits) (length rows)) TooManyStreams) last)) free
-    ∙ ap (λ (b : Bool). or_else (refused_if b TooManyStreams) last) (le-leb (streams_within d.limits) (length rows) many)
-
--- a name that is held is refused
-pub refusal_held : (d : Domain) (rows : List Row) (asked : Asked) → list_any (λ (row : Row). is_text row.name asked.name) rows ≡ true →
-    state_refusal d rows asked ≡ Some NameHeld
-refusal_held d rows asked held =
-    let last = short_refusal d rows (cost_of asked.octets) (pace_of asked) (tree_of d asked.paths) in
-    ap (λ (b : Bool). or_else (refused_if b NameHeld) (or_else (refused_if (nat_le (streams_within d.limits) (length rows)) TooManyStreams) last)) held
-
 -- a row by its name and its tree
 pub row_granted : (d : Domain) (number : ℕ) (effect : Cycle) (asked : Asked) (name : List ℕ) (tree : List Hop) → name ≡ asked.name →
     tree ≡ tree_of d asked.paths →
@@ -180,27 +163,6 @@ short_same d rows cost tree paced =
         by false true same_test here rest = absurd cc
 
 -- ---- the stream of a name
-
--- the row of a name stands at the first place of the name
-pub named_at : (rows : List Row) (name : List ℕ) (place : ℕ) → position (λ (row : Row). is_text row.name name) rows ≡ Some place → (place < length rows) ×
-    (row_named rows name ≡ slice_get rows place)
-named_at rows name place e =
-    let test : Row → Bool = λ (row : Row). is_text row.name name in
-    let first = position_or_len test rows in
-    let found = cond_some (nat_lt first (length rows)) first place e in
-    (omega (arith, ltb-true first (length rows) found.0, found.1), find_at test rows ∙ ap (slice_get rows) found.1)
-
--- a test that gives no place fails
-cond_none : (b : Bool) (n : ℕ) → cond b (Some n) None ≡ None → b ≡ false
-cond_none true n e = absurd cc
-cond_none false n e = refl
-
--- where no row has the name, none is found by it
-pub unnamed : (rows : List Row) (name : List ℕ) → position (λ (row : Row). is_text row.name name) rows ≡ None → row_named rows name ≡ None
-unnamed rows name e =
-    let test : Row → Bool = λ (row : Row). is_text row.name name in
-    let first = position_or_len test rows in
-    find_at test rows ∙ slice_get_past rows first (ltb-false first (length rows) (cond_none (nat_lt first (length rows)) first e))
 
 -- what is no name names none of the rows, which have names
 pub not_a_name : (rows : List Row) (text : List ℕ) → HaveNames rows → is_name text ≡ false → row_named rows text ≡ None

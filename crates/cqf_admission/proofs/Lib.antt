@@ -1,13 +1,25 @@
-pub mod HeldLemmas
-pub mod EachRow
-mod EndingLemmas
-mod SharedRows
-mod NumberedRows
-mod MappedRows
-pub mod ColumnLemmas
-pub mod SumLemmas
 pub mod CostLemmas
-pub mod TableLemmas
+pub mod EachRow
+pub mod Entered
+pub mod Figures
+pub mod Found
 pub mod GrantLemmas
+pub mod HeldNumbers
+pub mod LetGo
+pub mod Lists
+pub mod Logging
+pub mod MappedRows
+pub mod Ring
 pub mod RunLemmas
-pub mod CallLemmas
+pub mod Running
+pub mod SharedRows
+pub mod StateCalls
+pub mod Streams
+pub mod SumLemmas
+pub mod TableLemmas
+pub mod Tabled
+pub mod Taken
+pub mod Told
+pub mod Weighed
+pub mod Whole
+pub mod Withdrawing

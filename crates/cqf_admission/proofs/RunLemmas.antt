@@ -1,11 +1,12 @@
 -- An administration that runs on the held streams in place of its history.
-use Rattle.std.proofs.Common.{◌≡◌, ◌≢◌, ℕ, ◌+◌, ◌-◌, ◌<◌, ◌≤◌, Bool, true, false, cond, List, Option, Some, None, [], ◌∷◌, ◌++◌, ◌&&◌, not, length, map}
-use Rattle.std.proofs.Common.{position, refl, ap, ◌∙◌, sym, arith, subst, length-append}
-use Rattle.std.specs.Prelude.{Result, Err, if◌then◌else◌, nat_le, nat_lt, is_none, filter, AllPairs, Contains, slice_get, zero, suc}
+use Rattle.std.proofs.Common.{◌≡◌, ℕ, ◌+◌, ◌-◌, ◌<◌, ◌≤◌, Bool, true, false, cond, List, Option, Some, None, [], ◌∷◌, ◌&&◌, not, length}
+use Rattle.std.proofs.Common.{position, refl, ap, sym, arith, subst, length-append}
+use Rattle.std.specs.Prelude.{Result, Err, if◌then◌else◌, nat_le, nat_lt, is_none, filter, Contains}
 use Rattle.std.specs.List.{flat_map, list_any}
-use Rattle.std.proofs.lemmas.Bool.{both_ways, eq-eqb, ne_eqb}
-use Rattle.std.proofs.lemmas.List.{map-append}
-use Rattle.std.proofs.lemmas.Option.{get_or_from_slice_get, same_Some, slice_get_within}
+use Rattle.std.proofs.lemmas.Bool.{both_ways}
+use Rattle.std.proofs.lemmas.Option.{same_Some}
+use Rattle.cqf_lists.specs.Lists.{least, or_else}
+use Rattle.cqf_lists.proofs.Members.{contains_from_filter}
 use Rattle.cqf_units.specs.Name.{is_name}
 use Rattle.cqf_units.specs.Timing.{cost_of}
 use Rattle.cqf_units.specs.declared.reservations.Cycle.{Cycle}
@@ -16,37 +17,30 @@ use Rattle.cqf_model.specs.declared.history.Refused.TheVariants.{TooManyHops, Bu
 use Rattle.cqf_model.specs.declared.history.Reply.TheVariants.{Sealed, Refused as RefusedFor}
 use Rattle.cqf_model.specs.declared.topology.Row.{Row}
 use Rattle.cqf_model.specs.Domain.{Domain, is_text, node_named}
-use Rattle.cqf_lists.specs.Lists.{least, or_else}
-use Rattle.cqf_model.specs.History.{Act, Admits, Asked, Recorded, Seals, Withdraws, admit_reply, broken_place, first_place, held_in, is_loop_at, is_seal}
-use Rattle.cqf_model.specs.History.{is_pace, is_stray, left_on, next_number, pace_of, refusal_of, refused_at, refused_if, reply_to, seals, short_link, tree_of, withdraw_reply}
-use Rattle.cqf_model.specs.History.{withdraw_row}
+use Rattle.cqf_model.specs.History.{Act, Asked, Recorded, Seals, broken_place, first_place, is_loop_at, is_pace, is_seal, is_stray, left_on, pace_of, refusal_of}
+use Rattle.cqf_model.specs.History.{refused_at, refused_if, reply_to, short_link, tree_of, withdraw_reply, withdraw_row}
 use Rattle.cqf_model.specs.Limits.{hops_within, streams_within}
 use Rattle.cqf_model.specs.Paces.{each_cycle}
-use Rattle.cqf_model.specs.Table.{is_held, row_named}
-use Rattle.cqf_laws_history.specs.StateLaws.{HeldAreSound, HistoryGoesOn, IsState, SealLetsGo, SealsAreCounted, ended_row, with_entry}
-use Rattle.cqf_admission.specs.Admission.{Administration, Answers, IsRunning, act_of, calls, is_entered, recorded_of, reply_of}
-use Rattle.cqf_admission.specs.declared.entries.Entry.{Entry}
-use Rattle.cqf_admission.specs.Grants.{CanBeAsked, FindsOpen}
-use Rattle.cqf_admission.specs.Rows.{ended, ended_at}
-use Rattle.cqf_lists.proofs.Members.{contains_from_filter}
-use Rattle.cqf_admission.proofs.SumLemmas.{costs_by_link}
+use Rattle.cqf_model.specs.Table.{is_held}
+use Rattle.cqf_laws_history.specs.StateLaws.{HistoryGoesOn, IsState, SealLetsGo, SealsAreCounted, with_entry}
+use Rattle.cqf_admission.specs.Admission.{Administration, Answers, IsRunning, calls, is_entered, reply_of}
 
 -- a reason that a refused request can have: it is entered
 abbrev IsCallRefusal : Option Refused → Type 0
 IsCallRefusal o = (refused : Refused) → o ≡ Some refused → is_entered (Err refused) ≡ true
 
 -- the first of two refusals that are entered is entered
-pub either_entered : (a b : Option Refused) → IsCallRefusal a → IsCallRefusal b → IsCallRefusal (or_else a b)
+either_entered : (a b : Option Refused) → IsCallRefusal a → IsCallRefusal b → IsCallRefusal (or_else a b)
 either_entered None b h k = k
 either_entered (Some x) b h k = h
 
 -- a refusal under a test is entered
-pub if_entered : (b : Bool) (refused : Refused) → is_entered (Err refused) ≡ true → IsCallRefusal (refused_if b refused)
+if_entered : (b : Bool) (refused : Refused) → is_entered (Err refused) ≡ true → IsCallRefusal (refused_if b refused)
 if_entered true refused h other e = subst (λ (r : Refused). is_entered (Err r) ≡ true) (same_Some refused other e) h
 if_entered false refused h other e = absurd cc
 
 -- and so is a refusal at a place
-pub at_entered : (refused : ℕ → Refused) (o : Option ℕ) → ((k : ℕ) → is_entered (Err (refused k)) ≡ true) → IsCallRefusal (refused_at refused o)
+at_entered : (refused : ℕ → Refused) (o : Option ℕ) → ((k : ℕ) → is_entered (Err (refused k)) ≡ true) → IsCallRefusal (refused_at refused o)
 at_entered refused None h other e = absurd cc
 at_entered refused (Some k) h other e = subst (λ (r : Refused). is_entered (Err r) ≡ true) (same_Some (refused k) other e) (h k)
 
@@ -87,33 +81,6 @@ refusal_is_entered d rows asked =
     (either_entered held after_many (if_entered (list_any (λ (row : Row). is_text row.name asked.name) rows) NameHeld refl)
     (either_entered many short (if_entered (nat_le (streams_within d.limits) (length rows)) TooManyStreams refl)
     (at_entered (λ l. BudgetShort l (left_on d rows tree pace l)) (short_link d rows (cost_of asked.octets) pace tree) (λ k. refl)))))))))))
-
--- what held streams give to those who ask for one more
-pub can_be_asked : HeldAreSound → (d : Domain) (entries : List Recorded) (rows : List Row) (next sealed : ℕ) → IsRunning d entries rows next sealed →
-    CanBeAsked d rows
-can_be_asked law d entries rows next sealed r =
-    let held = law d entries rows next r.legal r.state in
-    record { paced = r.paced; octets = held.most_octets; loads = λ l. omega (arith, costs_by_link rows l 0 r.paced, held.loads l 0) }
-
--- the entries behind one that is pushed
-pub pushed_entries : (old new : List Entry) (e : Entry) → new ≡ old ++ e ∷ [] → map recorded_of new ≡ map recorded_of old ++ recorded_of e ∷ []
-pushed_entries old new e is = ap (map recorded_of) is ∙ map-append recorded_of old (e ∷ [])
-
--- so a call that acts so is the history's next entry
-pub entered_behind : (old reserved new : List Entry) (e : Entry) (act : Act) → reserved ≡ old → new ≡ reserved ++ e ∷ [] → act_of e.call ≡ act →
-    map recorded_of new ≡ with_entry (map recorded_of old) e.seat act e.reply
-entered_behind old reserved new e act same is acts =
-    pushed_entries reserved new e is
-    ∙ ap (λ (es : List Entry). with_entry (map recorded_of es) e.seat (act_of e.call) e.reply) same
-    ∙ ap (λ (a : Act). with_entry (map recorded_of old) e.seat a e.reply) acts
-
--- the answer to a request is its reason, or the next number
-pub request_reply : (d : Domain) (entries : List Recorded) (rows : List Row) (next sealed : ℕ) (asked : Asked) (refusal : Option Refused) →
-    IsRunning d entries rows next sealed → refusal_of d rows asked ≡ refusal → reply_to d entries (Admits asked) ≡ admit_reply next sealed refusal
-request_reply d entries rows next sealed asked refusal r e =
-    ap (λ (rs : List Row). admit_reply (next_number d entries) (seals entries) (refusal_of d rs asked)) r.state.held
-    ∙ ap (admit_reply (next_number d entries) (seals entries)) e
-    ∙ ap (λ (n : ℕ). admit_reply n (seals entries) refusal) r.state.number ∙ ap (λ (n : ℕ). admit_reply next n refusal) (sym r.counted)
 
 -- a history that goes on keeps its running state
 pub run_on : HistoryGoesOn → SealsAreCounted →
@@ -157,51 +124,6 @@ withdraw_entered effect (Some row) refused e = by_end row.withdrawn e
     by_end None f = absurd cc
     by_end (Some before) f = let same : AlreadyWithdrawn ≡ refused = cc in subst (λ (r : Refused). is_entered (Err r) ≡ true) same refl
 
--- each refusal of a withdrawal is entered
-pub withdrawal_is_entered : (rows : List Row) (name : List ℕ) (refused : Refused) → FindsOpen rows name (Err refused) → is_entered (Err refused) ≡ true
-withdrawal_is_entered rows name refused h = withdraw_entered 0 (row_named rows name) refused (h 0)
-
--- the answer to a withdrawal goes by the held streams
-pub withdrawal_reply : (d : Domain) (entries : List Recorded) (rows : List Row) (next sealed : ℕ) (name : List ℕ) → IsRunning d entries rows next sealed →
-    reply_to d entries (Withdraws name) ≡ withdraw_reply sealed (row_named rows name)
-withdrawal_reply d entries rows next sealed name r =
-    ap (λ (rs : List Row). withdraw_reply (seals entries) (row_named rs name)) r.state.held
-    ∙ ap (λ (n : ℕ). withdraw_reply n (row_named rows name)) (sym r.counted)
-
--- a row that has another number stays as it is
-pub other_kept : (number cycle : ℕ) (row : Row) → row.no ≢ number → ended_row number cycle row ≡ row
-other_kept number cycle row other =
-    ap (λ (b : Bool). if b then ended row (record { 0 = cycle }) else row) (ne_eqb row.no number other)
-
--- a row stays one behind one more
-pub there : (x : Row) (rows : List Row) (row : Row) → Contains rows row → Contains (x ∷ rows) row
-there x rows row (k, h, e) = (suc k, omega (arith, h), e)
-
--- to end a stream changes no row of another number
-pub others_kept : (number cycle : ℕ) (rows : List Row) → ((row : Row) → Contains rows row → row.no ≢ number) → map (ended_row number cycle) rows ≡ rows
-others_kept number cycle [] h = refl
-others_kept number cycle (x ∷ rows) h =
-    (λ i. other_kept number cycle x (h x (0, omega arith, refl)) i ∷ others_kept number cycle rows (λ row k. h row (there x rows row k)) i)
-
--- where numbers differ, the row at a place is ended as the one of its number is
-pub ended_at_number : (rows : List Row) (place cycle : ℕ) (row : Row) → slice_get rows place ≡ Some row → AllPairs (λ (a b : Row). a.no < b.no) rows →
-    ended_at rows place (record { 0 = cycle }) ≡ map (ended_row row.no cycle) rows
-ended_at_number [] place cycle row e apart = refl
-ended_at_number (x ∷ rows) zero cycle row e apart =
-    let same : x ≡ row = same_Some x row e in
-    let here : ended_row row.no cycle x ≡ ended x (record { 0 = cycle }) =
-    ap (λ (b : Bool). if b then ended x (record { 0 = cycle }) else x) (eq-eqb x.no row.no (ap (λ (r : Row). r.no) same)) in
-    let others : (y : Row) → Contains rows y → y.no ≢ row.no =
-    λ y k s. absurd (omega (arith, apart 0 (suc k.0) y (omega arith) (omega (arith, k.1)), ap (λ (r : Row). r.no) same, s, ap (λ (r : Row). r.no) k.2)) in
-    ap (λ (r : Row). r ∷ rows) (sym here) ∙ ap (λ (rs : List Row). ended_row row.no cycle x ∷ rs) (sym (others_kept row.no cycle rows others))
-ended_at_number (x ∷ rows) (suc place) cycle row e apart =
-    let tail : AllPairs (λ (a b : Row). a.no < b.no) rows = λ i j d l m. apart (suc i) (suc j) d (omega (arith, l)) (omega (arith, m)) in
-    let inside = slice_get_within rows place row e in
-    let other : x.no ≢ row.no = λ s. absurd (omega
-    (arith, apart 0 (suc place) row (omega arith) (omega (arith, inside)), s, ap (λ (r : Row). r.no) (get_or_from_slice_get rows place row row e))) in
-    ap (λ (r : Row). r ∷ ended_at rows place (record { 0 = cycle })) (sym (other_kept row.no cycle x other))
-    ∙ ap (λ (rs : List Row). ended_row row.no cycle x ∷ rs) (ended_at_number rows place cycle row e tail)
-
 -- a Seal goes on with the next cycle
 pub run_sealed : HistoryGoesOn → SealsAreCounted → SealLetsGo → (d : Domain) (entries : List Recorded) (rows : List Row) (next sealed seat : ℕ) →
     IsRunning d entries rows next sealed → sealed < 100000 →
@@ -216,8 +138,3 @@ run_sealed goes_on counted lets_go d entries rows next sealed seat r some =
       counted = omega (arith, count, r.counted);
       few = omega (arith, r.few, length-append entries (record { seat = seat; act = Seals; reply = Sealed } ∷ []));
     }
-
--- what is held behind the entries that were entered
-pub held_behind : (d : Domain) (entered after : List Recorded) (rows : List Row) (next : ℕ) → IsState d entered rows next → entered ≡ after →
-    held_in d after (seals after) ≡ rows
-held_behind d entered after rows next state same = ap (λ (es : List Recorded). held_in d es (seals es)) (sym same) ∙ state.held

@@ -1,18 +1,23 @@
--- The row of a name among rows of which the first are found by the numbers of their names.
-use Rattle.std.proofs.Common.{◌≡◌, ◌∙◌, ◌++◌, ◌<◌, ℕ, Bool, true, false, cond, List, [], ◌∷◌, Option, Some, None, map}
+-- Rows of which the first are found by the numbers of their names.
+use Rattle.std.proofs.Common.{◌≡◌, ◌≢◌, ◌∙◌, ◌++◌, ◌+◌, ◌<◌, ℕ, All, Bool, true, false, cond, List, [], ◌∷◌, Option, Some, None, map}
 use Rattle.std.proofs.Common.{take, drop, length, get_or, refl, ap, sym, subst, arith, inl, inr}
-use Rattle.std.specs.Prelude.{Contains, find, suc, zero}
+use Rattle.std.specs.Prelude.{AllPairs, Contains, find, suc, zero}
+use Rattle.std.specs.BTreeMap.{BTreeMap, UpdatesBy}
+use Rattle.std.specs.Cmp.Lexicographic.{slice_cmp}
+use Rattle.std.specs.Ordering.{nat_cmp}
 use Rattle.std.proofs.lemmas.Bool.{cases_Bool}
-use Rattle.std.proofs.lemmas.List.{take-append-drop}
+use Rattle.std.proofs.lemmas.List.{take-append-drop, take_more}
 use Rattle.std.proofs.lemmas.List.Elements.{All-contains, Contains-append_cases, Contains-append_right}
 use Rattle.std.proofs.lemmas.Option.{none-some, same_Some}
-use Rattle.cqf_lists.proofs.Members.{find_member, find_some}
+use Rattle.cqf_lists.proofs.Members.{all_from_members, contains_here, contains_one, find_member, find_some}
+use Rattle.cqf_lists.proofs.Pairs.{pairs_across}
 use Rattle.cqf_model.proofs.Texts.{is_text_itself, is_text_same}
 use Rattle.cqf_model.specs.declared.topology.Row.{Row}
 use Rattle.cqf_model.specs.Domain.{is_text}
 use Rattle.cqf_model.specs.Table.{row_named, row_of}
-use Rattle.cqf_admission.specs.Numbers.{AreNumbered, IsNumbered, NumberList, if_named, number_in, row_numbered, row_with}
+use Rattle.cqf_admission.specs.Numbers.{AreNumbered, IsNumbered, if_named, number_in, row_numbered, row_with}
 use Rattle.cqf_admission.specs.Tables.{AreInOrder}
+use Rattle.cqf_admission.proofs.Figures.{others_stay}
 use Rattle.cqf_admission.proofs.TableLemmas.{the_row_named, the_row_of}
 
 module _ {X : Type 0} (row_in : X → Row) (test : Row → Bool) where
@@ -65,7 +70,7 @@ if_named_is name (Some other) row e = elim (cases_Bool (is_text other.name name)
   | inr differs ↦ absurd (none-some row (sym (ap (λ (b : Bool). cond b (Some other) None) differs) ∙ e))
 ]
 
-module _ (rows : List Row) (list : NumberList) (name : List ℕ) (order : AreInOrder rows) where
+module _ (rows : List Row) (list : List (List ℕ × ℕ)) (name : List ℕ) (order : AreInOrder rows) where
   -- a row to which a number leads, and which has the name, is the row of the name
   led_to : (row : Row) (number : Option ℕ) → row_with rows name number ≡ Some row → row_named rows name ≡ Some row
   led_to row None e = absurd (none-some row e)
@@ -122,3 +127,34 @@ module _ (rows : List Row) (list : NumberList) (name : List ℕ) (order : AreInO
         at None e None f = f
         at None e (Some row) f = absurd (none-some row (sym e ∙ named_behind row f))
         at (Some row) e last f = found_behind row e
+
+-- what stands at a place stands behind those before it
+behind : (rows : List Row) (k : ℕ) (row : Row) → k < length rows → row ≡ get_or rows k row → Contains (drop k rows) row
+behind [] k row low is = absurd (omega (arith, low))
+behind (x ∷ rows) zero row low is = subst (Contains (x ∷ rows)) (sym is) (contains_here x rows)
+behind (x ∷ rows) (suc k) row low is = behind rows k row (omega (arith, low)) is
+
+-- with a row's number put under its name one more of them is
+pub one_numbered : (before after : BTreeMap (List ℕ) ℕ) (k : ℕ) (rows : List Row) (row : Row) → AllPairs (λ (a b : Row). a.name ≢ b.name) rows →
+    k < length rows → row ≡ get_or rows k row → UpdatesBy (slice_cmp nat_cmp) (slice_cmp nat_cmp row.name) before after (Some row.no) →
+    AreNumbered before.entries k rows → AreNumbered after.entries (k + 1) rows
+one_numbered before after k rows row pairs low is by known = record {
+  within = omega (arith, low);
+  each = subst (All (IsNumbered after.entries)) (sym grown) (all_from_members (IsNumbered after.entries) (take k rows ++ row ∷ []) numbered);
+}
+  where
+    grown : take (k + 1) rows ≡ take k rows ++ row ∷ []
+    grown = take_more rows k row low ∙ ap (λ (r : Row). take k rows ++ r ∷ []) (sym is)
+
+    differs : (other : Row) → Contains (take k rows) other → other.name ≢ row.name
+    differs other earlier =
+        pairs_across (λ (a b : Row). a.name ≢ b.name) (take k rows) (drop k rows) other row
+        (subst (AllPairs (λ (a b : Row). a.name ≢ b.name)) (sym (take-append-drop k rows)) pairs) earlier (behind rows k row low is)
+
+    numbered : (other : Row) → Contains (take k rows ++ row ∷ []) other → IsNumbered after.entries other
+    numbered other among = elim (Contains-append_cases (take k rows) (row ∷ []) other among) [
+      | inl earlier ↦
+          others_stay before after row.name (Some row.no) by other.name (differs other earlier)
+          ∙ All-contains (IsNumbered before.entries) (take k rows) other known.each earlier
+      | inr new ↦ subst (IsNumbered after.entries) (contains_one row other new) by.1
+    ]

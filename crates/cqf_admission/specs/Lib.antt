@@ -6,5 +6,13 @@ pub mod Tables
 pub mod Asking
 pub mod Commands
 pub mod Numbers
--- what the inner functions say
 pub mod Grants
+pub mod Holdings
+pub mod Streams
+pub mod Ring
+pub mod Weighing
+pub mod State
+pub mod Tabling
+pub mod Forms
+pub mod Ledger
+pub mod Running

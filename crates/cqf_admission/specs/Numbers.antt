@@ -1,31 +1,20 @@
 -- The numbers of streams by their names, as tables share them.
-use Rattle.std.specs.Prelude.{ℕ, ◌≡◌, ◌≤◌, All, List, Option, Some, None, if◌then◌else◌, length, map, nat_eq, position, slice_get, take}
-use Rattle.std.specs.Cmp.Lexicographic.{pointwise}
+use Rattle.std.specs.Prelude.{ℕ, ◌≡◌, ◌≤◌, All, List, Option, Some, None, if◌then◌else◌, length, take}
+use Rattle.std.specs.BTreeMap.{is_at}
+use Rattle.std.specs.Cmp.Lexicographic.{slice_cmp}
+use Rattle.std.specs.Map.{lookup}
+use Rattle.std.specs.Ordering.{nat_cmp}
 use Rattle.cqf_model.specs.declared.topology.Row.{Row}
 use Rattle.cqf_model.specs.Domain.{is_text}
 use Rattle.cqf_model.specs.Table.{row_of}
 
--- the names of rows' streams
-abbrev pub names_of : List Row → List (List ℕ)
-names_of rows = map (λ (row : Row). row.name) rows
-
--- names of streams, and beside each the number of its stream
-pub record NumberList : Type 0 where
-  pub names : List (List ℕ)
-  pub numbers : List ℕ
-
--- the number that stands beside a place, where there is one
-abbrev pub number_at : List ℕ → Option ℕ → Option ℕ
-number_at numbers None = None
-number_at numbers (Some place) = slice_get numbers place
-
--- the number of the stream of a name, where the name is listed
-abbrev pub number_in : NumberList → List ℕ → Option ℕ
-number_in list name = number_at list.numbers (position (pointwise nat_eq name) list.names)
+-- of names with numbers, that of a name
+abbrev pub number_in : List (List ℕ × ℕ) → List ℕ → Option ℕ
+number_in numbers name = lookup (is_at (slice_cmp nat_cmp name)) numbers
 
 -- a row whose name leads to its number
-abbrev pub IsNumbered : NumberList → Row → Type 0
-IsNumbered list row = number_in list row.name ≡ Some row.no
+abbrev pub IsNumbered : List (List ℕ × ℕ) → Row → Type 0
+IsNumbered numbers row = number_in numbers row.name ≡ Some row.no
 
 -- a row, where it is of the name
 abbrev pub if_named : List ℕ → Option Row → Option Row
@@ -37,10 +26,10 @@ abbrev pub row_with : List Row → List ℕ → Option ℕ → Option Row
 row_with rows name None = None
 row_with rows name (Some number) = if_named name (row_of rows number)
 
-abbrev pub row_numbered : List Row → NumberList → List ℕ → Option Row
-row_numbered rows list name = row_with rows name (number_in list name)
+abbrev pub row_numbered : List Row → List (List ℕ × ℕ) → List ℕ → Option Row
+row_numbered rows numbers name = row_with rows name (number_in numbers name)
 
 -- of some rows the first so many are found by the numbers of their names
-pub record AreNumbered (list : NumberList) (numbered : ℕ) (rows : List Row) : Type 0 where
+pub record AreNumbered (numbers : List (List ℕ × ℕ)) (numbered : ℕ) (rows : List Row) : Type 0 where
   pub within : numbered ≤ length rows
-  pub each : All (IsNumbered list) (take numbered rows)
+  pub each : All (IsNumbered numbers) (take numbered rows)

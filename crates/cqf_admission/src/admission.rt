@@ -6,13 +6,14 @@ ghost use Rattle.cqf_model.specs.Table.{link_cost};
 ghost use Rattle.cqf_admission.specs.Asking.{asked_of};
 ghost use Rattle.cqf_admission.specs.Admission.{Answers, Closes, EndsOne, HoldsOneMore, LetsGo, recorded_of};
 
-use crate::entries::{Call, Entry, SealFault, copied_entries, enter};
-use crate::held::Held;
-use crate::refusals::{find_open, grant, taken_of};
+use crate::entries::{Call, Entry, SealFault, copied_entries, enter, reply_of};
+use crate::judged::judge;
+use crate::state::{GoodForm, State};
 use crate::table::Table;
+use crate::tabling::Tabling;
 use cqf_admission_trees::count_places;
 use cqf_laws_history::state_follows_history;
-use cqf_model::{MOST_CALLS, MOST_SEALS, Receipt, Refused, Reply};
+use cqf_model::{MOST_SEALS, Receipt, Refused, Reply};
 use cqf_topology::{Domain, Request};
 use cqf_units::{Cycle, Memory, Octets};
 use std::alloc::Global;
@@ -24,20 +25,21 @@ pub struct Admission {
     alloc: Global,
     domain: Domain,
     history: Vec<Entry>,
-    held: Held,
-    next: u32,
-    sealed: u32,
+    state: State,
+    tabling: Tabling,
 }
 
 impl Model for Admission {
-    ghost use Rattle.std.specs.Prelude.{◌≡◌, length, map};
-    ghost use Rattle.cqf_admission.specs.Admission.{Administration, IsRunning, recorded_of};
+    ghost use Rattle.std.specs.Prelude.{map};
+    ghost use Rattle.cqf_admission.specs.Admission.{Administration, recorded_of};
+    ghost use Rattle.cqf_admission.specs.State.{IsStateOf};
+    ghost use Rattle.cqf_admission.specs.Tabling.{AreTablesOf};
 
     ghost Value = { Administration };
 
     ghost view = { λ a. record { domain = a.domain; entries = map recorded_of a.history.items } };
 
-    ghost invariant = { λ a. IsRunning a.domain (map recorded_of a.history.items) a.held.rows a.next a.sealed × (a.held.links ≡ length a.domain.links) };
+    ghost invariant = { λ a. IsStateOf a.domain (map recorded_of a.history.items) a.state × AreTablesOf a.domain (map recorded_of a.history.items) a.tabling };
 }
 
 impl Admission {
@@ -50,9 +52,8 @@ impl Admission {
             alloc,
             domain: domain.try_copy(alloc)?,
             history: Vec::new(alloc),
-            held: Held::new(alloc, usize::from(domain.links()))?,
-            next: 0,
-            sealed: 0,
+            state: State::new(alloc, usize::from(domain.links()))?,
+            tabling: Tabling::new(alloc)?,
         })
     }
 
@@ -83,7 +84,7 @@ impl Admission {
     pub fn next_cycle(&self) -> Cycle
         ensures { result.0 ≡ seals self.now.entries }
     {
-        Cycle(self.sealed)
+        self.state.next_cycle()
     }
 
     /// Asks for a stream. Where it is granted, the receipt has its number and the cycle from which it is live; it is held,
@@ -98,7 +99,7 @@ impl Admission {
         ensures answers { Answers self.old self.new seat (Admits (asked_of request.now)) result }
         ensures held { HoldsOneMore self.old self.new (asked_of request.now) result }
     {
-        if self.history.len() - self.sealed as usize >= MOST_CALLS {
+        if self.state.is_full(self.history.len()) {
             return Err(Refused::HistoryFull);
         }
         let asked = request.try_copy(self.alloc)?;
@@ -106,28 +107,18 @@ impl Admission {
             return Err(Refused::Memory);
         }
         self.history.reserve(1)?;
-        self.held.reserve()?;
         state_follows_history();
-        let effect = Cycle(self.sealed);
-        let admit = Call::Admit(asked);
-        let receipt = Receipt {
-            no: self.next,
-            effect,
+        let answer = match judge(&self.domain, request) {
+            Ok(judged) => {
+                let form = GoodForm::of_judged(&judged, request.octets);
+                self.state.admit(self.alloc, &self.domain, form)?
+            }
+            Err(refused) => Err(refused),
         };
-        let (no, alloc) = (self.next, self.alloc);
-        let granted = grant(alloc, &self.domain, &self.held, request, no, effect)?;
-        match granted {
-            Ok(row) => {
-                self.held.push(self.alloc, row)?;
-                self.next += 1;
-                enter(&mut self.history, seat, admit, Reply::Accepted(receipt));
-                Ok(receipt)
-            }
-            Err(refused) => {
-                enter(&mut self.history, seat, admit, Reply::Refused(refused));
-                Err(refused)
-            }
-        }
+        self.tabling.note(answer.is_ok());
+        let admit = Call::Admit(asked);
+        enter(&mut self.history, seat, admit, reply_of(answer));
+        answer
     }
 
     /// Withdraws the stream of a name. The receipt has its number and the first cycle in which it is live no more. It is
@@ -140,29 +131,17 @@ impl Admission {
         ensures answers { Answers self.old self.new seat (Withdraws name.now) result }
         ensures held { EndsOne self.old self.new result }
     {
-        if self.history.len() - self.sealed as usize >= MOST_CALLS {
+        if self.state.is_full(self.history.len()) {
             return Err(Refused::HistoryFull);
         }
         let asked = String::from_str(self.alloc, name)?;
         self.history.reserve(1)?;
         state_follows_history();
-        let effect = Cycle(self.sealed);
+        let answer = self.state.withdraw(self.alloc, name)?;
+        self.tabling.note(answer.is_ok());
         let withdraw = Call::Withdraw(asked);
-        match find_open(&self.held, name) {
-            Ok(found) => {
-                let receipt = Receipt {
-                    no: found.1,
-                    effect,
-                };
-                self.held.end(self.alloc, found.0, effect)?;
-                enter(&mut self.history, seat, withdraw, Reply::Accepted(receipt));
-                Ok(receipt)
-            }
-            Err(refused) => {
-                enter(&mut self.history, seat, withdraw, Reply::Refused(refused));
-                Err(refused)
-            }
-        }
+        enter(&mut self.history, seat, withdraw, reply_of(answer));
+        answer
     }
 
     /// Closes the next cycle to changes, and gives its table: the streams that are held in it, by number.
@@ -172,15 +151,15 @@ impl Admission {
         ensures closes { Closes self.old self.new seat result }
         ensures lets_go { IfOk result (λ table. LetsGo self.old self.new table) }
     {
-        if self.sealed >= MOST_SEALS {
+        let cycle = self.state.next_cycle();
+        if cycle.0 >= MOST_SEALS {
             return Err(SealFault::CyclesSpent);
         }
-        let listed = self.held.share(self.alloc)?;
+        let listed = self.tabling.share(self.alloc, &self.state)?;
         self.history.reserve(1)?;
         state_follows_history();
-        let cycle = Cycle(self.sealed);
-        self.sealed += 1;
-        self.held.let_go(Cycle(self.sealed));
+        let ends = self.state.seal();
+        self.tabling.note(ends);
         enter(&mut self.history, seat, Call::Seal, Reply::Sealed);
         Ok(Table::new(cycle, listed))
     }
@@ -193,7 +172,7 @@ impl Admission {
         ensures within { result.0 ≤ budget self.now.domain link }
     {
         state_follows_history();
-        Octets(taken_of(&self.domain, &self.held, link))
+        self.state.taken_of(&self.domain, link)
     }
 
     /// The same admission again, unless memory runs out.
@@ -204,9 +183,8 @@ impl Admission {
             alloc,
             domain: self.domain.try_copy(alloc)?,
             history: copied_entries(alloc, self.history.as_slice())?,
-            held: self.held.try_copy(alloc)?,
-            next: self.next,
-            sealed: self.sealed,
+            state: self.state.try_copy(alloc)?,
+            tabling: self.tabling.try_copy()?,
         })
     }
 }

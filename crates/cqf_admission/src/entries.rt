@@ -1,8 +1,8 @@
 //! The entries of a history.
 ghost use Rattle.std.specs.Prelude.{◌≡◌, ◌<◌, ◌++◌, [], ◌∷◌, map, vec_len, vec_capacity, IfOk};
-ghost use Rattle.cqf_admission.specs.Admission.{act_of, recorded_of};
+ghost use Rattle.cqf_admission.specs.Admission.{act_of, recorded_of, reply_of};
 
-use cqf_model::Reply;
+use cqf_model::{Receipt, Refused, Reply};
 use cqf_topology::Request;
 use cqf_units::Memory;
 use std::alloc::Global;
@@ -56,6 +56,16 @@ impl From<Memory> for SealFault {
 
     fn from(_refused: Memory) -> SealFault {
         SealFault::Memory
+    }
+}
+
+/// The answer in an entry of a request or a withdrawal.
+pub(crate) fn reply_of(answer: Result<Receipt, Refused>) -> Reply
+    ensures { result ≡ reply_of answer }
+{
+    match answer {
+        Ok(receipt) => Reply::Accepted(receipt),
+        Err(refused) => Reply::Refused(refused),
     }
 }
 

@@ -3,6 +3,8 @@
 //! - [`Admission`] answers requests and withdrawals, keeps the history of calls, and closes cycles to changes one by one.
 //!   No link is ever over its budget. A withdrawn stream keeps its costs and its name until its last frame has left the
 //!   last bridge of its deepest branch.
+//! - [`Ledger`] answers the same, by where requests and names stand, and copies none: it keeps a log of [`Logged`] entries, and makes
+//!   no table.
 //! - [`Table`] has the streams that are held in a cycle that was closed; [`Row::live`] tells which of them are live.
 //! - [`judge`] looks a request over by itself, whatever is held: [`Judged`] is one of good form.
 //! - [`Entry`] is what a history has of a call: whose it was, what was called for, and the [`Reply`].
@@ -18,19 +20,27 @@
 #![tactic(auto)]
 
 mod admission;
+mod ends;
 mod entries;
-mod held;
+mod forms;
+mod holdings;
 mod judged;
+mod ledger;
 mod listed;
+mod logs;
 mod numbers;
-mod refusals;
-mod rows;
+mod slots;
+mod state;
 mod table;
+mod tabling;
 
 pub use admission::Admission;
+pub use cqf_admission_requests::What;
 pub use cqf_model::{
     LEAST_OCTETS, MOST_CALLS, MOST_OCTETS, MOST_SEALS, MOST_STREAMS, Receipt, Refused, Reply, Row,
 };
 pub use entries::{Call, Command, Entry, SealFault};
 pub use judged::{Judged, judge};
+pub use ledger::Ledger;
+pub use logs::Logged;
 pub use table::Table;

@@ -1,63 +1,54 @@
 //! The numbers of streams by their names, as several tables share them.
 ghost use Rattle.std.specs.Arc.{arc_value};
-ghost use Rattle.std.specs.Prelude.{◌≡◌, IfOk, length, map};
-ghost use Rattle.cqf_admission.specs.Numbers.{AreNumbered, names_of, number_in};
+ghost use Rattle.std.specs.Prelude.{◌≡◌, ◌≢◌, AllPairs, IfOk, length, map};
+ghost use Rattle.cqf_model.specs.declared.topology.Row.{Row as ARow};
+ghost use Rattle.cqf_admission.specs.Numbers.{AreNumbered, number_in};
 
 use cqf_model::Row;
 use cqf_units::{Memory, Name};
-use indexmap::IndexSet;
 use std::alloc::Global;
+use std::collections::BTreeMap;
 use std::marker::Model;
 use std::sync::Arc;
 
 /// The numbers of streams by their names, as they were when these were listed.
 #[derive(Debug, Drop)]
 pub(crate) struct Numbers {
-    names: IndexSet<Name>,
-    numbers: Vec<u32>,
+    numbers: BTreeMap<Name, u32>,
 }
 
 impl Model for Numbers {
-    ghost use Rattle.cqf_admission.specs.Numbers.{NumberList};
+    ghost use Rattle.std.specs.Prelude.{ℕ, List};
 
-    ghost Value = { NumberList };
+    ghost Value = { List (List ℕ × ℕ) };
 
-    ghost view = { λ n. record { names = n.names.keys; numbers = n.numbers.items } };
+    ghost view = { λ n. n.numbers.entries };
 }
 
 impl Numbers {
     /// No numbers. It takes no memory.
     pub(crate) fn none(alloc: Global) -> Numbers {
         Numbers {
-            names: IndexSet::new(alloc),
-            numbers: Vec::new(alloc),
+            numbers: BTreeMap::new(alloc),
         }
     }
 
-    /// The numbers of rows by their names, which stand beside them, unless memory runs out.
-    pub(crate) fn new(
-        alloc: Global,
-        names: &IndexSet<Name>,
-        rows: &[Arc<Row>],
-    ) -> Result<Numbers, Memory>
-        requires { names.now.keys ≡ names_of (map (λ row. arc_value row) rows.now) }
+    /// The numbers of rows, no two of one name, by their names, unless memory runs out.
+    pub(crate) fn new(alloc: Global, rows: &[Arc<Row>]) -> Result<Numbers, Memory>
+        requires { AllPairs (λ (a b : ARow). a.name ≢ b.name) (map (λ row. arc_value row) rows.now) }
         ensures { IfOk result (λ list. AreNumbered list (length rows.now) (map (λ row. arc_value row) rows.now)) }
     {
-        let mut numbers = Vec::with_capacity(alloc, names.len())?;
+        let mut numbers = BTreeMap::new(alloc);
         for row in rows {
-            numbers.push(row.no)?;
+            numbers.insert(row.name.copied(), row.no)?;
         }
-        let names = names.clone()?;
-        Ok(Numbers { names, numbers })
+        Ok(Numbers { numbers })
     }
 
     /// The number of the stream of a name, where the name is listed.
     pub(crate) fn number_of(&self, name: &Name) -> Option<u32>
         ensures { result ≡ number_in self.now name.now }
     {
-        match self.names.get_index_of(name) {
-            Some(place) => self.numbers.get(place).copied(),
-            None => None,
-        }
+        self.numbers.get(name).copied()
     }
 }

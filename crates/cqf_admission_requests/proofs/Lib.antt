@@ -1,2 +1,0 @@
-mod NameLemmas
-pub mod Places

@@ -1,6 +1,9 @@
 -- Requests, found by their names.
 use Rattle.std.specs.Prelude.{ℕ, ◌≡◌, Bool, List, Option, position, string_bytes}
-use Rattle.std.specs.Map.{lookup}
+use Rattle.std.specs.Borrow.{Bor}
+use Rattle.std.specs.BTreeMap.{BTreeMap, get_by}
+use Rattle.std.specs.Cmp.Lexicographic.{slice_cmp}
+use Rattle.std.specs.Ordering.{nat_cmp}
 use Rattle.cqf_model.specs.Domain.{is_text}
 use Rattle.cqf_topology.specs.declared.streams.Request.{Request}
 
@@ -12,6 +15,10 @@ has_name name request = is_text (string_bytes request.name) name
 abbrev pub place_named : List Request → List ℕ → Option ℕ
 place_named requests name = position (has_name name) requests
 
--- entries, each a name and a place, lead from every name to the first of the requests that has it
-abbrev pub LeadToFirst : {K : Type 0} → List (K × ℕ) → (K → List ℕ) → List Request → Type 0
-LeadToFirst entries text requests = (name : List ℕ) → lookup (λ key. is_text (text key) name) entries ≡ place_named requests name
+-- the place that stands under a name
+abbrev pub place_under : BTreeMap (Bor (List ℕ)) ℕ → List ℕ → Option ℕ
+place_under places name = get_by (λ key. slice_cmp nat_cmp name key.now) places
+
+-- what stands under each name is the place of the first of the requests that has it
+abbrev pub LeadToFirst : (List ℕ → Option ℕ) → List Request → Type 0
+LeadToFirst under requests = (name : List ℕ) → under name ≡ place_named requests name

@@ -4,8 +4,8 @@ ghost use Rattle.cqf_admission_requests.specs.Names.{place_named};
 
 use cqf_topology::Request;
 use cqf_units::Memory;
-use indexmap::IndexMap;
 use std::alloc::Global;
+use std::collections::BTreeMap;
 use std::marker::Model;
 
 /// The requests for streams that a script may admit, found by their names: a name means the first request of it (profile).
@@ -13,19 +13,19 @@ use std::marker::Model;
 pub struct Names<'r> {
     requests: &'r [Request],
     /// Where the first request of each name stands.
-    places: IndexMap<&'r str, usize>,
+    places: BTreeMap<&'r str, usize>,
 }
 
 impl<'r> Model for Names<'r> {
     ghost use Rattle.std.specs.Prelude.{List};
     ghost use Rattle.cqf_topology.specs.declared.streams.Request.{Request};
-    ghost use Rattle.cqf_admission_requests.specs.Names.{LeadToFirst};
+    ghost use Rattle.cqf_admission_requests.specs.Names.{LeadToFirst, place_under};
 
     ghost Value = { List Request };
 
     ghost view = { λ n. n.requests.now };
 
-    ghost invariant = { λ n. LeadToFirst n.places.entries (λ name. name.now) n.requests.now };
+    ghost invariant = { λ n. LeadToFirst (place_under n.places) n.requests.now };
 }
 
 impl<'r> Names<'r> {
@@ -36,7 +36,7 @@ impl<'r> Names<'r> {
     pub fn new(alloc: Global, requests: &'r [Request]) -> Result<Names<'r>, Memory>
         ensures { IfOk result (λ names. names ≡ requests.now) }
     {
-        let mut places = IndexMap::new(alloc);
+        let mut places = BTreeMap::new(alloc);
         for (place, request) in requests.iter().enumerate() {
             let name = request.name.as_str();
             if places.contains_key(name) {

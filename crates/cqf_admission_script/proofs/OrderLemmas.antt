@@ -14,7 +14,7 @@ use Rattle.cqf_admission_script.specs.Lines.{Written}
 use Rattle.cqf_model.specs.History.{Act, Admits, Asked}
 use Rattle.cqf_admission_requests.specs.Names.{has_name, place_named}
 use Rattle.cqf_admission_requests.specs.Orders.{request_at}
-use Rattle.cqf_admission_requests.proofs.Places.{found_nowhere, found_there}
+use Rattle.cqf_lists.proofs.Firsts.{found_nowhere, found_there}
 use Rattle.cqf_model.specs.Limits.{most_calls}
 use Rattle.cqf_admission_script.specs.Script.{act_for, call_of_order, request_named}
 

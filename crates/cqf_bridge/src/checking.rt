@@ -123,8 +123,7 @@ pub fn incoming_links(domain: &Domain, number: u16) -> ArrayVec<u16, 4096>
     ensures { result.items ≡ links_into domain.now number }
 {
     let mut links = ArrayVec::new();
-    // the domain is accepted: a fact
-    let _time = domain.cycle_time();
+    domain.know();
     for link in 0..domain.links() {
         if ends_in(domain, link, number) {
             links.push(link);

@@ -68,8 +68,7 @@ pub fn offers_of(
     ensures { IfOk result (λ list. list.items ≡ offered_for domain.now offers.now bridge cycle.0) }
 {
     frames_are_taken_in_order();
-    // the domain is accepted: a fact
-    let _time = domain.cycle_time();
+    domain.know();
     let mut list = listed(alloc, domain, offers, bridge, cycle)?;
     list.sort_by_key(|offered| offered.offer.at.0)?;
     Ok(list)

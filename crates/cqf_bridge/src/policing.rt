@@ -48,8 +48,7 @@ fn pass_gate(
     ensures err { OnErr result (gates.new ≡ gates.old) }
 {
     gate_counts_cycles();
-    // the domain is accepted: a fact
-    let _time = domain.cycle_time();
+    domain.know();
     match gates.pass(domain, row, frame.at, Octets(frame.octets))? {
         Passed::Class(class) => Ok(Some(class)),
         Passed::OverOctets => Ok(None),
@@ -147,7 +146,7 @@ pub fn police<'a>(
 {
     gate_counts_cycles();
     // the domain is accepted, and the table's streams are offered in each cycle: facts
-    let _time = domain.cycle_time();
+    domain.know();
     let _paced = table.rows();
     let phase = ReceivePhase {
         domain,

@@ -41,7 +41,7 @@ fn take_all(
 {
     gate_counts_cycles();
     // the domain is accepted, and the table's streams are offered in each cycle: facts
-    let _time = phase.domain.cycle_time();
+    phase.domain.know();
     let _paced = phase.table.rows();
     for frame in frames {
         match take_frame(phase, frame, gates, ports, drops) {
@@ -77,8 +77,7 @@ pub(crate) fn receive_frames(
 {
     frames_are_taken_in_order();
     drops_are_of_the_cycle();
-    // the domain is accepted: a fact
-    let _time = phase.domain.cycle_time();
+    phase.domain.know();
     let frames = in_order(alloc, phase.domain, batches, offers)?;
     let mut drops = Vec::new(alloc);
     match take_all(phase, frames.as_slice(), gates, ports, &mut drops) {

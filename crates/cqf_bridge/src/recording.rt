@@ -74,8 +74,7 @@ fn queue_frame(
 {
     gate_gives_class();
     queued_frames_wait();
-    // the domain is accepted: a fact
-    let _time = domain.cycle_time();
+    domain.know();
     let arrival = Arrival {
         at: frame.at,
         class,

@@ -1,8 +1,9 @@
 //! What becomes of offers, in their order.
-ghost use Rattle.std.specs.Prelude.{◌≡◌, ◌≤◌, ◌<◌, ◌^◌, ◌&&◌, IfOk, List, None, length, nat_eq, replicate};
+ghost use Rattle.std.specs.Prelude.{◌≡◌, ◌≤◌, ◌<◌, ◌^◌, ◌&&◌, IfOk, List, None, length, replicate};
 ghost use Rattle.std.specs.List.{list_any};
-ghost use Rattle.std.specs.Cmp.Lexicographic.{pointwise};
-ghost use Rattle.indexmap.specs.IndexMap.{get};
+ghost use Rattle.std.specs.BTreeMap.{get};
+ghost use Rattle.std.specs.Cmp.Lexicographic.{slice_cmp};
+ghost use Rattle.std.specs.Ordering.{nat_cmp};
 ghost use Rattle.cqf_model.specs.Domain.{leaves};
 ghost use Rattle.cqf_model.specs.History.{IsLegalHistory, Recorded, streams_of};
 ghost use Rattle.cqf_model.specs.Run.{AreOffers};
@@ -17,8 +18,8 @@ use cqf_laws_report::{counters_step, offers_stand_in_order, rows_follow, rows_sa
 use cqf_model::{Hop, Offer, Pace, Reason, Row};
 use cqf_topology::Domain;
 use cqf_units::{Cycle, Memory, cycle_of};
-use indexmap::IndexMap;
 use std::alloc::Global;
+use std::collections::BTreeMap;
 
 /// What becomes of an offer at its edge.
 #[derive(Clone, Copy, Debug, PartialEq, Eq)]
@@ -133,7 +134,7 @@ fn judge(
     offer: &Offer,
 ) -> Judgement
     requires within { begun.now.count ≤ length begun.now.rows.now }
-    requires leads { LeadsToLast begun.now.rows.now begun.now.count (λ name. get (pointwise nat_eq) begun.now.last.now name) }
+    requires leads { LeadsToLast begun.now.rows.now begun.now.count (λ name. get (slice_cmp nat_cmp) begun.now.last.now name) }
     requires counters { length used.old.items ≡ length begun.now.rows.now }
     ensures { IsJudged domain.now begun.now.rows.now begun.now.count cycle.0 offer.now used.old.items used.new.items result }
 {
@@ -186,7 +187,7 @@ pub fn cover(
     offers_stand_in_order();
     counters_step();
     let cycle_time = domain.cycle_time();
-    let mut last = IndexMap::new(alloc);
+    let mut last = BTreeMap::new(alloc);
     let mut used = no_use(alloc, rows.len())?;
     let mut judgements = Vec::with_capacity(alloc, offers.len())?;
     let mut count = 0;

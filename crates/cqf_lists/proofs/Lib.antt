@@ -3,12 +3,14 @@ pub mod ByNumber
 pub mod EachBelow
 pub mod EachOnce
 pub mod Filters
+pub mod Firsts
 pub mod Fronts
 pub mod InPlace
 pub mod Kept
 pub mod Keys
 pub mod Least
 pub mod Made
+pub mod Mapped
 pub mod Members
 pub mod Numbered
 pub mod Numbers

@@ -24,8 +24,7 @@ fn bridge_at_end(domain: &Domain, link: u16) -> Option<u16>
     ensures only { IfSome result (λ bridge. (other : ℕ) → enters domain.now link other ≡ true → other ≡ bridge) }
     ensures none { IfNone result ((bridge : ℕ) → enters domain.now link bridge ≡ false) }
 {
-    // the domain is accepted: a fact
-    let _accepted = domain.cycle_time();
+    domain.know();
     if link >= domain.links() {
         return None;
     }

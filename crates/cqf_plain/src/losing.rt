@@ -126,8 +126,7 @@ pub(crate) fn first_lost(
     cycle_brings_its_batches();
     frames_are_taken_in_order();
     let domain = driven.bridge.domain();
-    // the domain is accepted: a fact
-    let _time = domain.cycle_time();
+    domain.know();
     let offers = driven.agenda.offers(table.cycle());
     let frames = in_order(alloc, domain, driven.inbox.as_slice(), offers)?;
     let found = lost_among(

@@ -107,8 +107,7 @@ impl RunSoFar {
         frames_are_taken_in_order();
         legal_part_is_legal();
         run_is_its_cycles();
-        // the domain is accepted: a fact
-        let _accepted = domain.cycle_time();
+        domain.know();
         pass_all(&mut self.bridges, table.cycle())?;
         Ok(())
     }

@@ -59,7 +59,7 @@ fn link_table(alloc: Global, domain: &Domain, link: Link) -> Result<Table, Memor
 pub(crate) fn links_value(alloc: Global, domain: &Domain) -> Result<Value, Memory>
     ensures { IfOk result (λ value. view value ≡ links_data domain.now) }
 {
-    let _accepted = domain.cycle_time();
+    domain.know();
     let mut links = Vec::new(alloc);
     for number in 0..domain.links() {
         let table = link_table(alloc, domain, domain.link(number))?;

@@ -117,8 +117,7 @@ pub(crate) fn legs_of_scenario(
     requires stand { HasOrders given.now }
     ensures { IfOk result (λ legs. AreLegsOf cycles (scenario_given given.now) (wanted_by choice.entry) legs.items) }
 {
-    // the domain is accepted: a fact for the instants
-    let _accepted = given.domain.cycle_time();
+    given.domain.know();
     let book = book_of(alloc, cycles, given)?;
     let offers = given.offers.as_slice();
     legs_by_frame(alloc, offers, choice, &book)

@@ -113,8 +113,7 @@ pub(crate) fn start_of_link(domain: &Domain, link: u16) -> Name
     requires { link < length domain.now.links }
     ensures { result ≡ name_of_bridge domain.now (bridge_of domain.now link) }
 {
-    // the domain is accepted: a fact for the call below
-    let _cycle_time = domain.cycle_time();
+    domain.know();
     domain.bridge_name(domain.link(link).from).copied()
 }
 
@@ -123,8 +122,7 @@ pub(crate) fn end_of_link(domain: &Domain, link: u16) -> Name
     requires { link < length domain.now.links }
     ensures { result ≡ name_of_end domain.now link }
 {
-    // the domain is accepted: a fact for the calls below
-    let _cycle_time = domain.cycle_time();
+    domain.know();
     match domain.link(link).to {
         Node::Bridge(bridge) => domain.bridge_name(bridge).copied(),
         Node::Station(station) => domain.station_name(station).copied(),

@@ -77,8 +77,7 @@ fn full_to(domain: &Domain, room: Room, bridge: u16, station: u16) -> PlanFault
     ensures { (rows : List Row) → room.entry.left.now ≡ lefts_on domain.now rows → IsFullTo domain.now rows room.entry.cost bridge station result }
 {
     full_ways_have_a_short_link();
-    // the domain is accepted: a fact for the call below
-    let _cycle_time = domain.cycle_time();
+    domain.know();
     let anyhow = Room {
         links: room.links,
         left: room.left,
@@ -113,8 +112,7 @@ pub(crate) fn branches_between(
     ensures err { IfErr result (λ fault. (rows : List Row) → room.entry.left.now ≡ lefts_on domain.now rows →
         IsUnrouted domain.now rows room.entry.cost (Between bridge stations.now) fault) }
 {
-    // the domain is accepted: a fact for the call below
-    let _cycle_time = domain.cycle_time();
+    domain.know();
     match first_ways(alloc, room, bridge, stations) {
         Ok(ways) => {
             let paths = branches_along(alloc, domain, bridge, ways.as_slice())?;

@@ -1,8 +1,7 @@
 //! The streams of a sketch, looked over for what no cycle time changes.
-ghost use Rattle.std.specs.Prelude.{◌≡◌, ◌<◌, ◌≤◌, ◌++◌, ◌∷◌, [], All, IfOk, OnOk, false, length, map, string_bytes};
+ghost use Rattle.std.specs.Prelude.{◌≡◌, ◌<◌, ◌≤◌, [], All, IfOk, length, map, string_bytes};
 ghost use Rattle.cqf_model.specs.Limits.{most_streams};
 ghost use Rattle.cqf_sketch_streams.specs.StreamsText.{stream_text, wanted_text};
-ghost use Rattle.cqf_topology.specs.DomainText.{is_among};
 ghost use Rattle.cqf_topology_fields.specs.Fields.{Gives};
 ghost use Rattle.cqf_program_placing.specs.Settled.{are_reservable, or_unsettled, refusal_behind, settled_next, settled_stream, settled_value};
 ghost use Rattle.cqf_program_placing.specs.Settled.{IsPlaceable, deadline_behind, open_domain, settled_behind, settled_of, way_value, with_deadline};
@@ -14,10 +13,9 @@ use crate::{PlanFault, Settled, Unsettled, Way};
 use cqf_model::{LEAST_OCTETS, MOST_OCTETS, Refused};
 use cqf_sketch::SketchDomain;
 use cqf_sketch_streams::{Stream, Wanted};
-use cqf_topology::Domain;
+use cqf_topology::{Domain, NameList};
 use cqf_traffic::Traffic;
 use cqf_units::{Memory, Name};
-use indexmap::IndexSet;
 use std::alloc::Global;
 
 /// Whether a stream may reserve these octets, where it says any.
@@ -30,27 +28,11 @@ fn are_reservable(octets: Option<u32>) -> bool
     }
 }
 
-/// Whether the name is among those of streams.
-fn is_held(held: &IndexSet<Name>, name: &Name) -> bool
-    ensures { result ≡ is_among name.now held.now.keys }
-{
-    held.contains(name)
-}
-
-/// Adds a name that isn't among those of streams.
-fn hold(held: &mut IndexSet<Name>, name: &Name) -> Result<(), Memory>
-    requires { is_among name.now held.old.keys ≡ false }
-    ensures { OnOk result (held.new.keys ≡ held.old.keys ++ name.now ∷ []) }
-{
-    held.insert(name.copied())?;
-    Ok(())
-}
-
 /// Why a stream of a name can't stand behind those of other names.
-fn refusal_behind(plant: &Domain, held: &IndexSet<Name>, name: &Name) -> Option<Refused>
+fn refusal_behind(plant: &Domain, held: &NameList, name: &Name) -> Option<Refused>
     ensures { result ≡ refusal_behind plant.now held.now.keys name.now }
 {
-    if is_held(held, name) {
+    if held.contains(name) {
         return Some(Refused::NameHeld);
     }
     if held.len() >= plant.limits().streams_within() {
@@ -95,7 +77,7 @@ fn settle_deadline(name: &Name, terms: Terms, way: Way, taken: u64) -> Result<Se
 fn settle_named(
     alloc: Global,
     at: OpenSketch,
-    held: &IndexSet<Name>,
+    held: &NameList,
     name: &Name,
     terms: Terms,
     way: Wanted,
@@ -122,7 +104,7 @@ fn settle_named(
 fn settle_next(
     alloc: Global,
     at: OpenSketch,
-    held: &IndexSet<Name>,
+    held: &NameList,
     stream: Stream,
 ) -> Result<Settled, Unsettled>
     requires links { at.sketch.now.links ≡ at.plant.now.links }
@@ -153,11 +135,11 @@ fn settle_all(
     ensures { Gives Unsettled.Memory (λ settled. map settled_value settled.items) result
         (settled_behind at.entry.sketch.now at.entry.plant.now [] (map stream_text streams.items)) }
 {
-    let mut held = IndexSet::new(alloc);
+    let mut held = NameList::new(alloc);
     let mut settled = Vec::new(alloc);
     for stream in streams {
         let one = settle_next(alloc, at, &held, stream)?;
-        hold(&mut held, &one.name)?;
+        held.add(&one.name)?;
         settled.push(one)?;
     }
     Ok(settled)

@@ -31,7 +31,7 @@ fn has_way(at: OpenSketch, bridge: u16, name: &Name) -> bool
     ensures { result ≡ has_way at.entry.plant.now bridge (node_named at.entry.plant.now name.now) }
 {
     // the plant is accepted, so it has no more links than are represented
-    let _accepted = at.plant.cycle_time();
+    at.plant.know();
     match at.plant.find(name.as_str()) {
         Some(node) => is_led(at.sketch.links(), bridge, node),
         None => false,

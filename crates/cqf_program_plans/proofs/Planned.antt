@@ -4,8 +4,8 @@ use Rattle.std.proofs.lemmas.List.{drop_more, get_or-map}
 use Rattle.cqf_admission.specs.Admission.{HoldsOneMore}
 use Rattle.cqf_admission.specs.Asking.{asked_of}
 use Rattle.cqf_laws_history.specs.StateLaws.{granted_row}
-use Rattle.cqf_admission_ledger.specs.Forms.{IsRowOfGoodForm}
-use Rattle.cqf_admission_ledger.specs.Ledger.{Kept}
+use Rattle.cqf_admission.specs.Forms.{IsRowOfGoodForm}
+use Rattle.cqf_admission.specs.Ledger.{Kept}
 use Rattle.cqf_model.specs.declared.history.Receipt.{Receipt}
 use Rattle.cqf_model.specs.declared.topology.Row.{Row}
 use Rattle.cqf_model.specs.Domain.{Domain}

@@ -4,7 +4,7 @@ ghost use Rattle.cqf_admission.specs.Admission.{HoldsOneMore};
 ghost use Rattle.cqf_admission.specs.Asking.{asked_of};
 ghost use Rattle.cqf_admission.specs.Tables.{AreAlongLinks, AreOfEachCycle};
 ghost use Rattle.cqf_laws_history.specs.StateLaws.{AreHeld};
-ghost use Rattle.cqf_admission_ledger.specs.Forms.{IsRowOfGoodForm};
+ghost use Rattle.cqf_admission.specs.Forms.{IsRowOfGoodForm};
 ghost use Rattle.cqf_model.specs.History.{Asked, Recorded};
 ghost use Rattle.cqf_program_plans.specs.CompileOutput.{stream_line, admitted_from, compile_input, compiled_input};
 ghost use Rattle.cqf_program_plans.specs.CompileOutput.{configuration_of, AreAllHeld, ArePlanned, HoldsAll};
@@ -13,8 +13,7 @@ ghost use Rattle.cqf_admission_requests.specs.Orders.{request_at};
 ghost use Rattle.cqf_program_stop.specs.Stops.{EndsWith, IsRefused};
 
 use crate::compile_outputs::ConfigOutput;
-use cqf_admission::judge;
-use cqf_admission_ledger::{Ledger, Receipt, Refused};
+use cqf_admission::{Ledger, Receipt, Refused, judge};
 use cqf_admission_trees::count_places;
 use cqf_compile::compile;
 use cqf_gates::{compiled_list, write_tx};

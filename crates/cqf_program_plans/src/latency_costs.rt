@@ -67,8 +67,7 @@ pub fn link_costs(alloc: Global, domain: &Domain, rows: &[Row]) -> Result<Vec<u3
     requires paced { AreOfEachCycle rows.now }
     ensures { IfOk result (λ costs. costs.items ≡ each_below (λ l. costs_on rows.now l ∷ []) (length domain.now.links)) }
 {
-    // the domain is accepted: a fact for the loop
-    let _cycle_time = domain.cycle_time();
+    domain.know();
     let mut costs = Vec::new(alloc);
     for link in 0..domain.links() {
         costs.push(link_cost(rows, link))?;

@@ -52,8 +52,7 @@ pub fn listener_at(domain: &Domain, link: u16) -> Option<Name>
     requires { link < length domain.now.links }
     ensures { result ≡ (if is_station (end_of domain.now link) then Some (name_of_end domain.now link) else None) }
 {
-    // the domain is accepted: a fact for the call below
-    let _cycle_time = domain.cycle_time();
+    domain.know();
     match domain.link(link).to {
         Node::Station(station) => Some(domain.station_name(station).copied()),
         Node::Bridge(_) => None,

@@ -25,8 +25,7 @@ fn list_one(
     ensures ok { IfOk result (λ after. (more : List Asked) → listed_from domain.now listing (asked_of request.now ∷ more) ≡ listed_from domain.now after more) }
     ensures err { IfErr result (λ stop. (more : List Asked) → IsRefused (listed_from domain.now listing (asked_of request.now ∷ more)) stop) }
 {
-    // the domain is accepted: a fact for the call below
-    let _cycle_time = domain.cycle_time();
+    domain.know();
     if count_places(request.paths.as_slice()).is_none() {
         return Err(Stop::memory(alloc));
     }

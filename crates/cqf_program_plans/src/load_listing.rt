@@ -15,16 +15,15 @@ ghost use Rattle.cqf_model.specs.Paces.{each_cycle};
 use cqf_admission::{Judged, judge};
 use cqf_admission_trees::add_on;
 use cqf_model::{MOST_LINKS, Refused, Row};
-use cqf_topology::{Domain, Request};
+use cqf_topology::{Domain, NameList, Request};
 use cqf_units::{Cycle, Memory, Name, Octets, cost};
-use indexmap::IndexSet;
 use std::alloc::Global;
 use std::marker::Model;
 
 /// The rows of streams by number, with what they cost of each link and how many go by it.
 #[derive(Drop)]
 pub(crate) struct Listing {
-    names: IndexSet<Name>,
+    names: NameList,
     rows: Vec<Row>,
     held: Vec<u64>,
     crossing: Vec<u64>,
@@ -67,7 +66,7 @@ impl Listing {
         let held = no_sums(alloc, MOST_LINKS)?;
         let crossing = no_sums(alloc, MOST_LINKS)?;
         Ok(Listing {
-            names: IndexSet::new(alloc),
+            names: NameList::new(alloc),
             rows: Vec::new(alloc),
             held,
             crossing,
@@ -159,7 +158,7 @@ impl Listing {
         let (mut names, mut rows, mut held, mut crossing) = (names, rows, held, crossing);
         add_where(&mut held, &row, cost(Octets(row.octets)).0);
         add_where(&mut crossing, &row, 1);
-        names.insert(row.name.copied())?;
+        names.add(&row.name)?;
         rows.push(row)?;
         Ok(Listing {
             names,

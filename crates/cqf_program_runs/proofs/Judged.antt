@@ -18,9 +18,9 @@ use Rattle.cqf_model.specs.Promise.{IsDecided}
 use Rattle.cqf_topology.specs.declared.streams.Request.{Request}
 use Rattle.cqf_topology.specs.PlannedText.{PlannedText}
 use Rattle.cqf_admission.specs.Asking.{asked_by, asked_of}
-use Rattle.cqf_admission.proofs.HeldLemmas.{position-map}
+use Rattle.cqf_lists.proofs.Mapped.{position-map}
 use Rattle.cqf_admission_requests.specs.Names.{place_named}
-use Rattle.cqf_admission_requests.proofs.Places.{found_nowhere, found_there}
+use Rattle.cqf_lists.proofs.Firsts.{found_nowhere, found_there}
 use Rattle.cqf_laws_report.specs.Counted.{AreDecided}
 use Rattle.cqf_laws_report.specs.Judged.{OffersAreJudged, StandInOrder}
 use Rattle.cqf_instants_coverage.specs.declared.judged.Judgement.{Judgement}

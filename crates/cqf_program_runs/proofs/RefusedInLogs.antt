@@ -9,8 +9,8 @@ use Rattle.cqf_lists.proofs.Members.{contains_at, contains_from_filter, find_mem
 use Rattle.cqf_lists.proofs.Numbered.{enum_at}
 use Rattle.cqf_model.specs.History.{Asked, Recorded, is_seal}
 use Rattle.cqf_laws_report.proofs.Found.{find-map}
-use Rattle.cqf_admission_ledger.specs.declared.logs.Logged.{Logged}
-use Rattle.cqf_admission_ledger.specs.Ledger.{recorded_in}
+use Rattle.cqf_admission.specs.declared.logs.Logged.{Logged}
+use Rattle.cqf_admission.specs.Ledger.{recorded_in}
 use Rattle.cqf_admission_requests.specs.declared.orders.What.{What}
 use Rattle.cqf_admission_requests.specs.declared.orders.What.TheVariants.{Admit, Seal, Withdraw}
 use Rattle.cqf_admission_requests.specs.Orders.{act_in}

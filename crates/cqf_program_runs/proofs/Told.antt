@@ -9,8 +9,8 @@ use Rattle.cqf_model.specs.Shift.{offer_cycle}
 use Rattle.cqf_model.specs.Traffic.{numbered}
 use Rattle.cqf_topology.specs.PlannedText.{PlannedText}
 use Rattle.cqf_admission.specs.Asking.{asked_of}
-use Rattle.cqf_admission_ledger.specs.declared.logs.Logged.{Logged}
-use Rattle.cqf_admission_ledger.specs.Ledger.{recorded_in}
+use Rattle.cqf_admission.specs.declared.logs.Logged.{Logged}
+use Rattle.cqf_admission.specs.Ledger.{recorded_in}
 use Rattle.cqf_program_scenario.specs.declared.given.Given.{Given}
 use Rattle.cqf_program_scenario.specs.Calls.{history_of}
 use Rattle.cqf_program_scenario.specs.Ran.{IsRunOf}

@@ -1,7 +1,7 @@
 -- The first call of a log that is refused.
 use Rattle.std.specs.Prelude.{ℕ, Bool, true, false, List, Option, filter, find}
 use Rattle.std.specs.List.{enumerate_from}
-use Rattle.cqf_admission_ledger.specs.declared.logs.Logged.{Logged}
+use Rattle.cqf_admission.specs.declared.logs.Logged.{Logged}
 use Rattle.cqf_admission_requests.specs.declared.orders.What.{What}
 use Rattle.cqf_admission_requests.specs.declared.orders.What.TheVariants.{Admit, Seal, Withdraw}
 use Rattle.cqf_program_runs.specs.RefusedCalls.{is_refused}

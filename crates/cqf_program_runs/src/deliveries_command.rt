@@ -1,7 +1,7 @@
 //! The commands `deliveries` and `check`.
 ghost use Rattle.std.specs.Prelude.{ℕ, ◌≡◌, ◌≤◌, true, List, None, Ok, Err, IfErr, IfOk, Option, map};
 ghost use Rattle.cqf_admission.specs.Asking.{asked_of};
-ghost use Rattle.cqf_admission_ledger.specs.Ledger.{recorded_in};
+ghost use Rattle.cqf_admission.specs.Ledger.{recorded_in};
 ghost use Rattle.cqf_admission_requests.specs.Orders.{StandsIn};
 ghost use Rattle.cqf_program_scenario.specs.Calls.{history_of};
 ghost use Rattle.cqf_program_scenario.specs.Closing.{MayBeRun, scenario_given};
@@ -30,7 +30,7 @@ use crate::made::{Ended, put_those_of};
 use crate::refused_calls::{first_refused, refused_line};
 use crate::under_way::UnderWay;
 use crate::{Counts, Delivery, complaint_about, first_bad, unfinished_line, well_line};
-use cqf_admission_ledger::Logged;
+use cqf_admission::Logged;
 use cqf_program_press::Sheet;
 use cqf_program_scenario::{Given, Ran, run_given};
 use cqf_program_stop::{REFUSED, Stop};

@@ -98,8 +98,7 @@ pub(crate) fn noted_of(
     offers_are_judged();
     tables_are_orderly();
     let domain = &planned.given.domain;
-    // the domain is accepted: a fact for the instants
-    let _accepted = domain.cycle_time();
+    domain.know();
     let offers = planned.given.offers.as_slice();
     let Ran {
         rows,

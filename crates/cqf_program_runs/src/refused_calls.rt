@@ -1,12 +1,12 @@
 //! The first call of a log that is refused, and what a check says of it.
 ghost use Rattle.std.specs.Prelude.{◌≡◌, true, IfOk, map, string_bytes};
 ghost use Rattle.cqf_admission.specs.Asking.{asked_of};
-ghost use Rattle.cqf_admission_ledger.specs.Ledger.{recorded_in};
+ghost use Rattle.cqf_admission.specs.Ledger.{recorded_in};
 ghost use Rattle.cqf_admission_requests.specs.Orders.{StandsIn, act_in};
 ghost use Rattle.cqf_program_runs.specs.RefusedCalls.{act_text, is_refused, refused_call_line};
 ghost use Rattle.cqf_program_runs.specs.RefusedInLog.{is_call, refused_from};
 
-use cqf_admission_ledger::Logged;
+use cqf_admission::Logged;
 use cqf_admission_requests::{What, word_of};
 use cqf_model::Reply;
 use cqf_topology::Request;

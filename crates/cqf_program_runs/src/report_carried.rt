@@ -33,7 +33,7 @@ pub(crate) fn carried_columns(
     report_is_told();
     let domain = log.domain();
     // the domain is accepted and the history legal: facts for the room in the columns
-    let _accepted = domain.cycle_time();
+    domain.know();
     let _legal = log.entries();
     let rows = log.granted();
     let judgements = cover(alloc, domain, rows, offers)?;

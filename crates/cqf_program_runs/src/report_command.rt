@@ -39,7 +39,7 @@ fn text_of_report(
     report_is_told();
     book_of_history_is_there();
     // the domain is accepted and the history legal: facts for the book
-    let _accepted = log.domain().cycle_time();
+    log.domain().know();
     let _legal = log.entries();
     let columns = carried_columns(alloc, cycles, log, offers)?;
     write_columns(rt, alloc, log.domain(), columns.as_slice())

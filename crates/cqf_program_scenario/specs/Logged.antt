@@ -4,8 +4,8 @@ use Rattle.cqf_model.specs.History.{Recorded}
 use Rattle.cqf_admission_requests.specs.declared.orders.Ordered.{Ordered}
 use Rattle.cqf_admission_requests.specs.Orders.{StandsIn}
 use Rattle.cqf_admission.specs.Asking.{asked_of}
-use Rattle.cqf_admission_ledger.specs.declared.logs.Logged.{Logged}
-use Rattle.cqf_admission_ledger.specs.Ledger.{recorded_in}
+use Rattle.cqf_admission.specs.declared.logs.Logged.{Logged}
+use Rattle.cqf_admission.specs.Ledger.{recorded_in}
 use Rattle.cqf_program_scenario.specs.declared.given.Given.{Given}
 
 -- what its orders name stands there

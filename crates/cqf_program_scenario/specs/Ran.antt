@@ -5,8 +5,8 @@ use Rattle.cqf_model.specs.History.{IsLegalHistory, seals}
 use Rattle.cqf_admission.specs.Asking.{asked_of}
 use Rattle.cqf_instants_layout.specs.History.{IsLaidOutHistoryOf}
 use Rattle.cqf_program_telling.specs.ExactBooks.{TellsBook}
-use Rattle.cqf_admission_ledger.specs.declared.logs.Logged.{Logged}
-use Rattle.cqf_admission_ledger.specs.Running.{AreThere}
+use Rattle.cqf_admission.specs.declared.logs.Logged.{Logged}
+use Rattle.cqf_admission.specs.Running.{AreThere}
 use Rattle.cqf_program_scenario.specs.declared.given.Given.{Given}
 use Rattle.cqf_program_scenario.specs.declared.runs.Ran.{Ran}
 use Rattle.cqf_program_scenario.specs.Books.{IsBookOfScenario}

@@ -1,7 +1,7 @@
 //! The orders of a scenario, carried out in turn by a ledger.
 ghost use Rattle.std.specs.Prelude.{◌≡◌, ◌-◌, ◌≤◌, ◌<◌, [], All, Err, IfOk, map};
 ghost use Rattle.cqf_admission.specs.Asking.{asked_of};
-ghost use Rattle.cqf_admission_ledger.specs.Running.{AreThere};
+ghost use Rattle.cqf_admission.specs.Running.{AreThere};
 ghost use Rattle.cqf_model.specs.History.{IsLegalHistory, Seals, seals, streams_of};
 ghost use Rattle.cqf_admission_requests.specs.declared.orders.Ordered.{Ordered as AnOrdered};
 ghost use Rattle.cqf_admission_requests.specs.Orders.{StandsIn, act_in, ordered_in};
@@ -12,8 +12,7 @@ ghost use Rattle.cqf_model.specs.Limits.{most_cycles};
 
 use crate::calls::entered;
 use crate::given::Given;
-use cqf_admission::SealFault;
-use cqf_admission_ledger::{Ledger, Logged};
+use cqf_admission::{Ledger, Logged, SealFault};
 use cqf_admission_requests::{Ordered, What};
 use cqf_laws_history::state_follows_history;
 use cqf_model::Row;

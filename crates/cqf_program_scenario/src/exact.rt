@@ -69,8 +69,7 @@ pub(crate) fn exact_book(
     cqf_laws_report::book_of_history_is_there();
     let domain = &given.domain;
     let offers = given.offers.as_slice();
-    // the domain is accepted: a fact for the book
-    let _accepted = domain.cycle_time();
+    domain.know();
     let backed = backed_of(alloc, cycles, given, rows, judgements)?;
     let drops = drops_of(alloc, domain, cycles, offers, judgements)?;
     let pass = pass_of_history(alloc, domain, cycles, rows, offers, judgements)?;

@@ -1,11 +1,11 @@
 //! The log of a scenario's history, with what its entries stand for.
 ghost use Rattle.std.specs.Prelude.{◌≡◌, map};
 ghost use Rattle.cqf_admission.specs.Asking.{asked_of};
-ghost use Rattle.cqf_admission_ledger.specs.Ledger.{recorded_in};
-ghost use Rattle.cqf_admission_ledger.specs.Running.{AreThere};
+ghost use Rattle.cqf_admission.specs.Ledger.{recorded_in};
+ghost use Rattle.cqf_admission.specs.Running.{AreThere};
 ghost use Rattle.cqf_model.specs.History.{IsLegalHistory, streams_of};
 
-use cqf_admission_ledger::Logged;
+use cqf_admission::Logged;
 use cqf_model::Row;
 use cqf_topology::{Domain, Request};
 use std::marker::Model;
@@ -25,8 +25,8 @@ pub struct Log {
 impl Model for Log {
     ghost use Rattle.std.specs.Prelude.{◌≡◌, map};
     ghost use Rattle.cqf_admission.specs.Asking.{asked_of};
-    ghost use Rattle.cqf_admission_ledger.specs.Ledger.{Kept, recorded_in};
-    ghost use Rattle.cqf_admission_ledger.specs.Running.{AreThere};
+    ghost use Rattle.cqf_admission.specs.Ledger.{Kept, recorded_in};
+    ghost use Rattle.cqf_admission.specs.Running.{AreThere};
     ghost use Rattle.cqf_model.specs.History.{IsLegalHistory, streams_of};
 
     ghost Value = { Kept };

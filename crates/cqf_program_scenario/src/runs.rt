@@ -14,7 +14,7 @@ use crate::administering::log_of;
 use crate::exact::exact_book;
 use crate::given::{Given, read_given};
 use crate::logs::Log;
-use cqf_admission_ledger::Logged;
+use cqf_admission::Logged;
 use cqf_instants_coverage::{Judgement, cover};
 use cqf_model::Row;
 use cqf_program_stop::Stop;

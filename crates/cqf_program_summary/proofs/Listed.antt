@@ -1,8 +1,7 @@
 -- One stream more is listed.
 use Rattle.std.proofs.Common.{◌≡◌, ◌∙◌, ◌+◌, ◌*◌, ◌++◌, ◌∷◌, ◌≤◌, ◌<◌, ◌^◌, [], ℕ, All, Bool, true, false, Contains, List, Some, None, Option, ap, append-nil, arith, filter, get_or, if◌then◌else◌, inl, inr, length, map, refl, subst, sym}
-use Rattle.std.specs.Prelude.{◌==◌, fold, is_none, max, nat_eq, option_map, replicate, slice_get, sum_by}
+use Rattle.std.specs.Prelude.{◌==◌, fold, is_none, max, option_map, replicate, slice_get, sum_by}
 use Rattle.std.specs.List.{list_any}
-use Rattle.std.specs.Cmp.Lexicographic.{pointwise}
 use Rattle.std.proofs.lemmas.Bool.{cases_Bool, eq-eqb}
 use Rattle.std.proofs.lemmas.List.{get_or-replicate, length-map, length-replicate, length_push, map-append}
 use Rattle.std.proofs.lemmas.List.Elements.{All-weaker, filter-append}
@@ -26,7 +25,6 @@ use Rattle.cqf_model.specs.Paces.{each_cycle}
 use Rattle.cqf_model.specs.Table.{cost_on, crosses, links_in, links_of, uses}
 use Rattle.cqf_model.proofs.EachCycle.{cost_same, most_same, uses_same}
 use Rattle.cqf_model.proofs.Represented.{few_links}
-use Rattle.cqf_model.proofs.Texts.{pointwise-is_text}
 use Rattle.cqf_laws_history.specs.StateLaws.{granted_row}
 use Rattle.cqf_laws_latency.specs.Latency.{most_of}
 use Rattle.cqf_laws_latency.specs.Streams.{cost_of_all}
@@ -37,6 +35,7 @@ use Rattle.cqf_admission.specs.Judging.{form_refusal}
 use Rattle.cqf_program_plans.specs.EndNames.{name_of_end}
 use Rattle.cqf_program_plans.specs.LatencyText.{is_station, listeners_of}
 use Rattle.cqf_program_summary.specs.declared.listing.Listed.{Listed}
+use Rattle.cqf_topology.specs.DomainText.{is_among}
 use Rattle.cqf_program_summary.specs.declared.listing.Listing.{Listing}
 use Rattle.cqf_program_summary.specs.Listing.{AreBounded, CostsWith, IsListing, IsOfStream, ListsOne, MayBeCounted, cost_in, costs_by_link, fare_named, listed_of}
 use Rattle.cqf_program_summary.specs.Summary.{fare_of, listener_to, listeners_by, summary_by, way_to}
@@ -78,11 +77,9 @@ bounded_listing d streams listing is l low = omega (arith, is.bounded l low, is.
 
 -- the comparison of names by which one is found
 pub known_by_name : (d : Domain) (streams : List Asked) (listing : Listing) → IsListing d streams listing → (name : List ℕ) →
-    list_any (pointwise nat_eq name) listing.names.keys ≡ list_any (λ (a : Asked). is_text a.name name) (told_streams streams)
+    is_among name listing.names.keys ≡ list_any (λ (a : Asked). is_text a.name name) (told_streams streams)
 known_by_name d streams listing is name =
-    ap (list_any (pointwise nat_eq name)) is.names
-    ∙ list_any-map (pointwise nat_eq name) (λ (a : Asked). a.name) (told_streams streams)
-    ∙ (λ i. list_any (λ (a : Asked). pointwise-is_text name a.name i) (told_streams streams))
+    ap (is_among name) is.names ∙ list_any-map (λ (other : List ℕ). is_text other name) (λ (a : Asked). a.name) (told_streams streams)
 
 abbrev same_name : Asked → Asked → Bool
 same_name a b = is_text a.name b.name
@@ -196,7 +193,6 @@ listing_more d before asked listing after is named new few countable paced adds 
     = λ l low. costs_more d told asked l listing.costs.items after.costs.items low (is.costs l low) adds.costs countable in
     record {
       names = adds.names
-          ∙ ap (λ (b : Bool). if b then listing.names.keys else listing.names.keys ++ asked.name ∷ []) (known_by_name d before listing is asked.name ∙ new)
           ∙ ap (λ (ns : List (List ℕ)). ns ++ asked.name ∷ []) is.names
           ∙ sym (ap (map (λ (a : Asked). a.name)) grown ∙ map-append (λ (a : Asked). a.name) told (asked ∷ []));
       are = adds.streams

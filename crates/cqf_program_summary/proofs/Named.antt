@@ -1,20 +1,16 @@
 -- Streams are found by name.
-use Rattle.std.proofs.Common.{◌≡◌, ◌∙◌, ◌+◌, ◌∷◌, [], ℕ, List, ap, map, nat_eq, position, refl}
-use Rattle.std.specs.Cmp.Lexicographic.{pointwise}
-use Rattle.cqf_admission.proofs.HeldLemmas.{position-map}
+use Rattle.std.proofs.Common.{◌≡◌, ◌∙◌, ◌+◌, ◌∷◌, [], ℕ, List, ap, map, position, refl}
+use Rattle.cqf_lists.proofs.Mapped.{position-map}
 use Rattle.cqf_model.specs.Domain.{is_text}
-use Rattle.cqf_model.proofs.Texts.{pointwise-is_text}
+use Rattle.cqf_topology.specs.DomainText.{place_of}
 use Rattle.cqf_program_runs.specs.declared.delivery.Delivery.{Delivery}
 use Rattle.cqf_program_summary.specs.Counting.{fare_with, fare_with_each, fare_with_offer}
 use Rattle.cqf_program_summary.specs.Summary.{Fare}
 
 -- the place of a name is that of its stream
 pub named_place : (name : List ℕ) (keys : List (List ℕ)) (fares : List Fare) → keys ≡ map (λ (f : Fare). f.name) fares →
-    position (pointwise nat_eq name) keys ≡ position (λ (f : Fare). is_text f.name name) fares
-named_place name keys fares are =
-    ap (position (pointwise nat_eq name)) are
-    ∙ position-map (pointwise nat_eq name) (λ (f : Fare). f.name) fares
-    ∙ (λ i. position (λ (f : Fare). pointwise-is_text name f.name i) fares)
+    place_of name keys ≡ position (λ (f : Fare). is_text f.name name) fares
+named_place name keys fares are = ap (place_of name) are ∙ position-map (λ (other : List ℕ). is_text other name) (λ (f : Fare). f.name) fares
 
 -- a stream keeps its name
 each_name : (here : List Delivery) (fare : Fare) → (fare_with_each here fare).name ≡ fare.name

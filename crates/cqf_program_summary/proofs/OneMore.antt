@@ -8,7 +8,7 @@ use Rattle.std.proofs.lemmas.List.Elements.{filter-append}
 use Rattle.std.proofs.lemmas.List.Quantifiers.{position-Some}
 use Rattle.std.proofs.lemmas.List.Sums.{length-filter}
 use Rattle.std.proofs.lemmas.Option.{get_or_from_slice_get, slice_get-get_or, slice_get_within}
-use Rattle.cqf_admission.proofs.HeldLemmas.{position-map}
+use Rattle.cqf_lists.proofs.Mapped.{position-map}
 use Rattle.cqf_lists.proofs.Any.{position_any}
 use Rattle.cqf_lists.proofs.EachBelow.{filter_each, filter_none, fold_same}
 use Rattle.cqf_lists.proofs.EachOnce.{once_apart}

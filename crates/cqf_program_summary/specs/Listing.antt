@@ -1,7 +1,5 @@
 -- The streams of which is told, as they are listed.
-use Rattle.std.specs.Prelude.{ℕ, ◌≡◌, ◌+◌, ◌*◌, ◌++◌, ◌∷◌, ◌≤◌, ◌<◌, ◌^◌, ⊤, Contains, List, [], Option, Some, None, filter, if◌then◌else◌, length, map, nat_eq, slice_index_or, sum_by}
-use Rattle.std.specs.List.{list_any}
-use Rattle.std.specs.Cmp.Lexicographic.{pointwise}
+use Rattle.std.specs.Prelude.{ℕ, ◌≡◌, ◌+◌, ◌*◌, ◌++◌, ◌∷◌, ◌≤◌, ◌<◌, ◌^◌, ⊤, Contains, List, [], Option, Some, None, filter, if◌then◌else◌, length, map, slice_index_or, sum_by}
 use Rattle.cqf_model.specs.declared.topology.Row.{Row}
 use Rattle.cqf_model.specs.Domain.{Domain}
 use Rattle.cqf_model.specs.History.{Asked, pace_of}
@@ -54,7 +52,7 @@ fare_named d cost due listed = fare_from d cost (due listed.name) listed
 
 -- a listing with a stream more
 pub record ListsOne (before : Listing) (name : List ℕ) (row : Option Row) (after : Listing) : Type 0 where
-  pub names : after.names.keys ≡ (if list_any (pointwise nat_eq name) before.names.keys then before.names.keys else before.names.keys ++ name ∷ [])
+  pub names : after.names.keys ≡ before.names.keys ++ name ∷ []
   pub streams : after.streams.items ≡ before.streams.items ++ record { name = name; row = row } ∷ []
   pub costs : CostsWith before.costs.items row after.costs.items
 

@@ -78,7 +78,7 @@ fn listener_to(domain: &Domain, costs: &[u64], hop: &Hop) -> Option<Listener>
     ensures { result ≡ (if is_station (end_of domain.now hop.now.link) then Some (listener_to domain.now (cost_in costs.now) hop.now) else None) }
 {
     // the domain is accepted: it has no more links than are represented
-    let _cycle_time = domain.cycle_time();
+    domain.know();
     if hop.link >= domain.links() {
         return None;
     }
@@ -217,7 +217,7 @@ impl Fares {
         ensures { IfOk result (λ fares. fares ≡ fare_from domain.now (cost_in costs.now) deadline listed.now) }
     {
         // names are apart: a fact for the ways
-        let _cycle_time = domain.cycle_time();
+        domain.know();
         let ways = ways_of(alloc, domain, costs, &listed.row)?;
         Ok(Fares {
             name: listed.name.copied(),

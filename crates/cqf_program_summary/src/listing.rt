@@ -1,19 +1,19 @@
 //! The streams of which is told, and what they cost of links.
-ghost use Rattle.std.specs.Prelude.{◌≡◌, ◌++◌, ◌∷◌, [], IfOk, List, length, map, replicate};
+ghost use Rattle.std.specs.Prelude.{◌≡◌, ◌++◌, ◌∷◌, [], false, IfOk, List, length, map, replicate};
 ghost use Rattle.cqf_admission.specs.Asking.{asked_of};
 ghost use Rattle.cqf_model.specs.Domain.{Domain as ADomain};
 ghost use Rattle.cqf_model.specs.History.{Asked};
 ghost use Rattle.cqf_admission.specs.Rows.{IsCountable};
 ghost use Rattle.cqf_model.specs.Limits.{most_links};
+ghost use Rattle.cqf_topology.specs.DomainText.{is_among};
 ghost use Rattle.cqf_program_summary.specs.Listing.{AddsCost, AreBounded, CostsWith, IsListing, ListsOne, MayBeCounted};
 ghost use Rattle.cqf_program_summary.specs.Told.{row_of_stream};
 
 use cqf_admission::judge;
 use cqf_admission_trees::{add_on, count_places};
 use cqf_model::{MOST_LINKS, Row};
-use cqf_topology::{Domain, Request};
+use cqf_topology::{Domain, NameList, Request};
 use cqf_units::{Cycle, Memory, Name, Octets, cost};
-use indexmap::IndexSet;
 use std::alloc::{AllocError, Global};
 
 /// A stream of which is told.
@@ -28,7 +28,7 @@ pub(crate) struct Listed {
 #[derive(Drop)]
 pub(crate) struct Listing {
     /// Their names, in their order.
-    pub(crate) names: IndexSet<Name>,
+    pub(crate) names: NameList,
     pub(crate) streams: Vec<Listed>,
     /// In octets a cycle, by link number.
     pub(crate) costs: Vec<u64>,
@@ -64,7 +64,7 @@ fn row_of_request(alloc: Global, domain: &Domain, request: &Request) -> Result<O
     ensures countable { IfOk result MayBeCounted }
 {
     // the domain is accepted: it has no more links than are represented
-    let _cycle_time = domain.cycle_time();
+    domain.know();
     if count_places(request.paths.as_slice()).is_none() {
         return Err(AllocError);
     }
@@ -88,14 +88,15 @@ impl Listing {
     {
         let costs = no_costs(alloc)?;
         Ok(Listing {
-            names: IndexSet::new(alloc),
+            names: NameList::new(alloc),
             streams: Vec::new(alloc),
             costs,
         })
     }
 
-    /// The listing with a stream more.
+    /// The listing with a stream more, of a name that isn't listed.
     fn push(self, name: Name, row: Option<Row>) -> Result<Listing, Memory>
+        requires free { is_among name self.names.keys ≡ false }
         requires countable { MayBeCounted row }
         requires all { length self.costs.items ≡ most_links }
         requires bounded { AreBounded self.costs.items }
@@ -108,7 +109,7 @@ impl Listing {
         } = self;
         let (mut names, mut streams) = (names, streams);
         let costs = costs_with(costs, &row);
-        names.insert(name.copied())?;
+        names.add(&name)?;
         streams.push(Listed { name, row })?;
         Ok(Listing {
             names,

@@ -11,16 +11,15 @@ ghost use Rattle.cqf_program_summary.specs.Told.{told_streams};
 use crate::fares::{Fares, Others};
 use crate::listing::{Listed, Listing, list_streams};
 use cqf_program_runs::{Deadlines, Delivery};
-use cqf_topology::{Domain, Request};
+use cqf_topology::{Domain, NameList, Request};
 use cqf_units::{Memory, Name};
-use indexmap::IndexSet;
 use std::alloc::Global;
 use std::marker::Model;
 
 /// How the frames of each stream fare of which is told, and what is offered of other names.
 #[derive(Drop)]
 pub(crate) struct Sums {
-    names: IndexSet<Name>,
+    names: NameList,
     fares: Vec<Fares>,
     others: Others,
 }
@@ -69,7 +68,7 @@ impl Sums {
             IfOk result (λ sums. sums ≡ summary_by domain.now (told_streams (map asked_of requests.now)) due [] []) }
     {
         // the domain is accepted: it has no more links than are represented
-        let _cycle_time = domain.cycle_time();
+        domain.know();
         let listing = list_streams(alloc, domain, requests)?;
         let due = Deadlines::new(alloc, requests, deadlines)?;
         let fares = fares_of(
@@ -90,14 +89,14 @@ impl Sums {
         })
     }
 
-    /// Adds an offer of a name, and its deliveries, at most 200, in a time that doesn't grow with the streams.
+    /// Adds an offer of a name, and its deliveries, at most 200, in a time that grows with the logarithm of the streams.
     pub(crate) fn add(&mut self, name: &Name, here: &[Delivery])
         requires few { length here.now ≤ 200 }
         requires within { SummaryWithin 3372220014 self.old }
         ensures sums { self.new ≡ summary_with name.now here.now self.old }
         ensures more { (many : ℕ) → SummaryWithin many self.old → SummaryWithin (many + 201) self.new }
     {
-        match self.names.get_index_of(name) {
+        match self.names.number_of(name) {
             Some(place) => self.fares[place].add_offer(here),
             None => self.others = self.others.with(here),
         }

@@ -2,14 +2,14 @@
 
 ghost use Rattle.std.specs.Prelude.{map};
 ghost use Rattle.cqf_admission.specs.Asking.{asked_of};
-ghost use Rattle.cqf_admission_ledger.specs.Ledger.{recorded_in};
-ghost use Rattle.cqf_admission_ledger.specs.Running.{AreThere};
+ghost use Rattle.cqf_admission.specs.Ledger.{recorded_in};
+ghost use Rattle.cqf_admission.specs.Running.{AreThere};
 ghost use Rattle.cqf_program_press.specs.Press.{Puts};
 ghost use Rattle.cqf_report.specs.HistoryText.{entry_text, history_text, line_of_entry};
 ghost use Rattle.cqf_admission_requests.specs.Orders.{StandsIn, act_in};
 
 use crate::history::{put_call, put_seal};
-use cqf_admission_ledger::Logged;
+use cqf_admission::Logged;
 use cqf_admission_requests::{What, word_of};
 use cqf_program_press::{Press, Sink};
 use cqf_topology::Request;

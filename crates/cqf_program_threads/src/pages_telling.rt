@@ -53,8 +53,7 @@ fn put_starts_of_cycle<W: Sink>(
         (lines_of_starts what.now book.now.domain (starts_on_links book.now kind cycle (length book.now.domain.links))) }
 {
     let domain = book.domain();
-    // the domain is accepted: a fact
-    let _accepted = domain.cycle_time();
+    domain.know();
     let mut places = [0; 1024];
     for link in 0..domain.links() {
         let bridge = domain.link(link).from;

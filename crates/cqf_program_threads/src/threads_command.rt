@@ -145,8 +145,7 @@ pub fn threads_output(
         Ok(ran) => ran,
         Err(fault) => return Err(fault_stop(alloc, fault)),
     };
-    // the domain is accepted: a fact
-    let _accepted = domain.cycle_time();
+    domain.know();
     let PagedAccount { history, pages } = account;
     let book = PagedBook::new(domain, cycles, pages);
     match Sheet::new(alloc) {

@@ -61,7 +61,7 @@ pub(crate) fn agenda_told(alloc: Global) -> Told {
 fn shares_of(alloc: Global, plan: &Plan) -> Option<Vec<Share>>
     ensures { IfSome result (λ shares. shares.items ≡ new_shares (length plan.now.bridges)) }
 {
-    let _accepted = plan.domain().cycle_time();
+    plan.domain().know();
     let Ok(pages) = Pages::new(alloc, plan.domain().bridges(), 5) else {
         return None;
     };

@@ -10,9 +10,8 @@ use crate::checks::check;
 use crate::draft::{Draft, read_draft};
 use crate::ends::{JoinedEdge, join_edges};
 use cqf_model::{Limits, Link};
-use cqf_topology::{Domain, DomainFault, copied_names, numbered_names};
+use cqf_topology::{Domain, DomainFault, NameList, numbered_names};
 use cqf_units::{Memory, Name, Rate};
-use indexmap::IndexSet;
 use std::alloc::Global;
 use std::marker::Model;
 
@@ -34,8 +33,8 @@ pub struct TalkerLink {
 pub struct SketchDomain {
     candidates: Vec<u32>,
     guard: u32,
-    bridges: IndexSet<Name>,
-    stations: IndexSet<Name>,
+    bridges: NameList,
+    stations: NameList,
     links: Vec<Link>,
     talkers: Vec<TalkerLink>,
 }
@@ -108,8 +107,8 @@ fn talker_links(alloc: Global, edges: &[JoinedEdge]) -> Result<Vec<TalkerLink>, 
 fn checked_edges(
     alloc: Global,
     draft: &Draft,
-    bridges: &IndexSet<Name>,
-    stations: &IndexSet<Name>,
+    bridges: &NameList,
+    stations: &NameList,
 ) -> Result<Vec<JoinedEdge>, SketchFault>
     requires { HasNumberedNames draft.now bridges.now.keys stations.now.keys }
     ensures given { Gives (SketchFault.Domain DomainFault.Memory) (λ edges. sketch_with draft.now edges.items) result (with_names draft.now) }
@@ -126,8 +125,8 @@ impl SketchDomain {
     fn of_names(
         alloc: Global,
         draft: &Draft,
-        bridges: IndexSet<Name>,
-        stations: IndexSet<Name>,
+        bridges: NameList,
+        stations: NameList,
     ) -> Result<SketchDomain, SketchFault>
         requires { HasNumberedNames draft.now bridges.keys stations.keys }
         ensures { Gives (SketchFault.Domain DomainFault.Memory) (λ domain. domain) result (with_names draft.now) }
@@ -151,7 +150,7 @@ impl SketchDomain {
         requires { IsReadableSketch draft.now }
         ensures { Gives (SketchFault.Domain DomainFault.Memory) (λ domain. domain) result (checked draft.now) }
     {
-        let none = IndexSet::new(alloc);
+        let none = NameList::new(alloc);
         let bridges = numbered_names(alloc, draft.bridges(), &none)?;
         let stations = numbered_names(alloc, draft.stations(), &bridges)?;
         SketchDomain::of_names(alloc, draft, bridges, stations)
@@ -192,8 +191,8 @@ impl SketchDomain {
         ensures { IfOk result (λ domain. domain ≡ domain_at self.now cycle_time) }
     {
         let links = Vec::from_slice(alloc, self.links.as_slice())?;
-        let bridges = copied_names(&self.bridges)?;
-        let stations = copied_names(&self.stations)?;
+        let bridges = self.bridges.try_copy(alloc)?;
+        let stations = self.stations.try_copy(alloc)?;
         Ok(Domain::of_parts(
             Limits::of_profile(),
             cycle_time,

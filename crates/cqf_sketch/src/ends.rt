@@ -9,9 +9,8 @@ use crate::SketchFault;
 use crate::domain::TalkerLink;
 use crate::draft::{DraftLink, OneWay};
 use cqf_model::{Link, Node};
-use cqf_topology::{DomainFault, End, end_of_name};
+use cqf_topology::{DomainFault, End, NameList, end_of_name};
 use cqf_units::{Memory, Name, Rate, octet_time};
-use indexmap::IndexSet;
 use std::alloc::Global;
 use std::marker::Model;
 
@@ -49,8 +48,8 @@ fn may_lead(from: End, to: End) -> bool
 
 /// A link there, by the numbers of its ends.
 fn join_edge(
-    bridges: &IndexSet<Name>,
-    stations: &IndexSet<Name>,
+    bridges: &NameList,
+    stations: &NameList,
     element: usize,
     way: &OneWay,
 ) -> Result<JoinedEdge, SketchFault>
@@ -211,8 +210,8 @@ fn add_edges(edges: &mut Vec<JoinedEdge>, edge: JoinedEdge, duplex: bool) -> Res
 /// The links, one direction each, by the numbers of their ends.
 pub(crate) fn join_edges(
     alloc: Global,
-    bridges: &IndexSet<Name>,
-    stations: &IndexSet<Name>,
+    bridges: &NameList,
+    stations: &NameList,
     links: &[DraftLink],
 ) -> Result<Vec<JoinedEdge>, SketchFault>
     ensures { Gives (SketchFault.Domain DomainFault.Memory) (λ edges. edges.items) result (joined bridges.now.keys stations.now.keys 0 links.now) }

@@ -1,5 +1,5 @@
 pub mod HeldEnds
-pub mod SameText
+pub mod FirstNamed
 pub mod Refusals
 pub mod Accepted
 pub mod Nodes

@@ -1,5 +1,6 @@
 pub mod DomainText
 pub mod JoinedLink
+pub mod Names
 pub mod StreamsText
 pub mod Faults
 pub mod FirstFaults

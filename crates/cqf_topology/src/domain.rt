@@ -11,10 +11,9 @@ use crate::joined::{
     JoinedLink, end_of_name, find_long_delay, find_long_gap, find_twice, join_links, links_of,
     node_of_end, numbered_names,
 };
-use crate::names::copied_names;
+use crate::names::NameList;
 use cqf_model::{Limits, Link, Node};
 use cqf_units::{Memory, Name, Nanos};
-use indexmap::IndexSet;
 use std::alloc::Global;
 use std::marker::Model;
 
@@ -25,8 +24,8 @@ pub struct Domain {
     limits: Limits,
     cycle_time: u32,
     guard: u32,
-    bridges: IndexSet<Name>,
-    stations: IndexSet<Name>,
+    bridges: NameList,
+    stations: NameList,
     links: Vec<Link>,
 }
 
@@ -79,8 +78,8 @@ fn check(alloc: Global, draft: &Draft, joined: &[JoinedLink]) -> Result<(), Doma
 fn checked_links(
     alloc: Global,
     draft: &Draft,
-    bridges: &IndexSet<Name>,
-    stations: &IndexSet<Name>,
+    bridges: &NameList,
+    stations: &NameList,
 ) -> Result<Vec<Link>, DomainFault>
     requires { HasNames draft.now bridges.now.keys stations.now.keys }
     ensures given { Gives DomainFault.Memory (λ links. with_these draft.now links.items) result (checked draft.now) }
@@ -113,17 +112,13 @@ impl Domain {
         requires { IsReadable draft.now }
         ensures { Gives DomainFault.Memory (λ domain. domain) result (checked draft.now) }
     {
-        let none = IndexSet::new(alloc);
+        let none = NameList::new(alloc);
         let bridges = numbered_names(alloc, draft.bridges(), &none)?;
         Domain::of_bridges(alloc, draft, bridges)
     }
 
     /// The domain of a draft whose bridges are numbered, or the first check that it fails.
-    fn of_bridges(
-        alloc: Global,
-        draft: &Draft,
-        bridges: IndexSet<Name>,
-    ) -> Result<Domain, DomainFault>
+    fn of_bridges(alloc: Global, draft: &Draft, bridges: NameList) -> Result<Domain, DomainFault>
         requires { HasBridges draft.now bridges.keys }
         ensures { Gives DomainFault.Memory (λ domain. domain) result (checked draft.now) }
     {
@@ -135,8 +130,8 @@ impl Domain {
     fn of_names(
         alloc: Global,
         draft: &Draft,
-        bridges: IndexSet<Name>,
-        stations: IndexSet<Name>,
+        bridges: NameList,
+        stations: NameList,
     ) -> Result<Domain, DomainFault>
         requires { HasNames draft.now bridges.keys stations.keys }
         ensures { Gives DomainFault.Memory (λ domain. domain) result (checked draft.now) }
@@ -158,8 +153,8 @@ impl Domain {
         limits: Limits,
         cycle_time: u32,
         guard: u32,
-        bridges: IndexSet<Name>,
-        stations: IndexSet<Name>,
+        bridges: NameList,
+        stations: NameList,
         links: Vec<Link>,
     ) -> Domain
         requires { IsDomain (domain_with limits cycle_time guard bridges.keys stations.keys links.items) }
@@ -192,6 +187,16 @@ impl Domain {
         ensures names { IsDomain self.now }
     {
         Nanos(u64::from(self.cycle_time))
+    }
+
+    /// Does nothing, and makes known to a proof what was seen to when the domain was read: it is accepted, its names are apart, and no
+    /// link of it stands twice.
+    pub fn know(&self)
+        ensures accepted { IsAccepted self.now }
+        ensures names { IsDomain self.now }
+    {
+        // a use of a field: with it the invariant is known
+        let _ = &self.limits;
     }
 
     /// The guard time: no transmission gate is open in the last so many nanoseconds of a cycle (profile).
@@ -275,8 +280,8 @@ impl Domain {
         ensures { IfOk result (λ copy. copy ≡ self.now) }
     {
         let links = Vec::from_slice(alloc, self.links.as_slice())?;
-        let bridges = copied_names(&self.bridges)?;
-        let stations = copied_names(&self.stations)?;
+        let bridges = self.bridges.try_copy(alloc)?;
+        let stations = self.stations.try_copy(alloc)?;
         Ok(Domain {
             limits: self.limits,
             cycle_time: self.cycle_time,

@@ -11,7 +11,7 @@ ghost use Rattle.cqf_topology.specs.JoinedLink.{node_of, ends_held, ends_of, are
 
 use crate::DomainFault;
 use crate::draft::DraftLink;
-use crate::names::{add_name, has_name, number_of_name};
+use crate::names::NameList;
 use cqf_model::{Link, Node};
 use cqf_units::{Memory, Name, Rate, octet_time};
 use indexmap::IndexSet;
@@ -46,17 +46,17 @@ impl Model for JoinedLink {
 }
 
 /// Whether the name is among either names.
-fn is_taken(others: &IndexSet<Name>, names: &IndexSet<Name>, name: &Name) -> bool
+fn is_taken(others: &NameList, names: &NameList, name: &Name) -> bool
     ensures { result ≡ is_among name.now (others.now.keys ++ names.now.keys) }
 {
-    has_name(others, name) || has_name(names, name)
+    others.contains(name) || names.contains(name)
 }
 
 /// Numbers the names behind those that are numbered: none of them is among these or the others, and none stands twice.
 fn number_names(
-    numbered: &mut IndexSet<Name>,
+    numbered: &mut NameList,
     names: &[Name],
-    others: &IndexSet<Name>,
+    others: &NameList,
 ) -> Result<(), DomainFault>
     ensures { Gives DomainFault.Memory (λ _. numbered.new.keys) result (numbered_with others.now.keys numbered.old.keys names.now) }
 {
@@ -64,7 +64,7 @@ fn number_names(
         if is_taken(others, numbered, name) {
             return Err(DomainFault::NameTaken(name.copied()));
         }
-        add_name(numbered, name)?;
+        numbered.add(name)?;
     }
     Ok(())
 }
@@ -76,24 +76,24 @@ fn number_names(
 pub fn numbered_names(
     alloc: Global,
     names: &[Name],
-    others: &IndexSet<Name>,
-) -> Result<IndexSet<Name>, DomainFault>
+    others: &NameList,
+) -> Result<NameList, DomainFault>
     ensures { Gives DomainFault.Memory (λ numbered. numbered.keys) result
         (refuse (first_taken others.now.keys names.now) DomainFault.NameTaken (Ok names.now)) }
 {
-    let mut numbered = IndexSet::new(alloc);
+    let mut numbered = NameList::new(alloc);
     number_names(&mut numbered, names, others)?;
     Ok(numbered)
 }
 
 /// The node of a name, or `None` where neither a bridge nor a station has it.
-pub fn end_of_name(bridges: &IndexSet<Name>, stations: &IndexSet<Name>, name: &Name) -> Option<End>
+pub fn end_of_name(bridges: &NameList, stations: &NameList, name: &Name) -> Option<End>
     ensures { option_map node_of result ≡ node_or (place_of name.now bridges.now.keys) (place_of name.now stations.now.keys) }
 {
-    if let Some(bridge) = number_of_name(bridges, name) {
+    if let Some(bridge) = bridges.number_of(name) {
         return Some(End::Bridge(bridge));
     }
-    match number_of_name(stations, name) {
+    match stations.number_of(name) {
         Some(station) => Some(End::Station(station)),
         None => None,
     }
@@ -101,13 +101,13 @@ pub fn end_of_name(bridges: &IndexSet<Name>, stations: &IndexSet<Name>, name: &N
 
 /// A link, by the numbers of its ends.
 fn join_link(
-    bridges: &IndexSet<Name>,
-    stations: &IndexSet<Name>,
+    bridges: &NameList,
+    stations: &NameList,
     link: &DraftLink,
 ) -> Result<JoinedLink, DomainFault>
     ensures { result ≡ joined_link bridges.now.keys stations.now.keys link.now }
 {
-    let from = match number_of_name(bridges, &link.from) {
+    let from = match bridges.number_of(&link.from) {
         Some(from) => from,
         None => return Err(DomainFault::UnknownName(link.from.copied())),
     };
@@ -129,8 +129,8 @@ fn join_link(
 /// The links, by the numbers of their ends.
 pub(crate) fn join_links(
     alloc: Global,
-    bridges: &IndexSet<Name>,
-    stations: &IndexSet<Name>,
+    bridges: &NameList,
+    stations: &NameList,
     links: &[DraftLink],
 ) -> Result<Vec<JoinedLink>, DomainFault>
     ensures { Gives DomainFault.Memory (λ links. links.items) result (joined bridges.now.keys stations.now.keys links.now) }

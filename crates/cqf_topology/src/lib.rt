@@ -39,6 +39,6 @@ pub use draft::rate_at;
 pub use faults::DomainFault;
 pub use joined::{End, end_of_name, numbered_names};
 pub use laws::{taken_is_first_repeated, twice_is_first_twin};
-pub use names::copied_names;
+pub use names::NameList;
 pub use planned::{Planned, deadline_of, read_planned, read_planned_streams};
 pub use streams::{Request, branches_of, read_streams};

@@ -1,36 +1,103 @@
-//! Names by number: sets in the order of insertion.
-ghost use Rattle.std.specs.Prelude.{◌≡◌, [], ◌∷◌, ◌++◌, false, IfOk, OnOk};
+//! Names by number.
+ghost use Rattle.std.specs.Prelude.{◌≡◌, ◌<◌, [], ◌∷◌, ◌++◌, false, IfOk, IfSome, OnErr, OnOk, length};
 ghost use Rattle.cqf_topology.specs.DomainText.{is_among, place_of};
 
 use cqf_units::{Memory, Name};
-use indexmap::IndexSet;
+use std::alloc::Global;
+use std::collections::BTreeMap;
+use std::marker::Model;
 
-/// Whether the name is among them.
-pub(crate) fn has_name(names: &IndexSet<Name>, name: &Name) -> bool
-    ensures { result ≡ is_among name.now names.now.keys }
-{
-    names.contains(name)
+/// Names, each once, numbered from 0 in the order in which they were added. One is found by its order among them, in a time that
+/// grows with the logarithm of how many there are, whichever they are.
+#[derive(Debug, Drop)]
+pub struct NameList {
+    names: Vec<Name>,
+    /// By name, its number.
+    numbers: BTreeMap<Name, usize>,
 }
 
-/// The name's number.
-pub(crate) fn number_of_name(names: &IndexSet<Name>, name: &Name) -> Option<usize>
-    ensures { result ≡ place_of name.now names.now.keys }
-{
-    names.get_index_of(name)
+impl Model for NameList {
+    ghost use Rattle.std.specs.BTreeMap.{get};
+    ghost use Rattle.std.specs.Cmp.Lexicographic.{slice_cmp};
+    ghost use Rattle.std.specs.Ordering.{nat_cmp};
+    ghost use Rattle.cqf_topology.specs.Names.{AreNumbered, Numbered};
+
+    ghost Value = { Numbered };
+
+    ghost view = { λ n. record { keys = n.names.items } };
+
+    ghost invariant = { λ n. AreNumbered (get (slice_cmp nat_cmp) n.numbers) n.names.items };
 }
 
-/// Gives the next number to a name that isn't among them.
-pub(crate) fn add_name(names: &mut IndexSet<Name>, name: &Name) -> Result<(), Memory>
-    requires { is_among name.now names.old.keys ≡ false }
-    ensures { OnOk result (names.new.keys ≡ names.old.keys ++ name.now ∷ []) }
-{
-    names.insert(name.copied())?;
-    Ok(())
+impl NameList {
+    /// No names. It takes no memory.
+    pub fn new(alloc: Global) -> NameList
+        ensures { result.keys ≡ [] }
+    {
+        NameList {
+            names: Vec::new(alloc),
+            numbers: BTreeMap::new(alloc),
+        }
+    }
+
+    /// How many names there are.
+    pub fn len(&self) -> usize
+        ensures { result ≡ length self.now.keys }
+    {
+        self.names.len()
+    }
+
+    /// All names, by number.
+    pub fn as_slice(&self) -> &[Name]
+        ensures { result.now ≡ self.now.keys }
+    {
+        self.names.as_slice()
+    }
+
+    /// Whether the name is among them.
+    pub fn contains(&self, name: &Name) -> bool
+        ensures { result ≡ is_among name.now self.now.keys }
+    {
+        self.numbers.contains_key(name)
+    }
+
+    /// The name's number.
+    pub fn number_of(&self, name: &Name) -> Option<usize>
+        ensures number { result ≡ place_of name.now self.now.keys }
+        ensures within { IfSome result (λ number. number < length self.now.keys) }
+    {
+        self.numbers.get(name).copied()
+    }
+
+    /// Gives the next number to a name that isn't among them, unless memory runs out.
+    pub fn add(&mut self, name: &Name) -> Result<(), Memory>
+        requires { is_among name.now self.old.keys ≡ false }
+        ensures more { OnOk result (self.new.keys ≡ self.old.keys ++ name.now ∷ []) }
+        ensures same { OnErr result (self.new ≡ self.old) }
+    {
+        self.names.reserve(1)?;
+        self.numbers.insert(name.copied(), self.names.len())?;
+        self.names.push(name.copied()).unwrap();
+        Ok(())
+    }
+
+    /// The same names again, in the same order, unless memory runs out.
+    pub fn try_copy(&self, alloc: Global) -> Result<NameList, Memory>
+        ensures { IfOk result (λ copy. copy.keys ≡ self.now.keys) }
+    {
+        let names = copied_names(alloc, self.names.as_slice())?;
+        let numbers = self.numbers.clone()?;
+        Ok(NameList { names, numbers })
+    }
 }
 
-/// The same names again, in the same order, unless memory runs out.
-pub fn copied_names(names: &IndexSet<Name>) -> Result<IndexSet<Name>, Memory>
-    ensures { IfOk result (λ copy. copy.keys ≡ names.now.keys) }
+/// The same names again, unless memory runs out.
+fn copied_names(alloc: Global, names: &[Name]) -> Result<Vec<Name>, Memory>
+    ensures { IfOk result (λ copies. copies.items ≡ names.now) }
 {
-    names.clone()
+    let mut copies = Vec::with_capacity(alloc, names.len())?;
+    for name in names {
+        copies.push(name.copied())?;
+    }
+    Ok(copies)
 }

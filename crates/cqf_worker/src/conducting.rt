@@ -106,8 +106,7 @@ fn open_book(
     ensures ok { IfOk result (λ made. AreBooked domain.now cycles made.0 made.1.items) }
     ensures err { IfErr result IsStartFault }
 {
-    // the domain is accepted: a fact
-    let _accepted = domain.cycle_time();
+    domain.know();
     let pages = Pages::new(alloc, domain.bridges(), cycles)?;
     let made = CycleBook::new(alloc, pages)?;
     Ok(made)
@@ -289,8 +288,7 @@ pub fn conduct_pages<R: Threads + Wait + Sync, P: Pace>(
     bridges_apart_post_the_pages();
     book_of_history_says_the_shift();
     bridges_go_on();
-    // the domain is accepted: a fact
-    let _accepted = domain.cycle_time();
+    domain.know();
     let given = Given {
         domain,
         offers,
@@ -332,8 +330,7 @@ pub fn conduct<R: Threads + Wait + Sync, P: Pace>(
     ensures err { IfErr result (IsConductFault domain.now admission.entries offers.now background.now cycles (map (λ c. c.items) admins.items)) }
 {
     gathered_pages_are_the_book();
-    // the domain is accepted: a fact
-    let _accepted = domain.cycle_time();
+    domain.know();
     let PagedAccount { history, pages } = conduct_pages(
         rt, alloc, domain, admission, offers, background, cycles, admins, pace,
     )?;

@@ -134,8 +134,7 @@ fn lay_link(
     ensures laid { OnOk result (LaysLink domain.now link workers.old.items workers.new.items) }
     ensures tables { OnOk result (map tables_pipe workers.new.items ≡ map tables_pipe workers.old.items) }
 {
-    // the domain is accepted: a fact
-    let _accepted = domain.cycle_time();
+    domain.know();
     let between = domain.link(link);
     match between.to {
         Node::Bridge(to) => lay_pipe(alloc, workers, link, between.from, to)?,

@@ -17,8 +17,7 @@ pub(crate) fn bridge_at_end(domain: &Domain, link: u16) -> Option<u16>
     ensures some { IfSome result (λ bridge. (enters domain.now link bridge ≡ true) × (bridge < length domain.now.bridges)) }
     ensures none { IfNone result ((bridge : ℕ) → enters domain.now link bridge ≡ false) }
 {
-    // the domain is accepted: a fact
-    let _accepted = domain.cycle_time();
+    domain.know();
     if link >= domain.links() {
         return None;
     }

@@ -13,6 +13,6 @@ push-requires c =
       kept_length (λ k. enters c.args.domain.now k c.args.number) c.loop-link.link,
       c.loop-link-test.true,
       c.links-link-end.ensures,
-      few_links c.args.domain.now c.cycle_time-time.ensures.accepted,
+      few_links c.args.domain.now c.know.ensures.accepted,
     ) in
     (omega arith, few)

@@ -13,6 +13,6 @@ returns c =
     let up = IsNonDecreasingBy-from_sort_by_key instant_of_offer _ c.in_ok-sort_by_key.ensures.sorted (λ a r q k. search rules) in
     let stable = c.sort_by_key.ensures.stable instant_of_offer (answers_always _ _ _ (λ f a r q k. search rules)) in
     c.frames_are_taken_in_order.ensures.offers c.args.domain.now c.args.offers.now c.args.bridge c.args.cycle.0 sorted
-    (omega (arith, c.cycle_time-time.ensures.accepted.cycle_least))
+    (omega (arith, c.know.ensures.accepted.cycle_least))
     (subst (λ (xs : List Offered). IsInOrderOf instant_of_offer xs sorted) c.in_ok-list.ensures
     (brought_in_order instant_of_offer offer_at offers_at listed sorted up stable))

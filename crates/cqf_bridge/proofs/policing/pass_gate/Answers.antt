@@ -24,7 +24,7 @@ returns-in-Class-clause-passes c =
     let gate : Gate = gate_in d.cycle_time c.args.gates.now row.no row.octets in
     let w = word_class (lets_pass gate x.at x.octets) c.in-Class.class (gate_class gate.entries x.at) (sym c.in-Class.is ∙ c.in_ok-class.ensures.verdict) in
     let entries = ap (λ es. gate_class es x.at) (gate_entries d.cycle_time (x.at + 1) c.args.gates.now row.no row.octets c.requires.kept ∙ gate_there d row (came_by x.way) c.requires.paced) in
-    went_by_gate d c.args.cycle.0 x row c.args.gates.now c.pass.new.self (omega (arith, c.cycle_time-time.ensures.accepted.cycle_least))
+    went_by_gate d c.args.cycle.0 x row c.args.gates.now c.pass.new.self (omega (arith, c.know.ensures.accepted.cycle_least))
     c.requires.kept c.requires.in_cycle c.in_ok-class.ensures.after c.gate_counts_cycles.ensures (Some c.in-Class.class)
     (ap Some (w.1 ∙ entries) ∙ sym (cond-true (passes_by d.cycle_time c.args.gates.now x row) (Some (class_in d x row)) None w.0))
 
@@ -35,6 +35,6 @@ returns-in-OverOctets-clause-passes c =
     let row = c.args.row.now in
     let gate : Gate = gate_in d.cycle_time c.args.gates.now row.no row.octets in
     let stops = word_over (lets_pass gate x.at x.octets) (gate_class gate.entries x.at) (sym c.in-OverOctets.is ∙ c.in_ok-class.ensures.verdict) in
-    went_by_gate d c.args.cycle.0 x row c.args.gates.now c.pass.new.self (omega (arith, c.cycle_time-time.ensures.accepted.cycle_least))
+    went_by_gate d c.args.cycle.0 x row c.args.gates.now c.pass.new.self (omega (arith, c.know.ensures.accepted.cycle_least))
     c.requires.kept c.requires.in_cycle c.in_ok-class.ensures.after c.gate_counts_cycles.ensures None
     (sym (cond-false (passes_by d.cycle_time c.args.gates.now x row) (Some (class_in d x row)) None stops))

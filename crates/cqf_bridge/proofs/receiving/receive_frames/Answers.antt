@@ -11,7 +11,7 @@ use Rattle.cqf_bridge.proofs.receiving.receive_frames.Goals as goal
 
 pub in_order-requires : goal.in_order-requires
 in_order-requires c =
-    let accepted = c.cycle_time-time.ensures.accepted in
+    let accepted = c.know.ensures.accepted in
     batch_gathers c.args.phase.domain.now c.args.phase.number c.args.phase.cycle.0 c.args.phase.table.now.rows c.args.batches.now c.requires.batches
     (omega (arith, accepted.cycle_least)) accepted.cycle_most c.requires.early
 
@@ -23,7 +23,7 @@ take_all-requires-clause-may c =
     (sym c.as_slice.ensures.value) c.in_ok-frames.ensures in
     sorted_may d c.args.phase.number c.args.phase.cycle.0 c.args.phase.table.now.rows c.args.batches.now c.requires.batches c.requires.offers.0
     c.args.offers.now
-    run.domain run.here (omega (arith, c.cycle_time-time.ensures.accepted.cycle_least)) (map received_as c.as_slice.result.now) order
+    run.domain run.here (omega (arith, c.know.ensures.accepted.cycle_least)) (map received_as c.as_slice.result.now) order
 
 pub returns-in-Err-clause-stops : goal.returns-in-Err-clause-stops
 returns-in-Err-clause-stops c =
@@ -33,7 +33,7 @@ returns-in-Err-clause-stops c =
     λ run is.
     subst (λ (ps : List Policed). IsFaultByPoliced ps c.in-Err.fault)
     (same_policed d c.args.phase.number c.args.phase.cycle.0 c.args.phase.table.now.rows c.args.batches.now c.requires.batches run c.args.offers.now
-    is.domain is.here (omega (arith, c.cycle_time-time.ensures.accepted.cycle_least)) (map received_as c.as_slice.result.now) order
+    is.domain is.here (omega (arith, c.know.ensures.accepted.cycle_least)) (map received_as c.as_slice.result.now) order
     c.frames_are_taken_in_order.ensures.taken is.table)
     c.in-Err.ensures.stops
 
@@ -55,6 +55,6 @@ returns-clause-takes c =
     let by_frame = brought_in_order frame_of_drop of_frame of_frames c.take_all.new.drops.items c.sort_by_key.new.self.items up stable in
     λ run is.
     cycle_taken d c.args.phase.number c.args.phase.cycle.0 rows c.args.batches.now c.requires.batches run c.args.offers.now
-    is.domain is.here (omega (arith, c.cycle_time-time.ensures.accepted.cycle_least)) frames order
+    is.domain is.here (omega (arith, c.know.ensures.accepted.cycle_least)) frames order
     c.frames_are_taken_in_order.ensures.taken c.drops_are_of_the_cycle.ensures.sorted is.table c.take_all.new.gates c.args.ports.now.items
     c.take_all.new.ports.items c.take_all.new.drops.items c.sort_by_key.new.self.items policed by_frame

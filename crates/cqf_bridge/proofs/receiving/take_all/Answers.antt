@@ -7,7 +7,7 @@ use Rattle.cqf_bridge.proofs.receiving.take_all.Goals as goal
 pub loop-frame-init : goal.loop-frame-init
 loop-frame-init c =
     taking_none c.args.phase.domain.now c.args.phase.table.now.rows c.args.phase.number c.args.phase.cycle.0 c.args.ports.now.items c.args.drops.now.items
-    (map received_as c.args.frames.now) c.gate_counts_cycles.ensures (omega (arith, c.cycle_time-time.ensures.accepted.cycle_least)) c.rows-paced.ensures.paced
+    (map received_as c.args.frames.now) c.gate_counts_cycles.ensures (omega (arith, c.know.ensures.accepted.cycle_least)) c.rows-paced.ensures.paced
     c.args.gates.now c.requires.ready
 
 pub take_frame-requires-clause-may : goal.take_frame-requires-clause-may
@@ -20,7 +20,7 @@ take_frame-requires-clause-may c =
     c.requires.may x
     (among c.args.phase.domain.now c.args.phase.table.now.rows c.args.phase.number c.args.phase.cycle.0 c.args.ports.now.items
     c.args.drops.now.items frames c.gate_counts_cycles.ensures
-    (omega (arith, c.cycle_time-time.ensures.accepted.cycle_least)) c.rows-paced.ensures.paced c.requires.may count c.loop-frame.gates c.loop-frame.ports.items c.loop-frame.drops.items
+    (omega (arith, c.know.ensures.accepted.cycle_least)) c.rows-paced.ensures.paced c.requires.may count c.loop-frame.gates c.loop-frame.ports.items c.loop-frame.drops.items
     c.loop-frame.invariant c.requires.ordered (omega (arith, c.loop-frame-test.true, length-map c.args.frames.now received_as)) x is)
 
 pub take_frame-requires-clause-ready : goal.take_frame-requires-clause-ready
@@ -32,7 +32,7 @@ take_frame-requires-clause-ready c =
     ∙ sym (get_or-map received_as c.args.frames.now count c.frame-item.result x c.loop-frame-test.true) in
     next_ready c.args.phase.domain.now c.args.phase.table.now.rows c.args.phase.number c.args.phase.cycle.0 c.args.ports.now.items
     c.args.drops.now.items frames c.gate_counts_cycles.ensures
-    (omega (arith, c.cycle_time-time.ensures.accepted.cycle_least)) c.rows-paced.ensures.paced c.requires.may count c.loop-frame.gates c.loop-frame.ports.items c.loop-frame.drops.items
+    (omega (arith, c.know.ensures.accepted.cycle_least)) c.rows-paced.ensures.paced c.requires.may count c.loop-frame.gates c.loop-frame.ports.items c.loop-frame.drops.items
     c.loop-frame.invariant c.requires.ordered (omega (arith, c.loop-frame-test.true, length-map c.args.frames.now received_as)) x is
 
 pub returns-in-Err-clause-stops : goal.returns-in-Err-clause-stops
@@ -44,7 +44,7 @@ returns-in-Err-clause-stops c =
     ∙ sym (get_or-map received_as c.args.frames.now count c.frame-item.result x c.loop-frame-test.true) in
     taking_stops c.args.phase.domain.now c.args.phase.table.now.rows c.args.phase.number c.args.phase.cycle.0 c.args.ports.now.items
     c.args.drops.now.items frames c.gate_counts_cycles.ensures
-    (omega (arith, c.cycle_time-time.ensures.accepted.cycle_least)) c.rows-paced.ensures.paced c.requires.may count c.loop-frame.gates c.loop-frame.ports.items c.loop-frame.drops.items
+    (omega (arith, c.know.ensures.accepted.cycle_least)) c.rows-paced.ensures.paced c.requires.may count c.loop-frame.gates c.loop-frame.ports.items c.loop-frame.drops.items
     c.loop-frame.invariant c.requires.ordered (omega (arith, c.loop-frame-test.true, length-map c.args.frames.now received_as)) x is
     c.in-Err.fault c.in-Err.ensures.stops
 
@@ -57,11 +57,11 @@ loop-frame-preserved c =
     ∙ sym (get_or-map received_as c.args.frames.now count c.frame-item.result x c.loop-frame-test.true) in
     taking_more c.args.phase.domain.now c.args.phase.table.now.rows c.args.phase.number c.args.phase.cycle.0 c.args.ports.now.items
     c.args.drops.now.items frames c.gate_counts_cycles.ensures
-    (omega (arith, c.cycle_time-time.ensures.accepted.cycle_least)) c.rows-paced.ensures.paced c.requires.may count c.loop-frame.gates c.loop-frame.ports.items c.loop-frame.drops.items
+    (omega (arith, c.know.ensures.accepted.cycle_least)) c.rows-paced.ensures.paced c.requires.may count c.loop-frame.gates c.loop-frame.ports.items c.loop-frame.drops.items
     c.loop-frame.invariant c.requires.ordered (omega (arith, c.loop-frame-test.true, length-map c.args.frames.now received_as)) x is _ _ _ c.in-Ok.ensures.takes
 
 pub returns-clause-kept : goal.returns-clause-kept
 returns-clause-kept c =
     kept_behind c.args.phase.domain.now c.args.phase.table.now.rows c.args.phase.number c.args.phase.cycle.0 c.args.ports.now.items c.args.drops.now.items
-    (map received_as c.args.frames.now) c.gate_counts_cycles.ensures (omega (arith, c.cycle_time-time.ensures.accepted.cycle_least)) c.rows-paced.ensures.paced c.requires.may
+    (map received_as c.args.frames.now) c.gate_counts_cycles.ensures (omega (arith, c.know.ensures.accepted.cycle_least)) c.rows-paced.ensures.paced c.requires.may
     c.loop-frame.frame-index c.loop-frame.gates c.loop-frame.ports.items c.loop-frame.drops.items c.loop-frame.invariant

@@ -1,9 +1,11 @@
 use Rattle.std.proofs.Common.{◌≡◌, ◌∙◌, ℕ, ◌<◌, ◌≤◌, Some, nat_eq, length, refl, List, cond, sym, ap, arith, inl, inr}
 use Rattle.std.specs.Prelude.{slice_get}
-use Rattle.std.specs.Cmp.Lexicographic.{pointwise}
+use Rattle.std.specs.BTreeMap.{get}
+use Rattle.std.specs.Cmp.Lexicographic.{pointwise, slice_cmp}
+use Rattle.std.specs.Ordering.{nat_cmp}
 use Rattle.std.proofs.lemmas.Bool.{cases_eq}
+use Rattle.std.proofs.lemmas.Map.Text.{is_eq-slice_cmp}
 use Rattle.std.proofs.lemmas.Option.{slice_get_read}
-use Rattle.indexmap.specs.IndexMap.{get}
 use Rattle.cqf_model.specs.declared.topology.Row.{Row}
 use Rattle.cqf_instants_coverage.proofs.LastRows.{begins_all, leads_more, one_there}
 use Rattle.cqf_instants_coverage.proofs.begun.begin.Goals as goal
@@ -45,12 +47,13 @@ loop-place-preserved c =
         | inl e ↦ omega (arith, c.if-row-cycle.false, ap (λ (r : Row). r.admitted.0) (one_there rows k there row (ap (slice_get rows) (sym e) ∙ is) at))
         | inr n ↦ c.loop-place.invariant.begun place there from (omega (arith, n, below)) is
       ];
-      leads = leads_more rows k row at (λ name. get (pointwise nat_eq) c.loop-place.last name) (λ name. get (pointwise nat_eq) c.insert.new.self name)
+      leads = leads_more rows k row at (λ name. get (slice_cmp nat_cmp) c.loop-place.last name) (λ name. get (slice_cmp nat_cmp) c.insert.new.self name)
           c.loop-place.invariant.leads (λ name. c.in_ok-insert.ensures.updates.0 name
-          ∙ ap (λ (n : List ℕ). cond (pointwise nat_eq n name) (Some k) (get (pointwise nat_eq) c.loop-place.last name)) c.copied.ensures);
+          ∙ ap (λ same. cond same (Some k) (get (slice_cmp nat_cmp) c.loop-place.last name)) (is_eq-slice_cmp c.copied.result name)
+          ∙ ap (λ (n : List ℕ). cond (pointwise nat_eq n name) (Some k) (get (slice_cmp nat_cmp) c.loop-place.last name)) c.copied.ensures);
     }
 
 pub returns : goal.returns
 returns c =
-    begins_all c.args.rows.now c.args.from c.loop-place.place c.args.cycle.0 (λ name. get (pointwise nat_eq) c.loop-place.last name)
+    begins_all c.args.rows.now c.args.from c.loop-place.place c.args.cycle.0 (λ name. get (slice_cmp nat_cmp) c.loop-place.last name)
     c.loop-place-test.false c.loop-place.invariant

@@ -1,9 +1,10 @@
-use Rattle.std.proofs.Common.{◌≡◌, ◌∙◌, ℕ, ◌+◌, ◌/◌, ◌<◌, ◌≤◌, List, [], Some, Option, refl, sym, ap, subst, arith, length, nat_eq, replicate}
+use Rattle.std.proofs.Common.{◌≡◌, ◌∙◌, ℕ, ◌+◌, ◌/◌, ◌<◌, ◌≤◌, List, [], Some, Option, refl, sym, ap, subst, arith, length, replicate}
 use Rattle.std.specs.Prelude.{slice_get}
-use Rattle.std.specs.Cmp.Lexicographic.{pointwise}
+use Rattle.std.specs.BTreeMap.{get, is_at}
+use Rattle.std.specs.Cmp.Lexicographic.{slice_cmp}
+use Rattle.std.specs.Ordering.{nat_cmp}
 use Rattle.std.specs.Map.{lookup}
 use Rattle.std.proofs.lemmas.Option.{slice_get_read}
-use Rattle.indexmap.specs.IndexMap.{get}
 use Rattle.cqf_model.specs.declared.frames.Offer.{Offer}
 use Rattle.cqf_instants_coverage.specs.declared.judged.Judgement.{Judgement}
 use Rattle.cqf_instants_coverage.specs.Coverage.{AreJudged}
@@ -13,9 +14,9 @@ use Rattle.cqf_instants_coverage.proofs.judged.cover.Goals as goal
 
 pub loop-offer-init : goal.loop-offer-init
 loop-offer-init c =
-    covers_none c.args.domain.now c.args.rows.now c.args.offers.now (λ name. get (pointwise nat_eq) c.new-last.result name) c.in_ok-used.used.items
+    covers_none c.args.domain.now c.args.rows.now c.args.offers.now (λ name. get (slice_cmp nat_cmp) c.new-last.result name) c.in_ok-used.used.items
     c.in_ok-judgements.judgements.items
-    (λ name. ap (lookup (pointwise nat_eq name)) c.new-last.ensures.empty) c.in_ok-used.ensures c.in_ok-judgements.ensures.items
+    (λ name. ap (lookup (is_at (slice_cmp nat_cmp name))) c.new-last.ensures.empty) c.in_ok-used.ensures c.in_ok-judgements.ensures.items
 
 pub begin-requires-clause-within : goal.begin-requires-clause-within
 begin-requires-clause-within c = c.loop-offer.invariant.within
@@ -35,11 +36,11 @@ loop-offer-preserved c =
     slice_get_read offers (length offers) p c.offer-item.result refl c.loop-offer-test.true c.offer-item.is in
     let some : 0 < d.cycle_time = omega (arith, c.cycle_time-cycle_time.ensures.accepted.cycle_least) in
     let is_cycle = c.cycle_of-cycle.ensures ∙ ap (λ n. c.offer-item.result.at.0 / n) c.cycle_time-cycle_time.ensures.value in
-    subst (λ js. CoversTo d c.args.rows.now offers (p + 1) c.in_ok-count.count (λ name. get (pointwise nat_eq) c.begin.new.last name) c.judge.new.used.items js)
+    subst (λ js. CoversTo d c.args.rows.now offers (p + 1) c.in_ok-count.count (λ name. get (slice_cmp nat_cmp) c.begin.new.last name) c.judge.new.used.items js)
     (sym c.in_ok-push.ensures.items)
-    (covers_more d c.args.rows.now offers p c.loop-offer.count (λ name. get (pointwise nat_eq) c.loop-offer.last name) c.loop-offer.used.items
+    (covers_more d c.args.rows.now offers p c.loop-offer.count (λ name. get (slice_cmp nat_cmp) c.loop-offer.last name) c.loop-offer.used.items
     c.loop-offer.judgements.items c.loop-offer.invariant c.offer-item.result at some c.requires.order c.cycle_of-cycle.result.0 c.in_ok-count.count is_cycle
-    (λ name. get (pointwise nat_eq) c.begin.new.last name) c.in_ok-count.ensures c.judge.new.used.items c.judge.result c.judge.ensures
+    (λ name. get (slice_cmp nat_cmp) c.begin.new.last name) c.in_ok-count.ensures c.judge.new.used.items c.judge.result c.judge.ensures
     (record {
       follow = c.rows_follow.ensures.follow;
       rise = c.rows_follow.ensures.begin;
@@ -52,5 +53,5 @@ loop-offer-preserved c =
 
 pub returns : goal.returns
 returns c = covers_all c.args.domain.now c.args.rows.now c.args.offers.now c.loop-offer.offer-index c.loop-offer.count
-    (λ name. get (pointwise nat_eq) c.loop-offer.last name) c.loop-offer.used.items c.loop-offer.judgements.items
+    (λ name. get (slice_cmp nat_cmp) c.loop-offer.last name) c.loop-offer.used.items c.loop-offer.judgements.items
     (omega (arith, c.loop-offer-test.false, c.loop-offer.auto.offer-index-end)) c.loop-offer.invariant

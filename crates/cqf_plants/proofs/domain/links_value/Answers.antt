@@ -6,10 +6,10 @@ use Rattle.cqf_plants.proofs.Putting.{push_last, push_next}
 use Rattle.cqf_plants.proofs.domain.links_value.Goals as goal
 
 pub link_table-requires-clause-from : goal.link_table-requires-clause-from
-link_table-requires-clause-from c = (c.cycle_time-accepted.ensures.accepted.links_good c.loop-number.number c.link.result c.link.ensures).from_bridge
+link_table-requires-clause-from c = (c.know.ensures.accepted.links_good c.loop-number.number c.link.result c.link.ensures).from_bridge
 
 pub link_table-requires-clause-to : goal.link_table-requires-clause-to
-link_table-requires-clause-to c = (c.cycle_time-accepted.ensures.accepted.links_good c.loop-number.number c.link.result c.link.ensures).to_node
+link_table-requires-clause-to c = (c.know.ensures.accepted.links_good c.loop-number.number c.link.result c.link.ensures).to_node
 
 pub loop-number-preserved : goal.loop-number-preserved
 loop-number-preserved c =

@@ -21,7 +21,7 @@ returns c =
     let run = run_of_history s.domain (history_of c.args.cycles s) s.offers s.background c.args.cycles in
     let short : length run.tables ≤ 100000 =
     omega (arith, length-singles (table_at s.domain (history_of c.args.cycles s)) c.args.cycles, c.requires.short) in
-    let early = starts_in_time run book c.in_ok-book.ensures.promise c.cycle_time-accepted.ensures.accepted short in
+    let early = starts_in_time run book c.in_ok-book.ensures.promise c.know.ensures.accepted short in
     IfOk-weaker c.legs_by_frame.result _ _
     (λ legs are.
     let by_frame : AreByFrame (wanted_legs s.offers wanted book) legs.items =

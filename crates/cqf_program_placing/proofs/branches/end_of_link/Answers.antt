@@ -8,12 +8,12 @@ use Rattle.cqf_program_placing.proofs.branches.end_of_link.Goals as goal
 pub bridge_name-requires : goal.bridge_name-requires
 bridge_name-requires c =
     let d = c.args.domain.now in
-    subst (IsNode d) c.in-Bridge.is (to_node d c.args.link c.link.result c.cycle_time-cycle_time.ensures.accepted c.link.ensures)
+    subst (IsNode d) c.in-Bridge.is (to_node d c.args.link c.link.result c.know.ensures.accepted c.link.ensures)
 
 pub station_name-requires : goal.station_name-requires
 station_name-requires c =
     let d = c.args.domain.now in
-    subst (IsNode d) c.in-Station.is (to_node d c.args.link c.link.result c.cycle_time-cycle_time.ensures.accepted c.link.ensures)
+    subst (IsNode d) c.in-Station.is (to_node d c.args.link c.link.result c.know.ensures.accepted c.link.ensures)
 
 pub returns-in-Bridge : goal.returns-in-Bridge
 returns-in-Bridge c =

@@ -5,7 +5,7 @@ use Rattle.cqf_program_placing.proofs.RouteLemmas.{bridge_of_link, from_node}
 use Rattle.cqf_program_placing.proofs.branches.start_of_link.Goals as goal
 
 pub bridge_name-requires : goal.bridge_name-requires
-bridge_name-requires c = from_node c.args.domain.now c.args.link c.link.result c.cycle_time-cycle_time.ensures.accepted c.link.ensures
+bridge_name-requires c = from_node c.args.domain.now c.args.link c.link.result c.know.ensures.accepted c.link.ensures
 
 pub returns : goal.returns
 returns c =

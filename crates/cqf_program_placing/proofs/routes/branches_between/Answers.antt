@@ -9,7 +9,7 @@ use Rattle.cqf_program_placing.proofs.RouteLemmas.{are_links, first_full, none_t
 use Rattle.cqf_program_placing.proofs.routes.branches_between.Goals as goal
 
 pub first_ways-requires : goal.first_ways-requires
-first_ways-requires c = are_links c.args.domain.now c.args.room.links.now c.requires.links c.cycle_time-cycle_time.ensures.accepted
+first_ways-requires c = are_links c.args.domain.now c.args.room.links.now c.requires.links c.know.ensures.accepted
 
 pub returns-in_ok-paths-in-Ok-clause-ok : goal.returns-in_ok-paths-in-Ok-clause-ok
 returns-in_ok-paths-in-Ok-clause-ok c = λ rows are.

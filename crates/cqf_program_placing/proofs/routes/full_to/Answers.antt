@@ -5,7 +5,7 @@ use Rattle.cqf_program_placing.proofs.RouteLemmas.{are_links, first_of_all, full
 use Rattle.cqf_program_placing.proofs.routes.full_to.Goals as goal
 
 pub first_way-requires : goal.first_way-requires
-first_way-requires c = are_links c.args.domain.now c.args.room.links.now c.requires.links c.cycle_time-cycle_time.ensures.accepted
+first_way-requires c = are_links c.args.domain.now c.args.room.links.now c.requires.links c.know.ensures.accepted
 
 -- a way leads there
 pub unreachable-requires : goal.unreachable-requires

@@ -8,8 +8,8 @@ use Rattle.cqf_program_placing.specs.Settled.{settled_behind, settled_value}
 use Rattle.cqf_program_placing.proofs.SettledLemmas.{next_stands, settled_more}
 use Rattle.cqf_program_placing.proofs.settling.settle_all.Goals as goal
 
-pub hold-requires : goal.hold-requires
-hold-requires c =
+pub add-requires : goal.add-requires
+add-requires c =
     let held = c.loop-stream.held.keys in
     let next =
     next_stands c.args.at.sketch.now c.args.at.plant.now held (stream_text c.in-Some.stream) (settled_value c.in_ok-one.one) c.in_ok-one.ensures in
@@ -23,10 +23,10 @@ loop-stream-preserved c =
     let done = map settled_value c.loop-stream.settled.items in
     let one = c.in_ok-one.one in
     let next = next_stands sketch plant held (stream_text c.in-Some.stream) (settled_value one) c.in_ok-one.ensures in (
-      settled_more sketch plant held c.hold.new.held.keys (stream_text c.in-Some.stream) (map stream_text (into_iter_items c.next.new.self)) done
-          (map settled_value c.push.new.self.items) (settled_value one) c.in_ok-one.ensures next.own_name c.in_ok-hold.ensures
+      settled_more sketch plant held c.add.new.self.keys (stream_text c.in-Some.stream) (map stream_text (into_iter_items c.next.new.self)) done
+          (map settled_value c.push.new.self.items) (settled_value one) c.in_ok-one.ensures next.own_name c.in_ok-add.ensures.more
           (ap (map settled_value) c.in_ok-push.ensures.items ∙ map-append settled_value c.loop-stream.settled.items (one ∷ []))
           ∙ ap (λ (ss : List Stream). with_front done (settled_behind sketch plant held (map stream_text ss))) (sym c.in-Some.ensures.steps.0)
           ∙ c.loop-stream.invariant.0,
-      omega (arith, ap length c.in_ok-hold.ensures, length-append held (one.name ∷ []), next.few),
+      omega (arith, ap length c.in_ok-add.ensures.more, length-append held (one.name ∷ []), next.few),
     )

@@ -1,8 +1,8 @@
 use Rattle.std.proofs.Common.{◌∙◌, ◌+◌, ◌<◌, ◌∷◌, [], List, ap, arith, length, map, refl, subst, sym}
 use Rattle.std.proofs.lemmas.List.{length-map}
 use Rattle.cqf_admission.specs.Asking.{asked_of}
-use Rattle.cqf_admission_ledger.specs.Forms.{IsRowOfGoodForm}
-use Rattle.cqf_admission_ledger.specs.Ledger.{Kept}
+use Rattle.cqf_admission.specs.Forms.{IsRowOfGoodForm}
+use Rattle.cqf_admission.specs.Ledger.{Kept}
 use Rattle.cqf_model.specs.Domain.{Domain}
 use Rattle.cqf_model.specs.History.{Asked}
 use Rattle.cqf_admission_requests.specs.Orders.{request_at}

@@ -13,4 +13,4 @@ pub link_cost-requires-clause-fits : goal.link_cost-requires-clause-fits
 link_cost-requires-clause-fits c =
     let d = c.args.domain.now in
     let link = c.loop-link.link in
-    omega (arith, costs_by_link c.args.rows.now link 0 c.requires.paced, c.requires.held.1.loads link 0, div-le_self (d.cycle_time - d.guard) (octet_time_of d link), c.cycle_time-cycle_time.ensures.accepted.cycle_most)
+    omega (arith, costs_by_link c.args.rows.now link 0 c.requires.paced, c.requires.held.1.loads link 0, div-le_self (d.cycle_time - d.guard) (octet_time_of d link), c.know.ensures.accepted.cycle_most)

@@ -13,7 +13,7 @@ use Rattle.cqf_program_plans.proofs.latency_listeners.listener_at.Goals as goal
 pub station_name-requires : goal.station_name-requires
 station_name-requires c =
     let d = c.args.domain.now in
-    subst (IsNode d) c.in-Station.is (to_node d c.args.link c.link.result c.cycle_time-cycle_time.ensures.accepted c.link.ensures)
+    subst (IsNode d) c.in-Station.is (to_node d c.args.link c.link.result c.know.ensures.accepted c.link.ensures)
 
 pub returns-in-Station : goal.returns-in-Station
 returns-in-Station c =

@@ -7,7 +7,7 @@ use Rattle.cqf_program_plans.proofs.load_command.list_one.Goals as goal
 
 pub with-requires-clause-countable : goal.with-requires-clause-countable
 with-requires-clause-countable c =
-    countable_within c.in-Ok-looked.row _ _ (few_links c.args.domain.now c.cycle_time-cycle_time.ensures.accepted)
+    countable_within c.in-Ok-looked.row _ _ (few_links c.args.domain.now c.know.ensures.accepted)
     (rw c.in-Ok-looked.is at c.in-Ok.ensures).countable
 
 pub returns-in-Err-clause-err : goal.returns-in-Err-clause-err

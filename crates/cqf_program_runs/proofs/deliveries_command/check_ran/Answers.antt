@@ -1,7 +1,7 @@
 use Rattle.std.proofs.Common.{◌≡◌, ◌∙◌, ℕ, None, Some, ap, map, sym}
 use Rattle.std.proofs.lemmas.List.Elements.{All-contains}
 use Rattle.cqf_admission.specs.Asking.{asked_of}
-use Rattle.cqf_admission_ledger.specs.declared.logs.Logged.{Logged}
+use Rattle.cqf_admission.specs.declared.logs.Logged.{Logged}
 use Rattle.cqf_admission_requests.specs.Orders.{StandsIn}
 use Rattle.cqf_program_runs.specs.RefusedInLog.{refused_from}
 use Rattle.cqf_program_runs.proofs.RefusedInLogs.{found_refused}

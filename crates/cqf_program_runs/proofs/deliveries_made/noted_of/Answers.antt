@@ -73,7 +73,7 @@ returns c =
       is = starts.is;
       whole = ap (whole_on d) told_by;
       in_time = subst (λ (ss : List Started). All (IsInTime d) ss) told_by
-          (starts_in_time run book ran.is_book.promise c.cycle_time-accepted.ensures.accepted short);
+          (starts_in_time run book ran.is_book.promise c.know.ensures.accepted short);
       behind = subst (λ (ss : List Started). All (IsBehind d.cycle_time under_way.depth offers) ss) told_by
           (starts_behind run book ran.is_book.promise.says orderly over.rows judgements decided under_way.depth laid.deep);
     } in

@@ -23,7 +23,7 @@ columns_of-requires-clause-room c =
     subst (λ (js : List Judgement). AreJudged d a.entries rows offers (length offers) js) (sym c.as_slice.ensures.value)
     (c.in_ok-judgements.ensures a.entries legal streams) in
     judged_room d a.entries rows offers c.as_slice.result.now judged c.args.cycles (omega (arith, c.requires.closed)) c.report_is_told.ensures.fit
-    c.cycle_time-accepted.ensures.accepted legal (subst (λ (x : Domain). AreOffers x offers) (sym c.domain-domain.ensures) c.requires.offers) c.requires.order
+    c.know.ensures.accepted legal (subst (λ (x : Domain). AreOffers x offers) (sym c.domain-domain.ensures) c.requires.offers) c.requires.order
 
 pub returns : goal.returns
 returns c =

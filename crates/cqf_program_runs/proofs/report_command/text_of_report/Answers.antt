@@ -13,7 +13,7 @@ returns g c =
     IfOk-weaker c.write_columns.result _ _
     (λ text written background behind.
     TellsTheBook-columns c.report_is_told.ensures.told c.book_of_history_is_there.ensures a.domain a.entries c.args.offers.now background c.args.cycles columns
-    text.items (subst IsAccepted c.domain.ensures c.cycle_time-accepted.ensures.accepted) c.entries-legal.ensures.legal c.requires.offers behind
+    text.items (subst IsAccepted c.domain.ensures c.know.ensures.accepted) c.entries-legal.ensures.legal c.requires.offers behind
     c.requires.order c.requires.closed c.in_ok-columns.ensures
     (written ∙ ap (λ (d : Domain). columns_text d (frames_by c.as_slice.result.now) (octets_by c.as_slice.result.now)) c.domain-2.ensures
     ∙ ap (λ (cs : List Column). columns_text a.domain (frames_by cs) (octets_by cs)) c.as_slice.ensures.value))

@@ -2,8 +2,8 @@ use Rattle.std.proofs.Common.{◌≡◌, ◌∙◌, ◌++◌, List, ℕ, ap, cod
 use Rattle.cqf_model.specs.Domain.{Domain}
 use Rattle.cqf_model.specs.History.{Asked}
 use Rattle.cqf_admission.specs.Asking.{asked_of}
-use Rattle.cqf_admission_ledger.specs.Ledger.{recorded_in}
-use Rattle.cqf_admission_ledger.specs.Running.{AreThere}
+use Rattle.cqf_admission.specs.Ledger.{recorded_in}
+use Rattle.cqf_admission.specs.Running.{AreThere}
 use Rattle.cqf_program_press.specs.Press.{Puts}
 use Rattle.cqf_program_press.proofs.PressLemmas.{Puts-as, Puts-then}
 use Rattle.cqf_report.specs.Books.{text_of_book}

@@ -50,7 +50,7 @@ returns c =
     (subst (λ (ps : ExactParts). TellsBook ps (IsThere d entries offers given.background.items c.args.cycles)) (sym c.new.ensures)
     (parts_are_told c.tables_are_orderly.ensures.orderly c.book_of_history_is_there.ensures d c.args.cycles rows offers judgements entries
     given.background.items _
-    c.cycle_time-accepted.ensures.accepted offered c.requires.may.background sliced c.in_ok-pass.ensures backed dropped)) in (
+    c.know.ensures.accepted offered c.requires.may.background sliced c.in_ok-pass.ensures backed dropped)) in (
       told.0,
       told.1,
       IsBookOfScenario-there c.args.cycles s d entries given.offers.items given.background.items told.0 refl refl refl refl told.2,

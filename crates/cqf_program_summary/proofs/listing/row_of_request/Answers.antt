@@ -12,5 +12,5 @@ returns-in_ok-into_row-in-Ok-clause-countable c =
     let judged = c.in-Ok.judged in
     let is = c.in-Ok.ensures in
     let effect : Cycle = record { 0 = 0 } in
-    granted_counted d asked _ c.cycle_time-cycle_time.ensures.accepted
+    granted_counted d asked _ c.know.ensures.accepted
     (c.in_ok-into_row-in-Ok.ensures ∙ row_granted d 0 effect asked judged.name judged.tree.items is.named is.linked) is.most_octets

@@ -1,7 +1,7 @@
 use Rattle.std.proofs.Common.{◌+◌, map, take, arith}
 use Rattle.std.proofs.lemmas.Grind.{common_steps}
 use Rattle.cqf_admission.specs.Asking.{asked_of}
-use Rattle.cqf_admission_ledger.specs.Ledger.{recorded_in}
+use Rattle.cqf_admission.specs.Ledger.{recorded_in}
 use Rattle.cqf_program_press.proofs.PressLemmas.{Puts-as, Puts-then}
 use Rattle.cqf_report.specs.HistoryText.{history_text}
 use Rattle.cqf_program_telling.proofs.logs.put_log.Goals as goal

@@ -1,6 +1,6 @@
 use Rattle.std.proofs.Common.{map, take}
 use Rattle.cqf_admission.specs.Asking.{asked_of}
-use Rattle.cqf_admission_ledger.specs.Ledger.{recorded_in}
+use Rattle.cqf_admission.specs.Ledger.{recorded_in}
 use Rattle.cqf_program_press.specs.Press.{Puts}
 use Rattle.cqf_report.specs.HistoryText.{history_text}
 use Rattle.cqf_program_telling.proofs.logs.put_log.Given as goal

@@ -15,7 +15,7 @@ loop-link-init g c =
     let d = c.args.book.now.domain in
     record {
       places = first_places d (λ bridge. stands_on c.args.book.now c.args.kind bridge c.args.cycle)
-          (accepted_too d c.domain-domain.result.now c.domain-domain.ensures c.cycle_time-accepted.ensures.accepted) _ refl;
+          (accepted_too d c.domain-domain.result.now c.domain-domain.ensures c.know.ensures.accepted) _ refl;
       puts = Puts-nothing _ refl;
     }
 
@@ -27,7 +27,7 @@ bounds-places-from g c =
     let is = c.domain-domain.ensures in
     let link = c.loop-link.link in
     let has = own_has_place d (λ bridge. stands_on c.args.book.now c.args.kind bridge c.args.cycle)
-    (accepted_too d same is c.cycle_time-accepted.ensures.accepted) link c.link-bridge.result.from
+    (accepted_too d same is c.know.ensures.accepted) link c.link-bridge.result.from
     (inside_too d same is link c.links-link-end.result c.loop-link-test.true c.links-link-end.ensures)
     (from_too d same is link c.link-bridge.result c.link-bridge.ensures) c.loop-link.places c.loop-link.invariant.places in
     omega (arith, has, c.loop-link.invariant.places.many, c.from.ensures)
@@ -39,7 +39,7 @@ bounds-places-from-in-loop-link g c =
     let is = c.domain-domain.ensures in
     let link = c.loop-link.link in
     let has = own_has_place d (λ bridge. stands_on c.args.book.now c.args.kind bridge c.args.cycle)
-    (accepted_too d same is c.cycle_time-accepted.ensures.accepted) link c.link-bridge.result.from
+    (accepted_too d same is c.know.ensures.accepted) link c.link-bridge.result.from
     (inside_too d same is link c.links-link-end.result c.loop-link-test.true c.links-link-end.ensures)
     (from_too d same is link c.link-bridge.result c.link-bridge.ensures) c.loop-link.places c.loop-link.invariant.places in
     omega (arith, has, c.loop-link.invariant.places.many, c.from-in-loop-link.ensures)
@@ -54,7 +54,7 @@ put_on_link-end-requires g c =
     let own = c.link-bridge.result.from in
     let starts = c.starts-starts.result.now in
     let pages = λ (bridge : ℕ). stands_on c.args.book.now c.args.kind bridge c.args.cycle in
-    let accepted = accepted_too d same is c.cycle_time-accepted.ensures.accepted in
+    let accepted = accepted_too d same is c.know.ensures.accepted in
     let inside = inside_too d same is link c.links-link-end.result c.loop-link-test.true c.links-link-end.ensures in
     let is_own = from_too d same is link c.link-bridge.result c.link-bridge.ensures in
     let are = c.loop-link.invariant.places in
@@ -74,7 +74,7 @@ loop-link-preserved g c =
     let starts = c.starts-starts.result.now in
     let end = c.put_on_link-end.result in
     let pages = λ (bridge : ℕ). stands_on c.args.book.now c.args.kind bridge c.args.cycle in
-    let accepted = accepted_too d same is c.cycle_time-accepted.ensures.accepted in
+    let accepted = accepted_too d same is c.know.ensures.accepted in
     let inside = inside_too d same is link c.links-link-end.result c.loop-link-test.true c.links-link-end.ensures in
     let is_own = from_too d same is link c.link-bridge.result c.link-bridge.ensures in
     let are = c.loop-link.invariant.places in

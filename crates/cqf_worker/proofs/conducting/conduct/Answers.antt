@@ -14,5 +14,5 @@ returns-clause-ok g c =
     let account : Account = record { history = paged.history; book = c.in_ok-book.book } in
     gathered_account c.args.domain.now c.args.admission.entries c.args.offers.now c.args.background.now c.args.cycles
     (map (λ (v : Vec Command Global). v.items) c.args.admins.items) paged account c.gathered_pages_are_the_book.ensures
-    c.cycle_time-accepted.ensures.accepted c.in_ok-history.ensures.ok refl
+    c.know.ensures.accepted c.in_ok-history.ensures.ok refl
     (subst (λ (n : ℕ). IsBookOfPages (pages_of paged.pages) n (contents_of c.in_ok-book.book)) c.bridges.ensures c.in_ok-book.ensures)

@@ -28,7 +28,7 @@ pub returns-clause-ok : goal.returns-clause-ok
 returns-clause-ok g c =
     account_is c.args.domain.now c.args.admission.entries c.args.offers.now c.args.background.now c.args.cycles
     (map (λ (v : Vec Command Global). v.items) c.args.admins.items) c.in_ok-desk.field-0 c.in_ok-desk.ensures.ok c.in_ok-ended.ended c.in_ok-ended.ensures.ok
-    c.in_ok-account.account c.in_ok-account.ensures.ok c.cycle_time-accepted.ensures.accepted c.requires.unsealed c.requires.offers c.requires.background
+    c.in_ok-account.account c.in_ok-account.ensures.ok c.know.ensures.accepted c.requires.unsealed c.requires.offers c.requires.background
     c.seats_give_the_history.ensures.history c.seats_give_the_history.ensures.tables c.bridges_apart_post_the_pages.ensures
     c.book_of_history_says_the_shift.ensures
 
@@ -59,4 +59,4 @@ returns-in_err-account-clause-err g c =
     (map (λ (v : Vec Command Global). v.items) c.args.admins.items)) c.from_residual-in_err-account.ensures.1
     (told_in_the_end c.args.domain.now c.args.admission.entries c.args.offers.now c.args.background.now c.args.cycles
     (map (λ (v : Vec Command Global). v.items) c.args.admins.items) c.in_ok-desk.field-0 c.in_ok-desk.ensures.ok c.in_ok-ended.ended c.in_ok-ended.ensures.ok
-    c.cycle_time-accepted.ensures.accepted c.in_err-account.field-0.0 c.in_err-account.ensures.err)
+    c.know.ensures.accepted c.in_err-account.field-0.0 c.in_err-account.ensures.err)

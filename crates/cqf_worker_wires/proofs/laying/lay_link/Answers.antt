@@ -6,12 +6,12 @@ use Rattle.cqf_worker_wires.proofs.laying.lay_link.Goals as goal
 -- the link's ends are bridges of the domain
 pub lay_pipe-requires-clause-from : goal.lay_pipe-requires-clause-from
 lay_pipe-requires-clause-from c =
-    let good = c.cycle_time-accepted.ensures.accepted.links_good c.args.link c.link-between.result c.link-between.ensures in
+    let good = c.know.ensures.accepted.links_good c.args.link c.link-between.result c.link-between.ensures in
     omega (arith, good.from_bridge, c.requires.workers)
 
 pub lay_pipe-requires-clause-to : goal.lay_pipe-requires-clause-to
 lay_pipe-requires-clause-to c =
-    let good = c.cycle_time-accepted.ensures.accepted.links_good c.args.link c.link-between.result c.link-between.ensures in
+    let good = c.know.ensures.accepted.links_good c.args.link c.link-between.result c.link-between.ensures in
     let inside : c.in-Bridge.to < length c.args.domain.now.bridges = subst (IsNode c.args.domain.now) c.in-Bridge.is good.to_node in
     omega (arith, inside, c.requires.workers)
 

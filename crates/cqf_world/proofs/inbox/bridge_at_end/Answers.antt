@@ -3,4 +3,4 @@ use Rattle.cqf_world.proofs.inbox.bridge_at_end.Goals as goal
 
 pub returns-in-Bridge-clause-some : goal.returns-in-Bridge-clause-some
 returns-in-Bridge-clause-some c =
-    ends_in c.args.domain.now c.args.link c.in-Bridge.bridge c.link.result c.cycle_time-accepted.ensures.accepted c.link.ensures c.in-Bridge.is
+    ends_in c.args.domain.now c.args.link c.in-Bridge.bridge c.link.result c.know.ensures.accepted c.link.ensures c.in-Bridge.is

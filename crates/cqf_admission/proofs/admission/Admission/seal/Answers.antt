@@ -1,53 +1,95 @@
-use Rattle.std.proofs.Common.{◌∙◌, ◌+◌, ◌≤◌, Contains, ap, arith, filter, map, refl, sym, subst}
+-- A Seal's table has what is held, and its entry is the next one.
+use Rattle.std.proofs.Common.{◌≡◌, ◌∙◌, ◌<◌, ◌+◌, ◌≢◌, List, ap, arith, map, refl, subst, sym}
+use Rattle.std.specs.Prelude.{AllPairs, Contains, Ok}
+use Rattle.cqf_model.specs.declared.history.Reply.TheVariants.{Sealed}
 use Rattle.cqf_model.specs.declared.topology.Row.{Row}
-use Rattle.cqf_model.specs.Table.{is_held}
-use Rattle.cqf_admission.specs.Admission.{recorded_of}
-use Rattle.cqf_admission.specs.Rows.{HeldRows}
-use Rattle.cqf_admission.specs.Tables.{AreInOrder, AreOfEachCycle}
-use Rattle.cqf_admission.proofs.CallLemmas.{sealed_leaves}
+use Rattle.cqf_model.specs.Domain.{Domain}
+use Rattle.cqf_model.specs.History.{IsLegalHistory, Recorded, Seals, held_in, next_number, seals, table_at}
+use Rattle.cqf_laws_history.specs.StateLaws.{AreHeld, HeldAreSound, with_entry}
+use Rattle.cqf_admission.proofs.TableLemmas.{trees_go_along_links}
+use Rattle.cqf_admission.specs.declared.entries.Call.TheVariants.{Seal}
+use Rattle.cqf_admission.specs.Admission.{Administration, Closes, LetsGo, recorded_of}
+use Rattle.cqf_admission.specs.State.{IsStateOf, LeavesSealed, of_entries}
+use Rattle.cqf_admission.specs.Tables.{AreTrees}
+use Rattle.cqf_admission.specs.Tabling.{AreTablesOf}
+use Rattle.cqf_admission.proofs.Entered.{entered_behind}
+use Rattle.cqf_admission.proofs.Tabled.{held_alike, tables_less}
 use Rattle.cqf_admission.proofs.admission.Admission.seal.Goals as goal
 
-pub invariant_of-self-2 : goal.invariant_of-self-2
-invariant_of-self-2 c =
-    let laws = c.state_follows_history.ensures in (
-      (sealed_leaves laws.goes_on laws.counted laws.lets_go laws.closes laws.held c.args.seat
-          (record { cycle = c.self.inside.sealed; rows = c.self.inside.held.rows }) c.self.invariant.0 c.self.view_is
-          (omega (arith, c.if-self-ge-MOST_SEALS.false)) c.reserve.ensures.items c.enter.ensures
-          (c.let_go.ensures.rows ∙ ap (λ (h : HeldRows). filter (λ (row : Row). is_held row (c.self.inside.sealed + 1)) h.rows) c.share.ensures.same)
-          refl refl).running,
-      c.let_go.ensures.links ∙ ap (λ (h : HeldRows). h.links) c.share.ensures.same ∙ c.self.invariant.1,
-    )
-
-pub let_go-requires : goal.let_go-requires
-let_go-requires c =
-    let held = c.state_follows_history.ensures.held c.self.inside.domain
-    (map recorded_of c.self.inside.history.items) c.self.inside.held.rows c.self.inside.next c.self.invariant.0.legal c.self.invariant.0.state in
-    subst (λ (h : HeldRows). (row : Row) → Contains h.rows row → row.admitted.0 ≤ c.self.inside.sealed + 1) (sym c.share.ensures.same)
-    (λ row among. omega (arith, held.begun row among, c.self.invariant.0.counted))
+-- the streams that are held are sound
+sound : HeldAreSound → (d : Domain) (entries : List Recorded) → IsLegalHistory d entries →
+    AreHeld d (held_in d entries (seals entries)) (next_number d entries) (seals entries)
+sound held d entries legal = held d entries (held_in d entries (seals entries)) (next_number d entries) legal (record { held = refl; number = refl })
 
 pub new-requires-clause-order : goal.new-requires-clause-order
 new-requires-clause-order c =
-    let held = c.state_follows_history.ensures.held c.self.inside.domain
-    (map recorded_of c.self.inside.history.items) c.self.inside.held.rows c.self.inside.next c.self.invariant.0.legal c.self.invariant.0.state in
-    subst AreInOrder (sym c.in_ok-listed.ensures.rows) (record { numbers = held.numbers; names = held.names })
+    let entries = map recorded_of c.self.inside.history.items in
+    let is = c.in_ok-listed.ensures.rows c.self.inside.domain entries c.self.invariant.0 c.self.invariant.1 in
+    let held = sound c.state_follows_history.ensures.held c.self.inside.domain entries c.self.invariant.0.0.running.legal in
+    record {
+      numbers = subst (AllPairs (λ (a b : Row). a.no < b.no)) (sym is) held.numbers;
+      names = subst (AllPairs (λ (a b : Row). a.name ≢ b.name)) (sym is) held.names;
+    }
 
 pub new-requires-clause-paced : goal.new-requires-clause-paced
-new-requires-clause-paced c = subst AreOfEachCycle (sym c.in_ok-listed.ensures.rows) c.self.invariant.0.paced
+new-requires-clause-paced c =
+    let entries = map recorded_of c.self.inside.history.items in
+    λ row among.
+    c.self.invariant.0.0.running.paced row
+    (subst (λ (rows : List Row). Contains rows row) (c.in_ok-listed.ensures.rows c.self.inside.domain entries c.self.invariant.0 c.self.invariant.1) among)
+
+-- a Seal that enters the history
+module _ (c : goal.After-new) where
+  abbrev entries : List Recorded
+  entries = map recorded_of c.self.inside.history.items
+
+  abbrev with_seal : List Recorded
+  with_seal = with_entry entries c.args.seat Seals Sealed
+
+  after_is : map recorded_of c.enter.new.history.items ≡ with_seal
+  after_is =
+      entered_behind c.self.inside.history.items c.reserve.new.self.items c.enter.new.history.items
+      (record { seat = c.args.seat; call = Seal; reply = Sealed }) Seals c.reserve.ensures.items c.enter.ensures refl
+
+  leaves : LeavesSealed c.self.inside.domain entries c.seal-ends.new.self c.args.seat
+  leaves = c.seal-ends.ensures.closes c.self.inside.domain entries c.args.seat c.self.invariant.0
+
+  listed_is : c.new.result.rows ≡ held_in c.self.inside.domain entries (seals entries)
+  listed_is = c.new.ensures.rows ∙ c.in_ok-listed.ensures.rows c.self.inside.domain entries c.self.invariant.0 c.self.invariant.1
+
+pub invariant_of-self-2 : goal.invariant_of-self-2
+invariant_of-self-2 c =
+    let d = c.self.inside.domain in (
+      subst (λ (es : List Recorded). IsStateOf d es c.seal-ends.new.self) (sym (after_is c)) (leaves c).of,
+      subst (λ (es : List Recorded). AreTablesOf d es c.note.new.self) (sym (after_is c))
+          (tables_less d (entries c) (record { seat = c.args.seat; act = Seals; reply = Sealed }) c.share.new.self c.note.new.self c.seal-ends.result
+          (seals (entries c) + 1) (c.share.ensures.same d (entries c) c.self.invariant.0 c.self.invariant.1) c.note.ensures (leaves c).held
+          (λ none. held_alike d (entries c) (with_seal c)
+          (sym (leaves c).of.0.are_streams ∙ c.seal-ends.ensures.stays none ∙ c.self.invariant.0.0.are_streams))),
+    )
 
 pub returns-clause-closes : goal.returns-clause-closes
 returns-clause-closes c =
-    let laws = c.state_follows_history.ensures in
-    (sealed_leaves laws.goes_on laws.counted laws.lets_go laws.closes laws.held c.args.seat c.new.result c.self.invariant.0 c.self.view_is
-    (omega (arith, c.if-self-ge-MOST_SEALS.false)) c.reserve.ensures.items c.enter.ensures
-    (c.let_go.ensures.rows ∙ ap (λ (h : HeldRows). filter (λ (row : Row). is_held row (c.self.inside.sealed + 1)) h.rows) c.share.ensures.same)
-    c.new.ensures.cycle
-    (c.new.ensures.rows ∙ c.in_ok-listed.ensures.rows)).closes
+    let d = c.self.inside.domain in
+    let rows = held_in d (entries c) (seals (entries c)) in
+    subst (λ (a : Administration). Closes a (of_entries d (map recorded_of c.enter.new.history.items)) c.args.seat (Ok c.new.result)) c.self.view_is (
+      omega (arith, c.if-cycle-ge-MOST_SEALS.false, c.next_cycle-cycle.ensures, c.self.invariant.0.0.running.counted),
+      refl,
+      after_is c,
+      c.new.ensures.cycle ∙ c.next_cycle-cycle.ensures ∙ c.self.invariant.0.0.running.counted,
+      listed_is c
+          ∙ sym (c.state_follows_history.ensures.closes d (entries c) rows (next_number d (entries c)) c.args.seat (record { held = refl; number = refl }))
+          ∙ ap (λ (es : List Recorded). table_at d es (seals (entries c))) (sym (after_is c)),
+    )
 
 pub returns-clause-lets_go : goal.returns-clause-lets_go
 returns-clause-lets_go c =
-    let laws = c.state_follows_history.ensures in
-    (sealed_leaves laws.goes_on laws.counted laws.lets_go laws.closes laws.held c.args.seat c.new.result c.self.invariant.0 c.self.view_is
-    (omega (arith, c.if-self-ge-MOST_SEALS.false)) c.reserve.ensures.items c.enter.ensures
-    (c.let_go.ensures.rows ∙ ap (λ (h : HeldRows). filter (λ (row : Row). is_held row (c.self.inside.sealed + 1)) h.rows) c.share.ensures.same)
-    c.new.ensures.cycle
-    (c.new.ensures.rows ∙ c.in_ok-listed.ensures.rows)).lets_go
+    let d = c.self.inside.domain in
+    let trees : AreTrees d c.new.result.rows = subst (AreTrees d) (sym (listed_is c))
+    (sound c.state_follows_history.ensures.held d (entries c) c.self.invariant.0.0.running.legal).trees in
+    subst (λ (a : Administration). LetsGo a (of_entries d (map recorded_of c.enter.new.history.items)) c.new.result) c.self.view_is (record {
+      rows = listed_is c;
+      held = ap (λ (es : List Recorded). held_in d es (seals es)) (after_is c) ∙ (leaves c).held;
+      trees = trees;
+      links = trees_go_along_links d c.new.result.rows trees;
+    })

@@ -1,15 +1,15 @@
-use Rattle.std.proofs.Common.{◌∙◌, List, ap, nat_eq}
+use Rattle.std.proofs.Common.{◌∙◌, ℕ, List, ap}
 use Rattle.std.specs.List.{list_any}
-use Rattle.std.specs.Cmp.Lexicographic.{pointwise}
+use Rattle.cqf_lists.proofs.Any.{list_any-map}
 use Rattle.cqf_model.specs.declared.topology.Row.{Row}
 use Rattle.cqf_model.specs.Domain.{is_text}
-use Rattle.cqf_admission.proofs.HeldLemmas.{name_among}
+use Rattle.cqf_topology.specs.DomainText.{is_among}
 use Rattle.cqf_program_plans.proofs.load_listing.Listing.has_name.Goals as goal
 
 pub returns : goal.returns
 returns c =
     let rows : List Row = c.self.inside.rows.items in
-    c.contains.ensures
-    ∙ ap (list_any (pointwise nat_eq c.args.name.now)) c.self.invariant.are_names
-    ∙ name_among c.args.name.now rows
-    ∙ ap (λ (rs : List Row). list_any (λ (row : Row). is_text row.name c.args.name.now) rs) c.self.view_is
+    let name = c.args.name.now in
+    c.contains.ensures ∙ ap (is_among name) c.self.invariant.are_names
+    ∙ list_any-map (λ (other : List ℕ). is_text other name) (λ (row : Row). row.name) rows
+    ∙ ap (λ (rs : List Row). list_any (λ (row : Row). is_text row.name name) rs) c.self.view_is

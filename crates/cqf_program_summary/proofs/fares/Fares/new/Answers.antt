@@ -14,4 +14,4 @@ invariant_of-result c =
     let of = c.requires.listed in
     subst (λ (ways : List Way). AreApart ways)
     (sym (c.in_ok-ways.ensures ∙ ap (λ (listed : Listed). ways_of d cost [] listed.row) of.1))
-    (ways_apart d c.cycle_time-cycle_time.ensures.names cost [] of.0)
+    (ways_apart d c.know.ensures.names cost [] of.0)

@@ -35,7 +35,7 @@ returns-in-Some-clause-sums c =
     let old = c.index_mut.result.now in
     let view : Summary = record { fares = items; others = c.self.inside.others } in
     let found : position (λ (f : Fare). is_text f.name name) items ≡ Some place =
-    sym (named_place name c.self.inside.names.keys items c.self.invariant) ∙ sym c.get_index_of.ensures.index ∙ c.in-Some.is in
+    sym (named_place name c.self.inside.names.keys items c.self.invariant) ∙ sym c.number_of.ensures.number ∙ c.in-Some.is in
     let at : slice_get items place ≡ Some (get_or items place old) = slice_get-get_or items place old (place_within name items place old found) in
     let new : c.add_offer.new.self ≡ fare_with_offer here (get_or items place old) = c.add_offer.ensures.fare ∙ ap (fare_with_offer here) c.index_mut.ensures.value in
     ap {B = Summary} (λ (fs : List Fare). record { fares = fs; others = c.self.inside.others })
@@ -51,7 +51,7 @@ returns-in-Some-clause-more c = λ many is.
     let old = c.index_mut.result.now in
     let before : SummaryWithin many (record { fares = items; others = c.self.inside.others }) = subst (SummaryWithin many) (sym c.self.view_is) is in
     let found : position (λ (f : Fare). is_text f.name name) items ≡ Some place =
-    sym (named_place name c.self.inside.names.keys items c.self.invariant) ∙ sym c.get_index_of.ensures.index ∙ c.in-Some.is in
+    sym (named_place name c.self.inside.names.keys items c.self.invariant) ∙ sym c.number_of.ensures.number ∙ c.in-Some.is in
     let was : FareWithin many old = subst (FareWithin many) (sym c.index_mut.ensures.value)
     (All-get_or (FareWithin many) items place old (place_within name items place old found) before.fares) in
     record {
@@ -66,7 +66,7 @@ returns-in-None-clause-sums c =
     let items = c.self.inside.fares.items in
     let view : Summary = record { fares = items; others = c.self.inside.others } in
     let none : position (λ (f : Fare). is_text f.name name) items ≡ None =
-    sym (named_place name c.self.inside.names.keys items c.self.invariant) ∙ sym c.get_index_of.ensures.index ∙ c.in-None.is in
+    sym (named_place name c.self.inside.names.keys items c.self.invariant) ∙ sym c.number_of.ensures.number ∙ c.in-None.is in
     ap {B = Summary} (λ (o : Others). record { fares = items; others = o }) c.with-self-inside.ensures.others
     ∙ ap (λ (o : Option ℕ). summary_at here o view) (sym none)
     ∙ ap (summary_with name here) c.self.view_is

@@ -38,7 +38,7 @@ invariant_of-result c =
     let first : c.in_ok-fares.fares.items ≡ (summary_by d (told_streams streams) due [] []).fares =
     c.in_ok-fares.ensures
     ∙ (λ i. map (fare_named d (cost_in (c.as_slice.ensures.value i)) due) (c.as_slice-2.ensures.value i))
-    ∙ first_fares d streams due c.in_ok-listing.listing c.cycle_time-cycle_time.ensures.accepted c.in_ok-listing.ensures in
+    ∙ first_fares d streams due c.in_ok-listing.listing c.know.ensures.accepted c.in_ok-listing.ensures in
     c.in_ok-listing.ensures.names
     ∙ names_of d (told_cost d (told_streams streams)) due (told_streams streams)
     ∙ ap (map (λ (f : Fare). f.name)) (sym first)
@@ -51,6 +51,6 @@ returns c =
     let first : c.in_ok-fares.fares.items ≡ (summary_by d (told_streams streams) due [] []).fares =
     c.in_ok-fares.ensures
     ∙ (λ i. map (fare_named d (cost_in (c.as_slice.ensures.value i)) due) (c.as_slice-2.ensures.value i))
-    ∙ first_fares d streams due c.in_ok-listing.listing c.cycle_time-cycle_time.ensures.accepted c.in_ok-listing.ensures in
+    ∙ first_fares d streams due c.in_ok-listing.listing c.know.ensures.accepted c.in_ok-listing.ensures in
     ap {B = Summary} (λ (fs : List Fare). record { fares = fs; others = record { offered = 0; dropped = 0 } }) first
     ∙ ap (λ (k : Due). summary_by d (told_streams streams) (deadline_in k) [] []) c.in_ok-due.ensures

@@ -15,7 +15,7 @@ returns-in_err-bridges c =
     let e = c.in_err-bridges.field-0.0 in
     Gives-residual (Domain Memory) (Domain e) (λ domain. domain) c.from_residual.result _ c.from_residual.ensures.1
     (λ known. refused (first_taken [] text.bridges) text.bridges _ e
-    (taken-at c.new-none.result.keys [] c.bridges.result.now text.bridges c.new-none.ensures.empty c.bridges.ensures (Err e)
+    (taken-at c.new-none.result.keys [] c.bridges.result.now text.bridges c.new-none.ensures c.bridges.ensures (Err e)
     (c.in_err-bridges.ensures (λ is. known (ap Domain is)))))
 
 pub returns-in_err-stations : goal.returns-in_err-stations
@@ -23,7 +23,7 @@ returns-in_err-stations c =
     let text = c.args.draft.now in
     let e = c.in_err-stations.field-0.0 in
     let bridges = c.in_ok-bridges.bridges.keys in
-    let numbered = taken-at c.new-none.result.keys [] c.bridges.result.now text.bridges c.new-none.ensures.empty c.bridges.ensures (Ok bridges)
+    let numbered = taken-at c.new-none.result.keys [] c.bridges.result.now text.bridges c.new-none.ensures c.bridges.ensures (Ok bridges)
     c.in_ok-bridges.ensures in
     let same : text.bridges ≡ bridges = kept (first_taken [] text.bridges) NameTaken text.bridges bridges numbered in
     Gives-residual (Domain Memory) (Domain e) (λ domain. domain) c.from_residual-in_err-stations.result _ c.from_residual-in_err-stations.ensures.1
@@ -38,7 +38,7 @@ of_names-requires c =
     let bridges = c.in_ok-bridges.bridges.keys in
     let stations = c.in_ok-stations.stations.keys in
     numbered_names_are text bridges stations c.requires
-    (taken-at c.new-none.result.keys [] c.bridges.result.now text.bridges c.new-none.ensures.empty c.bridges.ensures (Ok bridges) c.in_ok-bridges.ensures)
+    (taken-at c.new-none.result.keys [] c.bridges.result.now text.bridges c.new-none.ensures c.bridges.ensures (Ok bridges) c.in_ok-bridges.ensures)
     (taken-at bridges bridges c.stations.result.now text.stations refl c.stations.ensures (Ok stations) c.in_ok-stations.ensures)
 
 pub returns : goal.returns
@@ -46,7 +46,7 @@ returns c =
     let text = c.args.draft.now in
     let bridges = c.in_ok-bridges.bridges.keys in
     let stations = c.in_ok-stations.stations.keys in
-    let numbered = taken-at c.new-none.result.keys [] c.bridges.result.now text.bridges c.new-none.ensures.empty c.bridges.ensures (Ok bridges)
+    let numbered = taken-at c.new-none.result.keys [] c.bridges.result.now text.bridges c.new-none.ensures c.bridges.ensures (Ok bridges)
     c.in_ok-bridges.ensures in
     let same : text.bridges ≡ bridges = kept (first_taken [] text.bridges) NameTaken text.bridges bridges numbered in
     let whole = names_passed text bridges stations numbered

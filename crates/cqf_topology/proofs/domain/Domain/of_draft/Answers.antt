@@ -10,7 +10,7 @@ returns-in_err-bridges c =
     let e = c.in_err-bridges.field-0.0 in
     Gives-residual Memory e (λ domain. domain) c.from_residual.result _ c.from_residual.ensures.1
     (λ known. checked-bridge_taken d e
-    (taken-at c.new-none.result.keys [] c.bridges.result.now d.bridges c.new-none.ensures.empty c.bridges.ensures (Err e) (c.in_err-bridges.ensures known)))
+    (taken-at c.new-none.result.keys [] c.bridges.result.now d.bridges c.new-none.ensures c.bridges.ensures (Err e) (c.in_err-bridges.ensures known)))
 
 pub of_bridges-requires : goal.of_bridges-requires
 of_bridges-requires c =
@@ -18,5 +18,5 @@ of_bridges-requires c =
     let numbered = c.in_ok-bridges.ensures in
     record {
       readable = c.requires;
-      bridges_are = taken-at c.new-none.result.keys [] c.bridges.result.now d.bridges c.new-none.ensures.empty c.bridges.ensures (Ok _) numbered;
+      bridges_are = taken-at c.new-none.result.keys [] c.bridges.result.now d.bridges c.new-none.ensures c.bridges.ensures (Ok _) numbered;
     }

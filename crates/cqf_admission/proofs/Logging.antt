@@ -1,0 +1,75 @@
+-- A log with an entry more, and what is known of requests with one form more.
+use Rattle.std.proofs.Common.{◌≡◌, ℕ, ◌<◌, List, [], ◌∷◌, ◌++◌, get_or, set, map, length, sym, ap, ◌∙◌, subst, arith, inl, inr}
+use Rattle.std.proofs.lemmas.List.{get_or-map, get_or-set_same, get_or-set_other, get_or_default, length-set, map-append}
+use Rattle.std.proofs.lemmas.List.Elements.{All-push}
+use Rattle.cqf_model.specs.Domain.{Domain}
+use Rattle.cqf_model.specs.History.{Asked}
+use Rattle.cqf_laws_history.specs.StateLaws.{with_entry}
+use Rattle.cqf_topology.specs.declared.streams.Request.{Request}
+use Rattle.cqf_admission_requests.specs.Orders.{StandsIn, act_in, request_at}
+use Rattle.cqf_admission.specs.Asking.{asked_of}
+use Rattle.cqf_admission.specs.declared.forms.Form.{Form}
+use Rattle.cqf_admission.specs.declared.forms.Form.TheVariants.{Unseen}
+use Rattle.cqf_admission.specs.declared.logs.Logged.{Logged}
+use Rattle.cqf_admission.specs.Forms.{IsFormOf}
+use Rattle.cqf_admission.specs.Ledger.{recorded_in}
+use Rattle.cqf_admission.specs.Running.{AreForms, AreThere}
+use Rattle.cqf_admission.proofs.Figures.{same_or_not}
+
+-- the entries behind one that is logged
+pub logged_behind : (requests : List Asked) (script : List ℕ) (old reserved new : List Logged) (e : Logged) → reserved ≡ old → new ≡ reserved ++ e ∷ [] →
+    map (recorded_in requests script) new ≡ with_entry (map (recorded_in requests script) old) e.seat (act_in requests script e.what) e.reply
+logged_behind requests script old reserved new e same is =
+    ap (map (recorded_in requests script)) (is ∙ ap (λ (es : List Logged). es ++ e ∷ []) same) ∙ map-append (recorded_in requests script) old (e ∷ [])
+
+-- each is there yet
+pub there_behind : (requests : List Asked) (script : List ℕ) (old reserved new : List Logged) (e : Logged) → reserved ≡ old → new ≡ reserved ++ e ∷ [] →
+    AreThere requests script old → StandsIn requests script e.what → AreThere requests script new
+there_behind requests script old reserved new e same is there one =
+    subst (AreThere requests script) (sym (is ∙ ap (λ (es : List Logged). es ++ e ∷ []) same))
+    (All-push (λ (logged : Logged). StandsIn requests script logged.what) old e there one)
+
+-- the request at a place as it is asked for
+pub asked_at : (requests : List Request) (place : ℕ) (request : Request) → place < length requests → request ≡ get_or requests place request →
+    request_at (map asked_of requests) place ≡ asked_of request
+asked_at requests place request low is =
+    get_or-map asked_of requests place request (record { name = []; octets = 0; every = 1; phase = 0; paths = [] }) low ∙ ap asked_of (sym is)
+
+-- ---- forms
+
+-- the form at a place is of the request there
+pub form_at : (d : Domain) (requests : List Request) (forms : List Form) (place : ℕ) (request : Request) (form : Form) → AreForms d requests forms →
+    place < length requests → request ≡ get_or requests place request → form ≡ get_or forms place form →
+    IsFormOf d (asked_of request) form
+form_at d requests forms place request form known low is at =
+    let inside : place < length forms = omega (arith, low, known.as_many) in
+    subst (λ (x : Request). IsFormOf d (asked_of x) form) (sym is)
+    (subst (IsFormOf d (asked_of (get_or requests place request))) (get_or_default forms place Unseen form inside ∙ sym at)
+    (known.each place request low))
+
+-- and with another one of it they are of the requests
+pub forms_set : (d : Domain) (requests : List Request) (forms : List Form) (place : ℕ) (request : Request) (form : Form) → AreForms d requests forms →
+    place < length requests → request ≡ get_or requests place request → IsFormOf d (asked_of request) form →
+    AreForms d requests (set forms place form)
+forms_set d requests forms place request form known low is of = record {
+  as_many = length-set forms place form ∙ known.as_many;
+  each = λ k other below. elim (same_or_not k place) [
+    | inl here ↦ (
+        let at : get_or (set forms place form) k Unseen ≡ form =
+        ap (λ (n : ℕ). get_or (set forms place form) n Unseen) here ∙ get_or-set_same forms place form Unseen (omega (arith, low, known.as_many)) in
+        let one : get_or requests k other ≡ request =
+        ap (λ (n : ℕ). get_or requests n other) here ∙ get_or_default requests place other request low ∙ sym is in
+        subst (IsFormOf d (asked_of (get_or requests k other))) (sym at) (subst (λ (x : Request). IsFormOf d (asked_of x) form) (sym one) of))
+    | inr differ ↦ subst (IsFormOf d (asked_of (get_or requests k other))) (sym (get_or-set_other forms place k form Unseen differ))
+        (known.each k other below)
+  ];
+}
+
+-- what was put at a place stands there
+pub put_there : {X : Type 0} (xs : List X) (place : ℕ) (x y : X) → place < length xs → y ≡ get_or (set xs place x) place y → y ≡ x
+put_there xs place x y low is = is ∙ get_or-set_same xs place x y low
+
+-- some request, where there is one
+pub some_request : (requests : List Request) (place : ℕ) → place < length requests → Request
+some_request [] place low = absurd (omega (arith, low))
+some_request (request ∷ requests) place low = request

@@ -1,0 +1,7 @@
+-- So many are unseen.
+use Rattle.std.proofs.Common.{ℕ, ◌≡◌, ◌<◌, length, get_or}
+use Rattle.cqf_admission.specs.declared.forms.Form.TheVariants.{Unseen}
+use Rattle.cqf_admission.proofs.forms.unseen.Given as goal
+
+abbrev pub invariant-loop : goal.invariant-loop
+invariant-loop l = (length l.forms.items ≡ l.counter) × ((place : ℕ) → place < l.counter → get_or l.forms.items place Unseen ≡ Unseen)

@@ -1,0 +1,125 @@
+use Rattle.std.proofs.Common.{◌≡◌, ◌≢◌, ◌<◌, ◌≤◌, ◌∙◌, ℕ, All, List, None, Option, arith, ap, false, get_or, length, map, set, subst, subst₂, sym, true}
+use Rattle.std.specs.Arc.{arc_value}
+use Rattle.std.specs.Prelude.{AllPairs, Contains}
+use Rattle.std.specs.BTreeMap.{UpdatesBy}
+use Rattle.std.specs.Cmp.Lexicographic.{slice_cmp}
+use Rattle.std.specs.Ordering.{nat_cmp}
+use Rattle.std.proofs.lemmas.List.{length-map}
+use Rattle.cqf_units.specs.Timing.{cost_of}
+use Rattle.cqf_model.specs.declared.topology.Hop.{Hop}
+use Rattle.cqf_model.specs.declared.topology.Row.{Row}
+use Rattle.cqf_model.specs.Limits.{most_reserved}
+use Rattle.cqf_model.specs.Table.{links_in, links_of}
+use Rattle.cqf_admission_trees.specs.Sums.{AreLessOn, HaveOn}
+use Rattle.cqf_admission.specs.Rows.{IsCountable}
+use Rattle.cqf_admission.specs.Holdings.{HaveFigures, IsHeldAt, Standing, Stands, held_under, released, standing_of}
+use Rattle.cqf_admission.specs.declared.holdings.Stand.{Stand}
+use Rattle.cqf_admission.proofs.Figures.{figures_less, goes_within, others_stay, own_along}
+use Rattle.cqf_admission.proofs.HeldNumbers.{number_of_held, numbers_ascend, without}
+use Rattle.cqf_admission.proofs.Lists.{map_set, mapped_there, read_same}
+use Rattle.cqf_admission.proofs.holdings.Holdings.let_go.Goals as goal
+
+-- what is known of a stream that is held
+module _ (stands : List Stand) (under : List ℕ → Option ℕ) (held sums : List ℕ) (h : HaveFigures (map standing_of stands) under held sums) (number : ℕ)
+    (at : IsHeldAt (map standing_of stands) number) (old : Stand) (is : old ≡ get_or stands number old) where
+  low : number < length stands
+  low = omega (arith, at.inside, length-map stands standing_of)
+
+  there : standing_of old ≡ get_or (map standing_of stands) number (standing_of old)
+  there = sym (mapped_there standing_of stands number old (standing_of old) low is)
+
+  is_held : old.held ≡ true
+  is_held = ap (λ (x : Standing). x.held) there ∙ at.held (standing_of old)
+
+  countable : IsCountable (length sums) (arc_value old.row)
+  countable = own_along (map standing_of stands) under held sums h number (standing_of old) at.inside there
+
+  within : HaveOn sums (links_of (arc_value old.row)) (cost_of (arc_value old.row).octets)
+  within = goes_within (map standing_of stands) under held sums h number (standing_of old) at.inside there is_held
+
+  -- the figures without it
+  without_it : (left : Stand) (next : List ℕ → Option ℕ) (numbers less : List ℕ) → left ≡ old → next (arc_value old.row).name ≡ None →
+      ((name : List ℕ) → name ≢ (arc_value old.row).name → next name ≡ under name) → numbers ≡ without number held →
+      AreLessOn sums (links_of (arc_value old.row)) (cost_of (arc_value old.row).octets) less →
+      HaveFigures (map standing_of (set stands number (record left { held = false }))) next numbers less
+  without_it left next numbers less same own others listed by =
+      subst (λ (rs : List Standing). HaveFigures rs next numbers less)
+      (sym (ap (λ (x : Stand). map standing_of (set stands number (record x { held = false }))) same
+      ∙ map_set standing_of stands number (record old { held = false })))
+      (figures_less (map standing_of stands) under held sums h number (standing_of old) at.inside there is_held next own others numbers less listed by)
+
+pub cost-requires : goal.cost-requires
+cost-requires c =
+    let at : IsHeldAt (map standing_of c.self.inside.rows.items) c.args.number = subst (λ (h : Stands). IsHeldAt h.rows c.args.number) (sym c.self.view_is)
+    (record { inside = c.requires.inside; held = c.requires.held }) in
+    let own = countable c.self.inside.rows.items (held_under c.self.inside.by_name) c.self.inside.held.items c.self.inside.sums.items c.self.invariant
+    c.args.number at c.index.result.now c.index.ensures in
+    let few : c.deref-2.result.now.octets ≤ most_reserved = subst (λ (r : Row). r.octets ≤ most_reserved) (sym c.deref-2.ensures) own.octets in
+    omega (arith, few)
+
+pub take_on-requires-clause-inside : goal.take_on-requires-clause-inside
+take_on-requires-clause-inside c =
+    let at : IsHeldAt (map standing_of c.self.inside.rows.items) c.args.number = subst (λ (h : Stands). IsHeldAt h.rows c.args.number) (sym c.self.view_is)
+    (record { inside = c.requires.inside; held = c.requires.held }) in
+    let own = countable c.self.inside.rows.items (held_under c.self.inside.by_name) c.self.inside.held.items c.self.inside.sums.items c.self.invariant
+    c.args.number at c.index.result.now c.index.ensures in
+    let hops : c.as_slice.result.now ≡ (arc_value c.index.result.now.row).tree.items = c.as_slice.ensures.value ∙ ap (λ (r : Row). r.tree.items) c.deref.ensures in
+    subst (λ (tree : List Hop). All (λ (l : ℕ). l < length c.self.inside.sums.items) (links_in tree)) (sym hops) own.inside
+
+pub take_on-requires-clause-apart : goal.take_on-requires-clause-apart
+take_on-requires-clause-apart c =
+    let at : IsHeldAt (map standing_of c.self.inside.rows.items) c.args.number = subst (λ (h : Stands). IsHeldAt h.rows c.args.number) (sym c.self.view_is)
+    (record { inside = c.requires.inside; held = c.requires.held }) in
+    let own = countable c.self.inside.rows.items (held_under c.self.inside.by_name) c.self.inside.held.items c.self.inside.sums.items c.self.invariant
+    c.args.number at c.index.result.now c.index.ensures in
+    let hops : c.as_slice.result.now ≡ (arc_value c.index.result.now.row).tree.items = c.as_slice.ensures.value ∙ ap (λ (r : Row). r.tree.items) c.deref.ensures in
+    subst (λ (tree : List Hop). AllPairs (λ (a b : ℕ). a ≢ b) (links_in tree)) (sym hops) own.apart
+
+pub take_on-requires-clause-held : goal.take_on-requires-clause-held
+take_on-requires-clause-held c =
+    let at : IsHeldAt (map standing_of c.self.inside.rows.items) c.args.number = subst (λ (h : Stands). IsHeldAt h.rows c.args.number) (sym c.self.view_is)
+    (record { inside = c.requires.inside; held = c.requires.held }) in
+    let hops : c.as_slice.result.now ≡ (arc_value c.index.result.now.row).tree.items = c.as_slice.ensures.value ∙ ap (λ (r : Row). r.tree.items) c.deref.ensures in
+    let costs : c.cost.result.0 ≡ cost_of (arc_value c.index.result.now.row).octets = c.cost.ensures ∙ ap (λ (r : Row). cost_of r.octets) c.deref-2.ensures in
+    subst₂ (λ (tree : List Hop) (n : ℕ). HaveOn c.self.inside.sums.items (links_in tree) n) (sym hops) (sym costs)
+    (within c.self.inside.rows.items (held_under c.self.inside.by_name) c.self.inside.held.items c.self.inside.sums.items c.self.invariant c.args.number at
+    c.index.result.now c.index.ensures)
+
+pub take_out-requires-clause-order : goal.take_out-requires-clause-order
+take_out-requires-clause-order c =
+    subst (AllPairs (λ (a b : ℕ). a < b)) (sym c.self.invariant.numbers) (numbers_ascend 0 (map standing_of c.self.inside.rows.items))
+
+pub take_out-requires-clause-there : goal.take_out-requires-clause-there
+take_out-requires-clause-there c =
+    let at : IsHeldAt (map standing_of c.self.inside.rows.items) c.args.number = subst (λ (h : Stands). IsHeldAt h.rows c.args.number) (sym c.self.view_is)
+    (record { inside = c.requires.inside; held = c.requires.held }) in
+    subst (λ (ns : List ℕ). Contains ns c.args.number) (sym c.self.invariant.numbers) (number_of_held (map standing_of c.self.inside.rows.items) c.args.number at)
+
+pub invariant_of-self : goal.invariant_of-self
+invariant_of-self c =
+    let stands = c.self.inside.rows.items in
+    let old = c.index.result.now in
+    let at : IsHeldAt (map standing_of stands) c.args.number = subst (λ (h : Stands). IsHeldAt h.rows c.args.number) (sym c.self.view_is)
+    (record { inside = c.requires.inside; held = c.requires.held }) in
+    let low : c.args.number < length stands = omega (arith, at.inside, length-map stands standing_of) in
+    let hops : c.as_slice.result.now ≡ (arc_value old.row).tree.items = c.as_slice.ensures.value ∙ ap (λ (r : Row). r.tree.items) c.deref.ensures in
+    let costs : c.cost.result.0 ≡ cost_of (arc_value old.row).octets = c.cost.ensures ∙ ap (λ (r : Row). cost_of r.octets) c.deref-2.ensures in
+    let by : UpdatesBy (slice_cmp nat_cmp) (slice_cmp nat_cmp (arc_value old.row).name) c.self.inside.by_name c.remove.new.self None =
+    subst (λ (r : Row). UpdatesBy (slice_cmp nat_cmp) (slice_cmp nat_cmp r.name) c.self.inside.by_name c.remove.new.self None) c.deref-3.ensures
+    c.remove.ensures.updates in
+    without_it stands (held_under c.self.inside.by_name) c.self.inside.held.items c.self.inside.sums.items c.self.invariant c.args.number at old c.index.ensures
+    c.index_mut.result.now (held_under c.remove.new.self) c.take_out.new.held.items c.take_on.new.sums.items
+    (read_same stands c.args.number c.index_mut.result.now old low c.index_mut.ensures.value c.index.ensures) by.1
+    (others_stay c.self.inside.by_name c.remove.new.self (arc_value old.row).name None by) c.take_out.ensures
+    (subst₂ (λ (tree : List Hop) (n : ℕ). AreLessOn c.self.inside.sums.items (links_in tree) n c.take_on.new.sums.items) hops costs c.take_on.ensures)
+
+pub returns-clause-rows : goal.returns-clause-rows
+returns-clause-rows c = λ d.
+    let stands = c.self.inside.rows.items in
+    let rows : List Standing = map standing_of stands in
+    let number = c.args.number in
+    let old = c.index_mut.result.now in
+    let low : number < length stands = omega (arith, c.requires.inside, ap (λ (h : Stands). length h.rows) c.self.view_is, length-map stands standing_of) in
+    map_set standing_of stands number (record old { held = false })
+    ∙ ap (λ (s : Standing). set rows number (released s)) (sym (mapped_there standing_of stands number old d low c.index_mut.ensures.value))
+    ∙ ap (λ (h : Stands). set h.rows number (released (get_or h.rows number d))) c.self.view_is

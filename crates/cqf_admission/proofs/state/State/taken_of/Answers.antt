@@ -1,0 +1,28 @@
+use Rattle.std.proofs.Common.{◌≡◌, ◌∙◌, List, ap, arith, subst, sym}
+use Rattle.std.specs.Option.{option_map_or}
+use Rattle.cqf_units.specs.Timing.{budget_of, nanos_of_octet}
+use Rattle.cqf_model.specs.declared.topology.Link.{Link}
+use Rattle.cqf_model.specs.Domain.{budget}
+use Rattle.cqf_admission.specs.Holdings.{Standing, held_cost}
+use Rattle.cqf_admission.specs.State.{Figures, SomeHistory}
+use Rattle.cqf_admission.proofs.Told.{costs}
+use Rattle.cqf_admission.proofs.Weighed.{within}
+use Rattle.cqf_admission.proofs.state.State.taken_of.Goals as goal
+
+pub prove-unreachable-requires : goal.prove-unreachable-requires
+prove-unreachable-requires c =
+    let i = c.self.inside in
+    let d = c.args.domain.now in
+    let before : Figures = record { stands = i.holdings.rows; room = i.holdings.room; links = i.holdings.links; slots = i.slots; sealed = i.sealed } in
+    let h = subst (SomeHistory d) (sym c.self.view_is) c.requires.history in
+    let most : c.budget-most.result.0 ≡ budget d c.args.link =
+    c.budget-most.ensures
+    ∙ (λ k. budget_of (c.cycle_time.ensures.value k) (c.guard.ensures k) (option_map_or (λ (link : Link). nanos_of_octet link.rate) (sym c.link-rate.ensures k) 0)) in
+    omega (arith, c.if-prove.true, within d h.entries before h.is c.state_follows_history.ensures.held c.args.link, most, c.cost_on-taken.ensures)
+
+pub returns-clause-held : goal.returns-clause-held
+returns-clause-held c entries r =
+    c.cost_on-taken.ensures
+    ∙ ap (λ (f : Figures). held_cost f.stands c.args.link) c.self.view_is
+    ∙ ap (λ (rows : List Standing). held_cost rows c.args.link) r.0.are_streams
+    ∙ costs c.args.domain.now entries c.args.link

@@ -1,0 +1,94 @@
+-- Accepted streams, of which some are held, and the figures that are kept of these.
+use Rattle.std.specs.Prelude.{ℕ, ◌≡◌, ◌≢◌, ◌+◌, ◌<◌, ◌^◌, Bool, Contains, List, [], ◌∷◌, Option, Some, true, false, if◌then◌else◌, length, slice_index_or, sum_by, ◌==◌}
+use Rattle.std.specs.Arc.{arc_value}
+use Rattle.std.specs.List.{list_any}
+use Rattle.std.specs.Ordering.{nat_cmp}
+use Rattle.std.specs.Cmp.Lexicographic.{slice_cmp}
+use Rattle.std.specs.BTreeMap.{BTreeMap, get}
+use Rattle.cqf_units.specs.declared.reservations.Cycle.{Cycle}
+use Rattle.cqf_model.specs.declared.topology.Row.{Row}
+use Rattle.cqf_admission.specs.Rows.{IsCountable, cost_by_link, ended}
+use Rattle.cqf_admission.specs.declared.holdings.Stand.{Stand}
+
+-- a stream that was accepted: its row, and whether it is held
+pub record Standing : Type 0 where
+  pub row : Row
+  pub held : Bool
+
+abbrev pub standing_of : Stand → Standing
+standing_of stand = record { row = arc_value stand.row; held = stand.held }
+
+-- one that is held
+abbrev pub held_by : Row → Standing
+held_by row = record { row = row; held = true }
+
+-- accepted streams by number, how many streams more have room, and of how many links sums are kept
+pub record Stands : Type 0 where
+  pub rows : List Standing
+  pub room : ℕ
+  pub links : ℕ
+
+-- what those that are held cost of a link, and how many they are
+abbrev pub held_part : ℕ → Standing → ℕ
+held_part l stand = if stand.held then cost_by_link stand.row l else 0
+
+abbrev pub held_cost : List Standing → ℕ → ℕ
+held_cost rows l = sum_by (held_part l) rows
+
+abbrev pub held_one : Standing → ℕ
+held_one stand = if stand.held then 1 else 0
+
+abbrev pub held_count : List Standing → ℕ
+held_count rows = sum_by held_one rows
+
+-- their numbers, where the first of all has this one
+abbrev pub numbers_from : ℕ → List Standing → List ℕ
+numbers_from number [] = []
+numbers_from number (stand ∷ rows) = if stand.held then number ∷ numbers_from (number + 1) rows else numbers_from (number + 1) rows
+
+-- a stream with another row, as where it was withdrawn, and one that is held no more
+abbrev pub with_row : Standing → Row → Standing
+with_row stand row = record stand { row = row }
+
+pub record IsEnded (before after : Row) : Type 0 where
+  pub cycle : Cycle
+  pub is : after ≡ ended before cycle
+
+abbrev pub released : Standing → Standing
+released stand = record stand { held = false }
+
+-- a stream of this number is held
+pub record IsHeldAt (rows : List Standing) (number : ℕ) : Type 0 where
+  pub inside : number < length rows
+  pub held : (d : Standing) → (slice_index_or rows number d).held ≡ true
+
+-- it is the one that is held under this name; and none is
+pub record IsHolder (rows : List Standing) (name : List ℕ) (number : ℕ) : Type 0 where
+  pub is_held : IsHeldAt rows number
+  pub named : (d : Standing) → (slice_index_or rows number d).row.name ≡ name
+
+abbrev pub IsFree : List Standing → List ℕ → Type 0
+IsFree rows name = (number : ℕ) → IsHeldAt rows number → (d : Standing) → (slice_index_or rows number d).row.name ≢ name
+
+-- what stands under a name
+abbrev pub held_under : BTreeMap (List ℕ) ℕ → List ℕ → Option ℕ
+held_under by_name name = get (slice_cmp nat_cmp) by_name name
+
+-- the figures are those of the streams: under each name the number of the one that is held under it, the numbers of those that are
+-- held, and the sums
+pub record HaveFigures (rows : List Standing) (under : List ℕ → Option ℕ) (held sums : List ℕ) : Type 0 where
+  pub along : (stand : Standing) → Contains rows stand → IsCountable (length sums) stand.row
+  pub costs : (l : ℕ) → l < length sums → slice_index_or sums l 0 ≡ held_cost rows l
+  pub numbers : held ≡ numbers_from 0 rows
+  pub few : length rows < 2 ^ 32
+  pub leads : (name : List ℕ) (number : ℕ) → under name ≡ Some number → IsHolder rows name number
+  pub found : (number : ℕ) (d : Standing) → IsHeldAt rows number → under (slice_index_or rows number d).row.name ≡ Some number
+
+-- one of a number, let go of where the number is listed
+abbrev pub let_go_if : List ℕ → ℕ → Standing → Standing
+let_go_if numbers number stand = if list_any (λ other. other == number) numbers then released stand else stand
+
+-- those of the listed numbers are let go of, and the others stay as they are
+pub record AreLetGo (numbers : List ℕ) (rows after : List Standing) : Type 0 where
+  pub as_many : length after ≡ length rows
+  pub each : (number : ℕ) (d : Standing) → number < length rows → slice_index_or after number d ≡ let_go_if numbers number (slice_index_or rows number d)

@@ -1,0 +1,74 @@
+//! What requests are by themselves, each looked over once.
+ghost use Rattle.std.specs.Prelude.{◌≡◌, IfOk, OnOk, length};
+ghost use Rattle.cqf_admission.specs.Asking.{asked_of};
+ghost use Rattle.cqf_admission.specs.Forms.{AreUnseen, IsFormOf, IsSeen};
+
+use crate::judged::judge;
+use cqf_admission_trees::count_places;
+use cqf_model::{Refused, Row};
+use cqf_topology::{Domain, Request};
+use cqf_units::{Cycle, Memory};
+use std::alloc::{AllocError, Global};
+
+/// What is known of a request's form.
+#[derive(Drop)]
+pub(crate) enum Form {
+    /// It wasn't looked at yet.
+    Unseen,
+    /// The first reason against it.
+    Bad(Refused),
+    /// There is none, and this is its row, as that of number 0 and of cycle 0.
+    Good(Row),
+}
+
+/// Looks a request over.
+///
+/// # Errors
+/// Where a growth is refused, or no `usize` can count the places of its branches.
+fn look_over(alloc: Global, domain: &Domain, request: &Request) -> Result<Form, Memory>
+    ensures seen { IfOk result IsSeen }
+    ensures form { IfOk result (IsFormOf domain.now (asked_of request.now)) }
+{
+    if count_places(request.paths.as_slice()).is_none() {
+        return Err(AllocError);
+    }
+    match judge(domain, request) {
+        Ok(judged) => {
+            let row = judged.into_row(alloc, request.octets, 0, Cycle(0))?;
+            Ok(Form::Good(row))
+        }
+        Err(refused) => Ok(Form::Bad(refused)),
+    }
+}
+
+/// Sees to it that a request's form is known.
+///
+/// # Errors
+/// As [`look_over`].
+pub(crate) fn see(
+    alloc: Global,
+    domain: &Domain,
+    request: &Request,
+    form: &mut Form,
+) -> Result<(), Memory>
+    requires { IsFormOf domain.now (asked_of request.now) form.old }
+    ensures form { IsFormOf domain.now (asked_of request.now) form.new }
+    ensures seen { OnOk result (IsSeen form.new) }
+{
+    if let Form::Unseen = form {
+        *form = look_over(alloc, domain, request)?;
+    }
+    Ok(())
+}
+
+/// So many requests that weren't looked at yet, unless memory runs out.
+pub(crate) fn unseen(alloc: Global, requests: usize) -> Result<Vec<Form>, Memory>
+    ensures many { IfOk result (λ forms. length forms.items ≡ requests) }
+    ensures unseen { IfOk result (λ forms. AreUnseen forms.items) }
+{
+    let mut forms = Vec::with_capacity(alloc, requests)?;
+    for _ in 0..requests {
+        forms.push(Form::Unseen)?;
+    }
+    Ok(forms)
+}

@@ -1,0 +1,257 @@
+//! Accepted streams by number, of which some are held.
+ghost use Rattle.std.specs.Arc.{arc_value};
+ghost use Rattle.std.specs.Prelude.{◌≡◌, ◌+◌, ◌-◌, ◌<◌, ◌^◌, ◌==◌, ℕ, [], ◌∷◌, ◌++◌, AllPairs, Contains, IfOk, MatchOption, OnErr, OnOk};
+ghost use Rattle.std.specs.Prelude.{filter, length, map, not, replicate, slice_index_or, slice_set, vec_len, vec_capacity};
+ghost use Rattle.cqf_admission.specs.Rows.{IsCountable, cost_by_link};
+ghost use Rattle.cqf_admission.specs.Holdings.{IsEnded, IsFree, IsHeldAt, IsHolder, Standing, held_by, held_cost, held_count, released, standing_of, with_row};
+
+use cqf_admission_trees::{add_on, take_on};
+use cqf_model::Row;
+use cqf_units::{Memory, Name, Octets, cost};
+use std::alloc::Global;
+use std::collections::BTreeMap;
+use std::marker::Model;
+use std::sync::Arc;
+
+/// A stream that was accepted: its row, which tables share, so that one that changes is another, and whether it is held.
+#[derive(Debug, Drop)]
+pub(crate) struct Stand {
+    row: Arc<Row>,
+    held: bool,
+}
+
+/// The accepted streams by number, never removed, with those figures of the held ones that admission asks.
+#[derive(Debug, Drop)]
+pub(crate) struct Holdings {
+    rows: Vec<Stand>,
+    /// By name, the number of the stream that is held under it.
+    by_name: BTreeMap<Name, u32>,
+    /// The numbers of those that are held, in order.
+    held: Vec<u32>,
+    /// By link, the sum of the costs of the held streams that go by it.
+    sums: Vec<u64>,
+}
+
+impl Model for Holdings {
+    ghost use Rattle.std.specs.Prelude.{◌-◌, length, map, min, vec_len, vec_capacity};
+    ghost use Rattle.cqf_admission.specs.Holdings.{HaveFigures, Stands, held_under, standing_of};
+
+    ghost Value = { Stands };
+
+    ghost view = { λ h. record {
+      rows = map standing_of h.rows.items;
+      room = min (vec_capacity h.rows - vec_len h.rows) (vec_capacity h.held - vec_len h.held);
+      links = length h.sums.items;
+    } };
+
+    ghost invariant = { λ h. HaveFigures (map standing_of h.rows.items) (held_under h.by_name) h.held.items h.sums.items };
+}
+
+/// A sum of nothing for each of so many links.
+fn no_sums(alloc: Global, links: usize) -> Result<Vec<u64>, Memory>
+    ensures { IfOk result (λ sums. sums.items ≡ replicate links 0) }
+{
+    Ok(vec![in alloc; 0; links]?)
+}
+
+/// The row that was shared, unless memory runs out.
+fn own_row(alloc: Global, shared: Arc<Row>) -> Result<Row, Memory>
+    ensures { IfOk result (λ row. row ≡ arc_value shared) }
+{
+    match Arc::try_unwrap(shared) {
+        Ok(row) => Ok(row),
+        Err(shared) => shared.try_copy(alloc),
+    }
+}
+
+/// The same streams again, each row shared, unless memory runs out.
+fn copied_stands(alloc: Global, stands: &[Stand]) -> Result<Vec<Stand>, Memory>
+    ensures { IfOk result (λ copies. map standing_of copies.items ≡ map standing_of stands.now) }
+{
+    let mut copies = Vec::with_capacity(alloc, stands.len())?;
+    for stand in stands {
+        let row = Arc::try_clone(&stand.row)?;
+        copies.push(Stand {
+            row,
+            held: stand.held,
+        })?;
+    }
+    Ok(copies)
+}
+
+/// Makes room for one more in each list, unless memory runs out.
+fn reserve_each(rows: &mut Vec<Stand>, held: &mut Vec<u32>) -> Result<(), Memory>
+    ensures rows { rows.new.items ≡ rows.old.items }
+    ensures held { held.new.items ≡ held.old.items }
+    ensures room { OnOk result (0 < vec_capacity rows.new - vec_len rows.new × 0 < vec_capacity held.new - vec_len held.new) }
+{
+    rows.reserve(1)?;
+    held.reserve(1)?;
+    Ok(())
+}
+
+/// Takes a number out of a list in which it stands by size.
+fn take_out(held: &mut Vec<u32>, number: u32)
+    requires order { AllPairs (λ (a b : ℕ). a < b) held.old.items }
+    requires there { Contains held.old.items number }
+    ensures { held.new.items ≡ filter (λ other. not (other == number)) held.old.items }
+{
+    if let Ok(place) = held.binary_search(&number) {
+        let _ = held.remove(place);
+    }
+}
+
+impl Holdings {
+    /// No streams, of so many links, unless memory runs out.
+    pub(crate) fn new(alloc: Global, links: usize) -> Result<Holdings, Memory>
+        ensures rows { IfOk result (λ holdings. holdings.rows ≡ []) }
+        ensures links { IfOk result (λ holdings. holdings.links ≡ links) }
+    {
+        let sums = no_sums(alloc, links)?;
+        Ok(Holdings {
+            rows: Vec::new(alloc),
+            by_name: BTreeMap::new(alloc),
+            held: Vec::new(alloc),
+            sums,
+        })
+    }
+
+    /// The stream that is held under a name.
+    pub(crate) fn holder(&self, name: &Name) -> Option<u32>
+        ensures { MatchOption result (IsFree self.now.rows name.now) (IsHolder self.now.rows name.now) }
+    {
+        let rows = &self.rows;
+        self.by_name.get(name).copied()
+    }
+
+    /// How many streams there are, held or not.
+    pub(crate) fn len(&self) -> u32
+        ensures { result ≡ length self.now.rows }
+    {
+        self.rows.len() as u32
+    }
+
+    /// The row of the stream of a number.
+    pub(crate) fn row(&self, number: u32) -> &Row
+        requires { number < length self.now.rows }
+        ensures { (d : Standing) → (slice_index_or self.now.rows number d).row ≡ result.now }
+    {
+        &self.rows[number as usize].row
+    }
+
+    /// How many streams are held.
+    pub(crate) fn count(&self) -> usize
+        ensures { result ≡ held_count self.now.rows }
+    {
+        let rows = &self.rows;
+        self.held.len()
+    }
+
+    /// What the held streams cost of a link.
+    pub(crate) fn cost_on(&self, link: u16) -> u64
+        requires { link < self.now.links }
+        ensures { result ≡ held_cost self.now.rows link }
+    {
+        let rows = &self.rows;
+        self.sums[usize::from(link)]
+    }
+
+    /// Makes room for a stream more, unless memory runs out.
+    pub(crate) fn reserve(&mut self) -> Result<(), Memory>
+        ensures rows { self.new.rows ≡ self.old.rows }
+        ensures links { self.new.links ≡ self.old.links }
+        ensures room { OnOk result (0 < self.new.room) }
+    {
+        let (rows, held) = (&mut self.rows, &mut self.held);
+        reserve_each(rows, held)
+    }
+
+    /// Adds a stream that is held, behind the others, where its name is free and there is room, unless memory runs out.
+    pub(crate) fn push(&mut self, alloc: Global, row: Row) -> Result<(), Memory>
+        requires room { 0 < self.old.room }
+        requires few { length self.old.rows + 1 < 2 ^ 32 }
+        requires free { IsFree self.old.rows row.name }
+        requires countable { IsCountable self.old.links row }
+        requires fits { (l : ℕ) → l < self.old.links → held_cost self.old.rows l + cost_by_link row l < 2 ^ 64 }
+        ensures rows { OnOk result (self.new.rows ≡ self.old.rows ++ held_by row ∷ []) }
+        ensures links { self.new.links ≡ self.old.links }
+        ensures same { OnErr result (self.new ≡ self.old) }
+    {
+        let number = self.rows.len() as u32;
+        let name = row.name.copied();
+        let row = Arc::new(alloc, row)?;
+        self.by_name.insert(name, number)?;
+        add_on(
+            &mut self.sums,
+            row.tree.as_slice(),
+            cost(Octets(row.octets)).0,
+        );
+        self.held.push(number).unwrap();
+        self.rows.push(Stand { row, held: true }).unwrap();
+        Ok(())
+    }
+
+    /// Takes the row of a stream that was withdrawn. It is held on.
+    pub(crate) fn end(&mut self, number: u32, row: Arc<Row>)
+        requires inside { number < length self.old.rows }
+        requires ended { (d : Standing) → IsEnded (slice_index_or self.old.rows number d).row (arc_value row) }
+        ensures rows { (d : Standing) → self.new.rows ≡ slice_set self.old.rows number (with_row (slice_index_or self.old.rows number d) (arc_value row)) }
+        ensures links { self.new.links ≡ self.old.links }
+    {
+        self.rows[number as usize].row = row;
+    }
+
+    /// Lets go of a stream that is held.
+    pub(crate) fn let_go(&mut self, number: u32)
+        requires { IsHeldAt self.old.rows number }
+        ensures rows { (d : Standing) → self.new.rows ≡ slice_set self.old.rows number (released (slice_index_or self.old.rows number d)) }
+        ensures links { self.new.links ≡ self.old.links }
+    {
+        let place = number as usize;
+        let row = &self.rows[place].row;
+        take_on(
+            &mut self.sums,
+            row.tree.as_slice(),
+            cost(Octets(row.octets)).0,
+        );
+        let _ = self.by_name.remove(&row.name);
+        take_out(&mut self.held, number);
+        self.rows[place].held = false;
+    }
+
+    /// The rows of the streams that are held, by number, each shared, unless memory runs out.
+    pub(crate) fn held_rows(&self, alloc: Global) -> Result<Vec<Arc<Row>>, Memory>
+        ensures { IfOk result (λ rows. map (λ row. arc_value row) rows.items ≡ map (λ (stand : Standing). stand.row) (filter (λ (stand : Standing). stand.held) self.now.rows)) }
+    {
+        let stands = &self.rows;
+        let mut rows = Vec::with_capacity(alloc, self.held.len())?;
+        for number in &self.held {
+            rows.push(Arc::try_clone(&stands[*number as usize].row)?)?;
+        }
+        Ok(rows)
+    }
+
+    /// The same streams again, unless memory runs out. The two share their rows.
+    pub(crate) fn try_copy(&self, alloc: Global) -> Result<Holdings, Memory>
+        ensures rows { IfOk result (λ copy. copy.rows ≡ self.now.rows) }
+        ensures links { IfOk result (λ copy. copy.links ≡ self.now.links) }
+    {
+        Ok(Holdings {
+            rows: copied_stands(alloc, self.rows.as_slice())?,
+            by_name: self.by_name.clone()?,
+            held: Vec::from_slice(alloc, self.held.as_slice())?,
+            sums: Vec::from_slice(alloc, self.sums.as_slice())?,
+        })
+    }
+
+    /// The rows of the streams, by number, unless memory runs out.
+    pub(crate) fn into_rows(self, alloc: Global) -> Result<Vec<Row>, Memory>
+        ensures { IfOk result (λ rows. rows.items ≡ map (λ (stand : Standing). stand.row) self.rows) }
+    {
+        let mut rows = Vec::with_capacity(alloc, self.rows.len())?;
+        for stand in self.rows {
+            rows.push(own_row(alloc, stand.row)?)?;
+        }
+        Ok(rows)
+    }
+}

@@ -1,0 +1,222 @@
+//! The administration of streams over requests and a script that stand elsewhere, none of which it copies.
+ghost use Rattle.std.specs.Prelude.{ℕ, ◌≡◌, ◌≤◌, ◌<◌, [], map, length, IfOk};
+ghost use Rattle.cqf_model.specs.Domain.{budget};
+ghost use Rattle.cqf_model.specs.History.{Admits, IsLegalHistory, Withdraws, seals, streams_of};
+ghost use Rattle.cqf_model.specs.Table.{link_cost};
+ghost use Rattle.cqf_admission_requests.specs.declared.orders.What.TheVariants.{Withdraw};
+ghost use Rattle.cqf_admission_requests.specs.Orders.{StandsIn, request_at, word_at};
+ghost use Rattle.cqf_admission.specs.Asking.{asked_of};
+ghost use Rattle.cqf_admission.specs.Admission.{Answers, EndsOne, HoldsOneMore, held_of};
+ghost use Rattle.cqf_admission.specs.Forms.{IsRowOfGoodForm};
+ghost use Rattle.cqf_admission.specs.Ledger.{ClosesCycle, recorded_in};
+ghost use Rattle.cqf_admission.specs.Running.{AreThere};
+
+use crate::entries::{SealFault, reply_of};
+use crate::forms::{Form, see, unseen};
+use crate::logs::{Logged, enter};
+use crate::state::{GoodForm, State};
+use cqf_admission_requests::{What, word_of};
+use cqf_laws_history::state_follows_history;
+use cqf_model::{MOST_SEALS, Receipt, Refused, Reply, Row};
+use cqf_topology::{Domain, Request};
+use cqf_units::{Cycle, Memory, Octets};
+use std::alloc::Global;
+use std::marker::Model;
+
+/// An admission controller over a domain, with its log of calls (profile). It answers as [`Admission`](crate::Admission)
+/// does, but copies no request and makes no table: a call takes a time that grows with its own request's tree, and a Seal one
+/// that grows with the streams that end in it.
+#[derive(Drop)]
+pub struct Ledger<'s> {
+    alloc: Global,
+    domain: &'s Domain,
+    requests: &'s [Request],
+    script: &'s [u8],
+    /// By place, what is known of each request's form.
+    forms: Vec<Form>,
+    state: State,
+    log: Vec<Logged>,
+}
+
+impl<'s> Model for Ledger<'s> {
+    ghost use Rattle.std.specs.Prelude.{map};
+    ghost use Rattle.cqf_admission.specs.Asking.{asked_of};
+    ghost use Rattle.cqf_admission.specs.Ledger.{Kept, recorded_in};
+    ghost use Rattle.cqf_admission.specs.Running.{AreForms, AreThere};
+    ghost use Rattle.cqf_admission.specs.State.{IsStateOf};
+
+    ghost Value = { Kept };
+
+    ghost view = { λ l. record {
+      administration = record {
+        domain = l.domain.now;
+        entries = map (recorded_in (map asked_of l.requests.now) l.script.now) l.log.items;
+      };
+      requests = map asked_of l.requests.now;
+      script = l.script.now;
+    } };
+
+    ghost invariant = { λ l. IsStateOf l.domain.now (map (recorded_in (map asked_of l.requests.now) l.script.now) l.log.items) l.state
+        × AreForms l.domain.now l.requests.now l.forms.items
+        × AreThere (map asked_of l.requests.now) l.script.now l.log.items };
+}
+
+impl<'s> Ledger<'s> {
+    /// A ledger for a domain, over these requests and a script's text, with an empty log.
+    ///
+    /// # Errors
+    /// Where a growth is refused.
+    pub fn new(
+        alloc: Global,
+        domain: &'s Domain,
+        requests: &'s [Request],
+        script: &'s [u8],
+    ) -> Result<Ledger<'s>, Memory>
+        ensures domain { IfOk result (λ l. l.administration.domain ≡ domain.now) }
+        ensures begins { IfOk result (λ l. l.administration.entries ≡ []) }
+        ensures requests { IfOk result (λ l. l.requests ≡ map asked_of requests.now) }
+        ensures script { IfOk result (λ l. l.script ≡ script.now) }
+    {
+        let forms = unseen(alloc, requests.len())?;
+        let state = State::new(alloc, usize::from(domain.links()))?;
+        Ok(Ledger {
+            alloc,
+            domain,
+            requests,
+            script,
+            forms,
+            state,
+            log: Vec::new(alloc),
+        })
+    }
+
+    /// All entries, in order.
+    pub fn log(&self) -> &[Logged]
+        ensures entries { map (recorded_in self.now.requests self.now.script) result.now ≡ self.now.administration.entries }
+        ensures legal { IsLegalHistory self.now.administration.domain self.now.administration.entries }
+        ensures there { AreThere self.now.requests self.now.script result.now }
+    {
+        self.log.as_slice()
+    }
+
+    /// All entries, in order, and the rows of all streams that were ever granted, by number, of a ledger that is over.
+    ///
+    /// # Errors
+    /// Where a growth is refused.
+    pub fn into_parts(self) -> Result<(Vec<Logged>, Vec<Row>), Memory>
+        ensures entries { IfOk result (λ parts. map (recorded_in self.entry.requests self.entry.script) parts.0.items ≡ self.entry.administration.entries) }
+        ensures legal { IsLegalHistory self.entry.administration.domain self.entry.administration.entries }
+        ensures there { IfOk result (λ parts. AreThere self.entry.requests self.entry.script parts.0.items) }
+        ensures rows { IfOk result (λ parts. parts.1.items ≡ streams_of self.entry.administration.domain self.entry.administration.entries) }
+    {
+        let rows = self.state.into_rows(self.alloc)?;
+        Ok((self.log, rows))
+    }
+
+    /// The next cycle to be closed to changes: the number of Seals so far. A call has its effect from this cycle on.
+    pub fn next_cycle(&self) -> Cycle
+        ensures { result.0 ≡ seals self.now.administration.entries }
+    {
+        self.state.next_cycle()
+    }
+
+    /// Asks for the stream of the request at this place. Where it is granted, the receipt has its number and the cycle from
+    /// which it is live; it is held, with its costs and its name, from then on.
+    ///
+    /// Refused with `HistoryFull`, before all else, where 100,000 entries aren't Seals; with `Memory` where a growth is
+    /// refused; then with the first reason that is due, in this order: `BadName`, `BadOctets`, `UnknownNode`,
+    /// `BrokenPath`, `LoopingPath`, `NotATree`, each over all branches before the next, `TooManyHops`, `NameHeld`, `TooManyStreams`
+    /// (as many are held as the domain may have), `BudgetShort`. `HistoryFull` and `Memory` change nothing; each other call enters the log with its answer
+    /// (profile).
+    pub fn admit(&mut self, seat: u16, place: usize) -> Result<Receipt, Refused>
+        requires { place < length self.old.requests }
+        ensures requests { self.new.requests ≡ self.old.requests }
+        ensures script { self.new.script ≡ self.old.script }
+        ensures answers { Answers self.old.administration self.new.administration seat (Admits (request_at self.old.requests place)) result }
+        ensures held { HoldsOneMore self.old.administration self.new.administration (request_at self.old.requests place) result }
+    {
+        if self.state.is_full(self.log.len()) {
+            return Err(Refused::HistoryFull);
+        }
+        self.log.reserve(1)?;
+        let request = &self.requests[place];
+        let form = &mut self.forms[place];
+        see(self.alloc, self.domain, request, form)?;
+        state_follows_history();
+        let answer = match &self.forms[place] {
+            Form::Unseen => unreachable!(),
+            Form::Bad(refused) => Err(*refused),
+            Form::Good(row) => self
+                .state
+                .admit(self.alloc, self.domain, GoodForm::of_row(row))?,
+        };
+        enter(&mut self.log, seat, What::Admit(place), reply_of(answer));
+        answer
+    }
+
+    /// Takes what the request at this place is by itself from somebody who found its row, so that no call looks it over again.
+    ///
+    /// # Errors
+    /// Where a growth is refused.
+    pub fn learn(&mut self, place: usize, row: &Row) -> Result<(), Memory>
+        requires there { place < length self.old.requests }
+        requires row { IsRowOfGoodForm self.old.administration.domain (request_at self.old.requests place) row.now }
+        ensures { self.new ≡ self.old }
+    {
+        self.forms[place] = Form::Good(row.try_copy(self.alloc)?);
+        Ok(())
+    }
+
+    /// Withdraws the stream whose name stands in the script, from a place on and of so many octets. The receipt has its
+    /// number and the first cycle in which it is live no more. It is held on for as many cycles as its deepest link is deep.
+    ///
+    /// Refused with `HistoryFull` and `Memory` as [`Ledger::admit`], then with `NotHeld` where no held stream has the name,
+    /// and `AlreadyWithdrawn` (profile).
+    pub fn withdraw(&mut self, seat: u16, from: usize, octets: u8) -> Result<Receipt, Refused>
+        requires { StandsIn self.old.requests self.old.script (Withdraw from octets) }
+        ensures requests { self.new.requests ≡ self.old.requests }
+        ensures script { self.new.script ≡ self.old.script }
+        ensures answers { Answers self.old.administration self.new.administration seat (Withdraws (word_at self.old.script from octets)) result }
+        ensures held { EndsOne self.old.administration self.new.administration result }
+    {
+        if self.state.is_full(self.log.len()) {
+            return Err(Refused::HistoryFull);
+        }
+        self.log.reserve(1)?;
+        let word = word_of(self.script, from, octets);
+        let answer = self.state.withdraw(self.alloc, word)?;
+        let what = What::Withdraw { from, octets };
+        enter(&mut self.log, seat, what, reply_of(answer));
+        answer
+    }
+
+    /// Closes the next cycle to changes, and gives its number.
+    ///
+    /// Refused with `CyclesSpent` after 100,000 Seals, and with `Memory`; neither changes anything (profile).
+    pub fn seal(&mut self, seat: u16) -> Result<Cycle, SealFault>
+        ensures requests { self.new.requests ≡ self.old.requests }
+        ensures script { self.new.script ≡ self.old.script }
+        ensures closes { ClosesCycle self.old.administration self.new.administration seat result }
+    {
+        let cycle = self.state.next_cycle();
+        if cycle.0 >= MOST_SEALS {
+            return Err(SealFault::CyclesSpent);
+        }
+        self.log.reserve(1)?;
+        state_follows_history();
+        self.state.seal();
+        enter(&mut self.log, seat, What::Seal, Reply::Sealed);
+        Ok(cycle)
+    }
+
+    /// What the streams that are held in the next cycle cost of a link, in octets a cycle: never more than its budget
+    /// (profile).
+    pub fn held_on(&self, link: u16) -> Octets
+        requires { link < length self.now.administration.domain.links }
+        ensures held { (cycle : ℕ) → result.0 ≡ link_cost (held_of self.now.administration) link cycle }
+        ensures within { result.0 ≤ budget self.now.administration.domain link }
+    {
+        state_follows_history();
+        self.state.taken_of(self.domain, link)
+    }
+}

@@ -1,0 +1,323 @@
+//! What an administration runs on in place of its history: the streams that it accepted, what the held ones cost, and which of them
+//! end in which cycle. No call looks through the streams.
+ghost use Rattle.std.specs.Arc.{arc_value};
+ghost use Rattle.std.specs.Prelude.{◌≡◌, ◌-◌, ◌<◌, ◌≤◌, ℕ, [], false, All, IfOk, List, OnErr, length, map, nat_le};
+ghost use Rattle.cqf_units.specs.Timing.{cost_of};
+ghost use Rattle.cqf_model.specs.Domain.{Domain as ADomain, budget};
+ghost use Rattle.cqf_model.specs.History.{Recorded, held_in, seals, streams_of};
+ghost use Rattle.cqf_model.specs.Limits.{most_calls, most_cycles, most_hops, most_reserved};
+ghost use Rattle.cqf_model.specs.Table.{links_in};
+ghost use Rattle.cqf_admission.specs.Holdings.{held_cost};
+ghost use Rattle.cqf_admission.specs.Rows.{costs_on, ended};
+ghost use Rattle.cqf_admission.specs.State.{AdmitsForm, ClosesNext, IsStateOf, SomeDomain, SomeHistory, SomeRequest, StaysSo, WithdrawsName};
+ghost use Rattle.cqf_admission.specs.Weighing.{FindsOpen, left_by, row_by, stand_refusal, stand_short};
+
+use crate::holdings::Holdings;
+use crate::judged::Judged;
+use crate::slots::{Slots, slot_of};
+use cqf_laws_history::{state_follows_history, streams_follow_history};
+use cqf_model::{EACH_CYCLE, Hop, MOST_CALLS, Receipt, Refused, Row, Tree};
+use cqf_topology::Domain;
+use cqf_units::{Cycle, Memory, Name, Octets, budget, cost};
+use std::alloc::Global;
+use std::marker::Model;
+use std::sync::Arc;
+
+/// A request of good form, lent: its name, how many octets its stream reserves, 64 to 60,000, and its tree.
+#[derive(Clone, Copy)]
+pub(crate) struct GoodForm<'f> {
+    pub name: &'f Name,
+    pub octets: u32,
+    pub tree: &'f [Hop],
+}
+
+impl<'f> GoodForm<'f> {
+    /// The request of good form that has this row, whatever its number and its cycles.
+    pub(crate) fn of_row(row: &'f Row) -> GoodForm<'f>
+        ensures name { result.name.now ≡ row.now.name }
+        ensures octets { result.octets ≡ row.now.octets }
+        ensures tree { result.tree.now ≡ row.now.tree.items }
+    {
+        GoodForm {
+            name: &row.name,
+            octets: row.octets,
+            tree: row.tree.as_slice(),
+        }
+    }
+
+    /// The request of so many octets that was judged.
+    pub(crate) fn of_judged(judged: &'f Judged, octets: u32) -> GoodForm<'f>
+        ensures name { result.name.now ≡ judged.now.name }
+        ensures octets { result.octets ≡ octets }
+        ensures tree { result.tree.now ≡ judged.now.tree.items }
+    {
+        GoodForm {
+            name: &judged.name,
+            octets,
+            tree: judged.tree.as_slice(),
+        }
+    }
+}
+
+/// The state of an administration.
+#[derive(Debug, Drop)]
+pub(crate) struct State {
+    holdings: Holdings,
+    slots: Slots,
+    /// How many cycles are closed to changes.
+    sealed: u32,
+}
+
+impl Model for State {
+    ghost use Rattle.cqf_admission.specs.State.{Figures};
+
+    ghost Value = { Figures };
+
+    ghost view = { λ s. record {
+      stands = s.holdings.rows;
+      room = s.holdings.room;
+      links = s.holdings.links;
+      slots = s.slots;
+      sealed = s.sealed;
+    } };
+}
+
+/// What a link has left of its budget beside the held streams, in octets a cycle.
+fn left_of(domain: &Domain, holdings: &Holdings, link: u16) -> u32
+    requires inside { link < length domain.now.links }
+    requires columns { holdings.now.links ≡ length domain.now.links }
+    requires within { held_cost holdings.now.rows link ≤ budget domain.now link }
+    ensures { result ≡ left_by domain.now holdings.now.rows link }
+{
+    let rate = domain.link(link).rate;
+    let most = budget(domain.cycle_time(), domain.guard(), rate);
+    let taken = holdings.cost_on(link);
+    most.0 - taken as u32
+}
+
+/// Why some links have no room for a cost beside the held streams: the first that has less left, if one has.
+fn short_of(domain: &Domain, holdings: &Holdings, cost: u32, tree: &[Hop]) -> Option<Refused>
+    requires inside { All (λ hop. hop.link < length domain.now.links) tree.now }
+    requires columns { holdings.now.links ≡ length domain.now.links }
+    requires within { (l : ℕ) → l < length domain.now.links → held_cost holdings.now.rows l ≤ budget domain.now l }
+    ensures { result ≡ stand_short domain.now holdings.now.rows cost (links_in tree.now) }
+{
+    for hop in tree {
+        let link = hop.link;
+        let left = left_of(domain, holdings, link);
+        if left < cost {
+            return Some(Refused::BudgetShort { link, left });
+        }
+    }
+    None
+}
+
+/// The first reason against a stream for what is held.
+fn refusal_of(domain: &Domain, holdings: &Holdings, form: GoodForm<'_>) -> Option<Refused>
+    requires inside { All (λ hop. hop.link < length domain.now.links) form.tree.now }
+    requires octets { form.octets ≤ most_reserved }
+    requires columns { holdings.now.links ≡ length domain.now.links }
+    requires within { (l : ℕ) → l < length domain.now.links → held_cost holdings.now.rows l ≤ budget domain.now l }
+    ensures { result ≡ stand_refusal domain.now holdings.now.rows form.entry.name.now (cost_of form.entry.octets) (links_in form.entry.tree.now) }
+{
+    if holdings.holder(form.name).is_some() {
+        return Some(Refused::NameHeld);
+    }
+    if holdings.count() >= domain.limits().streams_within() {
+        return Some(Refused::TooManyStreams);
+    }
+    short_of(domain, holdings, cost(Octets(form.octets)).0, form.tree)
+}
+
+/// The row of a request of good form, of a number and from a cycle on, unless memory runs out.
+fn row_by(alloc: Global, form: GoodForm<'_>, no: u32, admitted: Cycle) -> Result<Row, Memory>
+    requires { length form.tree.now ≤ most_hops }
+    ensures { IfOk result (λ row. row ≡ row_by form.entry no admitted) }
+{
+    Ok(Row {
+        no,
+        name: form.name.copied(),
+        octets: form.octets,
+        pace: EACH_CYCLE,
+        tree: Tree::new(alloc, form.tree)?,
+        admitted,
+        withdrawn: None,
+    })
+}
+
+/// A row with its stream withdrawn from a cycle on, to be shared, unless memory runs out.
+fn ended_row(alloc: Global, row: &Row, cycle: Cycle) -> Result<Arc<Row>, Memory>
+    ensures { IfOk result (λ shared. arc_value shared ≡ ended row.now cycle) }
+{
+    let mut row = row.try_copy(alloc)?;
+    row.withdrawn = Some(cycle);
+    let shared = Arc::new(alloc, row)?;
+    Ok(shared)
+}
+
+/// The number of the held stream of a name that isn't withdrawn, or why there is none.
+fn find_open(holdings: &Holdings, word: &str) -> Result<u32, Refused>
+    ensures { FindsOpen holdings.now.rows word.now result }
+{
+    let Some(name) = Name::new(word.as_bytes()) else {
+        return Err(Refused::NotHeld);
+    };
+    let Some(number) = holdings.holder(&name) else {
+        return Err(Refused::NotHeld);
+    };
+    if holdings.row(number).withdrawn.is_some() {
+        return Err(Refused::AlreadyWithdrawn);
+    }
+    Ok(number)
+}
+
+impl State {
+    /// The state of no calls, over so many links, unless memory runs out.
+    pub(crate) fn new(alloc: Global, links: usize) -> Result<State, Memory>
+        ensures { IfOk result (λ state. (d : ADomain) → length d.links ≡ links → IsStateOf d [] state) }
+    {
+        Ok(State {
+            holdings: Holdings::new(alloc, links)?,
+            slots: Slots::new(alloc)?,
+            sealed: 0,
+        })
+    }
+
+    /// The next cycle to be closed to changes.
+    pub(crate) fn next_cycle(&self) -> Cycle
+        ensures { result.0 ≡ self.now.sealed }
+    {
+        Cycle(self.sealed)
+    }
+
+    /// Whether a history of so many entries, of which the Seals are no calls, has no room for a call: 100,000 of them aren't Seals.
+    pub(crate) fn is_full(&self, entries: usize) -> bool
+        requires { self.now.sealed ≤ entries }
+        ensures { result ≡ nat_le most_calls (entries - self.now.sealed) }
+    {
+        entries - self.sealed as usize >= MOST_CALLS
+    }
+
+    /// How many streams were accepted.
+    pub(crate) fn accepted(&self) -> u32
+        ensures { result ≡ length self.now.stands }
+    {
+        self.holdings.len()
+    }
+
+    /// Grants the stream of a request of good form: its number is the next one, and it is live from the next cycle to be closed on;
+    /// or gives the first reason against it for what is held: `NameHeld`, `TooManyStreams`, `BudgetShort`.
+    ///
+    /// # Errors
+    /// Where a growth is refused; then nothing is changed.
+    pub(crate) fn admit(
+        &mut self,
+        alloc: Global,
+        domain: &Domain,
+        form: GoodForm<'_>,
+    ) -> Result<Result<Receipt, Refused>, Memory>
+        requires history { SomeHistory domain.now self.old }
+        requires request { SomeRequest domain.now form }
+        ensures admits { IfOk result (AdmitsForm domain.now form.entry self.old self.new) }
+        ensures same { OnErr result (StaysSo self.old self.new) }
+    {
+        state_follows_history();
+        streams_follow_history();
+        domain.know();
+        if let Some(refused) = refusal_of(domain, &self.holdings, form) {
+            return Ok(Err(refused));
+        }
+        self.holdings.reserve()?;
+        let no = self.holdings.len();
+        let effect = Cycle(self.sealed);
+        let row = row_by(alloc, form, no, effect)?;
+        self.holdings.push(alloc, row)?;
+        Ok(Ok(Receipt { no, effect }))
+    }
+
+    /// Withdraws the held stream of a name from the next cycle to be closed on, and lists it among those that end when its last frame has
+    /// left; or gives the reason against that: `NotHeld`, `AlreadyWithdrawn`.
+    ///
+    /// # Errors
+    /// Where a growth is refused; then nothing is changed.
+    pub(crate) fn withdraw(
+        &mut self,
+        alloc: Global,
+        word: &str,
+    ) -> Result<Result<Receipt, Refused>, Memory>
+        requires { SomeDomain self.old }
+        ensures withdraws { IfOk result (WithdrawsName word.now self.old self.new) }
+        ensures same { OnErr result (StaysSo self.old self.new) }
+    {
+        state_follows_history();
+        streams_follow_history();
+        match find_open(&self.holdings, word) {
+            Ok(no) => {
+                let effect = Cycle(self.sealed);
+                let slot = slot_of(self.sealed, self.holdings.row(no).residence());
+                let ended = ended_row(alloc, self.holdings.row(no), effect)?;
+                self.slots.put(slot, no)?;
+                self.holdings.end(no, ended);
+                Ok(Ok(Receipt { no, effect }))
+            }
+            Err(refused) => Ok(Err(refused)),
+        }
+    }
+
+    /// Closes the next cycle to changes, and lets go of the streams whose last frame has left by the cycle behind it. Whether there were
+    /// such.
+    pub(crate) fn seal(&mut self) -> bool
+        requires history { SomeDomain self.old }
+        requires some { self.old.sealed < most_cycles }
+        ensures closes { ClosesNext self.old self.new }
+        ensures stays { result ≡ false → self.new.stands ≡ self.old.stands }
+    {
+        state_follows_history();
+        let slot = ((self.sealed + 1) % 128) as usize;
+        let ends = self.slots.has(slot);
+        self.slots.empty(slot, &mut self.holdings);
+        self.sealed += 1;
+        ends
+    }
+
+    /// What the held streams take of a link's budget, in octets a cycle.
+    pub(crate) fn taken_of(&self, domain: &Domain, link: u16) -> Octets
+        requires inside { link < length domain.now.links }
+        requires history { SomeHistory domain.now self.now }
+        ensures held { (entries : List Recorded) → IsStateOf domain.now entries self.now → result.0 ≡ costs_on (held_in domain.now entries (seals entries)) link }
+        ensures within { result.0 ≤ budget domain.now link }
+    {
+        state_follows_history();
+        let rate = domain.link(link).rate;
+        let most = budget(domain.cycle_time(), domain.guard(), rate);
+        let taken = self.holdings.cost_on(link);
+        prove!(taken <= u64::from(most.0));
+        Octets(taken as u32)
+    }
+
+    /// The rows of the held streams, by number, each shared, unless memory runs out.
+    pub(crate) fn held_rows(&self, alloc: Global) -> Result<Vec<Arc<Row>>, Memory>
+        ensures { IfOk result (λ rows. (d : ADomain) (entries : List Recorded) → IsStateOf d entries self.now →
+            map (λ row. arc_value row) rows.items ≡ held_in d entries (seals entries)) }
+    {
+        self.holdings.held_rows(alloc)
+    }
+
+    /// The rows of all streams that were ever granted, by number, unless memory runs out.
+    pub(crate) fn into_rows(self, alloc: Global) -> Result<Vec<Row>, Memory>
+        ensures { IfOk result (λ rows. (d : ADomain) (entries : List Recorded) → IsStateOf d entries self → rows.items ≡ streams_of d entries) }
+    {
+        self.holdings.into_rows(alloc)
+    }
+
+    /// The same state again, unless memory runs out. The two share their rows.
+    pub(crate) fn try_copy(&self, alloc: Global) -> Result<State, Memory>
+        ensures { IfOk result (StaysSo self.now) }
+    {
+        Ok(State {
+            holdings: self.holdings.try_copy(alloc)?,
+            slots: self.slots.try_copy(alloc)?,
+            sealed: self.sealed,
+        })
+    }
+}

@@ -1,7 +1,0 @@
--- The rows of the streams so far.
-use Rattle.std.proofs.Common.{◌≡◌, map}
-use Rattle.cqf_admission_ledger.specs.declared.holdings.Stand.{Stand}
-use Rattle.cqf_admission_ledger.proofs.holdings.Holdings.into_rows.Given as goal
-
-abbrev pub invariant-loop-stand : goal.invariant-loop-stand
-invariant-loop-stand l = l.rows.items ≡ map (λ (stand : Stand). stand.row) l.yielded
