@@ -13,8 +13,7 @@ mod PlanFits
 mod HeldMost
 pub mod Loading
 mod GrantedPlans
-mod RowPaces
 pub mod LookedOver
 pub mod Found
-mod LatencyRows
+mod CostsByTurn
 mod LatencyLines

@@ -33,8 +33,8 @@ abbrev pub commands_in : List (Vec Command Global) → List (List Command)
 commands_in lists = map (λ (commands : Vec Command Global). commands.items) lists
 
 -- what they call for is what the vectors do
-asked_of : (lists : List (Vec Command Global)) → acts_of_each lists ≡ all_asked (commands_in lists)
-asked_of lists = sym (map-map acts_asked (λ (commands : Vec Command Global). commands.items) lists)
+asked_paced : (lists : List (Vec Command Global)) → acts_of_each lists ≡ all_asked (commands_in lists)
+asked_paced lists = sym (map-map acts_asked (λ (commands : Vec Command Global). commands.items) lists)
 
 -- an account by pages of what was opened of an input is one of the input's scenario
 pub IsAccountOfInput-opened : (cycles : ℕ) (input : List ℕ) (made : Opened) (account : PagedAccount) (offers : List Offer) (frames : List Background)
@@ -52,7 +52,7 @@ IsAccountOfInput-opened cycles input made account offers frames opened same_offe
       holds = opened.holds;
       domain = o.domain;
       commands = admins;
-      asked = subst (λ (lists : List (List Act)). AreCommandsBehind s.calls s.sealer lists) (asked_of made.commands.items) o.commands;
+      asked = subst (λ (lists : List (List Act)). AreCommandsBehind s.calls s.sealer lists) (asked_paced made.commands.items) o.commands;
       is_account = subst₂ (λ (offers : List Offer) (frames : List Background). IsPagedAccount made.domain (opening_history s) offers frames
           cycles admins account)
           (same_offers ∙ o.offers) (same_frames ∙ o.background) of_opening;
@@ -75,7 +75,7 @@ IsFaultOfInput-opened cycles input made fault d entries offers frames opened sam
       holds = opened.holds;
       of_scenario = record {
         commands = admins;
-        asked = subst (λ (lists : List (List Act)). AreCommandsBehind s.calls s.sealer lists) (asked_of made.commands.items) o.commands;
+        asked = subst (λ (lists : List (List Act)). AreCommandsBehind s.calls s.sealer lists) (asked_paced made.commands.items) o.commands;
         may = subst₂ (λ (e : Domain) (entries : List Recorded). IsConductFault e entries s.offers s.background cycles admins fault)
             (same_domain ∙ o.domain) (same_entries ∙ o.entries) of_offers;
       };
