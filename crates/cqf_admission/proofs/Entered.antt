@@ -1,8 +1,8 @@
 -- A history with a call more.
-use Rattle.std.proofs.Common.{◌≡◌, ◌∙◌, ◌-◌, ◌<◌, ◌++◌, ◌∷◌, [], ℕ, Bool, List, Result, Err, Some, ap, false, length, map, refl, subst, sym}
+use Rattle.std.proofs.Common.{◌≡◌, ◌∙◌, ◌-◌, ◌<◌, ◌++◌, ◌∷◌, [], ℕ, Bool, List, Result, Err, Some, ap, arith, false, length, map, refl, subst, sym}
 use Rattle.std.specs.Prelude.{nat_le}
 use Rattle.std.proofs.lemmas.Bool.{leb-false}
-use Rattle.std.proofs.lemmas.List.{map-append}
+use Rattle.std.proofs.lemmas.List.{length-map, map-append}
 use Rattle.cqf_model.specs.declared.history.Receipt.{Receipt}
 use Rattle.cqf_model.specs.declared.history.Refused.{Refused}
 use Rattle.cqf_model.specs.Domain.{Domain}
@@ -10,12 +10,10 @@ use Rattle.cqf_model.specs.History.{Act, Admits, Asked, Recorded, admit_reply, h
 use Rattle.cqf_model.specs.Limits.{most_calls}
 use Rattle.cqf_laws_history.specs.StateLaws.{HistoryGoesOn, SealsAreCounted, with_entry}
 use Rattle.cqf_admission.specs.declared.entries.Entry.{Entry}
-use Rattle.cqf_admission.specs.Admission.{Answers, HoldsOneMore, act_of, recorded_of}
+use Rattle.cqf_admission.specs.Admission.{Administration, Answers, HoldsOneMore, act_of, calls, recorded_of}
 use Rattle.cqf_admission.specs.Judging.{IsOfGoodForm, form_refusal}
 use Rattle.cqf_admission.specs.declared.judged.Judged.{Judged}
 use Rattle.cqf_model.specs.declared.topology.Row.{Row}
-use Rattle.cqf_topology.specs.declared.streams.Request.{Request}
-use Rattle.cqf_admission.specs.Asking.{asked_of}
 use Rattle.cqf_admission.specs.declared.state.GoodForm.{GoodForm}
 use Rattle.cqf_admission.specs.Forms.{IsRowOfGoodForm}
 use Rattle.cqf_admission.specs.Holdings.{Standing}
@@ -47,6 +45,17 @@ entered_with d entries after figures seat act result is leaves = record {
 pub few_calls : (full : Bool) (entries sealed : ℕ) → full ≡ false → full ≡ nat_le most_calls (entries - sealed) → entries - sealed < most_calls
 few_calls full entries sealed isnt is = leb-false most_calls (entries - sealed) (sym is ∙ isnt)
 
+-- so there is room for a call in the administration
+pub room_left : (full : Bool) (many : ℕ) (items : List Entry) (d : Domain) (figures : Figures) (a : Administration) → full ≡ false →
+    full ≡ nat_le most_calls (many - figures.sealed) → many ≡ length items → IsStateOf d (map recorded_of items) figures →
+    of_entries d (map recorded_of items) ≡ a → calls a.entries < most_calls
+room_left full many items d figures a isnt is long state view =
+    let entries = map recorded_of items in
+    let low : length entries - figures.sealed < most_calls =
+    omega (arith, few_calls full many figures.sealed isnt is, long, length-map items recorded_of) in
+    subst (λ (b : Administration). calls b.entries < most_calls) view
+    (subst (λ (sealed : ℕ). length entries - sealed < most_calls) state.0.running.counted low)
+
 -- a call that is refused for its form leaves the figures as they are
 pub form_refused : HistoryGoesOn → SealsAreCounted → (d : Domain) (entries : List Recorded) (figures : Figures) (seat : ℕ) (asked : Asked) (refused : Refused) →
     IsStateOf d entries figures → form_refusal d asked ≡ Some refused → length entries - figures.sealed < most_calls →
@@ -68,25 +77,25 @@ stays_state d entries before after is so = (
 )
 
 -- a request's row of good form is a request of good form
-pub good_form : (d : Domain) (request : Request) (row : Row) (form : GoodForm) → IsRowOfGoodForm d (asked_of request) row → form.name.now ≡ row.name →
-    form.octets ≡ row.octets → form.tree.now ≡ row.tree.items → IsGoodFormOf d (asked_of request) form
-good_form d request row form is name octets tree = record {
+pub good_form : (d : Domain) (asked : Asked) (row : Row) (form : GoodForm) → IsRowOfGoodForm d asked row → form.name.now ≡ row.name →
+    form.octets ≡ row.octets → form.pace ≡ row.pace → form.tree.now ≡ row.tree.items → IsGoodFormOf d asked form
+good_form d asked row form is name octets paced tree = record {
   none = is.none;
   name = name ∙ ap (λ (r : Row). r.name) is.is;
   octets = octets ∙ ap (λ (r : Row). r.octets) is.is;
   tree = tree ∙ ap (λ (r : Row). r.tree.items) is.is;
   most_octets = is.most_octets;
-  own = refl;
+  paced = paced ∙ ap (λ (r : Row). r.pace) is.is;
 }
 
 -- and so is one that was judged
-pub judged_form : (d : Domain) (request : Request) (judged : Judged) (form : GoodForm) → IsOfGoodForm d (asked_of request) judged →
-    form.name.now ≡ judged.name → form.octets ≡ request.octets → form.tree.now ≡ judged.tree.items → IsGoodFormOf d (asked_of request) form
-judged_form d request judged form is name octets tree = record {
+pub judged_form : (d : Domain) (asked : Asked) (judged : Judged) (form : GoodForm) → IsOfGoodForm d asked judged →
+    form.name.now ≡ judged.name → form.octets ≡ asked.octets → form.pace ≡ judged.pace → form.tree.now ≡ judged.tree.items → IsGoodFormOf d asked form
+judged_form d asked judged form is name octets paced tree = record {
   none = is.none;
   name = name ∙ is.named;
   octets = octets;
   tree = tree ∙ is.linked;
   most_octets = is.most_octets;
-  own = refl;
+  paced = paced ∙ is.paced;
 }

@@ -1,6 +1,6 @@
 -- The figures of streams with one more, with one that has another row, and with one let go.
-use Rattle.std.proofs.Common.{◌≡◌, ◌≢◌, ℕ, ◌+◌, ◌<◌, ◌^◌, ◌⊎◌, Bool, true, false, replicate, List, [], ◌∷◌, Option, Some, None, MatchOption}
-use Rattle.std.proofs.Common.{◌++◌, get_or, set, length, refl, sym, ap, ◌∙◌, subst, subst₂}
+use Rattle.std.proofs.Common.{◌≡◌, ◌≢◌, ℕ, ◌+◌, ◌<◌, ◌^◌, ◌⊎◌, Bool, true, false, List, [], ◌∷◌, Option, Some, None, MatchOption}
+use Rattle.std.proofs.Common.{◌++◌, fold, get_or, max, set, length, refl, sym, ap, ◌∙◌, subst, subst₂}
 use Rattle.std.proofs.Common.{arith, inl, inr, length-append}
 use Rattle.std.specs.Prelude.{Contains, if◌then◌else◌, zero, suc}
 use Rattle.std.specs.BTreeMap.{BTreeMap, UpdatesBy, is_at}
@@ -10,7 +10,7 @@ use Rattle.std.specs.Ordering.{is_eq, nat_cmp}
 use Rattle.std.specs.declared.cmp.Ordering.{Ordering}
 use Rattle.std.specs.declared.cmp.Ordering.TheVariants.{Equal, Greater, Less}
 use Rattle.std.proofs.lemmas.Bool.{both_ways, cases_Bool, cases_lt}
-use Rattle.std.proofs.lemmas.List.{get_or-set_same, get_or-set_other, get_or_append_left, get_or_push, get_or-replicate, length-replicate, length-set}
+use Rattle.std.proofs.lemmas.List.{get_or-set_same, get_or-set_other, get_or_append_left, get_or_push, length-set}
 use Rattle.std.proofs.lemmas.List.Sums.{sum_by_push, sum_by-set}
 use Rattle.std.proofs.lemmas.Map.Lookups.{exact_bytes}
 use Rattle.std.proofs.lemmas.Option.{none-some, same_Some}
@@ -18,19 +18,26 @@ use Rattle.cqf_units.specs.Timing.{cost_of}
 use Rattle.cqf_units.specs.declared.reservations.Cycle.{Cycle}
 use Rattle.cqf_model.proofs.Texts.{is_text_itself, is_text_same}
 use Rattle.cqf_model.specs.Domain.{is_text}
-use Rattle.cqf_model.specs.Table.{links_of}
+use Rattle.cqf_model.specs.Paces.{is_turn}
+use Rattle.cqf_model.specs.Table.{cost_on}
+use Rattle.cqf_model.specs.declared.topology.Pace.{Pace}
 use Rattle.cqf_model.specs.declared.topology.Row.{Row}
-use Rattle.cqf_admission_trees.specs.Sums.{AreLessOn, AreMoreOn, HaveOn, HaveRoomOn, part_on}
+use Rattle.cqf_admission_trees.specs.Turns.{AreLessIn, AreMoreIn, AreNone, HasIn, HasRoomFor, Turned, most_at, most_of, sum_on}
+use Rattle.cqf_lists.proofs.EachBelow.{same_below}
 use Rattle.cqf_lists.proofs.Members.{contains_cases, contains_here, contains_later, contains_none, contains_one}
 use Rattle.std.proofs.lemmas.List.Elements.{Contains-append_cases, Contains-get_or}
-use Rattle.cqf_admission.specs.Rows.{IsCountable, ended}
+use Rattle.cqf_admission_trees.proofs.TurnLemmas.{most_of_costs}
+use Rattle.cqf_admission.specs.Rows.{IsSummable, ended}
 use Rattle.cqf_admission.specs.Holdings.{HaveFigures, IsEnded, IsFree, IsHeldAt, IsHolder, Standing}
-use Rattle.cqf_admission.specs.Holdings.{held_cost, held_part, held_under, released, with_row}
+use Rattle.cqf_admission.specs.Holdings.{held_cost, held_most, held_most_at, held_part, held_under, released, with_row}
 use Rattle.cqf_admission.proofs.HeldNumbers.{numbers_pushed, numbers_released, numbers_stay, without}
 
--- what is withdrawn can be counted as before
-ended_countable : (links : ℕ) (row : Row) (cycle : Cycle) → IsCountable links row → IsCountable links (ended row cycle)
-ended_countable links row cycle is = record { octets = is.octets; inside = is.inside; apart = is.apart }
+-- what is withdrawn can be summed as before
+ended_summable : (links : ℕ) (row : Row) (cycle : Cycle) → IsSummable links row → IsSummable links (ended row cycle)
+ended_summable links row cycle is = record {
+  countable = record { octets = is.countable.octets; inside = is.countable.inside; apart = is.countable.apart };
+  paced = is.paced;
+}
 
 -- two numbers are the same, or not
 pub same_or_not : (a b : ℕ) → (a ≡ b) ⊎ (a ≢ b)
@@ -67,8 +74,8 @@ pub others_stay : (before after : BTreeMap (List ℕ) ℕ) (name : List ℕ) (fo
 others_stay before after name found by other differ = by.2 other (not_at name other differ)
 
 -- what is held of a stream that is held
-part_held : (l : ℕ) (s : Standing) → s.held ≡ true → held_part l s ≡ part_on (links_of s.row) (cost_of s.row.octets) l
-part_held l s e = ap (λ (b : Bool). if b then part_on (links_of s.row) (cost_of s.row.octets) l else 0) e
+part_held : (l cycle : ℕ) (s : Standing) → s.held ≡ true → held_part l cycle s ≡ cost_on s.row l cycle
+part_held l cycle s e = ap (λ (b : Bool). if b then cost_on s.row l cycle else 0) e
 
 -- a figure of streams of which one is another
 module _ (rows : List Standing) (number : ℕ) (s : Standing) (inside : number < length rows) where
@@ -91,30 +98,41 @@ contains_from_set (z ∷ xs) (suc k) y x among = elim (contains_cases z (set xs 
 ]
 
 -- the figures of none
-pub figures_none : (under : List ℕ → Option ℕ) (held sums : List ℕ) (links : ℕ) → ((name : List ℕ) → under name ≡ None) → held ≡ [] →
-    sums ≡ replicate links 0 → HaveFigures [] under held sums
-figures_none under held sums links nobody none are = subst (λ (ss : List ℕ). HaveFigures [] under held ss) (sym are) (record {
+pub figures_none : (under : List ℕ → Option ℕ) (held : List ℕ) (sums : Turned) (links : ℕ) → ((name : List ℕ) → under name ≡ None) → held ≡ [] →
+    AreNone sums links → HaveFigures [] under held sums
+figures_none under held sums links nobody none are = record {
   along = λ stand among. absurd (contains_none stand among);
-  costs = λ l low. get_or-replicate {A = ℕ} links l 0 0 (omega (arith, low, length-replicate {A = ℕ} links 0));
+  costs = λ l cycle low. are.none l cycle;
   numbers = none;
   few = omega arith;
   leads = λ name number led. absurd (none-some number (sym (nobody name) ∙ led));
   found = λ number d is_held. absurd (omega (arith, is_held.inside));
-})
+}
 
 -- the figures are those of the same streams where each of them is the same
-pub figures_same : (rows copy : List Standing) (before after : BTreeMap (List ℕ) ℕ) (held numbers sums more : List ℕ) →
+pub figures_same : (rows copy : List Standing) (before after : BTreeMap (List ℕ) ℕ) (held numbers : List ℕ) (sums more : Turned) →
     HaveFigures rows (held_under before) held sums → copy ≡ rows → after.entries ≡ before.entries → numbers ≡ held → more ≡ sums →
     HaveFigures copy (held_under after) numbers more
 figures_same rows copy before after held numbers sums more h same entries listed summed =
     subst (λ (rs : List Standing). HaveFigures rs (held_under after) numbers more) (sym same)
     (subst (λ (es : List (List ℕ × ℕ)). HaveFigures rows (λ (name : List ℕ). lookup (is_at (slice_cmp nat_cmp name)) es) numbers more) (sym entries)
-    (subst₂ (λ (ns ss : List ℕ). HaveFigures rows (held_under before) ns ss) (sym listed) (sym summed) h))
+    (subst₂ (λ (ns : List ℕ) (ss : Turned). HaveFigures rows (held_under before) ns ss) (sym listed) (sym summed) h))
 
-module _ (rows : List Standing) (under : List ℕ → Option ℕ) (held sums : List ℕ) (h : HaveFigures rows under held sums) where
+module _ (rows : List Standing) (under : List ℕ → Option ℕ) (held : List ℕ) (sums : Turned) (h : HaveFigures rows under held sums) where
   -- sums have room for what the streams have room for
-  pub have_room : (links : List ℕ) (cost : ℕ) → ((l : ℕ) → l < length sums → held_cost rows l + part_on links cost l < 2 ^ 64) → HaveRoomOn sums links cost
-  have_room links cost fits l low = omega (arith, fits l low, h.costs l low)
+  pub has_room : (row : Row) → ((l cycle : ℕ) → l < sums.links → held_cost rows l cycle + cost_on row l cycle < 2 ^ 64) →
+      HasRoomFor sums row.tree.items row.pace (cost_of row.octets)
+  has_room row fits l cycle low = omega (arith, fits l cycle low, h.costs l cycle low)
+
+  -- the most of them is what they cost at most, in each cycle and in those of a pace
+  pub most_told : (l : ℕ) → l < sums.links → most_of sums l ≡ held_most rows l
+  most_told l low = most_of_costs sums l (held_cost rows l) (λ cycle below. h.costs l cycle low)
+
+  pub most_told_at : (l : ℕ) (pace : Pace) (depth : ℕ) → l < sums.links → most_at sums l pace depth ≡ held_most_at rows l pace depth
+  most_told_at l pace depth low =
+      ap (fold max 0) (same_below (λ cycle. if is_turn pace depth cycle then sum_on sums l cycle ∷ [] else [])
+      (λ cycle. if is_turn pace depth cycle then held_cost rows l cycle ∷ [] else []) 80
+      (λ cycle below. ap (λ (n : ℕ). if is_turn pace depth cycle then n ∷ [] else []) (h.costs l cycle low)))
 
   -- what is under a name is the holder, or the name is free
   pub holder_is : (name : List ℕ) (found : Option ℕ) → found ≡ under name → MatchOption found (IsFree rows name) (IsHolder rows name)
@@ -178,19 +196,19 @@ module _ (rows : List Standing) (under : List ℕ → Option ℕ) (held sums : L
             ∙ ap (λ (n : ℕ). Some n) (sym is_last))
       ]
 
-      pub figures_more : (numbers more : List ℕ) → numbers ≡ held ++ length rows ∷ [] → IsCountable (length sums) s.row →
-          AreMoreOn sums (links_of s.row) (cost_of s.row.octets) more → HaveFigures after next numbers more
-      figures_more numbers more listed countable by = record {
-        along = λ stand among. subst (λ (n : ℕ). IsCountable n stand.row) (sym by.as_many)
+      pub figures_more : (numbers : List ℕ) (more : Turned) → numbers ≡ held ++ length rows ∷ [] → IsSummable sums.links s.row →
+          AreMoreIn sums s.row.tree.items s.row.pace (cost_of s.row.octets) more → HaveFigures after next numbers more
+      figures_more numbers more listed summable by = record {
+        along = λ stand among. subst (λ (n : ℕ). IsSummable n stand.row) (sym by.links)
             (elim (Contains-append_cases rows (s ∷ []) stand (subst (λ (xs : List Standing). Contains xs stand) grown among)) [
               | inl earlier ↦ h.along stand earlier
-              | inr new ↦ subst (λ (x : Standing). IsCountable (length sums) x.row) (contains_one s stand new) countable
+              | inr new ↦ subst (λ (x : Standing). IsSummable sums.links x.row) (contains_one s stand new) summable
             ]);
-        costs = λ l shorter.
-            let low : l < length sums = omega (arith, shorter, by.as_many) in
-            let total : held_cost after l ≡ held_cost rows l + held_part l s =
-            ap (λ (xs : List Standing). held_cost xs l) grown ∙ sum_by_push (held_part l) rows s in
-            omega (arith, total, part_held l s is_held, by.each l low, h.costs l low);
+        costs = λ l cycle shorter.
+            let low : l < sums.links = omega (arith, shorter, by.links) in
+            let total : held_cost after l cycle ≡ held_cost rows l cycle + held_part l cycle s =
+            ap (λ (xs : List Standing). held_cost xs l cycle) grown ∙ sum_by_push (held_part l cycle) rows s in
+            omega (arith, total, part_held l cycle s is_held, by.each l cycle low, h.costs l cycle low);
         numbers = listed ∙ ap (λ (ns : List ℕ). ns ++ length rows ∷ []) h.numbers ∙ sym (numbers_pushed rows after s is_held grown);
         few = omega (arith, longer, few);
         leads = leads_more;
@@ -208,12 +226,12 @@ module _ (rows : List Standing) (under : List ℕ → Option ℕ) (held sums : L
         lists_agree (x ∷ xs) (suc k) low d = lists_agree xs k (omega (arith, low)) d
 
     -- where another stands in its place whose links are its own, each has its links yet
-    pub own_along : IsCountable (length sums) s.row
+    pub own_along : IsSummable sums.links s.row
     own_along = h.along s (subst (Contains rows) (sym is) (Contains-get_or rows number s inside))
 
-    stays_along : (stand other : Standing) → IsCountable (length sums) other.row → Contains (set rows number other) stand → IsCountable (length sums) stand.row
+    stays_along : (stand other : Standing) → IsSummable sums.links other.row → Contains (set rows number other) stand → IsSummable sums.links stand.row
     stays_along stand other own among = elim (contains_from_set rows number other stand among) [
-      | inl same ↦ subst (λ (x : Standing). IsCountable (length sums) x.row) same own
+      | inl same ↦ subst (λ (x : Standing). IsSummable sums.links x.row) same own
       | inr earlier ↦ h.along stand earlier
     ]
 
@@ -237,11 +255,11 @@ module _ (rows : List Standing) (under : List ℕ → Option ℕ) (held sums : L
 
       figures_from : HaveFigures (set rows number (with_row s (ended s.row cycle))) under held sums
       figures_from = record {
-        along = λ stand among. stays_along stand (with_row s (ended s.row cycle)) (ended_countable (length sums) s.row cycle own_along) among;
-        costs = λ l low.
-            let total = sum_by-set (held_part l) rows number (with_row s (ended s.row cycle)) s inside in
-            let same : held_part l (get_or rows number s) ≡ held_part l (with_row s (ended s.row cycle)) = ap (held_part l) (was s) in
-            omega (arith, total, same, h.costs l low);
+        along = λ stand among. stays_along stand (with_row s (ended s.row cycle)) (ended_summable sums.links s.row cycle own_along) among;
+        costs = λ l turn low.
+            let total = sum_by-set (held_part l turn) rows number (with_row s (ended s.row cycle)) s inside in
+            let same : held_part l turn (get_or rows number s) ≡ held_part l turn (with_row s (ended s.row cycle)) = ap (held_part l turn) (was s) in
+            omega (arith, total, same, h.costs l turn low);
         numbers = h.numbers ∙ sym (numbers_stay 0 rows number (with_row s (ended s.row cycle)) inside
             (sym (ap (λ (x : Standing). x.held) (was (with_row s (ended s.row cycle))))));
         few = omega (arith, h.few, as_many rows number (with_row s (ended s.row cycle)) inside);
@@ -276,11 +294,11 @@ module _ (rows : List Standing) (under : List ℕ → Option ℕ) (held sums : L
       led_here = sym (ap (λ (x : Standing). under x.row.name) (was s)) ∙ h.found number s held_here
 
       -- its part is in the sums
-      pub goes_within : HaveOn sums (links_of s.row) (cost_of s.row.octets)
-      goes_within l low =
-          let total = sum_by-set (held_part l) rows number (released s) s inside in
-          let part : held_part l (get_or rows number s) ≡ part_on (links_of s.row) (cost_of s.row.octets) l = ap (held_part l) (was s) ∙ part_held l s is_held in
-          omega (arith, total, part, h.costs l low)
+      pub goes_within : HasIn sums s.row.tree.items s.row.pace (cost_of s.row.octets)
+      goes_within l cycle low =
+          let total = sum_by-set (held_part l cycle) rows number (released s) s inside in
+          let part : held_part l cycle (get_or rows number s) ≡ cost_on s.row l cycle = ap (held_part l cycle) (was s) ∙ part_held l cycle s is_held in
+          omega (arith, total, part, h.costs l cycle low)
 
       -- a stream that is held yet is another
       still : (other : ℕ) → IsHeldAt (set rows number (released s)) other → (other ≢ number) × IsHeldAt rows other
@@ -322,15 +340,15 @@ module _ (rows : List Standing) (under : List ℕ → Option ℕ) (held sums : L
             ap (λ (x : Standing). next x.row.name) (elsewhere rows number (released s) inside other d was_held.0)
             ∙ others (get_or rows other d).row.name apart ∙ old
 
-        pub figures_less : (numbers less : List ℕ) → numbers ≡ without number held → AreLessOn sums (links_of s.row) (cost_of s.row.octets) less →
-            HaveFigures (set rows number (released s)) next numbers less
+        pub figures_less : (numbers : List ℕ) (less : Turned) → numbers ≡ without number held →
+            AreLessIn sums s.row.tree.items s.row.pace (cost_of s.row.octets) less → HaveFigures (set rows number (released s)) next numbers less
         figures_less numbers less left by = record {
-          along = λ stand among. subst (λ (n : ℕ). IsCountable n stand.row) (sym by.as_many) (stays_along stand (released s) own_along among);
-          costs = λ l shorter.
-              let low : l < length sums = omega (arith, shorter, by.as_many) in
-              let total = sum_by-set (held_part l) rows number (released s) s inside in
-              let part : held_part l (get_or rows number s) ≡ part_on (links_of s.row) (cost_of s.row.octets) l = ap (held_part l) (was s) ∙ part_held l s is_held in
-              omega (arith, total, part, by.each l low, h.costs l low);
+          along = λ stand among. subst (λ (n : ℕ). IsSummable n stand.row) (sym by.links) (stays_along stand (released s) own_along among);
+          costs = λ l cycle shorter.
+              let low : l < sums.links = omega (arith, shorter, by.links) in
+              let total = sum_by-set (held_part l cycle) rows number (released s) s inside in
+              let part : held_part l cycle (get_or rows number s) ≡ cost_on s.row l cycle = ap (held_part l cycle) (was s) ∙ part_held l cycle s is_held in
+              omega (arith, total, part, by.each l cycle low, h.costs l cycle low);
           numbers = left ∙ ap (without number) h.numbers ∙ sym (numbers_released rows number s inside);
           few = omega (arith, h.few, as_many rows number (released s) inside);
           leads = leads_less;

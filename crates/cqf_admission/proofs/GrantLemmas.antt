@@ -1,33 +1,33 @@
 -- The reasons against a request, one after the other.
 use Rattle.std.proofs.Common.{◌≡◌, ℕ, ◌+◌, ◌<◌, ◌≤◌, Bool, true, false, cond, List, Option, Some, None, [], ◌∷◌, ◌&&◌, not, length, position, refl, ap, ◌∙◌}
-use Rattle.std.proofs.Common.{◌==◌, subst, sym, arith, inl, inr, nat_lt, get_or, add-one}
-use Rattle.std.specs.Prelude.{Contains, find, is_none, is_some, nat_le}
+use Rattle.std.proofs.Common.{subst, sym, arith, inl, inr, nat_lt, get_or, add-one}
+use Rattle.std.specs.Prelude.{Contains, is_none, is_some, nat_le}
 use Rattle.std.specs.List.{flat_map, list_any}
-use Rattle.std.proofs.lemmas.Bool.{and_from, both_ways, cases_Bool, eq-eqb, le-leb, lt-leb}
+use Rattle.std.proofs.lemmas.Bool.{and_from, and_parts, both_ways, cases_Bool, le-leb, leb-true, lt-leb, not-false}
 use Rattle.cqf_units.specs.Name.{is_name}
 use Rattle.cqf_units.specs.Timing.{cost_of}
 use Rattle.cqf_units.specs.declared.reservations.Cycle.{Cycle}
 use Rattle.cqf_model.specs.declared.history.Refused.{Refused}
 use Rattle.cqf_model.specs.declared.history.Refused.TheVariants.{BadName, BadOctets, BadPace, UnknownNode, BrokenPath, LoopingPath, NotATree, TooManyHops, NameHeld, TooManyStreams}
-use Rattle.cqf_model.specs.declared.history.Refused.TheVariants.{AlreadyWithdrawn, BudgetShort}
+use Rattle.cqf_model.specs.declared.history.Refused.TheVariants.{AlreadyWithdrawn}
 use Rattle.cqf_model.specs.declared.history.Reply.TheVariants.{Refused as RefusedFor}
 use Rattle.cqf_model.specs.declared.topology.Hop.{Hop}
+use Rattle.cqf_model.specs.declared.topology.Pace.{Pace}
 use Rattle.cqf_model.specs.declared.topology.Row.{Row}
 use Rattle.cqf_model.specs.Domain.{Domain, is_text, node_named}
 use Rattle.cqf_lists.specs.Lists.{least, or_else}
-use Rattle.cqf_model.specs.History.{Asked, broken_place, first_place, is_loop_at, is_pace, is_stray, left_on, pace_of, refusal_of, refused_at, refused_if}
+use Rattle.cqf_model.specs.History.{Asked, broken_place, first_place, is_loop_at, is_pace, is_stray, pace_of, refusal_of, refused_at, refused_if}
 use Rattle.cqf_model.specs.History.{tree_of, withdraw_row}
 use Rattle.cqf_model.proofs.Texts.{is_text_same}
 use Rattle.cqf_model.specs.Limits.{hops_within, most_reserved, streams_within}
-use Rattle.cqf_model.specs.Paces.{each_cycle}
-use Rattle.cqf_model.proofs.EachCycle.{left_same}
 use Rattle.cqf_model.proofs.Hops.{hops_apart, hops_inside}
-use Rattle.cqf_model.specs.Table.{links_in, row_named}
+use Rattle.cqf_model.specs.Table.{row_named}
 use Rattle.cqf_laws_history.specs.StateLaws.{granted_row}
+use Rattle.cqf_laws_history.proofs.Granted.{refused_if_none}
 use Rattle.cqf_admission.specs.Grants.{HaveNames}
-use Rattle.cqf_admission.specs.Judging.{form_refusal, left_by, short_by, short_refusal}
+use Rattle.cqf_admission.specs.Judging.{form_refusal, short_refusal}
 use Rattle.cqf_admission.specs.Rows.{IsCountable}
-use Rattle.cqf_lists.proofs.Members.{contains_here, contains_later, member_any}
+use Rattle.cqf_lists.proofs.Least.{or_else_none}
 use Rattle.std.proofs.lemmas.List.Elements.{All-map}
 use Rattle.cqf_admission_trees.specs.Branches.{tree_refusal}
 
@@ -69,6 +69,27 @@ refusal_in_two d rows asked =
     or_else_more name (or_else octets (or_else pace (tree_refusal d asked.paths))) rest
     (or_else octets (or_else pace (or_else unknown (or_else broken (or_else looping (or_else stray (or_else hops rest))))))) o
 
+-- a request of good form asks for a good pace
+pub form_paced : (d : Domain) (asked : Asked) → form_refusal d asked ≡ None → is_pace asked.every asked.phase ≡ true
+form_paced d asked none =
+    let in_range = nat_le 64 asked.octets && nat_le asked.octets 60000 in
+    let paced = is_pace asked.every asked.phase in
+    let behind = or_else_none (refused_if (not (is_name asked.name)) BadName)
+    (or_else (refused_if (not in_range) BadOctets) (or_else (refused_if (not paced) BadPace) (tree_refusal d asked.paths))) none in
+    let later = or_else_none (refused_if (not in_range) BadOctets) (or_else (refused_if (not paced) BadPace) (tree_refusal d asked.paths)) behind.1 in
+    not-false paced (refused_if_none (not paced) BadPace (or_else_none (refused_if (not paced) BadPace) (tree_refusal d asked.paths) later.1).0)
+
+-- and for octets within the limits
+pub form_octets : (d : Domain) (asked : Asked) → form_refusal d asked ≡ None → asked.octets ≤ most_reserved
+form_octets d asked none =
+    let in_range = nat_le 64 asked.octets && nat_le asked.octets 60000 in
+    let paced = is_pace asked.every asked.phase in
+    let behind = or_else_none (refused_if (not (is_name asked.name)) BadName)
+    (or_else (refused_if (not in_range) BadOctets) (or_else (refused_if (not paced) BadPace) (tree_refusal d asked.paths))) none in
+    let octets = or_else_none (refused_if (not in_range) BadOctets) (or_else (refused_if (not paced) BadPace) (tree_refusal d asked.paths)) behind.1 in
+    let range = and_parts (nat_le 64 asked.octets) (nat_le asked.octets 60000) (not-false in_range (refused_if_none (not in_range) BadOctets octets.0)) in
+    leb-true asked.octets 60000 range.1
+
 -- with a good name and a good pace, and octets within the limits, the branches decide on the form
 pub form_by_tree : (d : Domain) (asked : Asked) → is_name asked.name ≡ true → is_pace asked.every asked.phase ≡ true → 64 ≤ asked.octets → asked.octets ≤ 60000 →
     form_refusal d asked ≡ tree_refusal d asked.paths
@@ -99,25 +120,25 @@ refusal_last d rows asked free few =
     ap (λ (b : Bool). or_else (refused_if b NameHeld) (or_else (refused_if (nat_le (streams_within d.limits) (length rows)) TooManyStreams) last)) free
     ∙ ap (λ (b : Bool). or_else (refused_if b TooManyStreams) last) (lt-leb (streams_within d.limits) (length rows) few)
 
--- a row by its name and its tree
-pub row_granted : (d : Domain) (number : ℕ) (effect : Cycle) (asked : Asked) (name : List ℕ) (tree : List Hop) → name ≡ asked.name →
-    tree ≡ tree_of d asked.paths →
+-- a row by its name, its pace and its tree
+pub row_granted : (d : Domain) (number : ℕ) (effect : Cycle) (asked : Asked) (name : List ℕ) (pace : Pace) (tree : List Hop) → name ≡ asked.name →
+    pace ≡ pace_of asked → tree ≡ tree_of d asked.paths →
     (let row : Row = record {
       no = number;
       name = name;
       octets = asked.octets;
-      pace = pace_of asked;
+      pace = pace;
       tree = record { items = tree };
       admitted = effect;
       withdrawn = None;
     } in
     row) ≡ granted_row d number effect.0 asked
-row_granted d number effect asked name tree named linked =
+row_granted d number effect asked name pace tree named paced linked =
     λ i. record {
       no = number;
       name = named i;
       octets = asked.octets;
-      pace = pace_of asked;
+      pace = paced i;
       tree = record { items = linked i };
       admitted = effect;
       withdrawn = None;
@@ -131,36 +152,6 @@ granted_countable d row asked number effect is few = subst (IsCountable (length 
   inside = All-map (λ (l : ℕ). l < length d.links) (λ (hop : Hop). hop.link) (tree_of d asked.paths) (hops_inside d asked.paths);
   apart = hops_apart d asked.paths;
 })
-
--- ---- links with too little left
-
--- of the links of a stream that is offered in each cycle, beside others such, the first that has too little left is the first by what they cost
--- by link
-pub short_same : (d : Domain) (rows : List Row) (cost : ℕ) (tree : List Hop) → ((row : Row) → Contains rows row → row.pace ≡ each_cycle) →
-    short_refusal d rows cost each_cycle tree ≡ short_by d rows cost tree
-short_same d rows cost tree paced =
-    found_same (left_on d rows tree each_cycle) (left_by d rows) cost (links_in tree)
-    (λ l among. left_same d rows tree l paced (member_any (λ k. k == l) (links_in tree) l among (eq-eqb l l refl)))
-  where
-    -- two ways to say what is left, of links of which they say the same
-    found_same : (left right : ℕ → ℕ) (cost : ℕ) (links : List ℕ) → ((l : ℕ) → Contains links l → left l ≡ right l) →
-        refused_at (λ l. BudgetShort l (left l)) (find (λ l. nat_lt (left l) cost) links)
-        ≡ refused_at (λ l. BudgetShort l (right l)) (find (λ l. nat_lt (right l) cost) links)
-    found_same left right cost [] same = refl
-    found_same left right cost (l ∷ links) same =
-        let here = same l (contains_here l links) in
-        let rest = found_same left right cost links (λ k among. same k (contains_later l links k among)) in
-        by (nat_lt (left l) cost) (nat_lt (right l) cost) (ap (λ (n : ℕ). nat_lt n cost) here) here rest
-      where
-        by : (a b : Bool) → a ≡ b → left l ≡ right l →
-            refused_at (λ k. BudgetShort k (left k)) (find (λ k. nat_lt (left k) cost) links)
-            ≡ refused_at (λ k. BudgetShort k (right k)) (find (λ k. nat_lt (right k) cost) links) →
-            refused_at (λ k. BudgetShort k (left k)) (cond a (Some l) (find (λ k. nat_lt (left k) cost) links))
-            ≡ refused_at (λ k. BudgetShort k (right k)) (cond b (Some l) (find (λ k. nat_lt (right k) cost) links))
-        by true true same_test here rest = ap (λ (n : ℕ). Some (BudgetShort l n)) here
-        by false false same_test here rest = rest
-        by true false same_test here rest = absurd cc
-        by false true same_test here rest = absurd cc
 
 -- ---- the stream of a name
 

@@ -5,9 +5,9 @@ use Rattle.std.proofs.lemmas.List.Elements.{All-push}
 use Rattle.cqf_model.specs.Domain.{Domain}
 use Rattle.cqf_model.specs.History.{Asked}
 use Rattle.cqf_laws_history.specs.StateLaws.{with_entry}
-use Rattle.cqf_topology.specs.declared.streams.Request.{Request}
+use Rattle.cqf_topology.specs.declared.paced.PacedRequest.{PacedRequest}
 use Rattle.cqf_admission_requests.specs.Orders.{StandsIn, act_in, request_at}
-use Rattle.cqf_admission.specs.Asking.{asked_of}
+use Rattle.cqf_admission.specs.Asking.{asked_paced}
 use Rattle.cqf_admission.specs.declared.forms.Form.{Form}
 use Rattle.cqf_admission.specs.declared.forms.Form.TheVariants.{Unseen}
 use Rattle.cqf_admission.specs.declared.logs.Logged.{Logged}
@@ -30,26 +30,26 @@ there_behind requests script old reserved new e same is there one =
     (All-push (λ (logged : Logged). StandsIn requests script logged.what) old e there one)
 
 -- the request at a place as it is asked for
-pub asked_at : (requests : List Request) (place : ℕ) (request : Request) → place < length requests → request ≡ get_or requests place request →
-    request_at (map asked_of requests) place ≡ asked_of request
+pub asked_at : (requests : List PacedRequest) (place : ℕ) (request : PacedRequest) → place < length requests → request ≡ get_or requests place request →
+    request_at (map asked_paced requests) place ≡ asked_paced request
 asked_at requests place request low is =
-    get_or-map asked_of requests place request (record { name = []; octets = 0; every = 1; phase = 0; paths = [] }) low ∙ ap asked_of (sym is)
+    get_or-map asked_paced requests place request (record { name = []; octets = 0; every = 1; phase = 0; paths = [] }) low ∙ ap asked_paced (sym is)
 
 -- ---- forms
 
 -- the form at a place is of the request there
-pub form_at : (d : Domain) (requests : List Request) (forms : List Form) (place : ℕ) (request : Request) (form : Form) → AreForms d requests forms →
+pub form_at : (d : Domain) (requests : List PacedRequest) (forms : List Form) (place : ℕ) (request : PacedRequest) (form : Form) → AreForms d requests forms →
     place < length requests → request ≡ get_or requests place request → form ≡ get_or forms place form →
-    IsFormOf d (asked_of request) form
+    IsFormOf d (asked_paced request) form
 form_at d requests forms place request form known low is at =
     let inside : place < length forms = omega (arith, low, known.as_many) in
-    subst (λ (x : Request). IsFormOf d (asked_of x) form) (sym is)
-    (subst (IsFormOf d (asked_of (get_or requests place request))) (get_or_default forms place Unseen form inside ∙ sym at)
+    subst (λ (x : PacedRequest). IsFormOf d (asked_paced x) form) (sym is)
+    (subst (IsFormOf d (asked_paced (get_or requests place request))) (get_or_default forms place Unseen form inside ∙ sym at)
     (known.each place request low))
 
 -- and with another one of it they are of the requests
-pub forms_set : (d : Domain) (requests : List Request) (forms : List Form) (place : ℕ) (request : Request) (form : Form) → AreForms d requests forms →
-    place < length requests → request ≡ get_or requests place request → IsFormOf d (asked_of request) form →
+pub forms_set : (d : Domain) (requests : List PacedRequest) (forms : List Form) (place : ℕ) (request : PacedRequest) (form : Form) → AreForms d requests forms →
+    place < length requests → request ≡ get_or requests place request → IsFormOf d (asked_paced request) form →
     AreForms d requests (set forms place form)
 forms_set d requests forms place request form known low is of = record {
   as_many = length-set forms place form ∙ known.as_many;
@@ -59,8 +59,8 @@ forms_set d requests forms place request form known low is of = record {
         ap (λ (n : ℕ). get_or (set forms place form) n Unseen) here ∙ get_or-set_same forms place form Unseen (omega (arith, low, known.as_many)) in
         let one : get_or requests k other ≡ request =
         ap (λ (n : ℕ). get_or requests n other) here ∙ get_or_default requests place other request low ∙ sym is in
-        subst (IsFormOf d (asked_of (get_or requests k other))) (sym at) (subst (λ (x : Request). IsFormOf d (asked_of x) form) (sym one) of))
-    | inr differ ↦ subst (IsFormOf d (asked_of (get_or requests k other))) (sym (get_or-set_other forms place k form Unseen differ))
+        subst (IsFormOf d (asked_paced (get_or requests k other))) (sym at) (subst (λ (x : PacedRequest). IsFormOf d (asked_paced x) form) (sym one) of))
+    | inr differ ↦ subst (IsFormOf d (asked_paced (get_or requests k other))) (sym (get_or-set_other forms place k form Unseen differ))
         (known.each k other below)
   ];
 }
@@ -70,6 +70,6 @@ pub put_there : {X : Type 0} (xs : List X) (place : ℕ) (x y : X) → place < l
 put_there xs place x y low is = is ∙ get_or-set_same xs place x y low
 
 -- some request, where there is one
-pub some_request : (requests : List Request) (place : ℕ) → place < length requests → Request
+pub some_request : (requests : List PacedRequest) (place : ℕ) → place < length requests → PacedRequest
 some_request [] place low = absurd (omega (arith, low))
 some_request (request ∷ requests) place low = request

@@ -1,26 +1,24 @@
 -- An administration that runs on the held streams in place of its history.
 use Rattle.std.proofs.Common.{◌≡◌, ℕ, ◌+◌, ◌-◌, ◌<◌, ◌≤◌, Bool, true, false, cond, List, Option, Some, None, [], ◌∷◌, ◌&&◌, not, length}
-use Rattle.std.proofs.Common.{position, refl, ap, sym, arith, subst, length-append}
-use Rattle.std.specs.Prelude.{Result, Err, if◌then◌else◌, nat_le, nat_lt, is_none, filter, Contains}
+use Rattle.std.proofs.Common.{◌∙◌, position, refl, ap, sym, arith, subst, length-append}
+use Rattle.std.specs.Prelude.{Result, Err, if◌then◌else◌, nat_le, nat_lt, is_none, filter}
 use Rattle.std.specs.List.{flat_map, list_any}
 use Rattle.std.proofs.lemmas.Bool.{both_ways}
 use Rattle.std.proofs.lemmas.Option.{same_Some}
 use Rattle.cqf_lists.specs.Lists.{least, or_else}
-use Rattle.cqf_lists.proofs.Members.{contains_from_filter}
 use Rattle.cqf_units.specs.Name.{is_name}
 use Rattle.cqf_units.specs.Timing.{cost_of}
 use Rattle.cqf_units.specs.declared.reservations.Cycle.{Cycle}
 use Rattle.cqf_model.specs.declared.history.Receipt.{Receipt}
 use Rattle.cqf_model.specs.declared.history.Refused.{Refused}
 use Rattle.cqf_model.specs.declared.history.Refused.TheVariants.{BadName, BadOctets, BadPace, UnknownNode, BrokenPath, LoopingPath, NotATree, NameHeld, TooManyStreams}
-use Rattle.cqf_model.specs.declared.history.Refused.TheVariants.{TooManyHops, BudgetShort, NotHeld, AlreadyWithdrawn}
+use Rattle.cqf_model.specs.declared.history.Refused.TheVariants.{TooManyHops, BudgetShort, NotHeld, AlreadyWithdrawn, HistoryFull, Memory}
 use Rattle.cqf_model.specs.declared.history.Reply.TheVariants.{Sealed, Refused as RefusedFor}
 use Rattle.cqf_model.specs.declared.topology.Row.{Row}
 use Rattle.cqf_model.specs.Domain.{Domain, is_text, node_named}
 use Rattle.cqf_model.specs.History.{Act, Asked, Recorded, Seals, broken_place, first_place, is_loop_at, is_pace, is_seal, is_stray, left_on, pace_of, refusal_of}
 use Rattle.cqf_model.specs.History.{refused_at, refused_if, reply_to, short_link, tree_of, withdraw_reply, withdraw_row}
-use Rattle.cqf_model.specs.Limits.{hops_within, streams_within}
-use Rattle.cqf_model.specs.Paces.{each_cycle}
+use Rattle.cqf_model.specs.Limits.{hops_within, most_calls, streams_within}
 use Rattle.cqf_model.specs.Table.{is_held}
 use Rattle.cqf_laws_history.specs.StateLaws.{HistoryGoesOn, IsState, SealLetsGo, SealsAreCounted, with_entry}
 use Rattle.cqf_admission.specs.Admission.{Administration, Answers, IsRunning, calls, is_entered, reply_of}
@@ -86,16 +84,14 @@ refusal_is_entered d rows asked =
 pub run_on : HistoryGoesOn → SealsAreCounted →
     (d : Domain) (entries : List Recorded) (rows rows_after : List Row) (next next_after sealed seat : ℕ) (act : Act) → is_seal act ≡ false →
     IsRunning d entries rows next sealed → length entries - sealed < 100000 → next_after ≤ next + 1 →
-    ((row : Row) → Contains rows_after row → row.pace ≡ each_cycle) →
     IsState d (with_entry entries seat act (reply_to d entries act)) rows_after next_after →
     IsRunning d (with_entry entries seat act (reply_to d entries act)) rows_after next_after sealed
-run_on goes_on counted d entries rows rows_after next next_after sealed seat act no_seal r few more paced state =
+run_on goes_on counted d entries rows rows_after next next_after sealed seat act no_seal r few more state =
     let none : ◌≡◌ {A = ℕ} (if is_seal act then 1 else 0) 0 = ap (λ (b : Bool). cond {A = ℕ} b 1 0) no_seal in
     let count = counted entries seat act (reply_to d entries act) in
     record {
       legal = goes_on d entries seat act r.legal (omega (arith, none, r.legal.few_seals)) (omega (arith, none, few, r.counted));
       state = state;
-      paced = paced;
       counted = omega (arith, count, none, r.counted);
       few = omega (arith, more, r.few, length-append entries (record { seat = seat; act = act; reply = reply_to d entries act } ∷ []));
     }
@@ -111,6 +107,19 @@ answers_entered old new seat act result is few same due entered =
       domain = same;
       due = λ _. due;
       entered = λ _. entered;
+    }
+
+-- a call for which memory is refused
+pub answers_memory : (old new : Administration) (seat : ℕ) (act : Act) (result : Result Receipt Refused) → result ≡ Err Memory →
+    calls old.entries < most_calls → new ≡ old → Answers old new seat act result
+answers_memory old new seat act result is few same =
+    let not_entered : is_entered result ≡ false = ap is_entered is in
+    record {
+      full = (λ e. let other : ◌≡◌ {A = Result Receipt Refused} (Err Memory) (Err HistoryFull) = sym is ∙ e in absurd cc, λ many. absurd (omega (arith, many, few)));
+      unchanged = λ _. same;
+      domain = ap (λ (a : Administration). a.domain) same;
+      due = λ e. absurd (both_ways (is_entered result) not_entered e);
+      entered = λ e. absurd (both_ways (is_entered result) not_entered e);
     }
 
 -- a refused withdrawal is entered
@@ -134,7 +143,6 @@ run_sealed goes_on counted lets_go d entries rows next sealed seat r some =
     record {
       legal = goes_on d entries seat Seals r.legal (omega (arith, some, r.counted)) (omega (arith, r.legal.few_calls, r.counted));
       state = subst (λ (k : ℕ). IsState d (with_entry entries seat Seals Sealed) (filter (λ (row : Row). is_held row (k + 1)) rows) next) (sym r.counted) state;
-      paced = λ row among. r.paced row (contains_from_filter (λ (x : Row). is_held x (sealed + 1)) rows row among).0;
       counted = omega (arith, count, r.counted);
       few = omega (arith, r.few, length-append entries (record { seat = seat; act = Seals; reply = Sealed } ∷ []));
     }

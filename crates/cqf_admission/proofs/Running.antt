@@ -13,10 +13,9 @@ use Rattle.cqf_model.specs.declared.history.Refused.{Refused}
 use Rattle.cqf_model.specs.declared.history.Reply.TheVariants.{Accepted, Sealed, Refused as RefusedFor}
 use Rattle.cqf_model.specs.declared.topology.Row.{Row}
 use Rattle.cqf_model.specs.Domain.{Domain}
-use Rattle.cqf_model.specs.History.{Act, Admits, Asked, Recorded, Seals, admit_reply, held_in, is_seal, next_number, pace_of, refusal_of}
+use Rattle.cqf_model.specs.History.{Act, Admits, Asked, Recorded, Seals, admit_reply, held_in, is_seal, next_number, refusal_of}
 use Rattle.cqf_model.specs.History.{reply_to, seals, streams_of}
 use Rattle.cqf_model.specs.Limits.{most_calls, most_cycles}
-use Rattle.cqf_model.specs.Paces.{each_cycle}
 use Rattle.cqf_model.specs.Table.{is_held}
 use Rattle.cqf_laws_history.specs.StateLaws.{GrantedIsHeld, HistoryGoesOn, IsState, SealLetsGo, SealsAreCounted, granted_row, with_entry}
 use Rattle.cqf_laws_history.specs.StreamLaws.{GrantedIsLast}
@@ -26,7 +25,6 @@ use Rattle.cqf_admission.specs.Holdings.{AreLetGo, IsHeldAt, Standing, held_by}
 use Rattle.cqf_admission.specs.Ring.{IsRing}
 use Rattle.cqf_admission.specs.State.{AreOf, Figures, IsStateOf, Leaves, LeavesSealed, StaysSo, entries_with, of_entries, stands_in}
 use Rattle.cqf_admission.specs.Streams.{stand_of}
-use Rattle.cqf_admission.proofs.EachRow.{each_pushed}
 use Rattle.cqf_admission.proofs.Ring.{ring_pushed}
 use Rattle.cqf_admission.proofs.RunLemmas.{answers_entered, run_on, run_sealed}
 use Rattle.cqf_admission.proofs.Streams.{let_go_is_next_cycle}
@@ -54,14 +52,14 @@ module _ (d : Domain) (entries : List Recorded) (before : Figures) (r : IsStateO
     pub sealed_same : seals all ≡ seals entries
     sealed_same = seals_same entries seat act (reply_of result) no_seal
 
-    pub running : next_number d all ≤ next_number d entries + 1 → ((row : Row) → Contains (held_in d all (seals all)) row → row.pace ≡ each_cycle) →
+    pub running : next_number d all ≤ next_number d entries + 1 →
         IsRunning d all (held_in d all (seals all)) (next_number d all) before.sealed
-    running more paced =
+    running more =
         let due_all = with_entry entries seat act (reply_to d entries act) in
         subst (λ (es : List Recorded). IsRunning d es (held_in d es (seals es)) (next_number d es) before.sealed) same
         (run_on goes_on count d entries (held_in d entries (seals entries)) (held_in d due_all (seals due_all)) (next_number d entries)
         (next_number d due_all) before.sealed seat act no_seal r.0.running few (omega (arith, more, ap (next_number d) same))
-        (λ row among. paced row (subst (λ (es : List Recorded). Contains (held_in d es (seals es)) row) same among)) (record { held = refl; number = refl }))
+        (record { held = refl; number = refl }))
 
     pub answered : is_entered result ≡ true → Answers (of_entries d entries) (of_entries d all) seat act result
     answered is = answers_entered (of_entries d entries) (of_entries d all) seat act result is (omega (arith, few, r.0.running.counted)) refl (sym due) refl
@@ -82,8 +80,7 @@ module _ (d : Domain) (entries : List Recorded) (before : Figures) (r : IsStateO
           of = (
             record {
               running = subst (λ (n : ℕ). IsRunning d all (held_in d all (seals all)) (next_number d all) n) (sym so.sealed)
-                  (running goes_on count seat act (Err refused) no_seal few due (omega (arith, ap (λ (rs : List Row). length rs) streams))
-                  (λ row among. r.0.running.paced row (subst (λ (rs : List Row). Contains rs row) held among)));
+                  (running goes_on count seat act (Err refused) no_seal few due (omega (arith, ap (λ (rs : List Row). length rs) streams)));
               are_streams = so.stands ∙ r.0.are_streams ∙ sym (λ i. map (stand_of (cycle i)) (streams i));
               ring = subst (λ (ss : List Standing). IsRing ss after.slots) (sym so.stands)
                   (subst (λ (slots : List (List ℕ)). IsRing before.stands slots) (sym so.slots) r.0.ring);
@@ -98,7 +95,7 @@ module _ (d : Domain) (entries : List Recorded) (before : Figures) (r : IsStateO
   -- a granted one adds its stream
   module _ (goes_on : HistoryGoesOn) (count : SealsAreCounted) (grants : GrantedIsHeld) (last : GrantedIsLast) (seat : ℕ) (asked : Asked) (receipt : Receipt)
       (row : Row) (after : Figures) (few : length entries - before.sealed < most_calls) (none : refusal_of d (held_in d entries (seals entries)) asked ≡ None)
-      (own : pace_of asked ≡ each_cycle) (is_receipt : receipt ≡ record { no = length before.stands; effect = record { 0 = before.sealed } })
+      (is_receipt : receipt ≡ record { no = length before.stands; effect = record { 0 = before.sealed } })
       (is_row : row ≡ granted_row d (next_number d entries) (seals entries) asked) (more : after.stands ≡ before.stands ++ held_by row ∷ [])
       (links : after.links ≡ before.links) (slots : after.slots ≡ before.slots) (sealed : after.sealed ≡ before.sealed) where
     number : length before.stands ≡ next_number d entries
@@ -145,9 +142,7 @@ module _ (d : Domain) (entries : List Recorded) (before : Figures) (r : IsStateO
           record {
             running = subst (λ (n : ℕ). IsRunning d grown (held_in d grown (seals grown)) (next_number d grown) n) (sym sealed)
                 (running goes_on count seat (Admits asked) (Ok receipt) refl few due
-                (omega (arith, ap (λ (rs : List Row). length rs) streams, length-append (streams_of d entries) (new ∷ [])))
-                (λ x among. each_pushed (λ (y : Row). y.pace ≡ each_cycle) (held_in d entries (seals entries)) new r.0.running.paced own x
-                (subst (λ (rs : List Row). Contains rs x) holds_now among)));
+                (omega (arith, ap (λ (rs : List Row). length rs) streams, length-append (streams_of d entries) (new ∷ []))));
             are_streams =
                 more ∙ (λ i. r.0.are_streams i ++ is_stand i ∷ [])
                 ∙ sym (map-append (stand_of (seals entries)) (streams_of d entries) (new ∷ []))
@@ -190,8 +185,6 @@ module _ (d : Domain) (entries : List Recorded) (before : Figures) (r : IsStateO
             running = record {
               legal = ran.legal;
               state = record { held = refl; number = refl };
-              paced = λ row among. ran.paced row (subst (λ (rs : List Row). Contains rs row)
-                  (held ∙ ap (λ (n : ℕ). filter (λ (x : Row). is_held x (n + 1)) (held_in d entries (seals entries))) (sym c)) among);
               counted = next ∙ ap (λ (n : ℕ). n + 1) c ∙ sym more;
               few = omega (arith, ran.few, next, ap (λ (rs : List Row). length rs) streams);
             };
@@ -229,7 +222,6 @@ begins d slots many none = record {
       few_calls = omega arith;
     };
     state = record { held = refl; number = refl };
-    paced = λ row c. absurd (contains_none row c);
     counted = refl;
     few = omega arith;
   };

@@ -6,7 +6,7 @@ use Rattle.cqf_model.specs.declared.history.Refused.{Refused}
 use Rattle.cqf_model.specs.declared.topology.Row.{Row}
 use Rattle.cqf_model.specs.Domain.{Domain, IsAccepted}
 use Rattle.cqf_model.specs.History.{Admits, Withdraws, admit_reply, held_in, next_number, refusal_of, seals}
-use Rattle.cqf_model.specs.Table.{links_in, residence, row_named}
+use Rattle.cqf_model.specs.Table.{residence, row_named}
 use Rattle.cqf_laws_history.specs.StateLaws.{GrantedIsHeld, HeldAreSound, HistoryGoesOn, SealsAreCounted, WithdrawnIsHeldOn}
 use Rattle.cqf_laws_history.specs.StreamLaws.{GrantedIsLast, WithdrawnEnds}
 use Rattle.cqf_admission.specs.declared.state.GoodForm.{GoodForm}
@@ -24,7 +24,7 @@ module _ (goes_on : HistoryGoesOn) (count : SealsAreCounted) (sound : HeldAreSou
   module _ (d : Domain) (form : GoodForm) where
     -- a request that the figures refuse
     pub admits_refused : (refused : Refused) →
-        stand_refusal d before.stands form.name.now (cost_of form.octets) (links_in form.tree.now) ≡ Some refused → StaysSo before after →
+        stand_refusal d before.stands form.name.now (cost_of form.octets) form.pace form.tree.now ≡ Some refused → StaysSo before after →
         AdmitsForm d form before after (Err refused)
     admits_refused refused reason so entries asked seat r g few =
         let rows = held_in d entries (seals entries) in
@@ -34,14 +34,14 @@ module _ (goes_on : HistoryGoesOn) (count : SealsAreCounted) (sound : HeldAreSou
 
     -- and one that they grant
     pub admits_granted : IsAccepted d → GrantedIsHeld → GrantedIsLast → (row : Row) (receipt : Receipt) →
-        stand_refusal d before.stands form.name.now (cost_of form.octets) (links_in form.tree.now) ≡ None →
+        stand_refusal d before.stands form.name.now (cost_of form.octets) form.pace form.tree.now ≡ None →
         receipt ≡ record { no = length before.stands; effect = record { 0 = before.sealed } } →
         row ≡ row_by form (length before.stands) (record { 0 = before.sealed }) →
         after.stands ≡ before.stands ++ held_by row ∷ [] → after.links ≡ before.links → after.slots ≡ before.slots → after.sealed ≡ before.sealed →
         AdmitsForm d form before after (Ok receipt)
     admits_granted ok grants last row receipt free is_receipt is_row more links slots sealed entries asked seat r g few =
         let new = is_new d entries before r asked form g sound ok free in
-        granted_leaves d entries before r goes_on count grants last seat asked receipt row after few new.none g.own is_receipt (is_row ∙ new.is) more links slots
+        granted_leaves d entries before r goes_on count grants last seat asked receipt row after few new.none is_receipt (is_row ∙ new.is) more links slots
         sealed
 
   module _ (name : List ℕ) where

@@ -8,8 +8,7 @@ use Rattle.std.proofs.lemmas.List.{get_or-map, length-map}
 use Rattle.std.proofs.lemmas.List.Elements.{Contains-get_or}
 use Rattle.std.proofs.lemmas.List.Sums.{sum_by-cons}
 use Rattle.cqf_model.specs.declared.topology.Row.{Row}
-use Rattle.cqf_model.specs.Table.{is_held}
-use Rattle.cqf_admission.specs.Rows.{cost_by_link, costs_on}
+use Rattle.cqf_model.specs.Table.{cost_on, is_held, link_cost}
 use Rattle.cqf_laws_history.proofs.Sound.{held_less}
 use Rattle.cqf_laws_history.specs.LedgerLaws.{ends_in}
 use Rattle.cqf_laws_history.proofs.Ends.{next_by_end}
@@ -19,8 +18,8 @@ use Rattle.cqf_admission.specs.Streams.{stand_of}
 -- what the held ones cost, and how many they are, is what the rows cost that are held, and how many these are
 abbrev pub HeldCostsAreTheirs : Type 0
 HeldCostsAreTheirs =
-    (rows : List Row) (cycle l : ℕ) →
-    held_cost (map (stand_of cycle) rows) l ≡ costs_on (filter (λ (row : Row). is_held row cycle) rows) l
+    (rows : List Row) (now l cycle : ℕ) →
+    held_cost (map (stand_of now) rows) l cycle ≡ link_cost (filter (λ (row : Row). is_held row now) rows) l cycle
 
 abbrev pub HeldCountIsLength : Type 0
 HeldCountIsLength =
@@ -41,26 +40,25 @@ LetGoIsNextCycle =
     after ≡ map (stand_of (cycle + 1)) rows
 
 pub held_costs : HeldCostsAreTheirs
-held_costs [] cycle l = refl
-held_costs (row ∷ rows) cycle l =
-    by_flag (is_held row cycle) refl (held_costs rows cycle l)
+held_costs [] now l cycle = refl
+held_costs (row ∷ rows) now l cycle =
+    by_flag (is_held row now) refl (held_costs rows now l cycle)
   where
-    by_flag : (b : Bool) → is_held row cycle ≡ b → held_cost (map (stand_of cycle) rows) l
-        ≡ costs_on (filter (λ (r : Row). is_held r cycle) rows) l →
-        held_cost (map (stand_of cycle) (row ∷ rows)) l ≡ costs_on (cond (is_held row cycle) (row ∷ filter (λ (r : Row). is_held r cycle) rows)
-        (filter (λ (r : Row). is_held r cycle) rows)) l
+    by_flag : (b : Bool) → is_held row now ≡ b → held_cost (map (stand_of now) rows) l cycle ≡ link_cost (filter (λ (r : Row). is_held r now) rows) l cycle →
+        held_cost (map (stand_of now) (row ∷ rows)) l cycle
+        ≡ link_cost (cond (is_held row now) (row ∷ filter (λ (r : Row). is_held r now) rows) (filter (λ (r : Row). is_held r now) rows)) l cycle
     by_flag true e rest =
-        sum_by-cons (held_part l) (stand_of cycle row) (map (stand_of cycle) rows)
-        ∙ ap (λ (b : Bool). (if b then cost_by_link row l else 0) + held_cost (map (stand_of cycle) rows) l) e
-        ∙ ap (λ (n : ℕ). cost_by_link row l + n) rest
-        ∙ sym (sum_by-cons (λ (r : Row). cost_by_link r l) row (filter (λ (r : Row). is_held r cycle) rows))
-        ∙ sym (ap (λ (b : Bool). costs_on (cond b (row ∷ filter (λ (r : Row). is_held r cycle) rows) (filter (λ (r : Row). is_held r cycle) rows)) l) e)
+        sum_by-cons (held_part l cycle) (stand_of now row) (map (stand_of now) rows)
+        ∙ ap (λ (b : Bool). (if b then cost_on row l cycle else 0) + held_cost (map (stand_of now) rows) l cycle) e
+        ∙ ap (λ (n : ℕ). cost_on row l cycle + n) rest
+        ∙ sym (sum_by-cons (λ (r : Row). cost_on r l cycle) row (filter (λ (r : Row). is_held r now) rows))
+        ∙ sym (ap (λ (b : Bool). link_cost (cond b (row ∷ filter (λ (r : Row). is_held r now) rows) (filter (λ (r : Row). is_held r now) rows)) l cycle) e)
     by_flag false e rest =
-        sum_by-cons (held_part l) (stand_of cycle row) (map (stand_of cycle) rows)
-        ∙ ap (λ (b : Bool). (if b then cost_by_link row l else 0) + held_cost (map (stand_of cycle) rows) l) e
-        ∙ (let none : 0 + held_cost (map (stand_of cycle) rows) l ≡ held_cost (map (stand_of cycle) rows) l = omega arith in none)
+        sum_by-cons (held_part l cycle) (stand_of now row) (map (stand_of now) rows)
+        ∙ ap (λ (b : Bool). (if b then cost_on row l cycle else 0) + held_cost (map (stand_of now) rows) l cycle) e
+        ∙ (let none : 0 + held_cost (map (stand_of now) rows) l cycle ≡ held_cost (map (stand_of now) rows) l cycle = omega arith in none)
         ∙ rest
-        ∙ sym (ap (λ (b : Bool). costs_on (cond b (row ∷ filter (λ (r : Row). is_held r cycle) rows) (filter (λ (r : Row). is_held r cycle) rows)) l) e)
+        ∙ sym (ap (λ (b : Bool). link_cost (cond b (row ∷ filter (λ (r : Row). is_held r now) rows) (filter (λ (r : Row). is_held r now) rows)) l cycle) e)
 
 pub held_count_is_length : HeldCountIsLength
 held_count_is_length [] cycle = refl

@@ -7,6 +7,8 @@ use Rattle.std.proofs.lemmas.List.Elements.{Contains-get_or}
 use Rattle.cqf_lists.specs.Lists.{or_else}
 use Rattle.cqf_lists.proofs.Members.{any_member, member_any}
 use Rattle.cqf_model.specs.declared.history.Refused.TheVariants.{NameHeld, TooManyStreams}
+use Rattle.cqf_model.specs.declared.topology.Hop.{Hop}
+use Rattle.cqf_model.specs.declared.topology.Pace.{Pace}
 use Rattle.cqf_model.specs.Domain.{Domain, is_text}
 use Rattle.cqf_model.specs.Limits.{streams_within}
 use Rattle.cqf_model.specs.History.{refused_if}
@@ -45,22 +47,22 @@ taken_by stands name (Some number) holder = elim (cases_Bool (is_taken stands na
         (ap (λ (n : List ℕ). is_text n name) (h.named d) ∙ is_text_itself name))
 
 -- the first reason
-pub refused_taken : (d : Domain) (stands : List Standing) (name : List ℕ) (cost : ℕ) (links : List ℕ) → is_taken stands name ≡ true →
-    Some NameHeld ≡ stand_refusal d stands name cost links
-refused_taken d stands name cost links taken =
+pub refused_taken : (d : Domain) (stands : List Standing) (name : List ℕ) (cost : ℕ) (pace : Pace) (tree : List Hop) → is_taken stands name ≡ true →
+    Some NameHeld ≡ stand_refusal d stands name cost pace tree
+refused_taken d stands name cost pace tree taken =
     sym (ap (λ (b : Bool). or_else (refused_if b NameHeld)
-    (or_else (refused_if (nat_le (streams_within d.limits) (held_count stands)) TooManyStreams) (stand_short d stands cost links))) taken)
+    (or_else (refused_if (nat_le (streams_within d.limits) (held_count stands)) TooManyStreams) (stand_short d stands cost pace tree))) taken)
 
-pub refused_many : (d : Domain) (stands : List Standing) (name : List ℕ) (cost : ℕ) (links : List ℕ) → is_taken stands name ≡ false → streams_within d.limits ≤ held_count stands →
-    Some TooManyStreams ≡ stand_refusal d stands name cost links
-refused_many d stands name cost links free many =
+pub refused_many : (d : Domain) (stands : List Standing) (name : List ℕ) (cost : ℕ) (pace : Pace) (tree : List Hop) → is_taken stands name ≡ false → streams_within d.limits ≤ held_count stands →
+    Some TooManyStreams ≡ stand_refusal d stands name cost pace tree
+refused_many d stands name cost pace tree free many =
     sym (ap (λ (b : Bool). or_else (refused_if b NameHeld)
-    (or_else (refused_if (nat_le (streams_within d.limits) (held_count stands)) TooManyStreams) (stand_short d stands cost links))) free
-    ∙ ap (λ (b : Bool). or_else (refused_if b TooManyStreams) (stand_short d stands cost links)) (le-leb (streams_within d.limits) (held_count stands) many))
+    (or_else (refused_if (nat_le (streams_within d.limits) (held_count stands)) TooManyStreams) (stand_short d stands cost pace tree))) free
+    ∙ ap (λ (b : Bool). or_else (refused_if b TooManyStreams) (stand_short d stands cost pace tree)) (le-leb (streams_within d.limits) (held_count stands) many))
 
-pub refused_short : (d : Domain) (stands : List Standing) (name : List ℕ) (cost : ℕ) (links : List ℕ) → is_taken stands name ≡ false → held_count stands < streams_within d.limits →
-    stand_short d stands cost links ≡ stand_refusal d stands name cost links
-refused_short d stands name cost links free few =
+pub refused_short : (d : Domain) (stands : List Standing) (name : List ℕ) (cost : ℕ) (pace : Pace) (tree : List Hop) → is_taken stands name ≡ false → held_count stands < streams_within d.limits →
+    stand_short d stands cost pace tree ≡ stand_refusal d stands name cost pace tree
+refused_short d stands name cost pace tree free few =
     sym (ap (λ (b : Bool). or_else (refused_if b NameHeld)
-    (or_else (refused_if (nat_le (streams_within d.limits) (held_count stands)) TooManyStreams) (stand_short d stands cost links))) free
-    ∙ ap (λ (b : Bool). or_else (refused_if b TooManyStreams) (stand_short d stands cost links)) (lt-leb (streams_within d.limits) (held_count stands) few))
+    (or_else (refused_if (nat_le (streams_within d.limits) (held_count stands)) TooManyStreams) (stand_short d stands cost pace tree))) free
+    ∙ ap (λ (b : Bool). or_else (refused_if b TooManyStreams) (stand_short d stands cost pace tree)) (lt-leb (streams_within d.limits) (held_count stands) few))

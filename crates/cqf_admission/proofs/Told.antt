@@ -1,30 +1,30 @@
 -- What the figures tell of held streams is so.
-use Rattle.std.proofs.Common.{◌≡◌, ℕ, ◌-◌, Bool, true, false, cond, List, Some, [], ◌∷◌, find, get_or, length}
-use Rattle.std.proofs.Common.{nat_lt, refl, sym, ap, ◌∙◌}
-use Rattle.std.specs.Prelude.{Contains, ◌&&◌, nat_le}
+use Rattle.std.proofs.Common.{◌≡◌, ℕ, ◌-◌, true, false, List, [], ◌∷◌, find, fold, get_or, length, max, nat_lt, sym, ap, ◌∙◌}
+use Rattle.std.specs.Prelude.{Contains, ◌&&◌, if◌then◌else◌, nat_le}
 use Rattle.std.specs.List.{list_any}
 use Rattle.std.proofs.lemmas.Bool.{and_from, both_ways}
 use Rattle.std.proofs.lemmas.List.Elements.{Contains-get_or}
-use Rattle.cqf_lists.specs.Lists.{or_else}
+use Rattle.cqf_lists.specs.Lists.{each_below, or_else}
 use Rattle.cqf_lists.proofs.Any.{list_any-filter, list_any-map, none_member}
 use Rattle.cqf_units.specs.Timing.{cost_of}
 use Rattle.cqf_model.specs.declared.history.Refused.TheVariants.{BudgetShort, NameHeld, TooManyStreams}
+use Rattle.cqf_model.specs.declared.topology.Hop.{Hop}
 use Rattle.cqf_model.specs.declared.topology.Pace.{Pace}
 use Rattle.cqf_model.specs.declared.topology.Row.{Row}
 use Rattle.cqf_model.specs.Domain.{Domain, budget, is_text}
-use Rattle.cqf_model.specs.History.{Asked, Recorded, held_in, pace_of, refused_at, refused_if, seals, streams_of, tree_of}
-use Rattle.cqf_model.specs.Limits.{streams_within}
-use Rattle.cqf_model.specs.Paces.{each_cycle}
-use Rattle.cqf_model.specs.Table.{is_held, links_in}
+use Rattle.cqf_model.specs.History.{Asked, Recorded, held_in, most_beside, pace_of, refused_at, refused_if, seals, streams_of, tree_of}
+use Rattle.cqf_model.specs.Limits.{most_every, streams_within}
+use Rattle.cqf_model.specs.Paces.{is_turn}
+use Rattle.cqf_model.specs.Table.{is_held, link_cost, links_in, uses}
 use Rattle.cqf_model.proofs.Texts.{is_text_itself}
-use Rattle.cqf_admission.specs.Judging.{left_by as left_of_rows, short_refusal}
-use Rattle.cqf_admission.specs.Rows.{costs_on}
-use Rattle.cqf_admission.specs.Holdings.{IsFree, Standing, held_cost, held_count}
+use Rattle.cqf_admission.specs.Costs.{most_cost, most_in_turns}
+use Rattle.cqf_admission.specs.Judging.{short_refusal}
+use Rattle.cqf_admission.specs.Holdings.{IsFree, Standing, held_cost, held_count, held_most, held_most_at}
 use Rattle.cqf_admission.specs.State.{stands_in}
 use Rattle.cqf_admission.specs.Streams.{stand_of}
-use Rattle.cqf_admission.specs.Weighing.{is_taken, left_by, stand_refusal, stand_short}
+use Rattle.cqf_admission.specs.Weighing.{held_beside, is_taken, stand_refusal, stand_short}
 use Rattle.cqf_admission.proofs.Streams.{held_costs, held_count_is_length}
-use Rattle.cqf_admission.proofs.GrantLemmas.{short_same, state_refusal}
+use Rattle.cqf_admission.proofs.GrantLemmas.{state_refusal}
 
 -- where no stream is held under a name it is free
 pub free_where_none : (stands : List Standing) (name : List ℕ) → is_taken stands name ≡ false → IsFree stands name
@@ -45,47 +45,36 @@ module _ (d : Domain) (entries : List Recorded) where
       list_any-map (λ (stand : Standing). stand.held && is_text stand.row.name name) (stand_of (seals entries)) (streams_of d entries)
       ∙ sym (list_any-filter (λ (row : Row). is_text row.name name) (λ (row : Row). is_held row (seals entries)) (streams_of d entries))
 
-  -- as many are held, and they cost as much of each link
+  -- as many are held, and they cost as much of each link in each cycle
   pub counted : held_count (stands_in d entries) ≡ length (held_in d entries (seals entries))
   counted = held_count_is_length (streams_of d entries) (seals entries)
 
-  pub costs : (l : ℕ) → held_cost (stands_in d entries) l ≡ costs_on (held_in d entries (seals entries)) l
-  costs l = held_costs (streams_of d entries) (seals entries) l
+  pub costs : (l cycle : ℕ) → held_cost (stands_in d entries) l cycle ≡ link_cost (held_in d entries (seals entries)) l cycle
+  costs l cycle = held_costs (streams_of d entries) (seals entries) l cycle
 
--- so the same links are short of room
-short_alike : (d : Domain) (stands : List Standing) (rows : List Row) (cost : ℕ) (links : List ℕ) → ((l : ℕ) → held_cost stands l ≡ costs_on rows l) →
-    stand_short d stands cost links ≡ refused_at (λ l. BudgetShort l (left_of_rows d rows l)) (find (λ l. nat_lt (left_of_rows d rows l) cost) links)
-short_alike d stands rows cost [] same = refl
-short_alike d stands rows cost (x ∷ links) same =
-    by (nat_lt (left_by d stands x) cost) (nat_lt (left_of_rows d rows x) cost)
-    (ap (λ (n : ℕ). nat_lt (budget d x - n) cost) (same x))
-    (ap (λ (n : ℕ). budget d x - n) (same x))
-    (short_alike d stands rows cost links same)
-  where
-    by : (a b : Bool) → a ≡ b → left_by d stands x ≡ left_of_rows d rows x →
-        stand_short d stands cost links ≡ refused_at (λ l. BudgetShort l (left_of_rows d rows l)) (find (λ l. nat_lt (left_of_rows d rows l) cost) links) →
-        refused_at (λ l. BudgetShort l (left_by d stands l)) (cond a (Some x) (find (λ l. nat_lt (left_by d stands l) cost) links))
-        ≡ refused_at (λ l. BudgetShort l (left_of_rows d rows l)) (cond b (Some x) (find (λ l. nat_lt (left_of_rows d rows l) cost) links))
-    by true true test left rest = ap (λ (n : ℕ). Some (BudgetShort x n)) left
-    by false false test left rest = rest
-    by true false test left rest = absurd cc
-    by false true test left rest = absurd cc
+  -- so at most too, in all cycles and in those of another stream
+  pub costs_most : (l : ℕ) → held_most (stands_in d entries) l ≡ most_cost (held_in d entries (seals entries)) l
+  costs_most l = λ i. fold max 0 (each_below (λ cycle. costs l cycle i ∷ []) most_every)
 
--- and a request for a stream of each cycle is refused for the same
-pub state_told : (d : Domain) (entries : List Recorded) (asked : Asked) (stands : List Standing) (name : List ℕ) (cost : ℕ) (links : List ℕ) →
-    ((row : Row) → Contains (held_in d entries (seals entries)) row → row.pace ≡ each_cycle) → pace_of asked ≡ each_cycle → stands ≡ stands_in d entries →
-    name ≡ asked.name → cost ≡ cost_of asked.octets → links ≡ links_in (tree_of d asked.paths) →
-    stand_refusal d stands name cost links ≡ state_refusal d (held_in d entries (seals entries)) asked
-state_told d entries asked stands name cost links paced own is is_name is_cost is_links =
-    let rows = held_in d entries (seals entries) in
+  pub costs_in_turns : (pace : Pace) (hop : Hop) → held_most_at (stands_in d entries) hop.link pace hop.depth ≡ most_in_turns (held_in d entries (seals entries)) pace hop
+  costs_in_turns pace hop = λ i. fold max 0 (each_below (λ cycle. if is_turn pace hop.depth cycle then costs hop.link cycle i ∷ [] else []) most_every)
+
+  beside : (tree : List Hop) (pace : Pace) (l : ℕ) → held_beside (stands_in d entries) tree pace l ≡ most_beside (held_in d entries (seals entries)) tree pace l
+  beside tree pace l = λ i. fold max 0 (each_below (λ cycle. if uses tree pace l cycle then costs l cycle i ∷ [] else []) most_every)
+
+-- and a request of good form is refused for the same
+pub state_told : (d : Domain) (entries : List Recorded) (asked : Asked) (stands : List Standing) (name : List ℕ) (cost : ℕ) (pace : Pace) (tree : List Hop) →
+    stands ≡ stands_in d entries → name ≡ asked.name → cost ≡ cost_of asked.octets → pace ≡ pace_of asked → tree ≡ tree_of d asked.paths →
+    stand_refusal d stands name cost pace tree ≡ state_refusal d (held_in d entries (seals entries)) asked
+state_told d entries asked stands name cost pace tree is is_name is_cost is_pace is_tree =
     let now = stands_in d entries in
-    let tree = tree_of d asked.paths in
-    let short : stand_short d now cost links ≡ short_refusal d rows (cost_of asked.octets) (pace_of asked) tree =
-    short_alike d now rows cost links (costs d entries)
-    ∙ (λ i. refused_at (λ l. BudgetShort l (left_of_rows d rows l)) (find (λ l. nat_lt (left_of_rows d rows l) (is_cost i)) (is_links i)))
-    ∙ sym (short_same d rows (cost_of asked.octets) tree paced)
-    ∙ ap (λ (p : Pace). short_refusal d rows (cost_of asked.octets) p tree) (sym own) in
-    ap (λ (ss : List Standing). stand_refusal d ss name cost links) is
-    ∙ ap (λ (n : List ℕ). stand_refusal d now n cost links) is_name
+    let own = pace_of asked in
+    let hops = tree_of d asked.paths in
+    let short : stand_short d now cost pace tree ≡ short_refusal d (held_in d entries (seals entries)) (cost_of asked.octets) own hops =
+    (λ i. stand_short d now (is_cost i) (is_pace i) (is_tree i))
+    ∙ (λ i. refused_at (λ l. BudgetShort l (budget d l - beside d entries hops own l i))
+    (find (λ l. nat_lt (budget d l - beside d entries hops own l i) (cost_of asked.octets)) (links_in hops))) in
+    ap (λ (ss : List Standing). stand_refusal d ss name cost pace tree) is
+    ∙ ap (λ (n : List ℕ). stand_refusal d now n cost pace tree) is_name
     ∙ (λ i. or_else (refused_if (taken d entries asked.name i) NameHeld)
     (or_else (refused_if (nat_le (streams_within d.limits) (counted d entries i)) TooManyStreams) (short i)))

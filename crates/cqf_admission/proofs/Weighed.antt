@@ -1,7 +1,6 @@
 -- What a request of good form is beside the figures.
-use Rattle.std.proofs.Common.{◌≡◌, ℕ, ◌+◌, ◌-◌, ◌<◌, ◌≤◌, ◌^◌, Bool, true, false, List, Option, None, length, refl, sym, ap, ◌∙◌, subst, arith}
-use Rattle.std.specs.Prelude.{All, ◌==◌, if◌then◌else◌}
-use Rattle.std.specs.List.{list_any}
+use Rattle.std.proofs.Common.{◌≡◌, ◌≢◌, ℕ, ◌+◌, ◌-◌, ◌<◌, ◌≤◌, ◌^◌, Bool, true, false, List, Option, None, length, refl, sym, ap, ◌∙◌, subst, arith}
+use Rattle.std.specs.Prelude.{All, AllPairs, if◌then◌else◌}
 use Rattle.std.proofs.Math.Nat.{div-le_self}
 use Rattle.std.proofs.lemmas.List.{length-map}
 use Rattle.cqf_lists.specs.Lists.{or_else}
@@ -13,18 +12,19 @@ use Rattle.cqf_model.specs.declared.topology.Hop.{Hop}
 use Rattle.cqf_model.specs.Domain.{Domain, IsAccepted, budget, octet_time_of}
 use Rattle.cqf_model.specs.History.{Asked, Recorded, held_in, next_number, refusal_of, refused_if, seals, streams_of}
 use Rattle.cqf_model.specs.Limits.{most_hops}
-use Rattle.cqf_model.specs.Table.{links_in}
-use Rattle.cqf_model.proofs.Hops.{hops_inside}
+use Rattle.cqf_model.specs.Table.{cost_on, links_in, uses}
+use Rattle.cqf_model.proofs.Hops.{hops_apart, hops_inside}
 use Rattle.cqf_laws_history.specs.StateLaws.{HeldAreSound, granted_row}
 use Rattle.cqf_laws_history.proofs.Granted.{granted_fits_a_row}
+use Rattle.cqf_admission_trees.specs.Turns.{IsGoodPace}
+use Rattle.cqf_admission_trees.proofs.TurnLemmas.{asked_is_good}
 use Rattle.cqf_admission.specs.declared.state.GoodForm.{GoodForm}
 use Rattle.cqf_admission.specs.Holdings.{IsFree, Standing, held_cost}
-use Rattle.cqf_admission.specs.Rows.{IsCountable, cost_by_link}
+use Rattle.cqf_admission.specs.Rows.{IsSummable}
 use Rattle.cqf_admission.specs.State.{Figures, IsGoodFormOf, IsStateOf}
 use Rattle.cqf_admission.specs.Streams.{stand_of}
 use Rattle.cqf_admission.specs.Weighing.{is_taken, row_by, stand_refusal}
-use Rattle.cqf_admission.proofs.GrantLemmas.{granted_countable, refusal_later}
-use Rattle.cqf_admission.proofs.SumLemmas.{costs_by_link}
+use Rattle.cqf_admission.proofs.GrantLemmas.{form_paced, granted_countable, refusal_later}
 use Rattle.cqf_admission.proofs.Told.{costs, free_where_none, state_told}
 
 -- a stream more, of a request that nothing speaks against
@@ -33,8 +33,8 @@ pub record IsNew (d : Domain) (entries : List Recorded) (before : Figures) (aske
   pub few_hops : length form.tree.now ≤ most_hops
   pub is : row_by form (length before.stands) (record { 0 = before.sealed }) ≡ granted_row d (next_number d entries) (seals entries) asked
   pub free : IsFree before.stands form.name.now
-  pub countable : (number : ℕ) (effect : Cycle) → IsCountable (length d.links) (row_by form number effect)
-  pub fits : (l number : ℕ) (effect : Cycle) → held_cost before.stands l + cost_by_link (row_by form number effect) l < 2 ^ 64
+  pub summable : (number : ℕ) (effect : Cycle) → IsSummable (length d.links) (row_by form number effect)
+  pub fits : (l cycle number : ℕ) (effect : Cycle) → held_cost before.stands l cycle + cost_on (row_by form number effect) l cycle < 2 ^ 64
 
 -- where a first reason isn't due
 first_not_due : (b : Bool) (rest : Option Refused) → or_else (refused_if b NameHeld) rest ≡ None → b ≡ false
@@ -47,16 +47,24 @@ part_within true cost = omega arith
 part_within false cost = omega arith
 
 module _ (d : Domain) (entries : List Recorded) (before : Figures) (r : IsStateOf d entries before) (sound : HeldAreSound) where
-  -- no link is over its budget
-  pub within : (l : ℕ) → held_cost before.stands l ≤ budget d l
-  within l =
+  -- no link is over its budget in a cycle
+  pub within : (l cycle : ℕ) → held_cost before.stands l cycle ≤ budget d l
+  within l cycle =
       let held = sound d entries (held_in d entries (seals entries)) (next_number d entries) r.0.running.legal (record { held = refl; number = refl }) in
-      omega (arith, ap (λ (ss : List Standing). held_cost ss l) r.0.are_streams, costs d entries l, costs_by_link (held_in d entries (seals entries)) l 0 r.0.running.paced, held.loads l 0)
+      omega (arith, ap (λ (ss : List Standing). held_cost ss l cycle) r.0.are_streams, costs d entries l cycle, held.loads l cycle)
 
 module _ (d : Domain) (asked : Asked) (form : GoodForm) (g : IsGoodFormOf d asked form) where
   -- its links are the domain's
   pub inside : All (λ (hop : Hop). hop.link < length d.links) form.tree.now
   inside = subst (All (λ (hop : Hop). hop.link < length d.links)) (sym g.tree) (hops_inside d asked.paths)
+
+  -- each once
+  pub apart : AllPairs (λ (a b : ℕ). a ≢ b) (links_in form.tree.now)
+  apart = subst (λ (hops : List Hop). AllPairs (λ (a b : ℕ). a ≢ b) (links_in hops)) (sym g.tree) (hops_apart d asked.paths)
+
+  -- its pace is good
+  pub good : IsGoodPace form.pace
+  good = subst IsGoodPace (sym g.paced) (asked_is_good asked (form_paced d asked g.none))
 
   -- its row is the one that is granted
   pub form_row : (number cycle : ℕ) → row_by form number (record { 0 = cycle }) ≡ granted_row d number cycle asked
@@ -66,36 +74,39 @@ module _ (d : Domain) (asked : Asked) (form : GoodForm) (g : IsGoodFormOf d aske
         no = number;
         name = g.name i;
         octets = g.octets i;
-        pace = sym g.own i;
+        pace = g.paced i;
         tree = record { items = g.tree i };
         admitted = effect;
         withdrawn = None;
       }
 
   -- what it costs can be added to sums by link
-  form_countable : (number : ℕ) (effect : Cycle) → IsCountable (length d.links) (row_by form number effect)
-  form_countable number effect =
-      granted_countable d (row_by form number effect) asked number effect.0 (form_row number effect.0) g.most_octets
+  form_summable : (number : ℕ) (effect : Cycle) → IsSummable (length d.links) (row_by form number effect)
+  form_summable number effect = record {
+    countable = granted_countable d (row_by form number effect) asked number effect.0 (form_row number effect.0) g.most_octets;
+    paced = good;
+  }
 
 module _ (d : Domain) (entries : List Recorded) (before : Figures) (r : IsStateOf d entries before) (asked : Asked) (form : GoodForm)
     (g : IsGoodFormOf d asked form) where
   -- the reasons against it are those that the figures tell
   pub refusal_told : refusal_of d (held_in d entries (seals entries)) asked
-      ≡ stand_refusal d before.stands form.name.now (cost_of form.octets) (links_in form.tree.now)
+      ≡ stand_refusal d before.stands form.name.now (cost_of form.octets) form.pace form.tree.now
   refusal_told =
       refusal_later d (held_in d entries (seals entries)) asked g.none
-      ∙ sym (state_told d entries asked before.stands form.name.now (cost_of form.octets) (links_in form.tree.now) r.0.running.paced g.own r.0.are_streams
-      g.name (ap cost_of g.octets) (ap links_in g.tree))
+      ∙ sym (state_told d entries asked before.stands form.name.now (cost_of form.octets) form.pace form.tree.now r.0.are_streams g.name
+      (ap cost_of g.octets) g.paced g.tree)
 
   -- its cost has room in a sum
-  fits : HeldAreSound → IsAccepted d → (l number : ℕ) (effect : Cycle) → held_cost before.stands l + cost_by_link (row_by form number effect) l < 2 ^ 64
-  fits sound ok l number effect =
-      let part : cost_by_link (row_by form number effect) l ≤ cost_of form.octets =
-      part_within (list_any (λ k. k == l) (links_in form.tree.now)) (cost_of form.octets) in
+  fits : HeldAreSound → IsAccepted d → (l cycle number : ℕ) (effect : Cycle) →
+      held_cost before.stands l cycle + cost_on (row_by form number effect) l cycle < 2 ^ 64
+  fits sound ok l cycle number effect =
+      let part : cost_on (row_by form number effect) l cycle ≤ cost_of form.octets =
+      part_within (uses form.tree.now form.pace l cycle) (cost_of form.octets) in
       let most : budget d l ≤ d.cycle_time - d.guard = div-le_self (d.cycle_time - d.guard) (octet_time_of d l) in
       omega (
         arith,
-        within d entries before r sound l,
+        within d entries before r sound l cycle,
         most,
         ok.cycle_most,
         part,
@@ -106,7 +117,7 @@ module _ (d : Domain) (entries : List Recorded) (before : Figures) (r : IsStateO
       )
 
   -- where the figures speak against nothing, it is a stream more
-  pub is_new : HeldAreSound → IsAccepted d → stand_refusal d before.stands form.name.now (cost_of form.octets) (links_in form.tree.now) ≡ None → IsNew d entries before asked form
+  pub is_new : HeldAreSound → IsAccepted d → stand_refusal d before.stands form.name.now (cost_of form.octets) form.pace form.tree.now ≡ None → IsNew d entries before asked form
   is_new sound ok free =
       let none : refusal_of d (held_in d entries (seals entries)) asked ≡ None = refusal_told ∙ free in
       record {
@@ -114,7 +125,7 @@ module _ (d : Domain) (entries : List Recorded) (before : Figures) (r : IsStateO
         few_hops = omega (arith, granted_fits_a_row d (held_in d entries (seals entries)) asked none, ap (λ (hops : List Hop). length hops) g.tree);
         is = (λ i. row_by form (numbers i) (record { 0 = r.0.running.counted i })) ∙ form_row d asked form g (next_number d entries) (seals entries);
         free = free_where_none before.stands form.name.now (first_not_due (is_taken before.stands form.name.now) _ free);
-        countable = form_countable d asked form g;
+        summable = form_summable d asked form g;
         fits = fits sound ok;
       }
     where

@@ -1,17 +1,15 @@
 -- The figures of a history with a withdrawal more.
-use Rattle.std.proofs.Common.{◌≡◌, ℕ, ◌+◌, ◌-◌, ◌<◌, ◌%◌, Bool, true, false, List, None, Ok, [], ◌∷◌, ◌++◌, map}
+use Rattle.std.proofs.Common.{◌≡◌, ℕ, ◌+◌, ◌-◌, ◌<◌, ◌%◌, Bool, List, None, Ok, [], ◌∷◌, ◌++◌, map}
 use Rattle.std.proofs.Common.{get_or, set, length, refl, sym, ap, ◌∙◌, subst, arith, mod-lt}
-use Rattle.std.specs.Prelude.{Contains, ◌==◌, if◌then◌else◌}
+use Rattle.std.specs.Prelude.{if◌then◌else◌}
 use Rattle.std.proofs.lemmas.Bool.{eq-eqb}
 use Rattle.std.proofs.lemmas.List.{length-map}
-use Rattle.cqf_lists.proofs.Members.{contains_from_map}
 use Rattle.cqf_model.specs.declared.history.Receipt.{Receipt}
 use Rattle.cqf_model.specs.declared.history.Reply.TheVariants.{Accepted}
 use Rattle.cqf_model.specs.declared.topology.Row.{Row}
 use Rattle.cqf_model.specs.Domain.{Domain}
 use Rattle.cqf_model.specs.History.{Recorded, Withdraws, held_in, next_number, reply_to, seals, streams_of, withdraw_reply, withdraw_row}
 use Rattle.cqf_model.specs.Limits.{most_calls}
-use Rattle.cqf_model.specs.Paces.{each_cycle}
 use Rattle.cqf_model.specs.Table.{is_held, residence}
 use Rattle.cqf_model.proofs.Residence.{residence_some}
 use Rattle.cqf_laws_history.specs.StateLaws.{HeldAreSound, HistoryGoesOn, SealsAreCounted, WithdrawnIsHeldOn, ended_row}
@@ -29,14 +27,6 @@ use Rattle.cqf_admission.proofs.Found.{IsFound, found}
 use Rattle.cqf_admission.proofs.Lists.{map_set}
 use Rattle.cqf_admission.proofs.Running.{LeavesHeld, answered, running, same, sealed_same}
 use Rattle.cqf_admission.proofs.Whole.{ring_stays_withdrawn}
-
--- an end changes no pace
-pace_stays : (number cycle : ℕ) (row : Row) → (ended_row number cycle row).pace ≡ row.pace
-pace_stays number cycle row = by (row.no == number)
-  where
-    by : (b : Bool) → (if b then ended row (record { 0 = cycle }) else row).pace ≡ row.pace
-    by true = refl
-    by false = refl
 
 module _ (d : Domain) (entries : List Recorded) (before : Figures) (r : IsStateOf d entries before) (goes_on : HistoryGoesOn) (count : SealsAreCounted)
     (withdraws : WithdrawnIsHeldOn) (sound : HeldAreSound) (ends : WithdrawnEnds) (seat : ℕ) (name : List ℕ) (number slot : ℕ) (row over : Row)
@@ -103,12 +93,6 @@ module _ (d : Domain) (entries : List Recorded) (before : Figures) (r : IsStateO
       ∙ (withdraws d entries (held_in d entries (seals entries)) (next_number d entries) seat name f.row r.0.running.legal
       (record { held = refl; number = refl }) f.named open_end).held
 
-  held_paced : (one : Row) → Contains (held_in d all (seals all)) one → one.pace ≡ each_cycle
-  held_paced one among =
-      let old = contains_from_map (ended_row f.row.no (seals entries)) (held_in d entries (seals entries)) one
-      (subst (λ (rs : List Row). Contains rs one) held_now among) in
-      ap (λ (x : Row). x.pace) (sym old.2) ∙ pace_stays f.row.no (seals entries) old.0 ∙ r.0.running.paced old.0 old.1
-
   -- the ring of them
   ring : IsRing after.stands after.slots
   ring =
@@ -130,7 +114,7 @@ module _ (d : Domain) (entries : List Recorded) (before : Figures) (r : IsStateO
         record {
           running = subst (λ (n : ℕ). IsRunning d all (held_in d all (seals all)) (next_number d all) n) (sym sealed)
               (running d entries before r goes_on count seat (Withdraws name) (Ok receipt) refl few due
-              (omega (arith, ap (λ (rs : List Row). length rs) map_of, length-map (streams_of d entries) (ended_row f.row.no (seals entries)))) held_paced);
+              (omega (arith, ap (λ (rs : List Row). length rs) map_of, length-map (streams_of d entries) (ended_row f.row.no (seals entries)))));
           are_streams =
               less (as_stand f.row)
               ∙ (λ i. set (r.0.are_streams i) number (with_row (f.is (as_stand f.row) i) (over_is i)))

@@ -1,5 +1,5 @@
 -- What an administration is to those who call it, and what its calls do (profile).
-use Rattle.std.specs.Prelude.{ℕ, ◌≡◌, ◌+◌, ◌-◌, ◌≤◌, ◌<◌, ◌↔◌, ◌++◌, [], ◌∷◌, Bool, true, false, Contains, List, Result, Ok, Err, filter, length, map, string_bytes}
+use Rattle.std.specs.Prelude.{ℕ, ◌≡◌, ◌+◌, ◌-◌, ◌≤◌, ◌<◌, ◌↔◌, ◌++◌, [], ◌∷◌, Bool, true, false, List, Result, Ok, Err, filter, length, map, string_bytes}
 use Rattle.cqf_model.specs.declared.history.Receipt.{Receipt}
 use Rattle.cqf_model.specs.declared.history.Refused.{Refused}
 use Rattle.cqf_model.specs.declared.history.Refused.TheVariants.{BadName, BadOctets, BadPace, UnknownNode, BrokenPath, LoopingPath, NotATree, NameHeld, TooManyStreams}
@@ -9,15 +9,14 @@ use Rattle.cqf_model.specs.declared.history.Reply.TheVariants.{Accepted, Sealed,
 use Rattle.cqf_model.specs.declared.topology.Row.{Row}
 use Rattle.cqf_model.specs.Domain.{Domain}
 use Rattle.cqf_model.specs.History.{Act, Admits, Asked, IsLegalHistory, Recorded, Seals, Withdraws, held_in, reply_to, seals, table_at}
-use Rattle.cqf_model.specs.Paces.{each_cycle}
 use Rattle.cqf_model.specs.Table.{is_held}
 use Rattle.cqf_laws_history.specs.StateLaws.{IsState, ended_row, granted_row, with_entry}
 use Rattle.cqf_admission.specs.declared.entries.Call.{Call}
-use Rattle.cqf_admission.specs.declared.entries.Call.TheVariants.{Admit, Withdraw, Seal}
+use Rattle.cqf_admission.specs.declared.entries.Call.TheVariants.{Admit, AdmitPaced, Withdraw, Seal}
 use Rattle.cqf_admission.specs.declared.entries.Entry.{Entry}
 use Rattle.cqf_admission.specs.declared.entries.SealFault.{SealFault}
 use Rattle.cqf_admission.specs.declared.entries.SealFault.TheVariants as fault
-use Rattle.cqf_admission.specs.Asking.{asked_of}
+use Rattle.cqf_admission.specs.Asking.{asked_of, asked_paced}
 use Rattle.cqf_admission.specs.Tables.{AreAlongLinks, AreTrees, CycleTable}
 use Rattle.cqf_model.specs.Limits.{most_calls, most_cycles}
 
@@ -33,6 +32,7 @@ held_of a = held_in a.domain a.entries (seals a.entries)
 -- an entry as the definitions have it
 abbrev pub act_of : Call → Act
 act_of (Admit request) = Admits (asked_of request)
+act_of (AdmitPaced request) = Admits (asked_paced request)
 act_of (Withdraw name) = Withdraws (string_bytes name)
 act_of Seal = Seals
 
@@ -106,6 +106,5 @@ Closes old new seat (Err fault.Memory) = (seals old.entries < most_cycles) × (n
 pub record IsRunning (d : Domain) (entries : List Recorded) (rows : List Row) (next sealed : ℕ) : Type 0 where
   pub legal : IsLegalHistory d entries
   pub state : IsState d entries rows next
-  pub paced : (row : Row) → Contains rows row → row.pace ≡ each_cycle
   pub counted : sealed ≡ seals entries
   pub few : next + sealed ≤ length entries

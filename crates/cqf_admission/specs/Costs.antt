@@ -1,9 +1,12 @@
 -- What streams cost of a link at most (profile).
-use Rattle.std.specs.Prelude.{ℕ, ◌-◌, List, [], ◌∷◌, fold, max}
+use Rattle.std.specs.Prelude.{ℕ, ◌-◌, List, [], ◌∷◌, if◌then◌else◌, fold, max}
 use Rattle.cqf_lists.specs.Lists.{each_below}
+use Rattle.cqf_model.specs.declared.topology.Hop.{Hop}
+use Rattle.cqf_model.specs.declared.topology.Pace.{Pace}
 use Rattle.cqf_model.specs.declared.topology.Row.{Row}
 use Rattle.cqf_model.specs.Domain.{Domain, budget}
 use Rattle.cqf_model.specs.Limits.{most_every}
+use Rattle.cqf_model.specs.Paces.{is_turn}
 use Rattle.cqf_model.specs.Table.{link_cost}
 
 -- the most that they cost of it in a cycle
@@ -13,3 +16,11 @@ most_cost rows l = fold max 0 (each_below (λ cycle. link_cost rows l cycle ∷ 
 -- and what it has left in each cycle, in octets
 abbrev pub left_beside : Domain → List Row → ℕ → ℕ
 left_beside d rows l = budget d l - most_cost rows l
+
+-- the most in those cycles in which frames of a pace go by a hop, and what its link has left beside that
+abbrev pub most_in_turns : List Row → Pace → Hop → ℕ
+most_in_turns rows pace hop =
+    fold max 0 (each_below (λ cycle. if is_turn pace hop.depth cycle then link_cost rows hop.link cycle ∷ [] else []) most_every)
+
+abbrev pub left_in_turns : Domain → List Row → Pace → Hop → ℕ
+left_in_turns d rows pace hop = budget d hop.link - most_in_turns rows pace hop

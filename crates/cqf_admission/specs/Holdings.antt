@@ -1,13 +1,19 @@
 -- Accepted streams, of which some are held, and the figures that are kept of these.
-use Rattle.std.specs.Prelude.{ℕ, ◌≡◌, ◌≢◌, ◌+◌, ◌<◌, ◌^◌, Bool, Contains, List, [], ◌∷◌, Option, Some, true, false, if◌then◌else◌, length, slice_index_or, sum_by, ◌==◌}
+use Rattle.std.specs.Prelude.{ℕ, ◌≡◌, ◌≢◌, ◌+◌, ◌<◌, ◌^◌, Bool, Contains, List, [], ◌∷◌, Option, Some, true, false, if◌then◌else◌, fold, length, max, slice_index_or, sum_by, ◌==◌}
 use Rattle.std.specs.Arc.{arc_value}
 use Rattle.std.specs.List.{list_any}
 use Rattle.std.specs.Ordering.{nat_cmp}
 use Rattle.std.specs.Cmp.Lexicographic.{slice_cmp}
 use Rattle.std.specs.BTreeMap.{BTreeMap, get}
 use Rattle.cqf_units.specs.declared.reservations.Cycle.{Cycle}
+use Rattle.cqf_lists.specs.Lists.{each_below}
+use Rattle.cqf_model.specs.declared.topology.Pace.{Pace}
 use Rattle.cqf_model.specs.declared.topology.Row.{Row}
-use Rattle.cqf_admission.specs.Rows.{IsCountable, cost_by_link, ended}
+use Rattle.cqf_model.specs.Limits.{most_every}
+use Rattle.cqf_model.specs.Paces.{is_turn}
+use Rattle.cqf_model.specs.Table.{cost_on}
+use Rattle.cqf_admission_trees.specs.Turns.{Turned, sum_on}
+use Rattle.cqf_admission.specs.Rows.{IsSummable, ended}
 use Rattle.cqf_admission.specs.declared.holdings.Stand.{Stand}
 
 -- a stream that was accepted: its row, and whether it is held
@@ -28,13 +34,21 @@ pub record Stands : Type 0 where
   pub room : ℕ
   pub links : ℕ
 
--- what those that are held cost of a link, and how many they are
-abbrev pub held_part : ℕ → Standing → ℕ
-held_part l stand = if stand.held then cost_by_link stand.row l else 0
+-- what those that are held cost of a link in a cycle
+abbrev pub held_part : ℕ → ℕ → Standing → ℕ
+held_part l cycle stand = if stand.held then cost_on stand.row l cycle else 0
 
-abbrev pub held_cost : List Standing → ℕ → ℕ
-held_cost rows l = sum_by (held_part l) rows
+abbrev pub held_cost : List Standing → ℕ → ℕ → ℕ
+held_cost rows l cycle = sum_by (held_part l cycle) rows
 
+-- the most that they cost of it in a cycle, and in one in which frames of a pace are so deep on their way
+abbrev pub held_most : List Standing → ℕ → ℕ
+held_most rows l = fold max 0 (each_below (λ cycle. held_cost rows l cycle ∷ []) most_every)
+
+abbrev pub held_most_at : List Standing → ℕ → Pace → ℕ → ℕ
+held_most_at rows l pace depth = fold max 0 (each_below (λ cycle. if is_turn pace depth cycle then held_cost rows l cycle ∷ [] else []) most_every)
+
+-- and how many they are
 abbrev pub held_one : Standing → ℕ
 held_one stand = if stand.held then 1 else 0
 
@@ -76,9 +90,9 @@ held_under by_name name = get (slice_cmp nat_cmp) by_name name
 
 -- the figures are those of the streams: under each name the number of the one that is held under it, the numbers of those that are
 -- held, and the sums
-pub record HaveFigures (rows : List Standing) (under : List ℕ → Option ℕ) (held sums : List ℕ) : Type 0 where
-  pub along : (stand : Standing) → Contains rows stand → IsCountable (length sums) stand.row
-  pub costs : (l : ℕ) → l < length sums → slice_index_or sums l 0 ≡ held_cost rows l
+pub record HaveFigures (rows : List Standing) (under : List ℕ → Option ℕ) (held : List ℕ) (sums : Turned) : Type 0 where
+  pub along : (stand : Standing) → Contains rows stand → IsSummable sums.links stand.row
+  pub costs : (l cycle : ℕ) → l < sums.links → sum_on sums l cycle ≡ held_cost rows l cycle
   pub numbers : held ≡ numbers_from 0 rows
   pub few : length rows < 2 ^ 32
   pub leads : (name : List ℕ) (number : ℕ) → under name ≡ Some number → IsHolder rows name number

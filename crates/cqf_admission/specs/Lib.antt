@@ -1,4 +1,5 @@
 pub mod Admission
+pub mod Calling
 pub mod Rows
 pub mod Costs
 pub mod Judging

@@ -7,7 +7,6 @@ use Rattle.cqf_model.specs.declared.topology.Row.{Row}
 use Rattle.cqf_model.specs.Domain.{Domain}
 use Rattle.cqf_model.specs.History.{Act, Admits, Asked, Recorded, Seals, Withdraws, held_in, next_number, pace_of, seals, streams_of, tree_of}
 use Rattle.cqf_model.specs.Limits.{most_calls, most_reserved}
-use Rattle.cqf_model.specs.Paces.{each_cycle}
 use Rattle.cqf_model.specs.Table.{is_held}
 use Rattle.cqf_laws_history.specs.StateLaws.{with_entry}
 use Rattle.cqf_admission.specs.Admission.{Administration, Answers, EndsOne, HoldsOneMore, IsRunning, reply_of}
@@ -48,14 +47,14 @@ pub record SomeDomain (figures : Figures) : Type 0 where
   pub domain : Domain
   pub history : SomeHistory domain figures
 
--- a request of good form, which asks for a stream of each cycle
+-- a request of good form
 pub record IsGoodFormOf (d : Domain) (asked : Asked) (form : GoodForm) : Type 0 where
   pub none : form_refusal d asked ≡ None
   pub name : form.name.now ≡ asked.name
   pub octets : form.octets ≡ asked.octets
   pub tree : form.tree.now ≡ tree_of d asked.paths
   pub most_octets : asked.octets ≤ most_reserved
-  pub own : pace_of asked ≡ each_cycle
+  pub paced : form.pace ≡ pace_of asked
 
 pub record SomeRequest (d : Domain) (form : GoodForm) : Type 0 where
   pub asked : Asked

@@ -2,7 +2,6 @@
 use Rattle.std.specs.Prelude.{ℕ, ◌≡◌, ◌≢◌, ◌<◌, ◌↔◌, List, Option, Some, All, AllPairs, Contains, length}
 use Rattle.cqf_model.specs.declared.topology.Row.{Row}
 use Rattle.cqf_model.specs.Domain.{Domain}
-use Rattle.cqf_model.specs.Paces.{each_cycle}
 use Rattle.cqf_model.specs.Table.{IsTree, links_of}
 
 -- a cycle, and the streams that are held in it, by number
@@ -14,10 +13,6 @@ pub record CycleTable : Type 0 where
 pub record AreInOrder (rows : List Row) : Type 0 where
   pub numbers : AllPairs (λ (a b : Row). a.no < b.no) rows
   pub names : AllPairs (λ (a b : Row). a.name ≢ b.name) rows
-
--- rows of streams that are offered in each cycle
-abbrev pub AreOfEachCycle : List Row → Type 0
-AreOfEachCycle rows = (row : Row) → Contains rows row → row.pace ≡ each_cycle
 
 -- what is found is the row of the name, where there is one, and likewise of the number
 abbrev pub IsRowNamed : List Row → List ℕ → Option Row → Type 0

@@ -1,18 +1,20 @@
 -- What requests of good form are beside the figures.
-use Rattle.std.specs.Prelude.{ℕ, ◌≡◌, ◌-◌, ◌⊎◌, List, Bool, false, true, ◌&&◌, find, is_some, nat_le, nat_lt, Option, None, Result, Ok, Err, slice_index_or}
+use Rattle.std.specs.Prelude.{ℕ, ◌≡◌, ◌-◌, ◌⊎◌, List, [], ◌∷◌, Bool, false, true, ◌&&◌, if◌then◌else◌, find, fold, is_some, max, nat_le, nat_lt, Option, None, Result, Ok, Err, slice_index_or}
 use Rattle.std.specs.List.{list_any}
-use Rattle.cqf_lists.specs.Lists.{or_else}
+use Rattle.cqf_lists.specs.Lists.{each_below, or_else}
 use Rattle.cqf_units.specs.Name.{is_name}
 use Rattle.cqf_units.specs.declared.reservations.Cycle.{Cycle}
 use Rattle.cqf_model.specs.declared.history.Refused.{Refused}
 use Rattle.cqf_model.specs.declared.history.Refused.TheVariants.{AlreadyWithdrawn, BudgetShort, NameHeld, NotHeld, TooManyStreams}
+use Rattle.cqf_model.specs.declared.topology.Hop.{Hop}
+use Rattle.cqf_model.specs.declared.topology.Pace.{Pace}
 use Rattle.cqf_model.specs.declared.topology.Row.{Row}
 use Rattle.cqf_model.specs.Domain.{Domain, budget, is_text}
 use Rattle.cqf_model.specs.History.{refused_at, refused_if}
-use Rattle.cqf_model.specs.Limits.{streams_within}
-use Rattle.cqf_model.specs.Paces.{each_cycle}
+use Rattle.cqf_model.specs.Limits.{most_every, streams_within}
+use Rattle.cqf_model.specs.Table.{links_in, uses}
 use Rattle.cqf_admission.specs.declared.state.GoodForm.{GoodForm}
-use Rattle.cqf_admission.specs.Holdings.{IsFree, IsHolder, Standing, held_cost, held_count}
+use Rattle.cqf_admission.specs.Holdings.{IsFree, IsHolder, Standing, held_cost, held_count, held_most_at}
 
 -- the row of one, of a number and from a cycle on
 abbrev pub row_by : GoodForm → ℕ → Cycle → Row
@@ -20,27 +22,40 @@ row_by form number effect = record {
   no = number;
   name = form.name.now;
   octets = form.octets;
-  pace = each_cycle;
+  pace = form.pace;
   tree = record { items = form.tree.now };
   admitted = effect;
   withdrawn = None;
 }
 
--- whether a name is held, what a link has left beside those that are held, and which links have too little for a cost
+-- whether a name is held
 abbrev pub is_taken : List Standing → List ℕ → Bool
 is_taken stands name = list_any (λ (stand : Standing). stand.held && is_text stand.row.name name) stands
 
-abbrev pub left_by : Domain → List Standing → ℕ → ℕ
-left_by d stands l = budget d l - held_cost stands l
+-- the most that those that are held cost of a link in a cycle in which frames of a stream of this tree and pace go by it; what it has left
+-- beside that, and the link of a hop
+abbrev pub held_beside : List Standing → List Hop → Pace → ℕ → ℕ
+held_beside stands tree pace l = fold max 0 (each_below (λ cycle. if uses tree pace l cycle then held_cost stands l cycle ∷ [] else []) most_every)
 
-abbrev pub stand_short : Domain → List Standing → ℕ → List ℕ → Option Refused
-stand_short d stands cost links = refused_at (λ l. BudgetShort l (left_by d stands l)) (find (λ l. nat_lt (left_by d stands l) cost) links)
+abbrev pub left_by : Domain → List Standing → List Hop → Pace → ℕ → ℕ
+left_by d stands tree pace l = budget d l - held_beside stands tree pace l
 
--- why a stream of a name, a cost and these links is refused for what is held
-abbrev pub stand_refusal : Domain → List Standing → List ℕ → ℕ → List ℕ → Option Refused
-stand_refusal d stands name cost links =
+abbrev pub left_at : Domain → List Standing → Pace → Hop → ℕ
+left_at d stands pace hop = budget d hop.link - held_most_at stands hop.link pace hop.depth
+
+-- of some links the first that has too little left for a cost, and of the links of the tree
+abbrev pub short_among : Domain → List Standing → ℕ → Pace → List Hop → List ℕ → Option Refused
+short_among d stands cost pace tree links =
+    refused_at (λ l. BudgetShort l (left_by d stands tree pace l)) (find (λ l. nat_lt (left_by d stands tree pace l) cost) links)
+
+abbrev pub stand_short : Domain → List Standing → ℕ → Pace → List Hop → Option Refused
+stand_short d stands cost pace tree = short_among d stands cost pace tree (links_in tree)
+
+-- why a stream of a name, a cost, a pace and a tree is refused for what is held
+abbrev pub stand_refusal : Domain → List Standing → List ℕ → ℕ → Pace → List Hop → Option Refused
+stand_refusal d stands name cost pace tree =
     or_else (refused_if (is_taken stands name) NameHeld)
-    (or_else (refused_if (nat_le (streams_within d.limits) (held_count stands)) TooManyStreams) (stand_short d stands cost links))
+    (or_else (refused_if (nat_le (streams_within d.limits) (held_count stands)) TooManyStreams) (stand_short d stands cost pace tree))
 
 -- a look for the stream of a name that isn't withdrawn gives its number, or why there is none
 abbrev pub IsOpenAt : List Standing → List ℕ → ℕ → Type 0

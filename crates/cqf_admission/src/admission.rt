@@ -1,20 +1,23 @@
 //! The admission of streams.
-ghost use Rattle.std.specs.Prelude.{ℕ, ◌≡◌, ◌≤◌, ◌<◌, [], map, length, string_bytes, IfOk};
+ghost use Rattle.std.specs.Prelude.{◌≡◌, ◌≤◌, ◌<◌, [], map, length, IfOk};
 ghost use Rattle.cqf_model.specs.Domain.{budget};
-ghost use Rattle.cqf_model.specs.History.{Admits, Withdraws, IsLegalHistory, held_in, seals};
-ghost use Rattle.cqf_model.specs.Table.{link_cost};
-ghost use Rattle.cqf_admission.specs.Asking.{asked_of};
-ghost use Rattle.cqf_admission.specs.Admission.{Answers, Closes, EndsOne, HoldsOneMore, LetsGo, recorded_of};
+ghost use Rattle.cqf_model.specs.History.{Admits, Asked, Withdraws, IsLegalHistory, held_in, seals, streams_of};
+ghost use Rattle.cqf_admission.specs.Asking.{asked_of, asked_paced};
+ghost use Rattle.cqf_admission.specs.Calling.{IsJudgedCall};
+ghost use Rattle.cqf_model.specs.Limits.{most_calls};
+ghost use Rattle.cqf_admission.specs.Admission.{Answers, Closes, act_of, calls, EndsOne, HoldsOneMore, LetsGo, recorded_of};
+ghost use Rattle.cqf_admission.specs.Costs.{left_in_turns, most_cost};
+ghost use Rattle.cqf_admission_trees.specs.Turns.{IsGoodPace};
 
 use crate::entries::{Call, Entry, SealFault, copied_entries, enter, reply_of};
-use crate::judged::judge;
+use crate::judged::{Judged, judge, judge_paced};
 use crate::state::{GoodForm, State};
 use crate::table::Table;
 use crate::tabling::Tabling;
 use cqf_admission_trees::count_places;
 use cqf_laws_history::state_follows_history;
-use cqf_model::{MOST_SEALS, Receipt, Refused, Reply};
-use cqf_topology::{Domain, Request};
+use cqf_model::{Hop, MOST_SEALS, Pace, Receipt, Refused, Reply, Row};
+use cqf_topology::{Domain, PacedRequest, Request};
 use cqf_units::{Cycle, Memory, Octets};
 use std::alloc::Global;
 use std::marker::Model;
@@ -52,7 +55,7 @@ impl Admission {
             alloc,
             domain: domain.try_copy(alloc)?,
             history: Vec::new(alloc),
-            state: State::new(alloc, usize::from(domain.links()))?,
+            state: State::new(alloc, domain.links())?,
             tabling: Tabling::new(alloc)?,
         })
     }
@@ -78,6 +81,19 @@ impl Admission {
         ensures legal { IsLegalHistory self.domain self.entries }
     {
         self.history
+    }
+
+    /// All entries, in order, and the rows of all streams that were ever granted, by number, of an admission that is over.
+    ///
+    /// # Errors
+    /// Where a growth is refused.
+    pub fn into_parts(self) -> Result<(Vec<Entry>, Vec<Row>), Memory>
+        ensures entries { IfOk result (λ parts. map recorded_of parts.0.items ≡ self.entries) }
+        ensures legal { IsLegalHistory self.domain self.entries }
+        ensures rows { IfOk result (λ parts. parts.1.items ≡ streams_of self.domain self.entries) }
+    {
+        let rows = self.state.into_rows(self.alloc)?;
+        Ok((self.history, rows))
     }
 
     /// The next cycle to be closed to changes: the number of Seals so far. A call has its effect from this cycle on.
@@ -106,18 +122,51 @@ impl Admission {
         if count_places(request.paths.as_slice()).is_none() {
             return Err(Refused::Memory);
         }
+        let judged = judge(&self.domain, request);
+        self.admit_judged(seat, Call::Admit(asked), request.octets, judged)
+    }
+
+    /// Asks for a stream that is offered in some cycles, likewise. Behind `BadOctets` it is refused with `BadPace` where the number of cycles,
+    /// in one of which it is offered, doesn't divide 80, or the first of these isn't below that number.
+    pub fn admit_paced(&mut self, seat: u16, request: &PacedRequest) -> Result<Receipt, Refused>
+        ensures answers { Answers self.old self.new seat (Admits (asked_paced request.now)) result }
+        ensures held { HoldsOneMore self.old self.new (asked_paced request.now) result }
+    {
+        if self.state.is_full(self.history.len()) {
+            return Err(Refused::HistoryFull);
+        }
+        let asked = request.try_copy(self.alloc)?;
+        if count_places(request.paths.as_slice()).is_none() {
+            return Err(Refused::Memory);
+        }
+        let judged = judge_paced(&self.domain, request);
+        self.admit_judged(seat, Call::AdmitPaced(asked), request.octets, judged)
+    }
+
+    /// Answers a call for a stream of so many octets, which was judged by itself, and enters it. The history isn't full.
+    fn admit_judged(
+        &mut self,
+        seat: u16,
+        call: Call,
+        octets: u32,
+        judged: Result<Judged, Refused>,
+    ) -> Result<Receipt, Refused>
+        requires room { calls self.old.entries < most_calls }
+        requires judged { IsJudgedCall self.old.domain call octets judged }
+        ensures answers { Answers self.old self.new seat (act_of call) result }
+        ensures held { (asked : Asked) → act_of call ≡ Admits asked → HoldsOneMore self.old self.new asked result }
+    {
         self.history.reserve(1)?;
         state_follows_history();
-        let answer = match judge(&self.domain, request) {
+        let answer = match judged {
             Ok(judged) => {
-                let form = GoodForm::of_judged(&judged, request.octets);
+                let form = GoodForm::of_judged(&judged, octets);
                 self.state.admit(self.alloc, &self.domain, form)?
             }
             Err(refused) => Err(refused),
         };
         self.tabling.note(answer.is_ok());
-        let admit = Call::Admit(asked);
-        enter(&mut self.history, seat, admit, reply_of(answer));
+        enter(&mut self.history, seat, call, reply_of(answer));
         answer
     }
 
@@ -164,15 +213,25 @@ impl Admission {
         Ok(Table::new(cycle, listed))
     }
 
-    /// What the streams that are held in the next cycle cost of a link, in octets a cycle: never more than its budget
-    /// (profile).
+    /// What the streams that are held in the next cycle cost of a link at most, in octets in a cycle: never more than its budget (profile).
     pub fn held_on(&self, link: u16) -> Octets
         requires { link < length self.now.domain.links }
-        ensures held { (cycle : ℕ) → result.0 ≡ link_cost (held_in self.now.domain self.now.entries (seals self.now.entries)) link cycle }
+        ensures held { result.0 ≡ most_cost (held_in self.now.domain self.now.entries (seals self.now.entries)) link }
         ensures within { result.0 ≤ budget self.now.domain link }
     {
         state_follows_history();
         self.state.taken_of(&self.domain, link)
+    }
+
+    /// What a hop's link has left beside the streams that are held in the next cycle, in octets, in the cycles in which frames of a pace go
+    /// by it: the least in one of these (profile). The pace is of one cycle of a divisor of 80.
+    pub fn left_at(&self, hop: &Hop, pace: Pace) -> Octets
+        requires inside { hop.now.link < length self.now.domain.links }
+        requires good { IsGoodPace pace }
+        ensures { result.0 ≡ left_in_turns self.now.domain (held_in self.now.domain self.now.entries (seals self.now.entries)) pace hop.now }
+    {
+        state_follows_history();
+        self.state.left_at(&self.domain, hop, pace)
     }
 
     /// The same admission again, unless memory runs out.

@@ -3,7 +3,7 @@ ghost use Rattle.std.specs.Prelude.{◌≡◌, ◌<◌, ◌++◌, [], ◌∷◌,
 ghost use Rattle.cqf_admission.specs.Admission.{act_of, recorded_of, reply_of};
 
 use cqf_model::{Receipt, Refused, Reply};
-use cqf_topology::Request;
+use cqf_topology::{PacedRequest, Request};
 use cqf_units::Memory;
 use std::alloc::Global;
 use thiserror::Error;
@@ -11,8 +11,10 @@ use thiserror::Error;
 /// What an administrator calls for beside Seals.
 #[derive(Debug, Drop)]
 pub enum Command {
-    /// To admit a stream.
+    /// To admit a stream that is offered in each cycle.
     Admit(Request),
+    /// To admit one that is offered in some.
+    AdmitPaced(PacedRequest),
     /// To withdraw the stream of a name.
     Withdraw(String),
 }
@@ -20,8 +22,10 @@ pub enum Command {
 /// What was called for.
 #[derive(Debug, Drop)]
 pub enum Call {
-    /// To admit a stream.
+    /// To admit a stream that is offered in each cycle.
     Admit(Request),
+    /// To admit one that is offered in some.
+    AdmitPaced(PacedRequest),
     /// To withdraw the stream of a name.
     Withdraw(String),
     /// To close the next cycle to changes.
@@ -83,6 +87,7 @@ fn copied_call(alloc: Global, call: &Call) -> Result<Call, Memory>
 {
     match call {
         Call::Admit(request) => Ok(Call::Admit(request.try_copy(alloc)?)),
+        Call::AdmitPaced(request) => Ok(Call::AdmitPaced(request.try_copy(alloc)?)),
         Call::Withdraw(name) => Ok(Call::Withdraw(String::from_str(alloc, name.as_str())?)),
         Call::Seal => Ok(Call::Seal),
     }

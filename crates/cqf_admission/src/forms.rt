@@ -1,12 +1,12 @@
 //! What requests are by themselves, each looked over once.
 ghost use Rattle.std.specs.Prelude.{◌≡◌, IfOk, OnOk, length};
-ghost use Rattle.cqf_admission.specs.Asking.{asked_of};
+ghost use Rattle.cqf_admission.specs.Asking.{asked_paced};
 ghost use Rattle.cqf_admission.specs.Forms.{AreUnseen, IsFormOf, IsSeen};
 
-use crate::judged::judge;
+use crate::judged::judge_paced;
 use cqf_admission_trees::count_places;
 use cqf_model::{Refused, Row};
-use cqf_topology::{Domain, Request};
+use cqf_topology::{Domain, PacedRequest};
 use cqf_units::{Cycle, Memory};
 use std::alloc::{AllocError, Global};
 
@@ -25,14 +25,14 @@ pub(crate) enum Form {
 ///
 /// # Errors
 /// Where a growth is refused, or no `usize` can count the places of its branches.
-fn look_over(alloc: Global, domain: &Domain, request: &Request) -> Result<Form, Memory>
+fn look_over(alloc: Global, domain: &Domain, request: &PacedRequest) -> Result<Form, Memory>
     ensures seen { IfOk result IsSeen }
-    ensures form { IfOk result (IsFormOf domain.now (asked_of request.now)) }
+    ensures form { IfOk result (IsFormOf domain.now (asked_paced request.now)) }
 {
     if count_places(request.paths.as_slice()).is_none() {
         return Err(AllocError);
     }
-    match judge(domain, request) {
+    match judge_paced(domain, request) {
         Ok(judged) => {
             let row = judged.into_row(alloc, request.octets, 0, Cycle(0))?;
             Ok(Form::Good(row))
@@ -48,11 +48,11 @@ fn look_over(alloc: Global, domain: &Domain, request: &Request) -> Result<Form, 
 pub(crate) fn see(
     alloc: Global,
     domain: &Domain,
-    request: &Request,
+    request: &PacedRequest,
     form: &mut Form,
 ) -> Result<(), Memory>
-    requires { IsFormOf domain.now (asked_of request.now) form.old }
-    ensures form { IsFormOf domain.now (asked_of request.now) form.new }
+    requires { IsFormOf domain.now (asked_paced request.now) form.old }
+    ensures form { IsFormOf domain.now (asked_paced request.now) form.new }
     ensures seen { OnOk result (IsSeen form.new) }
 {
     if let Form::Unseen = form {

@@ -1,12 +1,15 @@
 //! Accepted streams by number, of which some are held.
 ghost use Rattle.std.specs.Arc.{arc_value};
 ghost use Rattle.std.specs.Prelude.{◌≡◌, ◌+◌, ◌-◌, ◌<◌, ◌^◌, ◌==◌, ℕ, [], ◌∷◌, ◌++◌, AllPairs, Contains, IfOk, MatchOption, OnErr, OnOk};
-ghost use Rattle.std.specs.Prelude.{filter, length, map, not, replicate, slice_index_or, slice_set, vec_len, vec_capacity};
-ghost use Rattle.cqf_admission.specs.Rows.{IsCountable, cost_by_link};
-ghost use Rattle.cqf_admission.specs.Holdings.{IsEnded, IsFree, IsHeldAt, IsHolder, Standing, held_by, held_cost, held_count, released, standing_of, with_row};
+ghost use Rattle.std.specs.Prelude.{filter, length, map, not, slice_index_or, slice_set, vec_len, vec_capacity};
+ghost use Rattle.cqf_model.specs.Table.{cost_on};
+ghost use Rattle.cqf_admission_trees.specs.Turns.{IsGoodPace};
+ghost use Rattle.cqf_admission.specs.Rows.{IsSummable};
+ghost use Rattle.cqf_admission.specs.Holdings.{IsEnded, IsFree, IsHeldAt, IsHolder, Standing, held_by, held_cost, held_count, held_most, held_most_at};
+ghost use Rattle.cqf_admission.specs.Holdings.{released, standing_of, with_row};
 
-use cqf_admission_trees::{add_on, take_on};
-use cqf_model::Row;
+use cqf_admission_trees::Sums;
+use cqf_model::{Hop, Pace, Row};
 use cqf_units::{Memory, Name, Octets, cost};
 use std::alloc::Global;
 use std::collections::BTreeMap;
@@ -28,12 +31,12 @@ pub(crate) struct Holdings {
     by_name: BTreeMap<Name, u32>,
     /// The numbers of those that are held, in order.
     held: Vec<u32>,
-    /// By link, the sum of the costs of the held streams that go by it.
-    sums: Vec<u64>,
+    /// By link and cycle, the sum of the costs of the held streams whose frames go by it in that cycle.
+    sums: Sums,
 }
 
 impl Model for Holdings {
-    ghost use Rattle.std.specs.Prelude.{◌-◌, length, map, min, vec_len, vec_capacity};
+    ghost use Rattle.std.specs.Prelude.{◌-◌, map, min, vec_len, vec_capacity};
     ghost use Rattle.cqf_admission.specs.Holdings.{HaveFigures, Stands, held_under, standing_of};
 
     ghost Value = { Stands };
@@ -41,17 +44,10 @@ impl Model for Holdings {
     ghost view = { λ h. record {
       rows = map standing_of h.rows.items;
       room = min (vec_capacity h.rows - vec_len h.rows) (vec_capacity h.held - vec_len h.held);
-      links = length h.sums.items;
+      links = h.sums.links;
     } };
 
-    ghost invariant = { λ h. HaveFigures (map standing_of h.rows.items) (held_under h.by_name) h.held.items h.sums.items };
-}
-
-/// A sum of nothing for each of so many links.
-fn no_sums(alloc: Global, links: usize) -> Result<Vec<u64>, Memory>
-    ensures { IfOk result (λ sums. sums.items ≡ replicate links 0) }
-{
-    Ok(vec![in alloc; 0; links]?)
+    ghost invariant = { λ h. HaveFigures (map standing_of h.rows.items) (held_under h.by_name) h.held.items h.sums };
 }
 
 /// The row that was shared, unless memory runs out.
@@ -103,11 +99,11 @@ fn take_out(held: &mut Vec<u32>, number: u32)
 
 impl Holdings {
     /// No streams, of so many links, unless memory runs out.
-    pub(crate) fn new(alloc: Global, links: usize) -> Result<Holdings, Memory>
+    pub(crate) fn new(alloc: Global, links: u16) -> Result<Holdings, Memory>
         ensures rows { IfOk result (λ holdings. holdings.rows ≡ []) }
         ensures links { IfOk result (λ holdings. holdings.links ≡ links) }
     {
-        let sums = no_sums(alloc, links)?;
+        let sums = Sums::new(alloc, links)?;
         Ok(Holdings {
             rows: Vec::new(alloc),
             by_name: BTreeMap::new(alloc),
@@ -147,13 +143,23 @@ impl Holdings {
         self.held.len()
     }
 
-    /// What the held streams cost of a link.
-    pub(crate) fn cost_on(&self, link: u16) -> u64
+    /// The most that the held streams cost of a link in a cycle.
+    pub(crate) fn most_of(&self, link: u16) -> u64
         requires { link < self.now.links }
-        ensures { result ≡ held_cost self.now.rows link }
+        ensures { result ≡ held_most self.now.rows link }
     {
         let rows = &self.rows;
-        self.sums[usize::from(link)]
+        self.sums.most_of(link)
+    }
+
+    /// The most that they cost of a hop's link in a cycle in which frames of this pace go by it.
+    pub(crate) fn most_at(&self, hop: &Hop, pace: Pace) -> u64
+        requires inside { hop.now.link < self.now.links }
+        requires good { IsGoodPace pace }
+        ensures { result ≡ held_most_at self.now.rows hop.now.link pace hop.now.depth }
+    {
+        let rows = &self.rows;
+        self.sums.most_at(hop, pace)
     }
 
     /// Makes room for a stream more, unless memory runs out.
@@ -171,8 +177,8 @@ impl Holdings {
         requires room { 0 < self.old.room }
         requires few { length self.old.rows + 1 < 2 ^ 32 }
         requires free { IsFree self.old.rows row.name }
-        requires countable { IsCountable self.old.links row }
-        requires fits { (l : ℕ) → l < self.old.links → held_cost self.old.rows l + cost_by_link row l < 2 ^ 64 }
+        requires summable { IsSummable self.old.links row }
+        requires fits { (l cycle : ℕ) → l < self.old.links → held_cost self.old.rows l cycle + cost_on row l cycle < 2 ^ 64 }
         ensures rows { OnOk result (self.new.rows ≡ self.old.rows ++ held_by row ∷ []) }
         ensures links { self.new.links ≡ self.old.links }
         ensures same { OnErr result (self.new ≡ self.old) }
@@ -181,11 +187,8 @@ impl Holdings {
         let name = row.name.copied();
         let row = Arc::new(alloc, row)?;
         self.by_name.insert(name, number)?;
-        add_on(
-            &mut self.sums,
-            row.tree.as_slice(),
-            cost(Octets(row.octets)).0,
-        );
+        let cost = cost(Octets(row.octets)).0;
+        self.sums.add(row.tree.as_slice(), row.pace, cost);
         self.held.push(number).unwrap();
         self.rows.push(Stand { row, held: true }).unwrap();
         Ok(())
@@ -209,11 +212,8 @@ impl Holdings {
     {
         let place = number as usize;
         let row = &self.rows[place].row;
-        take_on(
-            &mut self.sums,
-            row.tree.as_slice(),
-            cost(Octets(row.octets)).0,
-        );
+        let cost = cost(Octets(row.octets)).0;
+        self.sums.take(row.tree.as_slice(), row.pace, cost);
         let _ = self.by_name.remove(&row.name);
         take_out(&mut self.held, number);
         self.rows[place].held = false;
@@ -240,7 +240,7 @@ impl Holdings {
             rows: copied_stands(alloc, self.rows.as_slice())?,
             by_name: self.by_name.clone()?,
             held: Vec::from_slice(alloc, self.held.as_slice())?,
-            sums: Vec::from_slice(alloc, self.sums.as_slice())?,
+            sums: self.sums.try_copy(alloc)?,
         })
     }
 

@@ -1,21 +1,23 @@
 //! What a request is by itself, whatever is held.
-ghost use Rattle.std.specs.Prelude.{◌≡◌, ◌<◌, ◌^◌, IfOk};
+ghost use Rattle.std.specs.Prelude.{◌≡◌, ◌<◌, ◌^◌, IfOk, MatchOption, false};
+ghost use Rattle.cqf_model.specs.History.{is_pace};
 ghost use Rattle.cqf_admission_trees.specs.Branches.{branches_of, places_of};
-ghost use Rattle.cqf_admission.specs.Asking.{asked_of};
-ghost use Rattle.cqf_admission.specs.Judging.{Judges, row_by};
+ghost use Rattle.cqf_admission.specs.Asking.{asked_of, asked_paced, asked_with};
+ghost use Rattle.cqf_admission.specs.Judging.{IsPaceOf, Judges, row_by};
 
 use arrayvec::ArrayVec;
 use cqf_admission_trees::find_tree;
-use cqf_model::{EACH_CYCLE, Hop, LEAST_OCTETS, MOST_OCTETS, Refused, Row, Tree};
-use cqf_topology::{Domain, Request};
+use cqf_model::{Hop, LEAST_OCTETS, MOST_EVERY, MOST_OCTETS, Pace, Refused, Row, Tree};
+use cqf_topology::{Domain, PacedRequest, Request};
 use cqf_units::{Cycle, Memory, Name, Octets, cost};
 use std::alloc::Global;
 
-/// A request of good form: its name, what it costs of each link of its tree in octets a cycle, and that tree.
+/// A request of good form: its name, what it costs of each link of its tree in octets in a cycle of its own, its pace, and that tree.
 #[derive(Debug, Drop)]
 pub struct Judged {
     pub name: Name,
     pub cost: Octets,
+    pub pace: Pace,
     pub tree: ArrayVec<Hop, 200>,
 }
 
@@ -33,7 +35,7 @@ impl Judged {
         Ok(Row {
             no,
             octets,
-            pace: EACH_CYCLE,
+            pace: self.pace,
             tree: Tree::new(alloc, self.tree.as_slice())?,
             name: self.name,
             admitted,
@@ -42,7 +44,54 @@ impl Judged {
     }
 }
 
-/// What a request is by itself. The caller sees to it that its branches have fewer than 2^64 places together (profile).
+/// The pace of a stream that is offered in one of so many cycles, of which this is the first, where there is one.
+fn pace_of(every: u32, phase: u32) -> Option<Pace>
+    ensures { MatchOption result (is_pace every phase ≡ false) (IsPaceOf every phase) }
+{
+    if every == 0 || every > MOST_EVERY {
+        return None;
+    }
+    if MOST_EVERY % every != 0 || phase >= every {
+        return None;
+    }
+    Some(Pace {
+        pause: (every - 1) as u8,
+        phase: phase as u8,
+    })
+}
+
+/// What a request is by itself, by its parts.
+fn judge_parts(
+    domain: &Domain,
+    name: &str,
+    octets: u32,
+    every: u32,
+    phase: u32,
+    paths: &[Vec<String>],
+) -> Result<Judged, Refused>
+    requires { places_of (branches_of paths.now) < 2 ^ 64 }
+    ensures { Judges domain.now (asked_with name.now octets every phase (branches_of paths.now)) result }
+{
+    let Some(name) = Name::new(name.as_bytes()) else {
+        return Err(Refused::BadName);
+    };
+    if octets < LEAST_OCTETS || octets > MOST_OCTETS {
+        return Err(Refused::BadOctets);
+    }
+    let Some(pace) = pace_of(every, phase) else {
+        return Err(Refused::BadPace);
+    };
+    let tree = find_tree(domain, paths)?;
+    Ok(Judged {
+        name,
+        cost: cost(Octets(octets)),
+        pace,
+        tree,
+    })
+}
+
+/// What a request is by itself, whose stream is offered in each cycle. The caller sees to it that its branches have fewer than 2^64 places
+/// together (profile).
 ///
 /// # Errors
 /// The first reason against its form: `BadName`, `BadOctets`, `UnknownNode`, `BrokenPath`, `LoopingPath`, `NotATree`, each
@@ -51,16 +100,27 @@ pub fn judge(domain: &Domain, request: &Request) -> Result<Judged, Refused>
     requires { places_of (branches_of request.now.paths.items) < 2 ^ 64 }
     ensures { Judges domain.now (asked_of request.now) result }
 {
-    let Some(name) = Name::new(request.name.as_bytes()) else {
-        return Err(Refused::BadName);
-    };
-    if request.octets < LEAST_OCTETS || request.octets > MOST_OCTETS {
-        return Err(Refused::BadOctets);
-    }
-    let tree = find_tree(domain, request.paths.as_slice())?;
-    Ok(Judged {
+    let (name, paths) = (request.name.as_str(), request.paths.as_slice());
+    judge_parts(domain, name, request.octets, 1, 0, paths)
+}
+
+/// What a request is by itself, whose stream is offered in some cycles. The caller sees to it that its branches have fewer than 2^64 places
+/// together (profile).
+///
+/// # Errors
+/// As [`judge`], and behind `BadOctets` with `BadPace`, where the number of cycles, in one of which the stream is offered, doesn't divide
+/// 80, or the first of these isn't below that number.
+pub fn judge_paced(domain: &Domain, request: &PacedRequest) -> Result<Judged, Refused>
+    requires { places_of (branches_of request.now.paths.items) < 2 ^ 64 }
+    ensures { Judges domain.now (asked_paced request.now) result }
+{
+    let (name, paths) = (request.name.as_str(), request.paths.as_slice());
+    judge_parts(
+        domain,
         name,
-        cost: cost(Octets(request.octets)),
-        tree,
-    })
+        request.octets,
+        request.every,
+        request.phase,
+        paths,
+    )
 }

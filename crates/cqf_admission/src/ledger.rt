@@ -1,12 +1,12 @@
 //! The administration of streams over requests and a script that stand elsewhere, none of which it copies.
-ghost use Rattle.std.specs.Prelude.{ℕ, ◌≡◌, ◌≤◌, ◌<◌, [], map, length, IfOk};
+ghost use Rattle.std.specs.Prelude.{◌≡◌, ◌≤◌, ◌<◌, [], map, length, IfOk};
 ghost use Rattle.cqf_model.specs.Domain.{budget};
 ghost use Rattle.cqf_model.specs.History.{Admits, IsLegalHistory, Withdraws, seals, streams_of};
-ghost use Rattle.cqf_model.specs.Table.{link_cost};
 ghost use Rattle.cqf_admission_requests.specs.declared.orders.What.TheVariants.{Withdraw};
 ghost use Rattle.cqf_admission_requests.specs.Orders.{StandsIn, request_at, word_at};
-ghost use Rattle.cqf_admission.specs.Asking.{asked_of};
+ghost use Rattle.cqf_admission.specs.Asking.{asked_paced};
 ghost use Rattle.cqf_admission.specs.Admission.{Answers, EndsOne, HoldsOneMore, held_of};
+ghost use Rattle.cqf_admission.specs.Costs.{most_cost};
 ghost use Rattle.cqf_admission.specs.Forms.{IsRowOfGoodForm};
 ghost use Rattle.cqf_admission.specs.Ledger.{ClosesCycle, recorded_in};
 ghost use Rattle.cqf_admission.specs.Running.{AreThere};
@@ -18,7 +18,7 @@ use crate::state::{GoodForm, State};
 use cqf_admission_requests::{What, word_of};
 use cqf_laws_history::state_follows_history;
 use cqf_model::{MOST_SEALS, Receipt, Refused, Reply, Row};
-use cqf_topology::{Domain, Request};
+use cqf_topology::{Domain, PacedRequest};
 use cqf_units::{Cycle, Memory, Octets};
 use std::alloc::Global;
 use std::marker::Model;
@@ -30,7 +30,7 @@ use std::marker::Model;
 pub struct Ledger<'s> {
     alloc: Global,
     domain: &'s Domain,
-    requests: &'s [Request],
+    requests: &'s [PacedRequest],
     script: &'s [u8],
     /// By place, what is known of each request's form.
     forms: Vec<Form>,
@@ -40,7 +40,7 @@ pub struct Ledger<'s> {
 
 impl<'s> Model for Ledger<'s> {
     ghost use Rattle.std.specs.Prelude.{map};
-    ghost use Rattle.cqf_admission.specs.Asking.{asked_of};
+    ghost use Rattle.cqf_admission.specs.Asking.{asked_paced};
     ghost use Rattle.cqf_admission.specs.Ledger.{Kept, recorded_in};
     ghost use Rattle.cqf_admission.specs.Running.{AreForms, AreThere};
     ghost use Rattle.cqf_admission.specs.State.{IsStateOf};
@@ -50,15 +50,15 @@ impl<'s> Model for Ledger<'s> {
     ghost view = { λ l. record {
       administration = record {
         domain = l.domain.now;
-        entries = map (recorded_in (map asked_of l.requests.now) l.script.now) l.log.items;
+        entries = map (recorded_in (map asked_paced l.requests.now) l.script.now) l.log.items;
       };
-      requests = map asked_of l.requests.now;
+      requests = map asked_paced l.requests.now;
       script = l.script.now;
     } };
 
-    ghost invariant = { λ l. IsStateOf l.domain.now (map (recorded_in (map asked_of l.requests.now) l.script.now) l.log.items) l.state
+    ghost invariant = { λ l. IsStateOf l.domain.now (map (recorded_in (map asked_paced l.requests.now) l.script.now) l.log.items) l.state
         × AreForms l.domain.now l.requests.now l.forms.items
-        × AreThere (map asked_of l.requests.now) l.script.now l.log.items };
+        × AreThere (map asked_paced l.requests.now) l.script.now l.log.items };
 }
 
 impl<'s> Ledger<'s> {
@@ -69,16 +69,16 @@ impl<'s> Ledger<'s> {
     pub fn new(
         alloc: Global,
         domain: &'s Domain,
-        requests: &'s [Request],
+        requests: &'s [PacedRequest],
         script: &'s [u8],
     ) -> Result<Ledger<'s>, Memory>
         ensures domain { IfOk result (λ l. l.administration.domain ≡ domain.now) }
         ensures begins { IfOk result (λ l. l.administration.entries ≡ []) }
-        ensures requests { IfOk result (λ l. l.requests ≡ map asked_of requests.now) }
+        ensures requests { IfOk result (λ l. l.requests ≡ map asked_paced requests.now) }
         ensures script { IfOk result (λ l. l.script ≡ script.now) }
     {
         let forms = unseen(alloc, requests.len())?;
-        let state = State::new(alloc, usize::from(domain.links()))?;
+        let state = State::new(alloc, domain.links())?;
         Ok(Ledger {
             alloc,
             domain,
@@ -209,11 +209,10 @@ impl<'s> Ledger<'s> {
         Ok(cycle)
     }
 
-    /// What the streams that are held in the next cycle cost of a link, in octets a cycle: never more than its budget
-    /// (profile).
+    /// What the streams that are held in the next cycle cost of a link at most, in octets in a cycle: never more than its budget (profile).
     pub fn held_on(&self, link: u16) -> Octets
         requires { link < length self.now.administration.domain.links }
-        ensures held { (cycle : ℕ) → result.0 ≡ link_cost (held_of self.now.administration) link cycle }
+        ensures held { result.0 ≡ most_cost (held_of self.now.administration) link }
         ensures within { result.0 ≤ budget self.now.administration.domain link }
     {
         state_follows_history();

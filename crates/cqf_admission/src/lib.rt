@@ -1,12 +1,13 @@
 //! The admission of streams into a domain (profile).
 //!
 //! - [`Admission`] answers requests and withdrawals, keeps the history of calls, and closes cycles to changes one by one.
-//!   No link is ever over its budget. A withdrawn stream keeps its costs and its name until its last frame has left the
+//!   No link is ever over its budget in a cycle. A withdrawn stream keeps its costs and its name until its last frame has left the
 //!   last bridge of its deepest branch.
 //! - [`Ledger`] answers the same, by where requests and names stand, and copies none: it keeps a log of [`Logged`] entries, and makes
 //!   no table.
 //! - [`Table`] has the streams that are held in a cycle that was closed; [`Row::live`] tells which of them are live.
-//! - [`judge`] looks a request over by itself, whatever is held: [`Judged`] is one of good form.
+//! - [`judge`] looks a request over by itself, whatever is held: [`Judged`] is one of good form. [`judge_paced`] looks over one whose stream
+//!   is offered in one of so many cycles.
 //! - [`Entry`] is what a history has of a call: whose it was, what was called for, and the [`Reply`].
 //!
 //! With a budget of 15,000 octets a cycle on each link:
@@ -40,7 +41,7 @@ pub use cqf_model::{
     LEAST_OCTETS, MOST_CALLS, MOST_OCTETS, MOST_SEALS, MOST_STREAMS, Receipt, Refused, Reply, Row,
 };
 pub use entries::{Call, Command, Entry, SealFault};
-pub use judged::{Judged, judge};
+pub use judged::{Judged, judge, judge_paced};
 pub use ledger::Ledger;
 pub use logs::Logged;
 pub use table::Table;

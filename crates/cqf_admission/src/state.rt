@@ -1,33 +1,37 @@
 //! What an administration runs on in place of its history: the streams that it accepted, what the held ones cost, and which of them
 //! end in which cycle. No call looks through the streams.
 ghost use Rattle.std.specs.Arc.{arc_value};
-ghost use Rattle.std.specs.Prelude.{◌≡◌, ◌-◌, ◌<◌, ◌≤◌, ℕ, [], false, All, IfOk, List, OnErr, length, map, nat_le};
+ghost use Rattle.std.specs.Prelude.{◌≡◌, ◌≢◌, ◌-◌, ◌<◌, ◌≤◌, ℕ, [], false, All, AllPairs, IfOk, List, OnErr, length, map, nat_le};
 ghost use Rattle.cqf_units.specs.Timing.{cost_of};
 ghost use Rattle.cqf_model.specs.Domain.{Domain as ADomain, budget};
 ghost use Rattle.cqf_model.specs.History.{Recorded, held_in, seals, streams_of};
 ghost use Rattle.cqf_model.specs.Limits.{most_calls, most_cycles, most_hops, most_reserved};
 ghost use Rattle.cqf_model.specs.Table.{links_in};
+ghost use Rattle.cqf_admission.specs.Costs.{left_in_turns, most_cost};
 ghost use Rattle.cqf_admission.specs.Holdings.{held_cost};
-ghost use Rattle.cqf_admission.specs.Rows.{costs_on, ended};
+ghost use Rattle.cqf_admission_trees.specs.Turns.{IsGoodPace};
+ghost use Rattle.cqf_admission.specs.Rows.{ended};
 ghost use Rattle.cqf_admission.specs.State.{AdmitsForm, ClosesNext, IsStateOf, SomeDomain, SomeHistory, SomeRequest, StaysSo, WithdrawsName};
-ghost use Rattle.cqf_admission.specs.Weighing.{FindsOpen, left_by, row_by, stand_refusal, stand_short};
+ghost use Rattle.cqf_admission.specs.Weighing.{FindsOpen, left_at, row_by, stand_refusal, stand_short};
 
 use crate::holdings::Holdings;
 use crate::judged::Judged;
 use crate::slots::{Slots, slot_of};
 use cqf_laws_history::{state_follows_history, streams_follow_history};
-use cqf_model::{EACH_CYCLE, Hop, MOST_CALLS, Receipt, Refused, Row, Tree};
+use cqf_model::{Hop, MOST_CALLS, Pace, Receipt, Refused, Row, Tree};
 use cqf_topology::Domain;
 use cqf_units::{Cycle, Memory, Name, Octets, budget, cost};
 use std::alloc::Global;
 use std::marker::Model;
 use std::sync::Arc;
 
-/// A request of good form, lent: its name, how many octets its stream reserves, 64 to 60,000, and its tree.
+/// A request of good form, lent: its name, how many octets its stream reserves in each cycle of its own, 64 to 60,000, its pace, and its
+/// tree.
 #[derive(Clone, Copy)]
 pub(crate) struct GoodForm<'f> {
     pub name: &'f Name,
     pub octets: u32,
+    pub pace: Pace,
     pub tree: &'f [Hop],
 }
 
@@ -36,11 +40,13 @@ impl<'f> GoodForm<'f> {
     pub(crate) fn of_row(row: &'f Row) -> GoodForm<'f>
         ensures name { result.name.now ≡ row.now.name }
         ensures octets { result.octets ≡ row.now.octets }
+        ensures pace { result.pace ≡ row.now.pace }
         ensures tree { result.tree.now ≡ row.now.tree.items }
     {
         GoodForm {
             name: &row.name,
             octets: row.octets,
+            pace: row.pace,
             tree: row.tree.as_slice(),
         }
     }
@@ -49,11 +55,13 @@ impl<'f> GoodForm<'f> {
     pub(crate) fn of_judged(judged: &'f Judged, octets: u32) -> GoodForm<'f>
         ensures name { result.name.now ≡ judged.now.name }
         ensures octets { result.octets ≡ octets }
+        ensures pace { result.pace ≡ judged.now.pace }
         ensures tree { result.tree.now ≡ judged.now.tree.items }
     {
         GoodForm {
             name: &judged.name,
             octets,
+            pace: judged.pace,
             tree: judged.tree.as_slice(),
         }
     }
@@ -82,29 +90,40 @@ impl Model for State {
     } };
 }
 
-/// What a link has left of its budget beside the held streams, in octets a cycle.
-fn left_of(domain: &Domain, holdings: &Holdings, link: u16) -> u32
-    requires inside { link < length domain.now.links }
+/// What a hop's link has left of its budget beside the held streams, in octets, for frames of this pace: the least in a cycle in which they
+/// go by it.
+fn left_of(domain: &Domain, holdings: &Holdings, hop: &Hop, pace: Pace) -> u32
+    requires inside { hop.now.link < length domain.now.links }
     requires columns { holdings.now.links ≡ length domain.now.links }
-    requires within { held_cost holdings.now.rows link ≤ budget domain.now link }
-    ensures { result ≡ left_by domain.now holdings.now.rows link }
+    requires within { (l cycle : ℕ) → l < length domain.now.links → held_cost holdings.now.rows l cycle ≤ budget domain.now l }
+    requires good { IsGoodPace pace }
+    ensures { result ≡ left_at domain.now holdings.now.rows pace hop.now }
 {
-    let rate = domain.link(link).rate;
+    let rate = domain.link(hop.link).rate;
     let most = budget(domain.cycle_time(), domain.guard(), rate);
-    let taken = holdings.cost_on(link);
+    let taken = holdings.most_at(hop, pace);
+    prove!(taken <= u64::from(most.0));
     most.0 - taken as u32
 }
 
-/// Why some links have no room for a cost beside the held streams: the first that has less left, if one has.
-fn short_of(domain: &Domain, holdings: &Holdings, cost: u32, tree: &[Hop]) -> Option<Refused>
+/// Why the links of a tree have no room for a cost beside the held streams, in a stream's cycles: the first that has less left, if one has.
+fn short_of(
+    domain: &Domain,
+    holdings: &Holdings,
+    cost: u32,
+    pace: Pace,
+    tree: &[Hop],
+) -> Option<Refused>
     requires inside { All (λ hop. hop.link < length domain.now.links) tree.now }
+    requires apart { AllPairs (λ (a b : ℕ). a ≢ b) (links_in tree.now) }
     requires columns { holdings.now.links ≡ length domain.now.links }
-    requires within { (l : ℕ) → l < length domain.now.links → held_cost holdings.now.rows l ≤ budget domain.now l }
-    ensures { result ≡ stand_short domain.now holdings.now.rows cost (links_in tree.now) }
+    requires within { (l cycle : ℕ) → l < length domain.now.links → held_cost holdings.now.rows l cycle ≤ budget domain.now l }
+    requires good { IsGoodPace pace }
+    ensures { result ≡ stand_short domain.now holdings.now.rows cost pace tree.now }
 {
     for hop in tree {
         let link = hop.link;
-        let left = left_of(domain, holdings, link);
+        let left = left_of(domain, holdings, hop, pace);
         if left < cost {
             return Some(Refused::BudgetShort { link, left });
         }
@@ -115,10 +134,12 @@ fn short_of(domain: &Domain, holdings: &Holdings, cost: u32, tree: &[Hop]) -> Op
 /// The first reason against a stream for what is held.
 fn refusal_of(domain: &Domain, holdings: &Holdings, form: GoodForm<'_>) -> Option<Refused>
     requires inside { All (λ hop. hop.link < length domain.now.links) form.tree.now }
+    requires apart { AllPairs (λ (a b : ℕ). a ≢ b) (links_in form.tree.now) }
     requires octets { form.octets ≤ most_reserved }
     requires columns { holdings.now.links ≡ length domain.now.links }
-    requires within { (l : ℕ) → l < length domain.now.links → held_cost holdings.now.rows l ≤ budget domain.now l }
-    ensures { result ≡ stand_refusal domain.now holdings.now.rows form.entry.name.now (cost_of form.entry.octets) (links_in form.entry.tree.now) }
+    requires within { (l cycle : ℕ) → l < length domain.now.links → held_cost holdings.now.rows l cycle ≤ budget domain.now l }
+    requires good { IsGoodPace form.pace }
+    ensures { result ≡ stand_refusal domain.now holdings.now.rows form.entry.name.now (cost_of form.entry.octets) form.entry.pace form.entry.tree.now }
 {
     if holdings.holder(form.name).is_some() {
         return Some(Refused::NameHeld);
@@ -126,7 +147,8 @@ fn refusal_of(domain: &Domain, holdings: &Holdings, form: GoodForm<'_>) -> Optio
     if holdings.count() >= domain.limits().streams_within() {
         return Some(Refused::TooManyStreams);
     }
-    short_of(domain, holdings, cost(Octets(form.octets)).0, form.tree)
+    let cost = cost(Octets(form.octets)).0;
+    short_of(domain, holdings, cost, form.pace, form.tree)
 }
 
 /// The row of a request of good form, of a number and from a cycle on, unless memory runs out.
@@ -138,7 +160,7 @@ fn row_by(alloc: Global, form: GoodForm<'_>, no: u32, admitted: Cycle) -> Result
         no,
         name: form.name.copied(),
         octets: form.octets,
-        pace: EACH_CYCLE,
+        pace: form.pace,
         tree: Tree::new(alloc, form.tree)?,
         admitted,
         withdrawn: None,
@@ -173,7 +195,7 @@ fn find_open(holdings: &Holdings, word: &str) -> Result<u32, Refused>
 
 impl State {
     /// The state of no calls, over so many links, unless memory runs out.
-    pub(crate) fn new(alloc: Global, links: usize) -> Result<State, Memory>
+    pub(crate) fn new(alloc: Global, links: u16) -> Result<State, Memory>
         ensures { IfOk result (λ state. (d : ADomain) → length d.links ≡ links → IsStateOf d [] state) }
     {
         Ok(State {
@@ -280,19 +302,32 @@ impl State {
         ends
     }
 
-    /// What the held streams take of a link's budget, in octets a cycle.
+    /// What the held streams take of a link's budget at most, in octets in a cycle.
     pub(crate) fn taken_of(&self, domain: &Domain, link: u16) -> Octets
         requires inside { link < length domain.now.links }
         requires history { SomeHistory domain.now self.now }
-        ensures held { (entries : List Recorded) → IsStateOf domain.now entries self.now → result.0 ≡ costs_on (held_in domain.now entries (seals entries)) link }
+        ensures held { (entries : List Recorded) → IsStateOf domain.now entries self.now → result.0 ≡ most_cost (held_in domain.now entries (seals entries)) link }
         ensures within { result.0 ≤ budget domain.now link }
     {
         state_follows_history();
         let rate = domain.link(link).rate;
         let most = budget(domain.cycle_time(), domain.guard(), rate);
-        let taken = self.holdings.cost_on(link);
+        let taken = self.holdings.most_of(link);
         prove!(taken <= u64::from(most.0));
         Octets(taken as u32)
+    }
+
+    /// What a hop's link has left of its budget beside the held streams, in octets, in the cycles in which frames of a pace go by it: the
+    /// least in one of these.
+    pub(crate) fn left_at(&self, domain: &Domain, hop: &Hop, pace: Pace) -> Octets
+        requires inside { hop.now.link < length domain.now.links }
+        requires good { IsGoodPace pace }
+        requires history { SomeHistory domain.now self.now }
+        ensures { (entries : List Recorded) → IsStateOf domain.now entries self.now →
+            result.0 ≡ left_in_turns domain.now (held_in domain.now entries (seals entries)) pace hop.now }
+    {
+        state_follows_history();
+        Octets(left_of(domain, &self.holdings, hop, pace))
     }
 
     /// The rows of the held streams, by number, each shared, unless memory runs out.

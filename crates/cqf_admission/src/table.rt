@@ -2,7 +2,8 @@
 ghost use Rattle.std.specs.Arc.{arc_value};
 ghost use Rattle.std.specs.Prelude.{◌≡◌, IfOk, map, option_copied};
 ghost use Rattle.cqf_model.specs.Table.{row_named, row_of};
-ghost use Rattle.cqf_admission.specs.Tables.{AreInOrder, AreOfEachCycle, IsRowNamed, IsRowOf};
+ghost use Rattle.cqf_admission_trees.specs.Turns.{AreOfGoodPaces};
+ghost use Rattle.cqf_admission.specs.Tables.{AreInOrder, IsRowNamed, IsRowOf};
 
 use crate::listed::Listed;
 use cqf_model::Row;
@@ -12,7 +13,7 @@ use std::marker::Model;
 use std::sync::Arc;
 
 /// The table of a cycle that is closed to changes: the streams that are held in it, by number, no two of one number or
-/// name, each offered in each cycle.
+/// name, each of a good pace.
 #[derive(Debug, Drop)]
 pub struct Table {
     cycle: Cycle,
@@ -22,20 +23,21 @@ pub struct Table {
 
 impl Model for Table {
     ghost use Rattle.std.specs.Arc.{arc_value};
-    ghost use Rattle.cqf_admission.specs.Tables.{AreInOrder, AreOfEachCycle, CycleTable};
+    ghost use Rattle.cqf_admission_trees.specs.Turns.{AreOfGoodPaces};
+    ghost use Rattle.cqf_admission.specs.Tables.{AreInOrder, CycleTable};
 
     ghost Value = { CycleTable };
 
     ghost view = { λ t. record { cycle = t.cycle.0; rows = arc_value t.listed } };
 
-    ghost invariant = { λ t. AreInOrder (arc_value t.listed) × AreOfEachCycle (arc_value t.listed) };
+    ghost invariant = { λ t. AreInOrder (arc_value t.listed) × AreOfGoodPaces (arc_value t.listed) };
 }
 
 impl Table {
     /// The table of a cycle with these rows.
     pub(crate) fn new(cycle: Cycle, listed: Arc<Listed>) -> Table
         requires order { AreInOrder (arc_value listed) }
-        requires paced { AreOfEachCycle (arc_value listed) }
+        requires good { AreOfGoodPaces (arc_value listed) }
         ensures cycle { result.cycle ≡ cycle.0 }
         ensures rows { result.rows ≡ arc_value listed }
     {
@@ -53,7 +55,7 @@ impl Table {
     pub fn rows(&self) -> &[Arc<Row>]
         ensures rows { map (λ row. arc_value row) result.now ≡ self.now.rows }
         ensures order { AreInOrder self.now.rows }
-        ensures paced { AreOfEachCycle self.now.rows }
+        ensures good { AreOfGoodPaces self.now.rows }
     {
         self.listed.rows()
     }

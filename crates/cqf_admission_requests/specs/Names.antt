@@ -5,14 +5,14 @@ use Rattle.std.specs.BTreeMap.{BTreeMap, get_by}
 use Rattle.std.specs.Cmp.Lexicographic.{slice_cmp}
 use Rattle.std.specs.Ordering.{nat_cmp}
 use Rattle.cqf_model.specs.Domain.{is_text}
-use Rattle.cqf_topology.specs.declared.streams.Request.{Request}
+use Rattle.cqf_topology.specs.declared.paced.PacedRequest.{PacedRequest}
 
 -- whether a request is of a name
-abbrev pub has_name : List ℕ → Request → Bool
+abbrev pub has_name : List ℕ → PacedRequest → Bool
 has_name name request = is_text (string_bytes request.name) name
 
 -- the place of the first request of a name
-abbrev pub place_named : List Request → List ℕ → Option ℕ
+abbrev pub place_named : List PacedRequest → List ℕ → Option ℕ
 place_named requests name = position (has_name name) requests
 
 -- the place that stands under a name
@@ -20,5 +20,5 @@ abbrev pub place_under : BTreeMap (Bor (List ℕ)) ℕ → List ℕ → Option �
 place_under places name = get_by (λ key. slice_cmp nat_cmp name key.now) places
 
 -- what stands under each name is the place of the first of the requests that has it
-abbrev pub LeadToFirst : (List ℕ → Option ℕ) → List Request → Type 0
+abbrev pub LeadToFirst : (List ℕ → Option ℕ) → List PacedRequest → Type 0
 LeadToFirst under requests = (name : List ℕ) → under name ≡ place_named requests name

@@ -2,7 +2,7 @@
 ghost use Rattle.std.specs.Prelude.{◌≡◌, IfOk};
 ghost use Rattle.cqf_admission_requests.specs.Names.{place_named};
 
-use cqf_topology::Request;
+use cqf_topology::PacedRequest;
 use cqf_units::Memory;
 use std::alloc::Global;
 use std::collections::BTreeMap;
@@ -11,17 +11,17 @@ use std::marker::Model;
 /// The requests for streams that a script may admit, found by their names: a name means the first request of it (profile).
 #[derive(Drop)]
 pub struct Names<'r> {
-    requests: &'r [Request],
+    requests: &'r [PacedRequest],
     /// Where the first request of each name stands.
     places: BTreeMap<&'r str, usize>,
 }
 
 impl<'r> Model for Names<'r> {
     ghost use Rattle.std.specs.Prelude.{List};
-    ghost use Rattle.cqf_topology.specs.declared.streams.Request.{Request};
+    ghost use Rattle.cqf_topology.specs.declared.paced.PacedRequest.{PacedRequest};
     ghost use Rattle.cqf_admission_requests.specs.Names.{LeadToFirst, place_under};
 
-    ghost Value = { List Request };
+    ghost Value = { List PacedRequest };
 
     ghost view = { λ n. n.requests.now };
 
@@ -33,7 +33,7 @@ impl<'r> Names<'r> {
     ///
     /// # Errors
     /// Where a growth is refused.
-    pub fn new(alloc: Global, requests: &'r [Request]) -> Result<Names<'r>, Memory>
+    pub fn new(alloc: Global, requests: &'r [PacedRequest]) -> Result<Names<'r>, Memory>
         ensures { IfOk result (λ names. names ≡ requests.now) }
     {
         let mut places = BTreeMap::new(alloc);

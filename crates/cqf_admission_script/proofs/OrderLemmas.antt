@@ -6,8 +6,8 @@ use Rattle.std.proofs.lemmas.Option.{slice_get-get_or, slice_get-map}
 use Rattle.std.proofs.lemmas.List.{get_or-map}
 use Rattle.std.proofs.lemmas.Grind.{common_steps}
 use Rattle.std.specs.Prelude.{nat_le, option_map, slice_get, slice_index_or}
-use Rattle.cqf_topology.specs.declared.streams.Request.{Request}
-use Rattle.cqf_admission.specs.Asking.{asked_of}
+use Rattle.cqf_topology.specs.declared.paced.PacedRequest.{PacedRequest}
+use Rattle.cqf_admission.specs.Asking.{asked_paced}
 use Rattle.cqf_admission_script.specs.declared.faults.ScriptFault.TheVariants.{UnknownStream, TooMany}
 use Rattle.cqf_admission_script.specs.declared.lines.Wish.TheVariants.{Admit}
 use Rattle.cqf_admission_script.specs.Lines.{Written}
@@ -19,42 +19,42 @@ use Rattle.cqf_model.specs.Limits.{most_calls}
 use Rattle.cqf_admission_script.specs.Script.{act_for, call_of_order, request_named}
 
 -- what the first request asks for is what is asked for first
-named_first : (requests : List Request) (name : List ℕ) → option_map asked_of (find (has_name name) requests) ≡ request_named (map asked_of requests) name
+named_first : (requests : List PacedRequest) (name : List ℕ) → option_map asked_paced (find (has_name name) requests) ≡ request_named (map asked_paced requests) name
 named_first [] name = refl
 named_first (request ∷ requests) name =
     pick (has_name name request) request (find (has_name name) requests)
-    ∙ ap (cond (has_name name request) (Some (asked_of request))) (named_first requests name)
+    ∙ ap (cond (has_name name request) (Some (asked_paced request))) (named_first requests name)
   where
-    pick : (b : Bool) (request : Request) (later : Option Request) →
-        option_map asked_of (cond b (Some request) later) ≡ cond b (Some (asked_of request)) (option_map asked_of later)
+    pick : (b : Bool) (request : PacedRequest) (later : Option PacedRequest) →
+        option_map asked_paced (cond b (Some request) later) ≡ cond b (Some (asked_paced request)) (option_map asked_paced later)
     pick true request later = refl
     pick false request later = refl
 
 -- where the first request of a name stands, that is what its name calls for
-pub admits : (requests : List Request) (name : List ℕ) (place : ℕ) → place_named requests name ≡ Some place →
-    act_for (map asked_of requests) Admit name ≡ Some (Admits (request_at (map asked_of requests) place))
+pub admits : (requests : List PacedRequest) (name : List ℕ) (place : ℕ) → place_named requests name ≡ Some place →
+    act_for (map asked_paced requests) Admit name ≡ Some (Admits (request_at (map asked_paced requests) place))
 admits requests name place is =
     let there : slice_get requests place ≡ find (has_name name) requests = found_there (has_name name) requests place is in
-    let asked : slice_get (map asked_of requests) place ≡ request_named (map asked_of requests) name =
-    slice_get-map asked_of requests place ∙ ap (option_map asked_of) there ∙ named_first requests name in
-    let inside : place < length (map asked_of requests) = grind (arith, common_steps) in
-    ap (option_map (λ (asked : Asked). Admits asked)) (sym asked ∙ slice_get-get_or (map asked_of requests) place nobody inside)
+    let asked : slice_get (map asked_paced requests) place ≡ request_named (map asked_paced requests) name =
+    slice_get-map asked_paced requests place ∙ ap (option_map asked_paced) there ∙ named_first requests name in
+    let inside : place < length (map asked_paced requests) = grind (arith, common_steps) in
+    ap (option_map (λ (asked : Asked). Admits asked)) (sym asked ∙ slice_get-get_or (map asked_paced requests) place nobody inside)
   where
     nobody : Asked
     nobody = record { name = []; octets = 0; every = 1; phase = 0; paths = [] }
 
 -- the request at a place, as it was read there
-pub request_read : (requests : List Request) (place : ℕ) (request : Request) → place < length requests → request ≡ slice_index_or requests place request →
-    request_at (map asked_of requests) place ≡ asked_of request
+pub request_read : (requests : List PacedRequest) (place : ℕ) (request : PacedRequest) → place < length requests → request ≡ slice_index_or requests place request →
+    request_at (map asked_paced requests) place ≡ asked_paced request
 request_read requests place request inside is =
-    get_or-map asked_of requests place request (record { name = []; octets = 0; every = 1; phase = 0; paths = [] }) inside ∙ ap asked_of (sym is)
+    get_or-map asked_paced requests place request (record { name = []; octets = 0; every = 1; phase = 0; paths = [] }) inside ∙ ap asked_paced (sym is)
 
 -- no request has the name
-pub unknown_stream : (requests : List Request) (number called : ℕ) (order : Written) → place_named requests order.name ≡ None → order.wish ≡ Admit →
-    call_of_order (map asked_of requests) number called order ≡ Err (UnknownStream number)
+pub unknown_stream : (requests : List PacedRequest) (number called : ℕ) (order : Written) → place_named requests order.name ≡ None → order.wish ≡ Admit →
+    call_of_order (map asked_paced requests) number called order ≡ Err (UnknownStream number)
 unknown_stream requests number called order none wish =
-    let asked : request_named (map asked_of requests) order.name ≡ None =
-    sym (named_first requests order.name) ∙ ap (option_map asked_of) (sym (found_nowhere (has_name order.name) requests none)) in
+    let asked : request_named (map asked_paced requests) order.name ≡ None =
+    sym (named_first requests order.name) ∙ ap (option_map asked_paced) (sym (found_nowhere (has_name order.name) requests none)) in
     rw (wish, asked) refl
 
 -- there are as many calls as there may be

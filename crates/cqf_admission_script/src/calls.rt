@@ -2,9 +2,10 @@
 ghost use Rattle.std.specs.Prelude.{ℕ, ◌≡◌, ◌+◌, ◌<◌, ◌≤◌, ◌^◌, All, IfOk, List, length, map};
 ghost use Rattle.cqf_text.specs.Lines.{lines_of};
 ghost use Rattle.cqf_topology_fields.specs.Fields.{Gives};
-ghost use Rattle.cqf_admission.specs.Asking.{asked_of};
+ghost use Rattle.cqf_admission.specs.Asking.{asked_of, asked_paced};
 ghost use Rattle.cqf_admission_requests.specs.declared.orders.Ordered.{Ordered as AnOrdered};
-ghost use Rattle.cqf_model.specs.History.{Asked};
+ghost use Rattle.cqf_model.specs.History.{Admits, Asked};
+ghost use Rattle.cqf_admission.specs.Admission.{act_of};
 ghost use Rattle.cqf_admission_requests.specs.Orders.{StandsIn, ordered_in};
 ghost use Rattle.cqf_admission_script.specs.Lines.{order_of_line};
 ghost use Rattle.cqf_admission_script.specs.Placed.{LineEnds, NameEnds};
@@ -17,7 +18,7 @@ use crate::lines::{Order, Wish, is_seal_line, read_order};
 use cqf_admission::{Call, MOST_CALLS};
 use cqf_admission_requests::{Names, Ordered, What, word_of};
 use cqf_text::split_line;
-use cqf_topology::Request;
+use cqf_topology::{PacedRequest, Request};
 use cqf_units::Memory;
 use std::alloc::Global;
 
@@ -90,10 +91,10 @@ fn place_order(
     requires short { length order.now.name.now ≤ 64 }
     requires long { length order.now.name.now ≤ end }
     ensures value { (text : List ℕ) → NameEnds text end order.now.name.now →
-        Gives ScriptFault.Memory (ordered_in (map asked_of names.now) text) result
-        (call_of_order (map asked_of names.now) place.line place.called (written order.now)) }
+        Gives ScriptFault.Memory (ordered_in (map asked_paced names.now) text) result
+        (call_of_order (map asked_paced names.now) place.line place.called (written order.now)) }
     ensures stands { (text : List ℕ) → NameEnds text end order.now.name.now →
-        IfOk result (λ ordered. StandsIn (map asked_of names.now) text ordered.what) }
+        IfOk result (λ ordered. StandsIn (map asked_paced names.now) text ordered.what) }
 {
     let many = MOST_CALLS as u64 <= place.called;
     let what = match order.wish {
@@ -143,10 +144,10 @@ fn place_line(
 ) -> Result<Ordered, ScriptFault>
     requires long { length line.now ≤ end }
     ensures value { (text : List ℕ) → LineEnds text end line.now →
-        Gives ScriptFault.Memory (ordered_in (map asked_of names.now) text) result
-        (call_of_line (map asked_of names.now) seat cycles place.line place.sealed place.called line.now) }
+        Gives ScriptFault.Memory (ordered_in (map asked_paced names.now) text) result
+        (call_of_line (map asked_paced names.now) seat cycles place.line place.sealed place.called line.now) }
     ensures stands { (text : List ℕ) → LineEnds text end line.now →
-        IfOk result (λ ordered. StandsIn (map asked_of names.now) text ordered.what) }
+        IfOk result (λ ordered. StandsIn (map asked_paced names.now) text ordered.what) }
 {
     if is_seal_line(line) {
         return place_seal(seat, cycles, place);
@@ -168,10 +169,10 @@ pub fn read_orders(
     names: &Names<'_>,
     cycles: u32,
 ) -> Result<Vec<Ordered>, ScriptFault>
-    ensures orders { Gives ScriptFault.Memory (λ orders. map (ordered_in (map asked_of names.now) text.now) orders.items) result
-        (script_of (map asked_of names.now) cycles text.now) }
-    ensures stand { IfOk result (λ orders. All (λ (ordered : AnOrdered). StandsIn (map asked_of names.now) text.now ordered.what) orders.items) }
-    ensures few { IfOk result (λ orders. AreFew cycles (map (ordered_in (map asked_of names.now) text.now) orders.items)) }
+    ensures orders { Gives ScriptFault.Memory (λ orders. map (ordered_in (map asked_paced names.now) text.now) orders.items) result
+        (script_of (map asked_paced names.now) cycles text.now) }
+    ensures stand { IfOk result (λ orders. All (λ (ordered : AnOrdered). StandsIn (map asked_paced names.now) text.now ordered.what) orders.items) }
+    ensures few { IfOk result (λ orders. AreFew cycles (map (ordered_in (map asked_paced names.now) text.now) orders.items)) }
 {
     let seat = administrators(text);
     let mut place = Place {
@@ -194,18 +195,28 @@ pub fn read_orders(
     Ok(orders)
 }
 
+/// The call for a request's stream.
+fn admission_of(request: PacedRequest) -> Call
+    ensures { act_of result ≡ Admits (asked_paced request) }
+{
+    if request.every == 1 && request.phase == 0 {
+        return Call::Admit(request.into_request());
+    }
+    Call::AdmitPaced(request)
+}
+
 /// The call that is ordered, with a copy of its request or its name.
 fn call_of(
     alloc: Global,
     text: &[u8],
-    requests: &[Request],
+    requests: &[PacedRequest],
     order: Ordered,
 ) -> Result<(u16, Call), Memory>
-    requires { StandsIn (map asked_of requests.now) text.now order.what }
-    ensures { IfOk result (λ call. called_of call ≡ ordered_in (map asked_of requests.now) text.now order) }
+    requires { StandsIn (map asked_paced requests.now) text.now order.what }
+    ensures { IfOk result (λ call. called_of call ≡ ordered_in (map asked_paced requests.now) text.now order) }
 {
     let call = match order.what {
-        What::Admit(place) => Call::Admit(requests[place].try_copy(alloc)?),
+        What::Admit(place) => admission_of(requests[place].try_copy(alloc)?),
         What::Withdraw { from, octets } => {
             Call::Withdraw(String::from_str(alloc, word_of(text, from, octets))?)
         }
@@ -222,17 +233,47 @@ fn call_of(
 pub fn calls_of(
     alloc: Global,
     text: &[u8],
-    requests: &[Request],
+    requests: &[PacedRequest],
     orders: &[Ordered],
 ) -> Result<Vec<(u16, Call)>, Memory>
-    requires { All (λ (ordered : AnOrdered). StandsIn (map asked_of requests.now) text.now ordered.what) orders.now }
-    ensures { IfOk result (λ calls. map called_of calls.items ≡ map (ordered_in (map asked_of requests.now) text.now) orders.now) }
+    requires { All (λ (ordered : AnOrdered). StandsIn (map asked_paced requests.now) text.now ordered.what) orders.now }
+    ensures { IfOk result (λ calls. map called_of calls.items ≡ map (ordered_in (map asked_paced requests.now) text.now) orders.now) }
 {
     let mut calls = Vec::new(alloc);
     for order in orders {
         let call = call_of(alloc, text, requests, *order)?;
         calls.push(call)?;
     }
+    Ok(calls)
+}
+
+/// Some requests, of which each is for a stream that is offered in each cycle, unless memory runs out.
+fn all_in_each_cycle(alloc: Global, requests: &[Request]) -> Result<Vec<PacedRequest>, Memory>
+    ensures { IfOk result (λ copies. map asked_paced copies.items ≡ map asked_of requests.now) }
+{
+    let mut copies = Vec::with_capacity(alloc, requests.len())?;
+    for request in requests {
+        copies.push(PacedRequest::in_each_cycle(alloc, request)?)?;
+    }
+    Ok(copies)
+}
+
+/// The calls of a script, as [`read_script`] gives them, where streams may be admitted that are offered in some cycles.
+///
+/// # Errors
+/// Those of [`read_script`].
+pub fn read_paced_script(
+    alloc: Global,
+    text: &[u8],
+    requests: &[PacedRequest],
+    cycles: u32,
+) -> Result<Vec<(u16, Call)>, ScriptFault>
+    ensures calls { Gives ScriptFault.Memory (λ calls. map called_of calls.items) result (script_of (map asked_paced requests.now) cycles text.now) }
+    ensures few { IfOk result (λ calls. AreFew cycles (map called_of calls.items)) }
+{
+    let names = Names::new(alloc, requests)?;
+    let orders = read_orders(alloc, text, &names, cycles)?;
+    let calls = calls_of(alloc, text, requests, orders.as_slice())?;
     Ok(calls)
 }
 
@@ -256,8 +297,6 @@ pub fn read_script(
     ensures calls { Gives ScriptFault.Memory (λ calls. map called_of calls.items) result (script_of (map asked_of requests.now) cycles text.now) }
     ensures few { IfOk result (λ calls. AreFew cycles (map called_of calls.items)) }
 {
-    let names = Names::new(alloc, requests)?;
-    let orders = read_orders(alloc, text, &names, cycles)?;
-    let calls = calls_of(alloc, text, requests, orders.as_slice())?;
-    Ok(calls)
+    let requests = all_in_each_cycle(alloc, requests)?;
+    read_paced_script(alloc, text, requests.as_slice(), cycles)
 }

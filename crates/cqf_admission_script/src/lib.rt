@@ -1,6 +1,7 @@
 //! Scripts: what administrators call for, and when cycles close, line by line.
 //!
-//! - [`read_script`] reads the calls of a script, each with its seat, and [`administrators`] the seat of its Seals.
+//! - [`read_script`] reads the calls of a script, each with its seat, and [`administrators`] the seat of its Seals;
+//!   [`read_paced_script`] those for streams that are offered in some cycles.
 //!   [`read_orders`] reads the same without a copy of what is named, and [`calls_of`] gives the calls of such orders.
 //! - [`is_order`] and [`is_seal_line`] tell the forms that a line may have.
 //! - [`ScriptFault`] says why a script is refused, and at which line.
@@ -23,7 +24,7 @@ mod faults;
 mod laws;
 mod lines;
 
-pub use calls::{administrators, calls_of, read_orders, read_script};
+pub use calls::{administrators, calls_of, read_orders, read_paced_script, read_script};
 pub use faults::ScriptFault;
 pub use laws::script_is_its_lines;
 pub use lines::{is_order, is_seal_line};

@@ -4,3 +4,4 @@ mod NodeLemmas
 mod PartLemmas
 mod SumLemmas
 mod TreeLemmas
+pub mod TurnLemmas

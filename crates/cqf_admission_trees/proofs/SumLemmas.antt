@@ -1,5 +1,5 @@
 -- Sums by link, one link more.
-use Rattle.std.proofs.Common.{◌≡◌, ◌≢◌, ℕ, ◌+◌, ◌-◌, ◌<◌, ◌≤◌, ◌^◌, ◌∙◌, ◌==◌, ◌||◌, Bool, true, List, length, get_or, set, take, ap, arith, refl, subst, subst₂, sym, false, inl, inr}
+use Rattle.std.proofs.Common.{◌≡◌, ◌≢◌, ℕ, ◌+◌, ◌<◌, ◌^◌, ◌∙◌, ◌==◌, ◌||◌, Bool, true, List, length, get_or, set, take, ap, arith, refl, subst, subst₂, sym, false, inl, inr}
 use Rattle.std.specs.Prelude.{None, All, AllPairs, if◌then◌else◌, slice_index_or}
 use Rattle.std.specs.List.{list_any}
 use Rattle.std.proofs.lemmas.Bool.{cases_eq, eq-eqb, ne_eqb}
@@ -8,7 +8,7 @@ use Rattle.std.proofs.lemmas.List.Elements.{All-get_or}
 use Rattle.std.proofs.lemmas.List.Folds.{list_any_at, list_any_more, list_any_none}
 use Rattle.cqf_model.specs.declared.topology.Hop.{Hop}
 use Rattle.cqf_model.specs.Table.{links_in}
-use Rattle.cqf_admission_trees.specs.Sums.{AreLessOn, AreMoreOn, HaveOn, HaveRoomOn, part_on}
+use Rattle.cqf_admission_trees.specs.Sums.{AreMoreOn, HaveRoomOn, part_on}
 
 -- the hop that is taken where there is none
 abbrev pub no_hop : Hop
@@ -72,33 +72,11 @@ module _ (links : List ℕ) (i : ℕ) (apart : AllPairs (λ (a b : ℕ). a ≢ b
     place : ℕ
     place = get_or links i 0
 
-  -- it goes from that sum
-  pub less_next : (sums now : List ℕ) (number : ℕ) → get_or links i 0 < length sums → AreLessOn sums (take i links) number now →
-      AreLessOn sums (take (i + 1) links) number (set now (get_or links i 0) (get_or now (get_or links i 0) 0 - number))
-  less_next sums now number low so_far = record {
-    as_many = length-set now place (get_or now place 0 - number) ∙ so_far.as_many;
-    each = λ l within. elim (cases_eq place l) [
-      | inl same ↦ subst (λ k. get_or (set now place (get_or now place 0 - number)) k 0 ≡ get_or sums k 0 - part_on (take (i + 1) links) number k) same
-          (omega (arith, get_or-set_same now place (get_or now place 0 - number) 0 (omega (arith, low, so_far.as_many)), so_far.each place low, here number, here_more number))
-      | inr other ↦
-          let kept = get_or-set_other now place l (get_or now place 0 - number) 0 (λ is. other (sym is)) in
-          omega (arith, kept, so_far.each l within, there_more number l other)
-    ];
-  } where
-    place : ℕ
-    place = get_or links i 0
-
   -- there is room for it there yet, as there was
   pub room_next : (sums now : List ℕ) (number : ℕ) → get_or links i 0 < length sums → HaveRoomOn sums links number → AreMoreOn sums (take i links) number now →
       get_or now (get_or links i 0) 0 + number < 2 ^ 64
   room_next sums now number low room so_far =
       omega (arith, so_far.each (get_or links i 0) low, here number, in_all number, room (get_or links i 0) low)
-
-  -- and it is there yet, as it was
-  pub held_next : (sums now : List ℕ) (number : ℕ) → get_or links i 0 < length sums → HaveOn sums links number → AreLessOn sums (take i links) number now →
-      number ≤ get_or now (get_or links i 0) 0
-  held_next sums now number low held so_far =
-      omega (arith, so_far.each (get_or links i 0) low, here number, in_all number, held (get_or links i 0) low)
 
   -- so of the next link as a loop has it, and of what stands there
   pub room_step : (sums now : List ℕ) (number place here : ℕ) → place ≡ get_or links i 0 → All (λ (l : ℕ). l < length sums) links → here ≡ get_or now place here →
@@ -110,15 +88,6 @@ module _ (links : List ℕ) (i : ℕ) (apart : AllPairs (λ (a b : ℕ). a ≢ b
       subst (λ (p : ℕ). get_or now p 0 + number < 2 ^ 64) (sym same) (room_next sums now number low room so_far) in
       (within, omega (arith, fits, is, get_or_default now place here 0 within))
 
-  pub held_step : (sums now : List ℕ) (number place here : ℕ) → place ≡ get_or links i 0 → All (λ (l : ℕ). l < length sums) links → here ≡ get_or now place here →
-      HaveOn sums links number → AreLessOn sums (take i links) number now → (place < length now) × (number ≤ here)
-  held_step sums now number place here same all is held so_far =
-      let low : get_or links i 0 < length sums = All-get_or (λ (l : ℕ). l < length sums) links i 0 inside all in
-      let within : place < length now = omega (arith, low, same, so_far.as_many) in
-      let there : number ≤ get_or now place 0 =
-      subst (λ (p : ℕ). number ≤ get_or now p 0) (sym same) (held_next sums now number low held so_far) in
-      (within, omega (arith, there, is, get_or_default now place here 0 within))
-
   pub more_step : (sums now : List ℕ) (number place here : ℕ) → place ≡ get_or links i 0 → All (λ (l : ℕ). l < length sums) links → here ≡ get_or now place here →
       AreMoreOn sums (take i links) number now → AreMoreOn sums (take (i + 1) links) number (set now place (here + number))
   more_step sums now number place here same all is so_far =
@@ -127,17 +96,6 @@ module _ (links : List ℕ) (i : ℕ) (apart : AllPairs (λ (a b : ℕ). a ≢ b
       let value : here ≡ get_or now (get_or links i 0) 0 = is ∙ get_or_default now place here 0 within ∙ ap (λ (p : ℕ). get_or now p 0) same in
       subst₂ (λ (p n : ℕ). AreMoreOn sums (take (i + 1) links) number (set now p (n + number))) (sym same) (sym value) (more_next sums now number low so_far)
 
-  pub less_step : (sums now : List ℕ) (number place here : ℕ) → place ≡ get_or links i 0 → All (λ (l : ℕ). l < length sums) links → here ≡ get_or now place here →
-      AreLessOn sums (take i links) number now → AreLessOn sums (take (i + 1) links) number (set now place (here - number))
-  less_step sums now number place here same all is so_far =
-      let low : get_or links i 0 < length sums = All-get_or (λ (l : ℕ). l < length sums) links i 0 inside all in
-      let within : place < length now = omega (arith, low, same, so_far.as_many) in
-      let value : here ≡ get_or now (get_or links i 0) 0 = is ∙ get_or_default now place here 0 within ∙ ap (λ (p : ℕ). get_or now p 0) same in
-      subst₂ (λ (p n : ℕ). AreLessOn sums (take (i + 1) links) number (set now p (n - number))) (sym same) (sym value) (less_next sums now number low so_far)
-
 -- before the first link they are as they were
 pub more_none : (sums links : List ℕ) (number : ℕ) → AreMoreOn sums (take 0 links) number sums
 more_none sums links number = record { as_many = refl; each = λ l within. omega arith }
-
-pub less_none : (sums links : List ℕ) (number : ℕ) → AreLessOn sums (take 0 links) number sums
-less_none sums links number = record { as_many = refl; each = λ l within. omega arith }

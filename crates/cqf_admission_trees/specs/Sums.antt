@@ -1,5 +1,5 @@
--- Sums by link, where a stream comes and where one goes.
-use Rattle.std.specs.Prelude.{ℕ, ◌≡◌, ◌+◌, ◌-◌, ◌<◌, ◌≤◌, ◌^◌, ◌==◌, List, if◌then◌else◌, length, slice_index_or}
+-- Sums by link, where a stream comes.
+use Rattle.std.specs.Prelude.{ℕ, ◌≡◌, ◌+◌, ◌<◌, ◌^◌, ◌==◌, List, if◌then◌else◌, length, slice_index_or}
 use Rattle.std.specs.List.{list_any}
 
 -- what is added to the sum of a link: the number, where it is one of some links
@@ -14,12 +14,3 @@ HaveRoomOn sums links number = (l : ℕ) → l < length sums → slice_index_or 
 pub record AreMoreOn (sums links : List ℕ) (number : ℕ) (after : List ℕ) : Type 0 where
   pub as_many : length after ≡ length sums
   pub each : (l : ℕ) → l < length sums → slice_index_or after l 0 ≡ slice_index_or sums l 0 + part_on links number l
-
--- each sum has the number in it where its link is one of some
-abbrev pub HaveOn : List ℕ → List ℕ → ℕ → Type 0
-HaveOn sums links number = (l : ℕ) → l < length sums → part_on links number l ≤ slice_index_or sums l 0
-
--- the number less on each of some links
-pub record AreLessOn (sums links : List ℕ) (number : ℕ) (after : List ℕ) : Type 0 where
-  pub as_many : length after ≡ length sums
-  pub each : (l : ℕ) → l < length sums → slice_index_or after l 0 ≡ slice_index_or sums l 0 - part_on links number l

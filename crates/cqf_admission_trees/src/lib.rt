@@ -5,7 +5,7 @@
 //! any two branches begin at one bridge and part for good; and the tree has no more hops than may be. Each of these is asked of all
 //! branches before the next, and a place counts through the branches as one list. No branch at all is `BrokenPath 0`.
 //!
-//! [`add_on`] and [`take_on`] keep sums by link of streams that come and go.
+//! [`Sums`] are sums by link and cycle of streams that come and go; [`add_on`] adds to sums by link alone.
 //!
 //! With links from bridge a to bridges b and c, from b to station s, and from c to station t:
 //!
@@ -20,7 +20,9 @@
 mod branches;
 mod sums;
 mod trees;
+mod turns;
 
 pub use branches::count_places;
-pub use sums::{add_on, take_on};
+pub use sums::add_on;
 pub use trees::find_tree;
+pub use turns::Sums;

@@ -1,6 +1,6 @@
-//! Sums by link: a stream's number comes to the sum of each of its links, and goes again.
+//! Sums by link: a stream's number comes to the sum of each of its links.
 ghost use Rattle.std.specs.Prelude.{◌≢◌, ◌<◌, All, AllPairs, length};
-ghost use Rattle.cqf_admission_trees.specs.Sums.{AreLessOn, AreMoreOn, HaveOn, HaveRoomOn};
+ghost use Rattle.cqf_admission_trees.specs.Sums.{AreMoreOn, HaveRoomOn};
 ghost use Rattle.cqf_model.specs.Table.{links_in};
 
 use cqf_model::Hop;
@@ -15,18 +15,5 @@ pub fn add_on(sums: &mut Vec<u64>, tree: &[Hop], number: u32)
     for hop in tree {
         let place = usize::from(hop.link);
         sums[place] += u64::from(number);
-    }
-}
-
-/// Takes a number from the sum of each link of some hops, no two of which are by the same link.
-pub fn take_on(sums: &mut Vec<u64>, tree: &[Hop], number: u32)
-    requires inside { All (λ link. link < length sums.old.items) (links_in tree.now) }
-    requires apart { AllPairs (λ a b. a ≢ b) (links_in tree.now) }
-    requires held { HaveOn sums.old.items (links_in tree.now) number }
-    ensures { AreLessOn sums.old.items (links_in tree.now) number sums.new.items }
-{
-    for hop in tree {
-        let place = usize::from(hop.link);
-        sums[place] -= u64::from(number);
     }
 }

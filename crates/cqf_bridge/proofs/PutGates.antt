@@ -3,7 +3,7 @@ use Rattle.std.proofs.Common.{◌≡◌, ◌≢◌, ℕ, List, [], ◌∷◌, �
 use Rattle.std.specs.Prelude.{◌==◌, if◌then◌else◌}
 use Rattle.std.proofs.lemmas.Bool.{cases_eq, cond-false, cond-true, eq-eqb, ne_eqb}
 use Rattle.cqf_lists.proofs.Members.{contains_cases, contains_here, contains_later, contains_none}
-use Rattle.cqf_bridge_gates.specs.declared.gates.KeptGate.{KeptGate}
+use Rattle.cqf_bridge_gates.specs.declared.cycle_gate.KeptGate.{KeptGate}
 use Rattle.cqf_bridge_gates.specs.Gates.{with_gate}
 
 -- a gate that is put in is the one of its number

@@ -18,13 +18,13 @@ use Rattle.cqf_model.proofs.Policing.{police_member}
 use Rattle.cqf_laws_cycle.specs.BridgeCycle.{received_in}
 use Rattle.cqf_bridge.specs.declared.faults.BridgeFault.{BridgeFault}
 use Rattle.cqf_bridge.specs.declared.faults.BridgeFault.TheVariants as fault
-use Rattle.cqf_bridge_gates.specs.declared.gates.KeptGate.{KeptGate}
+use Rattle.cqf_bridge_gates.specs.declared.cycle_gate.KeptGate.{KeptGate}
 use Rattle.cqf_bridge.specs.Batch.{LinkBatch}
 use Rattle.cqf_bridge.specs.BridgeState.{BridgeState, IsBridge, IsInStep, IsSpentBy}
 use Rattle.cqf_bridge_gates.specs.Gates.{AreKept}
 use Rattle.cqf_bridge.specs.PortRecord.{PortRecord}
 use Rattle.cqf_bridge.specs.Receiving.{CanReceive, Handed, IsNextToReceive, IsReceiveFault, IsRunOfBridge, ReceivesCycle, carried_by, port_queued, verdicts_in}
-use Rattle.cqf_bridge.specs.Taking.{AreReady, HasGates, TakesCycle, IsFaultInRun}
+use Rattle.cqf_bridge.specs.Taking.{AreWaiting, HasGates, TakesCycle, IsFaultInRun}
 use Rattle.cqf_bridge.proofs.Bridges.{bridge_spent}
 
 -- what is queued in a cycle comes before its end
@@ -57,21 +57,22 @@ module _ (b : BridgeState) (gates : List KeptGate) (is : HasGates b gates) (fres
   pub early_to_receive : cycle < 100000
   early_to_receive = omega (arith, is.bridge.few, next.0, next.1)
 
-  -- it is ready to receive the cycle
-  pub ready_to_receive : AreReady b.domain cycle (cycle * b.domain.cycle_time) gates b.ports
-  ready_to_receive = record {
-    gates_before = subst (λ (n : ℕ). AreKept b.domain.cycle_time (n * b.domain.cycle_time) gates) (sym next.0) (is.gates_kept fresh);
-    ports_before = λ r held.
-        let step = is.bridge.in_step fresh r held in
-        record {
-          rules = step.rules;
-          reached = step.reached ∙ ap (λ (n : ℕ). n * b.domain.cycle_time) (next.1 ∙ ap (λ (n : ℕ). n + 1) (sym next.0));
-          sooner = λ a inside high. omega (arith, step.of_streams a inside high, ap (λ (n : ℕ). n * b.domain.cycle_time) next.0);
-        };
-  }
+  -- its ports wait for the cycle
+  pub waits_for_cycle : AreWaiting b.domain cycle (cycle * b.domain.cycle_time) b.ports
+  waits_for_cycle r held =
+      let step = is.bridge.in_step fresh r held in
+      record {
+        rules = step.rules;
+        reached = step.reached ∙ ap (λ (n : ℕ). n * b.domain.cycle_time) (next.1 ∙ ap (λ (n : ℕ). n + 1) (sym next.0));
+        sooner = λ a inside high. omega (arith, step.of_streams a inside high, ap (λ (n : ℕ). n * b.domain.cycle_time) next.0);
+      }
+
+  -- and its gates were called before it
+  pub gates_before : AreKept cycle gates
+  gates_before = subst (λ (n : ℕ). AreKept n gates) (sym next.0) (is.gates_kept fresh)
 
   module _ (rows : List Row) (offers : List Offered) (batches : List LinkBatch) (gates_after : List KeptGate) (ports : List PortRecord) (drops : List Dropped)
-      (kept : AreKept b.domain.cycle_time ((cycle + 1) * b.domain.cycle_time) gates_after) where
+      (kept : AreKept (cycle + 1) gates_after) where
     abbrev behind : BridgeState
     behind = record {
       domain = b.domain;
@@ -131,7 +132,7 @@ module _ (b : BridgeState) (gates : List KeptGate) (is : HasGates b gates) (fres
               (subst (λ (rs : List PortRecord). Contains rs r) takes.queued held) in
               subst (IsInStep b.domain b.sent (b.received + 1)) f.2 (port_in_step f.0 f.1);
         };
-        gates_kept = λ _. subst (λ (n : ℕ). AreKept b.domain.cycle_time ((n + 1) * b.domain.cycle_time) gates_after) next.0 kept;
+        gates_kept = λ _. subst (λ (n : ℕ). AreKept (n + 1) gates_after) next.0 kept;
       }
 
       -- and has received the cycle

@@ -5,7 +5,7 @@ use Rattle.cqf_lists.proofs.Members.{contains_from_map}
 use Rattle.cqf_model.specs.declared.frames.Started.{Started}
 use Rattle.cqf_model.specs.Port.{Transmission}
 use Rattle.cqf_port.specs.PortState.{AreOnly, PortState, RunsUpTo}
-use Rattle.cqf_bridge_gates.specs.declared.gates.KeptGate.{KeptGate}
+use Rattle.cqf_bridge_gates.specs.declared.cycle_gate.KeptGate.{KeptGate}
 use Rattle.cqf_bridge.specs.PortRecord.{PortRecord}
 use Rattle.cqf_bridge.specs.BridgeState.{BridgeState, IsBridge, IsInStep, end_of_cycle}
 use Rattle.cqf_bridge.specs.Quiet.{IsQuiet, MayPass, passed, rested}
@@ -57,9 +57,7 @@ module _ (b : BridgeState) (cycle : ℕ) (is : IsBridge b) (may : MayPass b cycl
   pub gates_passed : (gates : List KeptGate) → HasGates b gates → HasGates (passed cycle b) gates
   gates_passed gates has = record {
     bridge = bridge_passed;
-    gates_kept = λ _ k held.
-        let kept = has.gates_kept may.not_spent k held in
-        record { entries = kept.entries; sooner = omega (arith, kept.sooner, no_later) };
+    gates_kept = λ _ k held. omega (arith, has.gates_kept may.not_spent k held, may.ahead);
   }
 
 -- what is left of a bridge whose ports have rested is a bridge that has passed

@@ -32,7 +32,7 @@ use Rattle.cqf_bridge.specs.Batch.{LinkBatch}
 use Rattle.cqf_bridge.specs.PortRecord.{PortRecord, with_frames}
 use Rattle.cqf_bridge.specs.Receiving.{AreBatchesOf, carried_by, verdicts_in}
 use Rattle.cqf_bridge.specs.Taking.{CanGather, HasPoliced, MayBeTaken, TakesCycle, gathered_by, policed_by}
-use Rattle.cqf_bridge_gates.specs.declared.gates.KeptGate.{KeptGate}
+use Rattle.cqf_bridge_gates.specs.declared.cycle_gate.KeptGate.{KeptGate}
 use Rattle.cqf_bridge.proofs.Coming.{batch_enters}
 use Rattle.cqf_bridge.proofs.TakenCycle.{table_held}
 
@@ -216,7 +216,7 @@ module _ (d : Domain) (bridge cycle : ℕ) (rows : List Row) (batches : List Lin
       -- so the cycle is taken
       pub cycle_taken : FramesAreTakenInOrder → DropsAreByFrame → table_of run.tables cycle ≡ rows →
           (gates : List KeptGate) (ports_before ports : List PortRecord) (drops in_frames : List Dropped) →
-          HasPoliced d rows bridge cycle ports_before [] (policed_by d rows bridge cycle sorted) gates ports drops →
+          HasPoliced d bridge cycle ports_before [] (policed_by d rows bridge cycle sorted) gates ports drops →
           IsInOrderOf (λ (x : Dropped). x.frame) drops in_frames → TakesCycle run bridge cycle batches ports_before ports in_frames
       cycle_taken law by_frame table gates ports_before ports drops in_frames h order =
           let same = same_policed law table in

@@ -1,43 +1,39 @@
 -- Frames of a cycle that are taken one after the other.
-use Rattle.cqf_model.specs.Paces.{each_cycle}
-use Rattle.std.proofs.Common.{◌≡◌, ◌+◌, ◌*◌, ◌≤◌, ◌<◌, ℕ, Bool, true, false, List, [], ◌∷◌, ◌++◌, ◌∙◌, inl, inr, sym}
-use Rattle.std.proofs.Common.{ap, refl, arith, length, map, find, take, drop, get_or, Contains, Option, Some, None}
-use Rattle.std.proofs.Common.{subst, append-nil, append_assoc, ◌-◌, ◌/◌}
-use Rattle.std.specs.Prelude.{◌==◌, if◌then◌else◌, replicate, slice_get}
+use Rattle.std.proofs.Common.{◌≡◌, ◌+◌, ◌*◌, ◌≤◌, ◌<◌, ℕ, List, [], ◌∷◌, ◌++◌, ◌∙◌, inl, inr, sym}
+use Rattle.std.proofs.Common.{ap, refl, arith, length, map, take, drop, get_or, Contains, Option, Some, None}
+use Rattle.std.proofs.Common.{subst, append-nil, append_assoc, ◌-◌}
+use Rattle.std.specs.Prelude.{◌==◌, replicate, slice_get}
 use Rattle.std.specs.List.Sorted.{IsNonDecreasingBy}
 use Rattle.std.proofs.Math.Seq.{take-append_seam}
-use Rattle.std.proofs.lemmas.Bool.{ne_eqb}
+use Rattle.std.proofs.lemmas.Bool.{cond-false, ne_eqb}
 use Rattle.std.proofs.lemmas.List.{drop_more, get_or-replicate, length-take-le, take-append-drop, take_all, take_more}
 use Rattle.std.proofs.lemmas.List.Concat.{flat_map-append}
 use Rattle.std.proofs.lemmas.List.Elements.{Contains-append_cases, Contains-get_or, Contains-push}
 use Rattle.std.proofs.lemmas.Option.{get_or_from_slice_get, slice_get_within}
 use Rattle.std.proofs.lemmas.Simd.{map-map}
 use Rattle.cqf_lists.proofs.Made.{map_same}
-use Rattle.cqf_lists.proofs.Members.{contains_from_map, contains_from_take, contains_none, contains_one, find_member, place_of_member}
+use Rattle.cqf_lists.proofs.Members.{contains_from_map, contains_none, contains_one, find_member, place_of_member}
 use Rattle.cqf_lists.proofs.Places.{slice_get-take, slice_get_behind}
-use Rattle.cqf_units.proofs.Cycles.{cycle_below, cycle_from, cycle_upto}
+use Rattle.cqf_units.proofs.Cycles.{cycle_from}
 use Rattle.cqf_model.specs.declared.frames.Dropped.{Dropped}
 use Rattle.cqf_model.specs.declared.ports.Arrival.{Arrival}
 use Rattle.cqf_model.specs.declared.topology.Row.{Row}
 use Rattle.cqf_model.specs.Book.{drop_by}
-use Rattle.cqf_model.specs.Domain.{Domain, cycle_of}
+use Rattle.cqf_model.specs.Domain.{Domain}
 use Rattle.cqf_model.specs.Network.{IsLoss, QueuedFrame, arrivals_of, queued_by, queued_to}
-use Rattle.cqf_model.specs.StreamGate.{same_interval, stream_list}
 use Rattle.cqf_model.specs.Table.{table_of}
 use Rattle.cqf_model.specs.Traffic.{Policed, Received, Verdict, police, police_all}
 use Rattle.cqf_model.proofs.Coming.{queued_when}
 use Rattle.cqf_model.proofs.Policing.{police_more}
-use Rattle.cqf_gates.specs.StreamGate.{fresh, taken_at}
 use Rattle.cqf_laws_cycle.specs.Compiled.{GateCountsCycles}
 use Rattle.cqf_laws_cycle.specs.Gathered.{dropped_of}
 use Rattle.cqf_bridge.specs.declared.faults.BridgeFault.{BridgeFault}
 use Rattle.cqf_bridge.specs.declared.faults.BridgeFault.TheVariants as fault
-use Rattle.cqf_bridge_gates.specs.declared.gates.KeptGate.{KeptGate}
-use Rattle.cqf_bridge_gates.specs.Gates.{AreKept, IsKeptGate, gate_or}
+use Rattle.cqf_bridge_gates.specs.declared.cycle_gate.KeptGate.{KeptGate}
+use Rattle.cqf_bridge_gates.specs.Gates.{AreKept, counted_by, counted_in, kept_of}
 use Rattle.cqf_bridge.specs.PortRecord.{PortRecord, with_frames}
-use Rattle.cqf_bridge.specs.Taking.{AreReady, HasPoliced, IsFaultByVerdict, IsFaultByPoliced, IsWaiting, MayBeTaken}
-use Rattle.cqf_bridge.specs.Taking.{TakesFrame, policed_by, taken_in_cycle, verdict_taken, with_verdict}
-use Rattle.cqf_admission.specs.Tables.{AreOfEachCycle}
+use Rattle.cqf_bridge.specs.Taking.{AreWaiting, HasPoliced, IsFaultByVerdict, IsFaultByPoliced, IsWaiting, MayBeTaken}
+use Rattle.cqf_bridge.specs.Taking.{TakesFrame, policed_by, verdict_taken, with_verdict}
 use Rattle.cqf_bridge.proofs.Behind.{counted_behind, verdict_behind}
 use Rattle.cqf_bridge.proofs.Taking.{frames_more, frames_none}
 
@@ -45,58 +41,42 @@ use Rattle.cqf_bridge.proofs.Taking.{frames_more, frames_none}
 pub table_held : (cycle : ℕ) (rows : List Row) → table_of (replicate (cycle + 1) rows) cycle ≡ rows
 table_held cycle rows = get_or-replicate (cycle + 1) cycle rows [] (omega arith)
 
--- a gate that has seen no frame has taken nothing
-fresh_takes_none : (b : Bool) (taken : ℕ) → taken ≡ 0 → (if b then taken else 0) ≡ 0
-fresh_takes_none true taken none = none
-fresh_takes_none false taken none = refl
-
--- a gate that was called before the cycle has taken nothing of it
-none_of : (d : Domain) (cycle : ℕ) → GateCountsCycles → 0 < d.cycle_time → (reserved t : ℕ) → cycle_of d t ≡ cycle → (o : Option KeptGate) →
-    ((k : KeptGate) → o ≡ Some k → IsKeptGate d.cycle_time (cycle * d.cycle_time) k) → taken_at (gate_or d.cycle_time reserved o) t ≡ 0
-none_of d cycle counts some reserved t in_cycle None each = fresh_takes_none (same_interval (stream_list d.cycle_time reserved each_cycle 0) 0 t) 0 refl
-none_of d cycle counts some reserved t in_cycle (Some k) each =
-    let is = each k refl in
-    let before : k.gate.last / d.cycle_time < cycle = cycle_below d.cycle_time k.gate.last cycle is.sooner in
-    let apart : same_interval k.gate.entries k.gate.last t ≡ false =
-    ap (λ es. same_interval es k.gate.last t) is.entries ∙ counts d.cycle_time k.reserved each_cycle 0 k.gate.last t some
-    ∙ ne_eqb (cycle_of d k.gate.last) (cycle_of d t) (λ e. omega (arith, before, e, in_cycle)) in
-    either (k.reserved == reserved) (ap (λ (b : Bool). if b then k.gate.taken else 0) apart)
+-- gates that were called before a cycle have counted nothing of it
+none_counted_yet : (cycle : ℕ) (gates : List KeptGate) → AreKept cycle gates → (number : ℕ) → counted_in gates number cycle ≡ 0
+none_counted_yet cycle gates before number =
+    by_kept (kept_of gates number) (λ k e. before k (find_member (λ (g : KeptGate). g.number == number) gates k e).0)
   where
-    either : (b : Bool) → taken_at k.gate t ≡ 0 → taken_at (if b then k.gate else fresh (stream_list d.cycle_time reserved each_cycle 0)) t ≡ 0
-    either true e = e
-    either false e = fresh_takes_none (same_interval (stream_list d.cycle_time reserved each_cycle 0) 0 t) 0 refl
-
--- nor has the gate that a stream goes by
-none_taken_yet : (d : Domain) (cycle : ℕ) → GateCountsCycles → 0 < d.cycle_time → (gs : List KeptGate) → AreKept d.cycle_time (cycle * d.cycle_time) gs →
-    (row : Row) (t : ℕ) → cycle_of d t ≡ cycle → taken_in_cycle d.cycle_time gs row t ≡ 0
-none_taken_yet d cycle counts some gs held row t in_cycle =
-    none_of d cycle counts some row.octets t in_cycle (find (λ (k : KeptGate). k.number == row.no) gs)
-    (λ k e. held k (find_member (λ (g : KeptGate). g.number == row.no) gs k e).0)
+    -- by what is kept for the number
+    by_kept : (o : Option KeptGate) → ((k : KeptGate) → o ≡ Some k → k.cycle < cycle) → counted_by o cycle ≡ 0
+    by_kept None each = refl
+    by_kept (Some k) each =
+        let sooner = each k refl in
+        cond-false (k.cycle == cycle) k.taken 0 (ne_eqb k.cycle cycle (λ e. omega (arith, sooner, e)))
 
 module _ (d : Domain) (rows : List Row) (bridge cycle : ℕ) (ports_before : List PortRecord) (drops_before : List Dropped) where
   -- what becomes of a frame, behind those before it
   abbrev policed_next : List Policed → Received → Policed
   policed_next policed x = police d (replicate (cycle + 1) rows) bridge policed x
 
-  module _ (counts : GateCountsCycles) (some : 0 < d.cycle_time) (paced : AreOfEachCycle rows) (policed : List Policed) (x : Received)
+  module _ (counts : GateCountsCycles) (some : 0 < d.cycle_time) (policed : List Policed) (x : Received)
       (gates : List KeptGate) (ports : List PortRecord) (drops : List Dropped)
-      (may : MayBeTaken d bridge cycle rows x) (kept : AreKept d.cycle_time (x.at + 1) gates)
-      (h : HasPoliced d rows bridge cycle ports_before drops_before policed gates ports drops) where
+      (may : MayBeTaken d bridge cycle rows x)
+      (h : HasPoliced d bridge cycle ports_before drops_before policed gates ports drops) where
     -- so the verdict is the one of the definitions
     pub same_verdict : verdict_taken d rows bridge cycle gates x ≡ (policed_next policed x).verdict
     same_verdict =
-        verdict_behind d (replicate (cycle + 1) rows) rows bridge cycle counts some paced (table_held cycle rows) policed x gates may.in_cycle kept h.counted
+        verdict_behind d (replicate (cycle + 1) rows) rows bridge cycle counts some (table_held cycle rows) policed x gates may.in_cycle h.counted
 
     module _ (gates_after : List KeptGate) (ports_after : List PortRecord) (drops_after : List Dropped)
         (takes : TakesFrame d rows bridge cycle x gates gates_after ports ports_after drops drops_after) where
       -- a frame more is policed
-      pub policed_more : HasPoliced d rows bridge cycle ports_before drops_before (policed ++ policed_next policed x ∷ []) gates_after ports_after drops_after
+      pub policed_more : HasPoliced d bridge cycle ports_before drops_before (policed ++ policed_next policed x ∷ []) gates_after ports_after drops_after
       policed_more =
           let v = verdict_taken d rows bridge cycle gates x in
           let p = policed_next policed x in
           record {
-            counted = counted_behind d (replicate (cycle + 1) rows) rows bridge cycle counts some paced (table_held cycle rows) policed x gates
-                may.in_cycle kept h.counted
+            counted = counted_behind d (replicate (cycle + 1) rows) rows bridge cycle counts some (table_held cycle rows) policed x gates
+                may.in_cycle h.counted
                 gates_after takes.counted;
             queued =
                 takes.queued
@@ -121,11 +101,10 @@ module _ (d : Domain) (rows : List Row) (bridge cycle : ℕ) (ports_before : Lis
           }
 
   -- at first none is
-  pub none_policed : (gates : List KeptGate) (ports : List PortRecord) (drops : List Dropped) → AreKept d.cycle_time (cycle * d.cycle_time) gates
-      → ports ≡ ports_before → drops ≡ drops_before →
-      GateCountsCycles → 0 < d.cycle_time → HasPoliced d rows bridge cycle ports_before drops_before [] gates ports drops
-  none_policed gates ports drops kept same_ports same_drops counts some = record {
-    counted = λ row held t in_cycle. none_taken_yet d cycle counts some gates kept row t in_cycle;
+  pub none_policed : (gates : List KeptGate) (ports : List PortRecord) (drops : List Dropped) → AreKept cycle gates
+      → ports ≡ ports_before → drops ≡ drops_before → HasPoliced d bridge cycle ports_before drops_before [] gates ports drops
+  none_policed gates ports drops before same_ports same_drops = record {
+    counted = none_counted_yet cycle gates before;
     queued = same_ports ∙ no_queue ports_before;
     dropped = same_drops ∙ sym (append-nil drops_before);
     none_lost = λ p held. absurd (contains_none p held);
@@ -135,55 +114,50 @@ module _ (d : Domain) (rows : List Row) (bridge cycle : ℕ) (ports_before : Lis
       no_queue [] = refl
       no_queue (r ∷ rs) = λ i. sym (frames_none r) i ∷ no_queue rs i
 
--- what is ready by an instant is so by a later one
-pub ready_later : (d : Domain) (cycle u v : ℕ) (gates : List KeptGate) (ports : List PortRecord) → u ≤ v → AreReady d cycle u gates ports →
-    AreReady d cycle v gates ports
-ready_later d cycle u v gates ports le h = record {
-  gates_before = λ k held. let is = h.gates_before k held in record { entries = is.entries; sooner = omega (arith, is.sooner, le) };
-  ports_before = λ r held. let is = h.ports_before r held in record {
-    rules = is.rules;
-    reached = is.reached;
-    sooner = λ a inside high. omega (arith, is.sooner a inside high, le);
-  };
+-- ports that wait by an instant do so by a later one
+pub waiting_later : (d : Domain) (cycle u v : ℕ) (ports : List PortRecord) → u ≤ v → AreWaiting d cycle u ports → AreWaiting d cycle v ports
+waiting_later d cycle u v ports le h r held = let is = h r held in record {
+  rules = is.rules;
+  reached = is.reached;
+  sooner = λ a inside high. omega (arith, is.sooner a inside high, le);
 }
 
 -- and it is so again behind a frame
-pub ready_again : (d : Domain) (rows : List Row) (bridge cycle : ℕ) (x : Received) (gates gates_after : List KeptGate) (ports ports_after : List PortRecord)
-    (drops drops_after : List Dropped) → AreReady d cycle (x.at + 1) gates ports →
-    TakesFrame d rows bridge cycle x gates gates_after ports ports_after drops drops_after → AreReady d cycle (x.at + 1) gates_after ports_after
-ready_again d rows bridge cycle x gates gates_after ports ports_after drops drops_after h takes = record {
-  gates_before = takes.kept;
-  ports_before = λ r held.
-      let v = verdict_taken d rows bridge cycle gates x in
-      let f = contains_from_map (with_verdict d x v) ports r (subst (λ (rs : List PortRecord). Contains rs r) takes.queued held) in
-      let is = h.ports_before f.0 f.1 in
-      subst (IsWaiting d cycle (x.at + 1)) f.2
-      (record {
-        rules = is.rules;
-        reached = is.reached;
-        sooner = λ a inside high. elim (Contains-append_cases f.0.port.arrivals (arrivals_of (queued_by d f.0.link x v)) a inside) [
-          | inl old ↦ is.sooner a old high
-          | inr new ↦
-              let g = contains_from_map (λ (q : QueuedFrame). q.arrival) (queued_by d f.0.link x v) a new in
-              omega (arith, queued_when d f.0.link x v g.0 g.1, ap (λ (b : Arrival). b.at.0) g.2)
-        ];
-      });
-}
+pub waiting_again : (d : Domain) (rows : List Row) (bridge cycle : ℕ) (x : Received) (gates gates_after : List KeptGate) (ports ports_after : List PortRecord)
+    (drops drops_after : List Dropped) → AreWaiting d cycle (x.at + 1) ports →
+    TakesFrame d rows bridge cycle x gates gates_after ports ports_after drops drops_after → AreWaiting d cycle (x.at + 1) ports_after
+waiting_again d rows bridge cycle x gates gates_after ports ports_after drops drops_after h takes r held =
+    let v = verdict_taken d rows bridge cycle gates x in
+    let f = contains_from_map (with_verdict d x v) ports r (subst (λ (rs : List PortRecord). Contains rs r) takes.queued held) in
+    let is = h f.0 f.1 in
+    subst (IsWaiting d cycle (x.at + 1)) f.2
+    (record {
+      rules = is.rules;
+      reached = is.reached;
+      sooner = λ a inside high. elim (Contains-append_cases f.0.port.arrivals (arrivals_of (queued_by d f.0.link x v)) a inside) [
+        | inl old ↦ is.sooner a old high
+        | inr new ↦
+            let g = contains_from_map (λ (q : QueuedFrame). q.arrival) (queued_by d f.0.link x v) a new in
+            omega (arith, queued_when d f.0.link x v g.0 g.1, ap (λ (b : Arrival). b.at.0) g.2)
+      ];
+    })
 
 -- the first frames of a cycle are taken
 pub record IsTaking (d : Domain) (rows : List Row) (bridge cycle : ℕ) (ports_before : List PortRecord) (drops_before : List Dropped) (frames : List Received)
     (count : ℕ) (gates : List KeptGate) (ports : List PortRecord) (drops : List Dropped) : Type 0 where
-  pub ready : (t : ℕ) → cycle * d.cycle_time ≤ t → ((y : Received) → Contains (take count frames) y → y.at ≤ t) → AreReady d cycle (t + 1) gates ports
-  pub policed : HasPoliced d rows bridge cycle ports_before drops_before (policed_by d rows bridge cycle (take count frames)) gates ports drops
+  pub waiting : (t : ℕ) → cycle * d.cycle_time ≤ t → ((y : Received) → Contains (take count frames) y → y.at ≤ t) → AreWaiting d cycle (t + 1) ports
+  pub kept : AreKept (cycle + 1) gates
+  pub policed : HasPoliced d bridge cycle ports_before drops_before (policed_by d rows bridge cycle (take count frames)) gates ports drops
 
 module _ (d : Domain) (rows : List Row) (bridge cycle : ℕ) (ports_before : List PortRecord) (drops_before : List Dropped) (frames : List Received)
-    (counts : GateCountsCycles) (some : 0 < d.cycle_time) (paced : AreOfEachCycle rows) where
+    (counts : GateCountsCycles) (some : 0 < d.cycle_time) where
   -- at first none is
-  pub taking_none : (gates : List KeptGate) → AreReady d cycle (cycle * d.cycle_time) gates ports_before →
+  pub taking_none : (gates : List KeptGate) → AreWaiting d cycle (cycle * d.cycle_time) ports_before → AreKept cycle gates →
       IsTaking d rows bridge cycle ports_before drops_before frames 0 gates ports_before drops_before
-  taking_none gates h = record {
-    ready = λ t from each. ready_later d cycle (cycle * d.cycle_time) (t + 1) gates ports_before (omega (arith, from)) h;
-    policed = none_policed d rows bridge cycle ports_before drops_before gates ports_before drops_before h.gates_before refl refl counts some;
+  taking_none gates h before = record {
+    waiting = λ t from each. waiting_later d cycle (cycle * d.cycle_time) (t + 1) ports_before (omega (arith, from)) h;
+    kept = λ k held. omega (arith, before k held);
+    policed = none_policed d rows bridge cycle ports_before drops_before gates ports_before drops_before before refl refl;
   }
 
   module _ (may : (x : Received) → Contains frames x → MayBeTaken d bridge cycle rows x) (count : ℕ) (gates : List KeptGate)
@@ -195,8 +169,8 @@ module _ (d : Domain) (rows : List Row) (bridge cycle : ℕ) (ports_before : Lis
       among = subst (Contains frames) (sym is) (Contains-get_or frames count x inside)
 
       -- the next comes no sooner than those before it
-      pub next_ready : AreReady d cycle (x.at + 1) gates ports
-      next_ready = h.ready x.at
+      pub next_waiting : AreWaiting d cycle (x.at + 1) ports
+      next_waiting = h.waiting x.at
           (omega (arith, ap (λ (c : ℕ). c * d.cycle_time) (may x among).in_cycle, cycle_from d.cycle_time x.at))
           (λ y held.
           let p = place_of_member (take count frames) y held in
@@ -215,14 +189,15 @@ module _ (d : Domain) (rows : List Row) (bridge cycle : ℕ) (ports_before : Lis
           TakesFrame d rows bridge cycle x gates gates_after ports ports_after drops drops_after →
           IsTaking d rows bridge cycle ports_before drops_before frames (count + 1) gates_after ports_after drops_after
       taking_more gates_after ports_after drops_after takes = record {
-        ready = λ t from each.
+        waiting = λ t from each.
             let upto : x.at ≤ t = each x (subst (λ (ys : List Received). Contains ys x) (sym front_more) (Contains-push (take count frames) x)) in
-            ready_later d cycle (x.at + 1) (t + 1) gates_after ports_after (omega (arith, upto))
-            (ready_again d rows bridge cycle x gates gates_after ports ports_after drops drops_after next_ready takes);
+            waiting_later d cycle (x.at + 1) (t + 1) ports_after (omega (arith, upto))
+            (waiting_again d rows bridge cycle x gates gates_after ports ports_after drops drops_after next_waiting takes);
+        kept = takes.kept h.kept;
         policed =
-            subst (λ (ps : List Policed). HasPoliced d rows bridge cycle ports_before drops_before ps gates_after ports_after drops_after)
+            subst (λ (ps : List Policed). HasPoliced d bridge cycle ports_before drops_before ps gates_after ports_after drops_after)
             (sym (ap (policed_by d rows bridge cycle) front_more ∙ police_more d (replicate (cycle + 1) rows) bridge [] (take count frames) (x ∷ [])))
-            (policed_more d rows bridge cycle ports_before drops_before counts some paced done x gates ports drops (may x among) next_ready.gates_before h.policed
+            (policed_more d rows bridge cycle ports_before drops_before counts some done x gates ports drops (may x among) h.policed
             gates_after ports_after drops_after takes);
       }
 
@@ -244,8 +219,7 @@ module _ (d : Domain) (rows : List Row) (bridge cycle : ℕ) (ports_before : Lis
             over = p;
             there = ap (λ (ps : List Policed). slice_get ps (length done)) parts ∙ slice_get_behind done p rest (length done) refl;
             exceeds =
-                sym (same_verdict d rows bridge cycle ports_before drops_before counts some paced done x gates ports drops (may x among)
-                next_ready.gates_before h.policed)
+                sym (same_verdict d rows bridge cycle ports_before drops_before counts some done x gates ports drops (may x among) h.policed)
                 ∙ stops.0;
             is_frame = stops.1;
             first = λ q held exceeds.
@@ -257,18 +231,7 @@ module _ (d : Domain) (rows : List Row) (bridge cycle : ℕ) (ports_before : Lis
 
     -- in the end all are
     pub taking_all : length frames ≤ count →
-        HasPoliced d rows bridge cycle ports_before drops_before (policed_by d rows bridge cycle frames) gates ports drops
+        HasPoliced d bridge cycle ports_before drops_before (policed_by d rows bridge cycle frames) gates ports drops
     taking_all past =
-        subst (λ (ys : List Received). HasPoliced d rows bridge cycle ports_before drops_before (policed_by d rows bridge cycle ys) gates ports drops)
+        subst (λ (ys : List Received). HasPoliced d bridge cycle ports_before drops_before (policed_by d rows bridge cycle ys) gates ports drops)
         (take_all count frames past) h.policed
-
-    -- and the gates were called before the cycle's end
-    pub kept_behind : AreKept d.cycle_time ((cycle + 1) * d.cycle_time) gates
-    kept_behind =
-        let end = (cycle + 1) * d.cycle_time in
-        let last : (end - 1) + 1 ≡ end = omega (arith, some) in
-        subst (λ (n : ℕ). AreKept d.cycle_time n gates) last
-        (h.ready (end - 1) (omega (arith, some))
-        (λ y held.
-        let upto = cycle_upto d.cycle_time y.at some in
-        omega (arith, upto, some, ap (λ (c : ℕ). c * d.cycle_time) (may y (contains_from_take frames count y held)).in_cycle))).gates_before

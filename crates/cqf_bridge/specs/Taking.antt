@@ -1,5 +1,5 @@
 -- The receive phase of a cycle, step by step.
-use Rattle.std.specs.Prelude.{ℕ, ◌≡◌, ◌+◌, ◌*◌, ◌≤◌, ◌<◌, ◌++◌, ◌==◌, Bool, false, true, not, List, [], ◌∷◌, Contains}
+use Rattle.std.specs.Prelude.{ℕ, ◌≡◌, ◌+◌, ◌≤◌, ◌<◌, ◌++◌, ◌==◌, Bool, false, true, not, List, [], ◌∷◌, Contains}
 use Rattle.std.specs.Prelude.{Option, Some, None, if◌then◌else◌, length, map, replicate}
 use Rattle.std.specs.List.{flat_map, list_any}
 use Rattle.cqf_model.specs.declared.frames.Dropped.{Dropped}
@@ -19,11 +19,11 @@ use Rattle.cqf_model.specs.Traffic.{AtEdge as Offering, DroppedFor, ExceedsGate,
 use Rattle.cqf_model.specs.Traffic.{Relayed, Verdict, Way, came_by, gate_behind, is_queued_of, offer_received, police, police_all}
 use Rattle.cqf_model.specs.Traffic.{sent_received, verdict_by}
 use Rattle.cqf_laws_cycle.specs.Gathered.{dropped_of}
-use Rattle.cqf_gates.specs.StreamGate.{lets_pass, taken_at}
+use Rattle.cqf_gates.specs.StreamGate.{lets_pass}
 use Rattle.cqf_port.specs.PortState.{IsLate, IsOutOfOrder, PortState}
 use Rattle.cqf_bridge.specs.declared.faults.BridgeFault.{BridgeFault}
 use Rattle.cqf_bridge.specs.declared.faults.BridgeFault.TheVariants.{Spent, WrongCycle, StrangeBatch, OverOctets, Memory}
-use Rattle.cqf_bridge_gates.specs.declared.gates.KeptGate.{KeptGate}
+use Rattle.cqf_bridge_gates.specs.declared.cycle_gate.KeptGate.{KeptGate}
 use Rattle.cqf_bridge.specs.declared.gathering.Came.{Came}
 use Rattle.cqf_bridge.specs.declared.gathering.Came.TheVariants.{AtEdge, ByLink}
 use Rattle.cqf_bridge.specs.declared.gathering.Incoming.{Incoming}
@@ -31,7 +31,7 @@ use Rattle.cqf_bridge.specs.declared.policing.Outcome.{Outcome}
 use Rattle.cqf_bridge.specs.declared.policing.Outcome.TheVariants as outcome
 use Rattle.cqf_bridge.specs.Batch.{LinkBatch}
 use Rattle.cqf_bridge.specs.BridgeState.{BridgeState, IsBridge, end_of_cycle}
-use Rattle.cqf_bridge_gates.specs.Gates.{AreKept, HaveCounted, gate_in}
+use Rattle.cqf_bridge_gates.specs.Gates.{AreKept, HaveCounted, counted_in, gate_in}
 use Rattle.cqf_bridge.specs.PortRecord.{PortRecord, rules_on, with_frames}
 use Rattle.cqf_bridge.specs.Receiving.{IsFirstOver, MayCome, port_queued, verdicts_in}
 use Rattle.cqf_model.specs.Limits.{end_of_starts}
@@ -73,26 +73,21 @@ pub record IsWaiting (d : Domain) (cycle until : ℕ) (r : PortRecord) : Type 0 
   pub reached : r.port.reached ≡ end_of_cycle d cycle
   pub sooner : (a : Arrival) → Contains r.port.arrivals a → 6 ≤ a.class → a.at.0 < until
 
--- so has each port, and each gate was called before it
-pub record AreReady (d : Domain) (cycle until : ℕ) (gates : List KeptGate) (ports : List PortRecord) : Type 0 where
-  pub gates_before : AreKept d.cycle_time until gates
-  pub ports_before : (r : PortRecord) → Contains ports r → IsWaiting d cycle until r
+-- so has each port
+abbrev pub AreWaiting : Domain → ℕ → ℕ → List PortRecord → Type 0
+AreWaiting d cycle until ports = (r : PortRecord) → Contains ports r → IsWaiting d cycle until r
 
--- whether the gate that a row's stream goes by lets a frame pass
-abbrev pub passes_by : ℕ → List KeptGate → Received → Row → Bool
-passes_by cycle_time gates x row = lets_pass (gate_in cycle_time gates row.no row.octets) x.at x.octets
+-- whether the gate that a row's stream meets there lets a frame pass
+abbrev pub passes_by : Domain → List KeptGate → Received → Row → Bool
+passes_by d gates x row = lets_pass (gate_in d gates row (came_by x.way)) x.at x.octets
 
 -- the verdict on a frame by the gates
 abbrev pub verdict_taken : Domain → List Row → ℕ → ℕ → List KeptGate → Received → Verdict
-verdict_taken d rows bridge cycle gates x = verdict_by d rows bridge cycle (passes_by d.cycle_time gates x) x.way
+verdict_taken d rows bridge cycle gates x = verdict_by d rows bridge cycle (passes_by d gates x) x.way
 
 -- a port with what is queued to it by a verdict
 abbrev pub with_verdict : Domain → Received → Verdict → PortRecord → PortRecord
 with_verdict d x verdict r = with_frames r (queued_by d r.link x verdict)
-
--- what the gate of a row's stream has counted in the cycle
-abbrev pub taken_in_cycle : ℕ → List KeptGate → Row → ℕ → ℕ
-taken_in_cycle cycle_time gates row t = taken_at (gate_in cycle_time gates row.no row.octets) t
 
 -- the verdict on a frame that a row's gate has let pass, or not, where it came by a link
 abbrev pub verdict_if : Bool → Row → Verdict
@@ -104,11 +99,10 @@ class_in d x row = gate_class (gate_behind d row (came_by x.way)) x.at
 
 -- a frame goes by the gate of a row's stream, which gives it a class, or none where it doesn't pass
 pub record PassesGate (d : Domain) (cycle : ℕ) (x : Received) (row : Row) (gates gates_after : List KeptGate) (class : Option ℕ) : Type 0 where
-  pub decided : class ≡ (if passes_by d.cycle_time gates x row then Some (class_in d x row) else None)
-  pub counted : (other : Row) (t : ℕ) → (row.no ≡ other.no → row.octets ≡ other.octets) → cycle_of d t ≡ cycle →
-      taken_in_cycle d.cycle_time gates_after other t
-      ≡ taken_in_cycle d.cycle_time gates other t + (if is_queued_of other.no (verdict_if (passes_by d.cycle_time gates x row) row) then x.octets else 0)
-  pub kept : AreKept d.cycle_time (x.at + 1) gates_after
+  pub decided : class ≡ (if passes_by d gates x row then Some (class_in d x row) else None)
+  pub counted : (number : ℕ) → counted_in gates_after number cycle
+      ≡ counted_in gates number cycle + (if is_queued_of number (verdict_if (passes_by d gates x row) row) then x.octets else 0)
+  pub kept : AreKept (cycle + 1) gates → AreKept (cycle + 1) gates_after
 
 -- the verdict on an offer that names a row's stream, by a reason that doesn't hang on its gate
 abbrev pub verdict_unless : Option Reason → Bool → Row → Verdict
@@ -133,17 +127,16 @@ HasClass d x outcome.ExceedsGate = Unit {0}
 pub record Polices (d : Domain) (rows : List Row) (bridge cycle : ℕ) (x : Received) (gates gates_after : List KeptGate) (made : Outcome) : Type 0 where
   pub verdict : verdict_as made ≡ verdict_taken d rows bridge cycle gates x
   pub class : HasClass d x made
-  pub counted : (row : Row) (t : ℕ) → Contains rows row → cycle_of d t ≡ cycle →
-      taken_in_cycle d.cycle_time gates_after row t
-      ≡ taken_in_cycle d.cycle_time gates row t + (if is_queued_of row.no (verdict_taken d rows bridge cycle gates x) then x.octets else 0)
-  pub kept : AreKept d.cycle_time (x.at + 1) gates_after
+  pub counted : (number : ℕ) → counted_in gates_after number cycle
+      ≡ counted_in gates number cycle + (if is_queued_of number (verdict_taken d rows bridge cycle gates x) then x.octets else 0)
+  pub kept : AreKept (cycle + 1) gates → AreKept (cycle + 1) gates_after
 
 -- so behind frames of the cycle that the gates have counted it is what becomes of it in a run with such a table in the cycle, and
 -- the gates have counted it too
-pub record IsPolicedBehind (d : Domain) (tables : List (List Row)) (bridge cycle : ℕ) (rows : List Row) (x : Received) (policed : List Policed)
+pub record IsPolicedBehind (d : Domain) (tables : List (List Row)) (bridge cycle : ℕ) (x : Received) (policed : List Policed)
     (gates_after : List KeptGate) (made : Outcome) : Type 0 where
   pub verdict : verdict_as made ≡ (police d tables bridge policed x).verdict
-  pub counted : HaveCounted d.cycle_time cycle rows (policed ++ police d tables bridge policed x ∷ []) gates_after
+  pub counted : HaveCounted d.cycle_time cycle (policed ++ police d tables bridge policed x ∷ []) gates_after
 
 -- a frame comes in the cycle, and where it came by a link its stream goes on from the bridge
 pub record MayBeTaken (d : Domain) (bridge cycle : ℕ) (rows : List Row) (x : Received) : Type 0 where
@@ -154,10 +147,9 @@ pub record MayBeTaken (d : Domain) (bridge cycle : ℕ) (rows : List Row) (x : R
 -- a frame is taken: the gates have counted it where it went on, the ports have it, and it is among the drops where it is dropped
 pub record TakesFrame (d : Domain) (rows : List Row) (bridge cycle : ℕ) (x : Received) (gates gates_after : List KeptGate)
     (ports ports_after : List PortRecord) (drops drops_after : List Dropped) : Type 0 where
-  pub counted : (row : Row) (t : ℕ) → Contains rows row → cycle_of d t ≡ cycle →
-      taken_in_cycle d.cycle_time gates_after row t
-      ≡ taken_in_cycle d.cycle_time gates row t + (if is_queued_of row.no (verdict_taken d rows bridge cycle gates x) then x.octets else 0)
-  pub kept : AreKept d.cycle_time (x.at + 1) gates_after
+  pub counted : (number : ℕ) → counted_in gates_after number cycle
+      ≡ counted_in gates number cycle + (if is_queued_of number (verdict_taken d rows bridge cycle gates x) then x.octets else 0)
+  pub kept : AreKept (cycle + 1) gates → AreKept (cycle + 1) gates_after
   pub queued : ports_after ≡ map (with_verdict d x (verdict_taken d rows bridge cycle gates x)) ports
   pub dropped : drops_after ≡ drops ++ drop_by cycle bridge x (verdict_taken d rows bridge cycle gates x)
   pub not_lost : ¬ IsLoss (verdict_taken d rows bridge cycle gates x)
@@ -175,9 +167,9 @@ abbrev pub policed_by : Domain → List Row → ℕ → ℕ → List Received �
 policed_by d rows bridge cycle frames = police_all d (replicate (cycle + 1) rows) bridge [] frames
 
 -- the gates, the ports and the drops are what policing these frames of a cycle gives
-pub record HasPoliced (d : Domain) (rows : List Row) (bridge cycle : ℕ) (ports_before : List PortRecord) (drops_before : List Dropped)
+pub record HasPoliced (d : Domain) (bridge cycle : ℕ) (ports_before : List PortRecord) (drops_before : List Dropped)
     (policed : List Policed) (gates : List KeptGate) (ports : List PortRecord) (drops : List Dropped) : Type 0 where
-  pub counted : HaveCounted d.cycle_time cycle rows policed gates
+  pub counted : HaveCounted d.cycle_time cycle policed gates
   pub queued : ports ≡ map (λ (r : PortRecord). with_frames r (queued_to d r.link policed)) ports_before
   pub dropped : drops ≡ drops_before ++ dropped_of cycle bridge policed
   pub none_lost : (p : Policed) → Contains policed p → ¬ IsLoss p.verdict
@@ -204,4 +196,4 @@ IsFaultInRun run bridge cycle batches fault = IsFaultByPoliced (verdicts_in run 
 -- a bridge, with the gates that it keeps: where it isn't spent, each was last called before the cycle that is received next
 pub record HasGates (b : BridgeState) (gates : List KeptGate) : Type 0 where
   pub bridge : IsBridge b
-  pub gates_kept : b.spent ≡ false → AreKept b.domain.cycle_time (b.received * b.domain.cycle_time) gates
+  pub gates_kept : b.spent ≡ false → AreKept b.received gates

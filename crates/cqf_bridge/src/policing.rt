@@ -1,11 +1,10 @@
 //! What becomes of the frames that come to a bridge, one after the other.
-ghost use Rattle.std.specs.Prelude.{◌≡◌, ◌+◌, Bool, IfOk, List, OnErr, Some};
+ghost use Rattle.std.specs.Prelude.{◌≡◌, Bool, IfOk, List, OnErr, Some};
 ghost use Rattle.cqf_model.specs.declared.topology.Row.{Row as ARow};
 ghost use Rattle.cqf_model.specs.Domain.{cycle_of};
-ghost use Rattle.cqf_model.specs.Paces.{each_cycle};
 ghost use Rattle.cqf_model.specs.Table.{table_of};
 ghost use Rattle.cqf_model.specs.Traffic.{AtEdge as Offering, Policed, Relayed, edge_verdict};
-ghost use Rattle.cqf_bridge_gates.specs.Gates.{AreKept, HaveCounted};
+ghost use Rattle.cqf_bridge_gates.specs.Gates.{HaveCounted};
 ghost use Rattle.cqf_bridge.specs.Taking.{IsPolicedBehind, PassesGate, Polices, received_as, verdict_unless, way_taken};
 
 use crate::checking::leads_on;
@@ -42,14 +41,13 @@ fn pass_gate(
     gates: &mut StreamGates,
 ) -> Result<Option<u8>, Memory>
     requires in_cycle { cycle_of domain.now frame.now.at.0 ≡ cycle.0 }
-    requires kept { AreKept domain.now.cycle_time (frame.now.at.0 + 1) gates.old }
-    requires paced { row.now.pace ≡ each_cycle }
     ensures passes { IfOk result (λ class. PassesGate domain.now cycle.0 (received_as frame.now) row.now gates.old gates.new class) }
     ensures err { OnErr result (gates.new ≡ gates.old) }
 {
     gate_counts_cycles();
     domain.know();
-    match gates.pass(domain, row, frame.at, Octets(frame.octets))? {
+    let way = frame.came.link();
+    match gates.pass(domain, row, way, frame.at, Octets(frame.octets))? {
         Passed::Class(class) => Ok(Some(class)),
         Passed::OverOctets => Ok(None),
     }
@@ -77,13 +75,10 @@ fn police_offer<'a>(
 ) -> Result<Outcome<'a>, Memory>
     requires way { way_taken frame.now.came ≡ Offering name.now }
     requires in_cycle { cycle_of phase.domain.now frame.now.at.0 ≡ phase.cycle.0 }
-    requires kept { AreKept phase.domain.now.cycle_time (frame.now.at.0 + 1) gates.old }
     ensures polices { IfOk result (λ outcome. Polices phase.entry.domain.now phase.entry.table.now.rows phase.entry.number phase.entry.cycle.0
         (received_as frame.now) gates.old gates.new outcome) }
     ensures err { OnErr result (gates.new ≡ gates.old) }
 {
-    // the table's rows stand in order of number, and their streams are offered in each cycle: facts
-    let _order = phase.table.rows();
     let Some(row) = phase.table.row_named(name) else {
         return Ok(Outcome::Dropped(Reason::Unknown));
     };
@@ -106,13 +101,10 @@ fn police_inside<'a>(
 ) -> Result<Outcome<'a>, Memory>
     requires way { way_taken frame.now.came ≡ Relayed link stream }
     requires in_cycle { cycle_of phase.domain.now frame.now.at.0 ≡ phase.cycle.0 }
-    requires kept { AreKept phase.domain.now.cycle_time (frame.now.at.0 + 1) gates.old }
     ensures polices { IfOk result (λ outcome. Polices phase.entry.domain.now phase.entry.table.now.rows phase.entry.number phase.entry.cycle.0
         (received_as frame.now) gates.old gates.new outcome) }
     ensures err { OnErr result (gates.new ≡ gates.old) }
 {
-    // the table's rows stand in order of number, and their streams are offered in each cycle: facts
-    let _order = phase.table.rows();
     let Some(row) = phase.table.row_of(stream) else {
         return Ok(Outcome::LacksRow);
     };
@@ -127,7 +119,7 @@ fn police_inside<'a>(
 
 /// What becomes of a frame at the bridge of this number, by the table of its cycle and behind the frames that the gates have
 /// counted: its stream's gate counts it where it goes on (profile, after IEEE 802.1Q, 8.6.5.1). The frame is whole within the
-/// cycle, and no sooner than the frames before it. `Memory` where a growth is refused; then the gates have counted nothing.
+/// cycle. `Memory` where a growth is refused; then the gates have counted nothing.
 pub fn police<'a>(
     domain: &Domain,
     number: u16,
@@ -137,17 +129,15 @@ pub fn police<'a>(
     gates: &mut StreamGates,
 ) -> Result<Outcome<'a>, Memory>
     requires in_cycle { cycle_of domain.now frame.now.at.0 ≡ cycle.0 }
-    requires kept { AreKept domain.now.cycle_time (frame.now.at.0 + 1) gates.old }
     ensures police { IfOk result (λ outcome. Polices domain.now table.now.rows number cycle.0 (received_as frame.now) gates.old gates.new outcome) }
     ensures behind { IfOk result (λ outcome. (tables : List (List ARow)) (policed : List Policed) → table_of tables cycle.0 ≡ table.now.rows →
-        HaveCounted domain.now.cycle_time cycle.0 table.now.rows policed gates.old →
-        IsPolicedBehind domain.now tables number cycle.0 table.now.rows (received_as frame.now) policed gates.new outcome) }
+        HaveCounted domain.now.cycle_time cycle.0 policed gates.old →
+        IsPolicedBehind domain.now tables number cycle.0 (received_as frame.now) policed gates.new outcome) }
     ensures err { OnErr result (gates.new ≡ gates.old) }
 {
     gate_counts_cycles();
-    // the domain is accepted, and the table's streams are offered in each cycle: facts
+    // the domain is accepted: a fact
     domain.know();
-    let _paced = table.rows();
     let phase = ReceivePhase {
         domain,
         number,

@@ -5,7 +5,7 @@ ghost use Rattle.cqf_model.specs.Run.{Run};
 ghost use Rattle.cqf_model.specs.Traffic.{Received};
 ghost use Rattle.cqf_bridge_gates.specs.Gates.{AreKept};
 ghost use Rattle.cqf_bridge.specs.Receiving.{AreBatchesOf, IsRunOfBridge};
-ghost use Rattle.cqf_bridge.specs.Taking.{AreReady, HasPoliced, IsFaultByPoliced, MayBeTaken, TakesCycle, policed_by, received_as, IsFaultInRun};
+ghost use Rattle.cqf_bridge.specs.Taking.{AreWaiting, HasPoliced, IsFaultByPoliced, MayBeTaken, TakesCycle, policed_by, received_as, IsFaultInRun};
 ghost use Rattle.cqf_model.specs.Limits.{most_cycles};
 
 use crate::gathering::{Incoming, in_order};
@@ -30,19 +30,18 @@ fn take_all(
     requires may { (x : Received) → Contains (map received_as frames.now) x →
         MayBeTaken phase.domain.now phase.number phase.cycle.0 phase.table.now.rows x }
     requires ordered { IsNonDecreasingBy (λ (x : Received). x.at) (map received_as frames.now) }
-    requires ready { AreReady phase.domain.now phase.cycle.0 (phase.cycle.0 * phase.domain.now.cycle_time) gates.old ports.old.items }
-    ensures kept { OnOk result (AreKept phase.entry.domain.now.cycle_time
-        ((phase.entry.cycle.0 + 1) * phase.entry.domain.now.cycle_time) gates.new) }
-    ensures takes { OnOk result (HasPoliced phase.entry.domain.now phase.entry.table.now.rows phase.entry.number phase.entry.cycle.0
+    requires waiting { AreWaiting phase.domain.now phase.cycle.0 (phase.cycle.0 * phase.domain.now.cycle_time) ports.old.items }
+    requires before { AreKept phase.cycle.0 gates.old }
+    ensures kept { OnOk result (AreKept (phase.entry.cycle.0 + 1) gates.new) }
+    ensures takes { OnOk result (HasPoliced phase.entry.domain.now phase.entry.number phase.entry.cycle.0
         ports.old.items drops.old.items (policed_by phase.entry.domain.now phase.entry.table.now.rows phase.entry.number phase.entry.cycle.0
         (map received_as frames.now)) gates.new ports.new.items drops.new.items) }
     ensures stops { IfErr result (λ fault. IsFaultByPoliced (policed_by phase.entry.domain.now phase.entry.table.now.rows phase.entry.number
         phase.entry.cycle.0 (map received_as frames.now)) fault) }
 {
     gate_counts_cycles();
-    // the domain is accepted, and the table's streams are offered in each cycle: facts
+    // the domain is accepted: a fact
     phase.domain.know();
-    let _paced = phase.table.rows();
     for frame in frames {
         match take_frame(phase, frame, gates, ports, drops) {
             Ok(()) => {}
@@ -65,9 +64,9 @@ pub(crate) fn receive_frames(
     requires early { phase.cycle.0 < most_cycles }
     requires offers { (run : Run) × IsRunOfBridge phase.domain.now phase.number phase.cycle.0 phase.table.now.rows offers.now run }
     requires batches { AreBatchesOf phase.domain.now phase.number phase.cycle.0 phase.table.now.rows batches.now }
-    requires ready { AreReady phase.domain.now phase.cycle.0 (phase.cycle.0 * phase.domain.now.cycle_time) gates.old ports.old.items }
-    ensures kept { OnOk result (AreKept phase.entry.domain.now.cycle_time
-        ((phase.entry.cycle.0 + 1) * phase.entry.domain.now.cycle_time) gates.new) }
+    requires waiting { AreWaiting phase.domain.now phase.cycle.0 (phase.cycle.0 * phase.domain.now.cycle_time) ports.old.items }
+    requires before { AreKept phase.cycle.0 gates.old }
+    ensures kept { OnOk result (AreKept (phase.entry.cycle.0 + 1) gates.new) }
     ensures takes { IfOk result (λ drops. (run : Run) →
         IsRunOfBridge phase.entry.domain.now phase.entry.number phase.entry.cycle.0 phase.entry.table.now.rows offers.now run →
         TakesCycle run phase.entry.number phase.entry.cycle.0 batches.now ports.old.items ports.new.items drops.items) }

@@ -6,7 +6,7 @@ ghost use Rattle.cqf_model.specs.Domain.{cycle_of};
 ghost use Rattle.cqf_model.specs.Table.{goes_to};
 ghost use Rattle.cqf_model.specs.Traffic.{DroppedFor, Queued};
 ghost use Rattle.cqf_bridge.specs.PortRecord.{PortRecord};
-ghost use Rattle.cqf_bridge.specs.Taking.{AreReady, CanRecord, IsFaultByVerdict, IsWaiting, MayBeTaken, TakesFrame};
+ghost use Rattle.cqf_bridge.specs.Taking.{AreWaiting, CanRecord, IsFaultByVerdict, MayBeTaken, TakesFrame};
 ghost use Rattle.cqf_bridge.specs.Taking.{class_in, queue_on, received_as, verdict_taken, with_verdict};
 ghost use Rattle.cqf_model.specs.Limits.{most_cycles};
 
@@ -69,7 +69,7 @@ fn queue_frame(
     requires early { cycle.0 < most_cycles }
     requires in_cycle { cycle_of domain.now frame.now.at.0 ≡ cycle.0 }
     requires class { class ≡ class_in domain.now (received_as frame.now) row.now }
-    requires waiting { (r : PortRecord) → Contains ports.old.items r → IsWaiting domain.now cycle.0 (frame.now.at.0 + 1) r }
+    requires waiting { AreWaiting domain.now cycle.0 (frame.now.at.0 + 1) ports.old.items }
     ensures { OnOk result (ports.new.items ≡ map (with_verdict domain.now (received_as frame.now) (Queued row.now)) ports.old.items) }
 {
     gate_gives_class();
@@ -114,7 +114,7 @@ pub(crate) fn take_frame(
 ) -> Result<(), BridgeFault>
     requires early { phase.cycle.0 < most_cycles }
     requires may { MayBeTaken phase.domain.now phase.number phase.cycle.0 phase.table.now.rows (received_as frame.now) }
-    requires ready { AreReady phase.domain.now phase.cycle.0 (frame.now.at.0 + 1) gates.old ports.old.items }
+    requires waiting { AreWaiting phase.domain.now phase.cycle.0 (frame.now.at.0 + 1) ports.old.items }
     ensures takes { OnOk result (TakesFrame phase.entry.domain.now phase.entry.table.now.rows phase.entry.number phase.entry.cycle.0
         (received_as frame.now) gates.old gates.new ports.old.items ports.new.items drops.old.items drops.new.items) }
     ensures stops { IfErr result (λ fault. IsFaultByVerdict (verdict_taken phase.entry.domain.now phase.entry.table.now.rows phase.entry.number

@@ -12,7 +12,7 @@ use Rattle.std.proofs.lemmas.List.Sums.{prefix_len-le-length}
 use Rattle.std.proofs.Math.ListN.{drop_of_length-le}
 use Rattle.indexmap.specs.IndexSet.{insert_key}
 use Rattle.cqf_lists.proofs.Any.{position_any}
-use Rattle.cqf_bridge_gates.specs.declared.gates.KeptGate.{KeptGate}
+use Rattle.cqf_bridge_gates.specs.declared.cycle_gate.KeptGate.{KeptGate}
 
 -- a test of two numbers goes either way round
 eqb_turned : (a b : ℕ) → (a == b) ≡ (b == a)

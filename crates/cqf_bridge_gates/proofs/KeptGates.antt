@@ -1,15 +1,13 @@
 -- Gates that are looked up by number, and what they count.
-use Rattle.cqf_model.specs.Paces.{each_cycle}
-use Rattle.std.proofs.Common.{◌≡◌, ◌<◌, ℕ, zero, suc, Bool, true, false, List, [], ◌∷◌, ◌++◌, ◌∙◌, sym, ap, refl, arith}
-use Rattle.std.proofs.Common.{length, map, find, get_or, position, Contains, Some, None}
-use Rattle.std.specs.Prelude.{◌==◌, if◌then◌else◌, is_some, slice_set}
+use Rattle.std.proofs.Common.{◌≡◌, ◌<◌, ℕ, zero, suc, true, false, List, [], ◌∷◌, ◌++◌, ◌∙◌, sym, ap, refl, arith}
+use Rattle.std.proofs.Common.{length, map, find, get_or, position, Contains, Some, None, ◌*◌}
+use Rattle.std.specs.Prelude.{◌==◌, is_some, slice_set}
 use Rattle.std.proofs.lemmas.Bool.{cond-false, cond-true, eq-eqb, eqb-true}
 use Rattle.std.proofs.lemmas.List.Quantifiers.{position-Some}
 use Rattle.cqf_lists.proofs.Any.{none_member, position_any}
 use Rattle.cqf_lists.proofs.Members.{contains_here, contains_later}
-use Rattle.cqf_model.specs.StreamGate.{stream_list}
-use Rattle.cqf_gates.specs.StreamGate.{Gate, fresh}
-use Rattle.cqf_bridge_gates.specs.declared.gates.KeptGate.{KeptGate}
+use Rattle.cqf_model.specs.declared.gates.StreamEntry.{StreamEntry}
+use Rattle.cqf_bridge_gates.specs.declared.cycle_gate.KeptGate.{KeptGate}
 use Rattle.cqf_bridge_gates.specs.Gates.{gate_or, with_gate}
 
 -- the gate of a number stands at this place, and another of the number takes its place there
@@ -70,13 +68,9 @@ not_found number gates is =
     let none = sym (position_any (λ (g : KeptGate). g.number == number) gates) ∙ ap is_some is in
     behind_others number gates (λ k held. none_member (λ (g : KeptGate). g.number == number) gates k none held)
 
--- a gate that was made for a reservation is the one that it goes by
-pub own_gate : (cycle_time number reserved : ℕ) →
-    gate_or cycle_time reserved (Some (record { number = number; reserved = reserved; gate = fresh (stream_list cycle_time reserved each_cycle 0) }))
-    ≡ fresh (stream_list cycle_time reserved each_cycle 0)
-own_gate cycle_time number reserved = same_either (reserved == reserved) (fresh (stream_list cycle_time reserved each_cycle 0))
-  where
-    -- either way the same
-    same_either : (b : Bool) (g : Gate) → (if b then g else g) ≡ g
-    same_either true g = refl
-    same_either false g = refl
+-- a gate that is made for a number has seen no frame
+pub own_gate : (cycle_time : ℕ) (entries : List StreamEntry) (number : ℕ) →
+    gate_or cycle_time entries (Some (record { number = number; cycle = 0; taken = 0 })) ≡ gate_or cycle_time entries None
+own_gate cycle_time entries number =
+    let at_first : 0 * cycle_time ≡ 0 = omega arith in
+    λ i. record { entries = entries; last = at_first i; taken = 0 }

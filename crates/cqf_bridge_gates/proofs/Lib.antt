@@ -1,4 +1,4 @@
-pub mod EachCycle
+pub mod Counting
+mod Frames
 mod GatePlaces
 mod KeptGates
-mod Reservations

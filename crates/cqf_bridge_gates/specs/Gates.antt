@@ -1,40 +1,58 @@
--- The stream gates that a bridge keeps from cycle to cycle.
-use Rattle.cqf_model.specs.Paces.{each_cycle}
-use Rattle.std.specs.Prelude.{ℕ, ◌≡◌, ◌<◌, ◌==◌, List, [], ◌∷◌, if◌then◌else◌, Contains, Option, Some, None, find}
+-- The stream gates that a bridge keeps from cycle to cycle, and how a frame goes by them.
+use Rattle.std.specs.Prelude.{ℕ, ◌≡◌, ◌<◌, ◌*◌, ◌==◌, List, [], ◌∷◌, if◌then◌else◌, Contains, Option, None, Some, find, sum_by}
+use Rattle.std.specs.Option.{option_map_or}
 use Rattle.cqf_units.specs.Timing.{cycle_at}
+use Rattle.cqf_model.specs.declared.gates.StreamEntry.{StreamEntry}
 use Rattle.cqf_model.specs.declared.topology.Row.{Row}
-use Rattle.cqf_model.specs.StreamGate.{octets_in, stream_list}
-use Rattle.cqf_model.specs.Traffic.{Policed, calls_of}
-use Rattle.cqf_gates.specs.StreamGate.{Gate, fresh, taken_at}
-use Rattle.cqf_bridge_gates.specs.declared.gates.KeptGate.{KeptGate}
+use Rattle.cqf_model.specs.Domain.{Domain}
+use Rattle.cqf_model.specs.StreamGate.{Call}
+use Rattle.cqf_model.specs.Traffic.{Policed, calls_of, gate_behind}
+use Rattle.cqf_gates.specs.StreamGate.{Gate, gate_after}
+use Rattle.cqf_bridge_gates.specs.declared.cycle_gate.KeptGate.{KeptGate}
 
--- the gate that a reservation goes by: one that is kept for the same reservation, else one that has seen no frame
-abbrev pub gate_or : ℕ → ℕ → Option KeptGate → Gate
-gate_or cycle_time reserved None = fresh (stream_list cycle_time reserved each_cycle 0)
-gate_or cycle_time reserved (Some kept) = if kept.reserved == reserved then kept.gate else fresh (stream_list cycle_time reserved each_cycle 0)
+-- what is kept for a number, and what of it is of a cycle: each begins anew
+abbrev pub kept_of : List KeptGate → ℕ → Option KeptGate
+kept_of gates number = find (λ (k : KeptGate). k.number == number) gates
 
--- and that a stream goes by
-abbrev pub gate_in : ℕ → List KeptGate → ℕ → ℕ → Gate
-gate_in cycle_time gates number reserved = gate_or cycle_time reserved (find (λ (k : KeptGate). k.number == number) gates)
+abbrev pub counted_by : Option KeptGate → ℕ → ℕ
+counted_by None cycle = 0
+counted_by (Some kept) cycle = if kept.cycle == cycle then kept.taken else 0
+
+-- what has been counted of a number in a cycle
+abbrev pub counted_in : List KeptGate → ℕ → ℕ → ℕ
+counted_in gates number cycle = counted_by (kept_of gates number) cycle
+
+-- the gate that goes by a list and has counted what is kept, called last as its cycle began; where nothing is kept it has seen no
+-- frame
+abbrev pub gate_or : ℕ → List StreamEntry → Option KeptGate → Gate
+gate_or cycle_time entries found = record {
+  entries = entries;
+  last = option_map_or (λ (k : KeptGate). k.cycle * cycle_time) found 0;
+  taken = option_map_or (λ (k : KeptGate). k.taken) found 0;
+}
+
+-- the gate that a row's stream meets behind a link, or at the edge
+abbrev pub gate_in : Domain → List KeptGate → Row → Option ℕ → Gate
+gate_in d gates row way = gate_or d.cycle_time (gate_behind d row way) (kept_of gates row.no)
+
+-- what is kept of a number's gate behind a frame
+abbrev pub kept_after : ℕ → ℕ → Gate → ℕ → ℕ → KeptGate
+kept_after cycle_time number gate t octets = record { number = number; cycle = cycle_at cycle_time t; taken = (gate_after gate t octets).taken }
 
 -- a gate in the place of the one of its number, or behind the others
 abbrev pub with_gate : List KeptGate → KeptGate → List KeptGate
 with_gate [] gate = gate ∷ []
 with_gate (k ∷ gates) gate = if k.number == gate.number then gate ∷ gates else k ∷ with_gate gates gate
 
--- a gate goes by the compiled list of its reservation, and its last call was before an instant
-pub record IsKeptGate (cycle_time until : ℕ) (k : KeptGate) : Type 0 where
-  pub entries : k.gate.entries ≡ stream_list cycle_time k.reserved each_cycle 0
-  pub sooner : k.gate.last < until
+-- each gate was last called before a cycle
+abbrev pub AreKept : ℕ → List KeptGate → Type 0
+AreKept cycle gates = (k : KeptGate) → Contains gates k → k.cycle < cycle
 
-abbrev pub AreKept : ℕ → ℕ → List KeptGate → Type 0
-AreKept cycle_time until gates = (k : KeptGate) → Contains gates k → IsKeptGate cycle_time until k
+-- the octets of the calls in a cycle
+abbrev pub octets_of_cycle : ℕ → ℕ → List Call → ℕ
+octets_of_cycle cycle_time cycle calls = sum_by (λ (call : Call). if cycle_at cycle_time call.0 == cycle then call.1 else 0) calls
 
--- the gate that a row's stream goes by has counted, of a cycle, the frames that went on
-abbrev pub HasCounted : ℕ → ℕ → List KeptGate → List Policed → Row → Type 0
-HasCounted cycle_time cycle gates policed row = (t : ℕ) → cycle_at cycle_time t ≡ cycle →
-    taken_at (gate_in cycle_time gates row.no row.octets) t ≡ octets_in (stream_list cycle_time row.octets each_cycle 0) (calls_of row.no policed) t
-
--- so have the gates of all rows of a table
-abbrev pub HaveCounted : ℕ → ℕ → List Row → List Policed → List KeptGate → Type 0
-HaveCounted cycle_time cycle rows policed gates = (row : Row) → Contains rows row → HasCounted cycle_time cycle gates policed row
+-- the gates have counted, of a cycle, the frames that went on
+abbrev pub HaveCounted : ℕ → ℕ → List Policed → List KeptGate → Type 0
+HaveCounted cycle_time cycle policed gates =
+    (number : ℕ) → counted_in gates number cycle ≡ octets_of_cycle cycle_time cycle (calls_of number policed)

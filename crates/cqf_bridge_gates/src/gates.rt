@@ -1,12 +1,10 @@
 //! The gates, looked up by the numbers of their streams.
-ghost use Rattle.std.specs.Prelude.{◌≡◌, ◌==◌, ◌≤◌, ◌++◌, ◌∷◌, [], IfOk, None, OnErr, OnOk, Some, position};
-ghost use Rattle.cqf_gates.specs.StreamGate.{fresh, gate_after, verdict_on};
-ghost use Rattle.cqf_model.specs.Paces.{each_cycle};
-ghost use Rattle.cqf_model.specs.StreamGate.{stream_list};
-ghost use Rattle.cqf_bridge_gates.specs.Gates.{gate_in, gate_or, with_gate};
-ghost use Rattle.cqf_bridge_gates.specs.declared.gates.KeptGate.{KeptGate as Kept};
+ghost use Rattle.std.specs.Prelude.{◌≡◌, ◌==◌, ◌++◌, ◌∷◌, [], IfOk, None, OnErr, OnOk, position};
+ghost use Rattle.cqf_gates.specs.StreamGate.{verdict_on};
+ghost use Rattle.cqf_bridge_gates.specs.Gates.{gate_in, kept_after, with_gate};
+ghost use Rattle.cqf_bridge_gates.specs.declared.cycle_gate.KeptGate.{KeptGate as Kept};
 
-use crate::cycle_gate::CycleGate;
+use crate::cycle_gate::KeptGate;
 use cqf_gates::Passed;
 use cqf_model::Row;
 use cqf_topology::Domain;
@@ -14,55 +12,6 @@ use cqf_units::{Memory, Nanos, Octets};
 use indexmap::IndexSet;
 use std::alloc::Global;
 use std::marker::Model;
-
-/// The gate of a stream, with the stream's number and the reservation that the gate was made for.
-#[derive(Debug, Drop)]
-pub(crate) struct KeptGate {
-    pub(crate) number: u32,
-    pub(crate) reserved: u32,
-    pub(crate) gate: CycleGate,
-}
-
-/// The gate of a row's reservation that has seen no frame: it counts what the gate that is compiled for the row counts.
-fn gate_of(domain: &Domain, row: &Row) -> CycleGate
-    ensures { result ≡ fresh (stream_list domain.now.cycle_time row.now.octets each_cycle 0) }
-{
-    CycleGate::new(domain.cycle_time(), Octets(row.octets))
-}
-
-impl KeptGate {
-    /// A gate of a row's stream that has seen no frame.
-    fn new(domain: &Domain, row: &Row) -> KeptGate
-        ensures { result ≡ record {
-          number = row.now.no;
-          reserved = row.now.octets;
-          gate = fresh (stream_list domain.now.cycle_time row.now.octets each_cycle 0);
-        } }
-    {
-        KeptGate {
-            number: row.no,
-            reserved: row.octets,
-            gate: gate_of(domain, row),
-        }
-    }
-
-    /// Passes a frame, or not. A gate of another reservation begins anew first.
-    fn pass(&mut self, domain: &Domain, row: &Row, at: Nanos, octets: Octets) -> Passed
-        requires { (gate_or domain.now.cycle_time row.now.octets (Some self.old)).last ≤ at.0 }
-        ensures verdict { result ≡ verdict_on (gate_or domain.now.cycle_time row.now.octets (Some self.old)) at.0 octets.0 }
-        ensures after { self.new ≡ record {
-          number = self.old.number;
-          reserved = row.now.octets;
-          gate = gate_after (gate_or domain.now.cycle_time row.now.octets (Some self.old)) at.0 octets.0;
-        } }
-    {
-        if self.reserved != row.octets {
-            self.reserved = row.octets;
-            self.gate = gate_of(domain, row);
-        }
-        self.gate.pass(at, octets)
-    }
-}
 
 /// So many gates are looked through one by one. Where there are no more, as in most cycles, no number is hashed.
 const FEW: usize = 16;
@@ -79,7 +28,7 @@ pub struct StreamGates {
 impl Model for StreamGates {
     ghost use Rattle.std.specs.Prelude.{◌≡◌, List, drop, map};
     ghost use Rattle.cqf_bridge_gates.specs.declared.gates.TheConstants.{FEW};
-    ghost use Rattle.cqf_bridge_gates.specs.declared.gates.KeptGate.{KeptGate as Kept};
+    ghost use Rattle.cqf_bridge_gates.specs.declared.cycle_gate.KeptGate.{KeptGate as Kept};
 
     ghost Value = { List Kept };
 
@@ -137,11 +86,11 @@ impl StreamGates {
         Ok(())
     }
 
-    /// Passes a frame of a row's stream, of so many octets from the destination address to the FCS, at an instant in
-    /// nanoseconds by the stream's gate, or not: by the gate that is kept for the number and the reservation, else by one that
-    /// has seen no frame, which is kept from then on. `Class` exactly where the octets and those that passed before in the same
-    /// cycle are within the row's: 6 in even cycles, 7 in odd ones; else `OverOctets`, and the frame takes nothing. Calls of one
-    /// stream's gate don't go back in time.
+    /// Passes a frame of a row's stream, of so many octets from the destination address to the FCS, that came by the link, or at
+    /// the edge, at an instant in nanoseconds by the stream's gate, or not: by the gate that is kept for the number, else by one
+    /// that has seen no frame, which is kept from then on. `Class` exactly where the octets and those of the stream that passed
+    /// before in the same cycle are within what the row reserves in it for frames that came so: 6 in even cycles, 7 in odd ones;
+    /// else `OverOctets`, and the frame takes nothing.
     ///
     /// # Errors
     /// `Memory` where there is no room to keep a gate; nothing changes then.
@@ -149,23 +98,20 @@ impl StreamGates {
         &mut self,
         domain: &Domain,
         row: &Row,
+        way: Option<u16>,
         at: Nanos,
         octets: Octets,
     ) -> Result<Passed, Memory>
-        requires { (gate_in domain.now.cycle_time self.old row.now.no row.now.octets).last ≤ at.0 }
-        ensures verdict { IfOk result (λ passed. passed ≡ verdict_on (gate_in domain.now.cycle_time self.old row.now.no row.now.octets) at.0 octets.0) }
-        ensures after { OnOk result (self.new ≡ with_gate self.old (record {
-          number = row.now.no;
-          reserved = row.now.octets;
-          gate = gate_after (gate_in domain.now.cycle_time self.old row.now.no row.now.octets) at.0 octets.0;
-        })) }
+        ensures verdict { IfOk result (λ passed. passed ≡ verdict_on (gate_in domain.now self.old row.now way) at.0 octets.0) }
+        ensures after { OnOk result (self.new ≡ with_gate self.old
+            (kept_after domain.now.cycle_time row.now.no (gate_in domain.now self.old row.now way) at.0 octets.0)) }
         ensures refused { OnErr result (self.new ≡ self.old) }
     {
         match self.place_of(row.no) {
-            Some(place) => Ok(self.kept[place].pass(domain, row, at, octets)),
+            Some(place) => Ok(self.kept[place].pass(domain, row, way, at, octets)),
             None => {
-                let mut gate = KeptGate::new(domain, row);
-                let passed = gate.pass(domain, row, at, octets);
+                let mut gate = KeptGate::new(row.no);
+                let passed = gate.pass(domain, row, way, at, octets);
                 self.keep(gate)?;
                 Ok(passed)
             }

@@ -1,3 +1,4 @@
 pub mod Pieces
 pub mod Ends
 pub mod Bridges
+pub mod Paces

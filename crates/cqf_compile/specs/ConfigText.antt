@@ -1,5 +1,4 @@
 -- The configuration of a domain and its streams, as a text (profile).
-use Rattle.cqf_model.specs.Paces.{each_cycle}
 use Rattle.std.specs.Prelude.{ℕ, List, [], ◌∷◌, ◌++◌, codes, slice_index_or}
 use Rattle.std.specs.Fmt.{decimal}
 use Rattle.std.specs.List.{flat_map}
@@ -10,9 +9,9 @@ use Rattle.cqf_model.specs.declared.topology.Node.TheVariants.{Bridge, Station}
 use Rattle.cqf_model.specs.declared.topology.Row.{Row}
 use Rattle.cqf_model.specs.Domain.{Domain}
 use Rattle.cqf_model.specs.GateList.{port_list}
-use Rattle.cqf_model.specs.StreamGate.{stream_list}
 use Rattle.cqf_model.specs.Table.{bridges_of}
 use Rattle.cqf_gates.specs.StreamText.{text_of_stream_entries}
+use Rattle.cqf_compile.specs.BridgeGates.{gate_at}
 
 -- the name of a node
 abbrev pub name_of : Domain → Node → List ℕ
@@ -26,12 +25,12 @@ line_of_link d link = codes "link " ++ name_of d (Bridge link.from) ++ codes ">"
 abbrev pub text_of_link : Domain → Link → List ℕ
 text_of_link d link = line_of_link d link ++ 10 ∷ text_of_entries (port_list d.cycle_time d.guard)
 
--- a stream at a bridge: a line with the stream and the bridge, and the stream's gate
+-- a stream at a bridge: a line with the stream and the bridge, and the stream's gate there
 abbrev pub line_at : Domain → Row → ℕ → List ℕ
 line_at d row bridge = codes "stream " ++ decimal row.no ++ codes " " ++ row.name ++ codes " bridge " ++ name_of d (Bridge bridge)
 
 abbrev pub text_at : Domain → Row → ℕ → List ℕ
-text_at d row bridge = line_at d row bridge ++ 10 ∷ text_of_stream_entries (stream_list d.cycle_time row.octets each_cycle 0)
+text_at d row bridge = line_at d row bridge ++ 10 ∷ text_of_stream_entries (gate_at d row bridge)
 
 -- a stream at each bridge of its tree: each once, in the order in which the tree leaves them
 abbrev pub text_of_row : Domain → Row → List ℕ

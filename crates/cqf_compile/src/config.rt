@@ -4,6 +4,7 @@ ghost use Rattle.std.specs.List.{list_any};
 ghost use Rattle.std.specs.String.{string_bytes};
 ghost use Rattle.cqf_model.specs.Domain.{IsNode};
 ghost use Rattle.cqf_model.specs.Table.{bridges_of, links_of};
+ghost use Rattle.cqf_admission_trees.specs.Turns.{AreOfGoodPaces, IsGoodPace};
 ghost use Rattle.cqf_compile.specs.ConfigText.{config_text, line_at, name_of, text_of_link, text_of_row};
 ghost use Rattle.cqf_admission.specs.Tables.{AreAlongLinks};
 
@@ -81,14 +82,15 @@ fn line_at(alloc: Global, plan: &Plan, row: &Row, bridge: u16) -> Result<String,
 
 /// The stream and its gate at each bridge of its tree.
 fn row_text(alloc: Global, plan: &Plan, row: &Row) -> Result<Vec<u8>, Memory>
-    requires { All (λ l. l < length plan.now.links) (links_of row.now) }
+    requires along { All (λ l. l < length plan.now.links) (links_of row.now) }
+    requires paced { IsGoodPace row.now.pace }
     ensures { IfOk result (λ text. text.items ≡ text_of_row plan.now row.now) }
 {
-    let gate = write_stream(alloc, &gate_of(plan.domain(), row))?;
     let bridges = bridges_of(plan, row);
     let mut text = Vec::new(alloc);
     for bridge in bridges.as_slice() {
         let line = line_at(alloc, plan, row, *bridge)?;
+        let gate = write_stream(alloc, &gate_of(plan.domain(), row, *bridge))?;
         text.extend_from_slice(line.as_bytes())?;
         text.extend_from_slice(gate.as_slice())?;
     }
@@ -97,10 +99,11 @@ fn row_text(alloc: Global, plan: &Plan, row: &Row) -> Result<Vec<u8>, Memory>
 
 /// The configuration of the plan and the streams of a table. For each link by number it has a line `link FROM>TO`, and
 /// then the gate list of the link's port. Then, for each row of the table by number and each bridge of its tree, once and in
-/// the order in which the tree leaves them, it has a line `stream NO NAME bridge BRIDGE`, and then the stream's gate
-/// (profile). The trees of the table go along links of the plan's domain.
+/// the order in which the tree leaves them, it has a line `stream NO NAME bridge BRIDGE`, and then the stream's gate there
+/// (profile). The trees of the table go along links of the plan's domain, and the paces of its streams are good.
 pub fn write_config(alloc: Global, plan: &Plan, table: &Table) -> Result<Vec<u8>, Memory>
-    requires { AreAlongLinks plan.now table.now.rows }
+    requires along { AreAlongLinks plan.now table.now.rows }
+    requires paced { AreOfGoodPaces table.now.rows }
     ensures { IfOk result (λ text. text.items ≡ config_text plan.now table.now.rows) }
 {
     let rows = table.rows();

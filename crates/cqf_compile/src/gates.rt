@@ -1,9 +1,10 @@
 //! The gate lists that a domain and a reservation determine (profile).
 ghost use Rattle.std.specs.Prelude.{◌≡◌};
 ghost use Rattle.cqf_model.specs.GateList.{port_list};
-ghost use Rattle.cqf_model.specs.Paces.{each_cycle};
-ghost use Rattle.cqf_model.specs.StreamGate.{stream_list};
+ghost use Rattle.cqf_compile.specs.BridgeGates.{gate_at};
+ghost use Rattle.cqf_admission_trees.specs.Turns.{IsGoodPace};
 
+use crate::leaving::way_to;
 use cqf_gates::{StreamList, TxList, compiled_list, gate_of_reservation};
 use cqf_model::Row;
 use cqf_topology::Domain;
@@ -17,10 +18,13 @@ pub(crate) fn port_list_of(domain: &Domain) -> TxList
     compiled_list(domain.cycle_time(), domain.guard())
 }
 
-/// The gate of a stream at each bridge of its tree: in even cycles its frames get class 6 and in odd ones class 7, and in
-/// each cycle as many octets pass as are reserved (IEEE 802.1Q, Annex T; the classes and the octet maximum: profile).
-pub fn gate_of(domain: &Domain, row: &Row) -> StreamList
-    ensures { result ≡ stream_list domain.now.cycle_time row.now.octets each_cycle 0 }
+/// The gate of a stream at a bridge of its tree: in the cycles of its own, as many later as its frames are deep there on their way,
+/// as many octets pass as are reserved, with class 6 in even cycles and class 7 in odd ones, and in the others none. It is the gate
+/// that the network asks for there, `gate_behind`, by spans (IEEE 802.1Q, Annex T; the classes and the octet maximum: profile).
+pub fn gate_of(domain: &Domain, row: &Row, bridge: u16) -> StreamList
+    requires { IsGoodPace row.now.pace }
+    ensures { result ≡ gate_at domain.now row.now bridge }
 {
-    gate_of_reservation(domain.cycle_time(), Octets(row.octets))
+    let depth = row.depth_behind(way_to(domain, row, bridge));
+    gate_of_reservation(domain.cycle_time(), Octets(row.octets), row.pace, depth)
 }

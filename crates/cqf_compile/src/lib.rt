@@ -1,13 +1,14 @@
 //! The compiler: what a domain and its streams are configured as.
 //!
 //! - [`compile`] makes a [`Plan`] of a domain: the gate list of the port of each link.
-//! - [`gate_of`] gives the gate of a stream, which is the same at each bridge of its tree.
+//! - [`gate_of`] gives the gate of a stream at a bridge of its tree. A stream that is offered in each cycle has the same at each; the
+//!   gate of one that pauses is as many cycles late as its frames are deep on their way there.
 //! - [`write_config`] writes both as one text; [`bridges_of`] has the bridges at which a stream has a gate, in its order.
 //!
 //! In even cycles a stream's gate gives its frames class 6 while the ports send class 7, and in odd cycles the other way
 //! round: so each frame waits for the cycle after the one that it came in (IEEE 802.1Q, Annex T).
 //!
-//! The configuration of one link, and of a stream of 1,500 octets a cycle over it:
+//! The configuration of one link, and of a stream of 1,500 octets in each cycle over it:
 //!
 //! ```text
 //! link a>s
@@ -19,12 +20,23 @@
 //! open 6 125000 1500
 //! open 7 125000 1500
 //! ```
+//!
+//! Where it is offered in one cycle of four, in cycle 1 and so on, cycles in which nothing passes are one entry:
+//!
+//! ```text
+//! stream 0 x bridge a
+//! closed 125000
+//! open 7 125000 1500
+//! closed 250000
+//! ```
 #![tactic(auto)]
 
 mod config;
 mod gates;
+mod leaving;
 mod plan;
 
 pub use config::{bridges_of, write_config};
 pub use gates::gate_of;
+pub use leaving::{first_hop, leaves};
 pub use plan::{Plan, compile};

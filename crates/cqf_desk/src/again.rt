@@ -62,6 +62,10 @@ pub(crate) fn make(admission: &mut Admission, entry: &Entry) -> Made
     state_follows_history();
     match &entry.call {
         Call::Admit(request) => answered(admission.admit(entry.seat, request), entry.reply),
+        Call::AdmitPaced(request) => answered(
+            admission.admit_paced(entry.seat, request),
+            entry.reply,
+        ),
         Call::Withdraw(name) => answered(
             admission.withdraw(entry.seat, name.as_str()),
             entry.reply,

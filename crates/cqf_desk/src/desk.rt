@@ -1,7 +1,7 @@
 //! The desk.
 ghost use Rattle.std.specs.Prelude.{ℕ, ◌≡◌, ◌↔◌, IfErr, IfOk, IsErrOf};
 ghost use Rattle.cqf_model.specs.History.{Admits, Withdraws};
-ghost use Rattle.cqf_admission.specs.Asking.{asked_of};
+ghost use Rattle.cqf_admission.specs.Asking.{asked_of, asked_paced};
 ghost use Rattle.cqf_desk.specs.Closing.{AreItsSeats, IsCloseFault, IsClosed, IsOneOrCount};
 ghost use Rattle.cqf_desk.specs.Desk.{IsAnsweredSomewhere, IsSealedSomewhere, Keeps, KeepsSeal, fresh_seats};
 
@@ -10,7 +10,7 @@ use crate::faults::CloseFault;
 use crate::history::History;
 use crate::seats::{Seat, unasked};
 use cqf_admission::{Admission, Receipt, Refused, SealFault};
-use cqf_topology::Request;
+use cqf_topology::{PacedRequest, Request};
 use cqf_units::Memory;
 use std::alloc::Global;
 use std::marker::Model;
@@ -68,6 +68,22 @@ impl Desk {
             return unasked(&self.admission.lock(rt));
         };
         seat.admit(&mut self.admission.lock(rt), asked, request)
+    }
+
+    /// Asks for a stream that is offered in some cycles, likewise by [`Admission::admit_paced`].
+    pub fn admit_paced<R: Wait>(
+        &self,
+        rt: &R,
+        seat: &mut Seat,
+        request: &PacedRequest,
+    ) -> Result<Receipt, Refused>
+        ensures keeps { Keeps seat.old seat.new (Admits (asked_paced request.now)) result }
+        ensures answered { IsAnsweredSomewhere seat.old.number (Admits (asked_paced request.now)) result }
+    {
+        let Ok(asked) = request.try_copy(self.alloc) else {
+            return unasked(&self.admission.lock(rt));
+        };
+        seat.admit_paced(&mut self.admission.lock(rt), asked, request)
     }
 
     /// Withdraws the stream of a name, likewise by [`Admission::withdraw`].

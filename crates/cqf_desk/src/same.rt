@@ -2,12 +2,12 @@
 ghost use Rattle.std.specs.Arc.{arc_value};
 ghost use Rattle.std.specs.Prelude.{◌≡◌, ◌↔◌, true, map};
 ghost use Rattle.cqf_admission.specs.Admission.{act_of, recorded_of};
-ghost use Rattle.cqf_admission.specs.Asking.{asked_of};
+ghost use Rattle.cqf_admission.specs.Asking.{asked_of, asked_paced};
 ghost use Rattle.cqf_admission_trees.specs.Branches.{branches_of};
 
 use cqf_admission::{Call, Entry, Row, Table};
 use cqf_model::Hop;
-use cqf_topology::Request;
+use cqf_topology::{PacedRequest, Request};
 use std::sync::Arc;
 
 /// Whether two texts are the same.
@@ -37,12 +37,41 @@ fn is_same_request(one: &Request, other: &Request) -> bool
     are_same_paths(one.paths.as_slice(), other.paths.as_slice())
 }
 
+/// Whether two requests with paces ask for the same.
+fn is_same_paced(one: &PacedRequest, other: &PacedRequest) -> bool
+    ensures { (result ≡ true) ↔ (asked_paced one.now ≡ asked_paced other.now) }
+{
+    if !is_same_text(one.name.as_str(), other.name.as_str()) {
+        return false;
+    }
+    if one.octets != other.octets || one.every != other.every || one.phase != other.phase {
+        return false;
+    }
+    are_same_paths(one.paths.as_slice(), other.paths.as_slice())
+}
+
+/// Whether a request asks for a stream of each cycle, and for that which another asks for.
+fn is_plainly(one: &PacedRequest, other: &Request) -> bool
+    ensures { (result ≡ true) ↔ (asked_paced one.now ≡ asked_of other.now) }
+{
+    if !is_same_text(one.name.as_str(), other.name.as_str()) {
+        return false;
+    }
+    if one.octets != other.octets || one.every != 1 || one.phase != 0 {
+        return false;
+    }
+    are_same_paths(one.paths.as_slice(), other.paths.as_slice())
+}
+
 /// Whether two calls are for the same.
 fn is_same_call(one: &Call, other: &Call) -> bool
     ensures { (result ≡ true) ↔ (act_of one.now ≡ act_of other.now) }
 {
     match (one, other) {
         (Call::Admit(asked), Call::Admit(again)) => is_same_request(asked, again),
+        (Call::AdmitPaced(asked), Call::AdmitPaced(again)) => is_same_paced(asked, again),
+        (Call::AdmitPaced(asked), Call::Admit(again)) => is_plainly(asked, again),
+        (Call::Admit(asked), Call::AdmitPaced(again)) => is_plainly(again, asked),
         (Call::Withdraw(name), Call::Withdraw(again)) => is_same_text(
             name.as_str(),
             again.as_str(),

@@ -3,7 +3,7 @@ ghost use Rattle.std.specs.Prelude.{◌≡◌, ◌↔◌, ◌-◌, ◌≤◌, �
 ghost use Rattle.std.specs.Prelude.{slice_get, string_bytes, vec_len, vec_capacity, Err};
 ghost use Rattle.cqf_model.specs.History.{Admits, IsLegalHistory, Withdraws};
 ghost use Rattle.cqf_admission.specs.Admission.{Closes, calls, is_entered, recorded_of, reply_of};
-ghost use Rattle.cqf_admission.specs.Asking.{asked_of};
+ghost use Rattle.cqf_admission.specs.Asking.{asked_of, asked_paced};
 ghost use Rattle.cqf_desk.specs.Closing.{tables_by};
 ghost use Rattle.cqf_desk.specs.Desk.{IsAnswered, IsSealed, Keeps};
 ghost use Rattle.cqf_model.specs.Limits.{most_calls};
@@ -12,7 +12,7 @@ use crate::following::{Follower, catch_up, close_own, kept};
 use cqf_admission::{
     Admission, Call, Entry, MOST_CALLS, MOST_SEALS, Receipt, Refused, Reply, SealFault, Table,
 };
-use cqf_topology::Request;
+use cqf_topology::{PacedRequest, Request};
 use std::alloc::Global;
 use std::marker::Model;
 
@@ -117,6 +117,33 @@ impl Seat {
         }
         let answer = admission.admit(self.number, request);
         keep(&mut self.calls, self.number, Call::Admit(asked), answer);
+        answer
+    }
+
+    /// Makes a request with a pace likewise.
+    pub(crate) fn admit_paced(
+        &mut self,
+        admission: &mut Admission,
+        asked: PacedRequest,
+        request: &PacedRequest,
+    ) -> Result<Receipt, Refused>
+        requires { asked_paced asked ≡ asked_paced request.now }
+        ensures legal { IsLegalHistory admission.old.domain admission.old.entries }
+        ensures answered { IsAnswered admission.old admission.new self.old.number (Admits (asked_paced request.now)) result }
+        ensures keeps { Keeps self.old self.new (Admits (asked_paced request.now)) result }
+    {
+        // its history is legal
+        let _legal = admission.history();
+        if self.calls.reserve(1).is_err() {
+            return unasked(admission);
+        }
+        let answer = admission.admit_paced(self.number, request);
+        keep(
+            &mut self.calls,
+            self.number,
+            Call::AdmitPaced(asked),
+            answer,
+        );
         answer
     }
 

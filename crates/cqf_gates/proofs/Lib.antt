@@ -5,3 +5,6 @@ pub mod Intervals
 pub mod ReadLines
 pub mod Written
 pub mod RoundTrip
+mod InSpans
+mod SpanPasses
+mod MadeSpans

@@ -4,3 +4,5 @@ pub mod TxText
 pub mod StreamText
 pub mod GateListText
 pub mod Faults
+pub mod ReservedSpans
+pub mod SpanLaws

@@ -17,13 +17,14 @@
 mod compiled;
 mod entries;
 mod faults;
+mod spans;
 mod streams;
 mod text;
 mod transmission;
 
-pub use compiled::{compiled_list, gate_of_reservation};
-pub use cqf_model::{OpenFor, StreamEntry};
+pub use compiled::{compiled_list, gate_of_reservation, spans_pass_the_same};
+pub use cqf_model::{OpenFor, Pace, StreamEntry};
 pub use faults::{ListFault, TextFault};
 pub use streams::{Passed, StreamGate, StreamList, gate_counts_calls};
-pub use text::{hex_digit_of, read_tx, write_stream, write_tx};
+pub use text::{hex_digit_of, is_shut, read_tx, write_stream, write_tx};
 pub use transmission::TxList;

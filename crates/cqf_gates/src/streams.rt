@@ -13,7 +13,7 @@ use cqf_units::{Nanos, Octets};
 use std::marker::Model;
 
 /// What stands in a place that isn't used.
-const BLANK: StreamEntry = StreamEntry {
+pub(crate) const BLANK: StreamEntry = StreamEntry {
     ipv: 6,
     interval: 1,
     octet_max: None,

@@ -1,8 +1,8 @@
 //! Gate lists as texts (profile).
-ghost use Rattle.std.specs.Prelude.{◌≡◌, ◌<◌, ◌^◌, ◌++◌, ◌∷◌, [], IfOk, OnOk};
+ghost use Rattle.std.specs.Prelude.{◌≡◌, ◌<◌, ◌^◌, ◌++◌, ◌∷◌, [], IfOk, OnOk, codes, decimal};
 ghost use Rattle.std.specs.String.{string_bytes};
 ghost use Rattle.cqf_gates.specs.GateListText.{hex_digit, line_of_gates, text_of_entries};
-ghost use Rattle.cqf_gates.specs.StreamText.{line_of_stream_entry, text_of_stream_entries};
+ghost use Rattle.cqf_gates.specs.StreamText.{is_shut, line_of_open, line_of_stream_entry, text_of_stream_entries};
 ghost use Rattle.cqf_gates.specs.TxText.{list_of_text};
 
 use crate::entries::read_entry;
@@ -77,9 +77,9 @@ pub fn write_tx(alloc: Global, list: &TxList) -> Result<Vec<u8>, Memory>
     Ok(text)
 }
 
-/// The line that writes an entry of a stream gate.
-fn stream_line(alloc: Global, entry: StreamEntry) -> Result<String, Memory>
-    ensures { IfOk result (λ line. string_bytes line ≡ line_of_stream_entry entry ++ 10 ∷ []) }
+/// The line that writes an entry of a stream gate in which frames may pass.
+fn open_line(alloc: Global, entry: StreamEntry) -> Result<String, Memory>
+    ensures { IfOk result (λ line. string_bytes line ≡ line_of_open entry ++ 10 ∷ []) }
 {
     let (ipv, interval) = (entry.ipv, entry.interval);
     let Some(most) = entry.octet_max else {
@@ -90,8 +90,35 @@ fn stream_line(alloc: Global, entry: StreamEntry) -> Result<String, Memory>
     Ok(line)
 }
 
+/// The line that writes one in which none passes.
+fn closed_line(alloc: Global, interval: u32) -> Result<String, Memory>
+    ensures { IfOk result (λ line. string_bytes line ≡ codes "closed " ++ decimal interval ++ 10 ∷ []) }
+{
+    let line = format!(in alloc; "closed {interval}\n")?;
+    Ok(line)
+}
+
+/// Whether no frame of an octet or more is within the octet maximum, so that the entry is written as closed.
+pub fn is_shut(octet_max: Option<u32>) -> bool
+    ensures { result ≡ is_shut octet_max }
+{
+    octet_max == Some(0)
+}
+
+/// The line that writes an entry of a stream gate.
+fn stream_line(alloc: Global, entry: StreamEntry) -> Result<String, Memory>
+    ensures { IfOk result (λ line. string_bytes line ≡ line_of_stream_entry entry ++ 10 ∷ []) }
+{
+    if is_shut(entry.octet_max) {
+        closed_line(alloc, entry.interval)
+    } else {
+        open_line(alloc, entry)
+    }
+}
+
 /// The text of a stream gate's list: for each entry a line with `open`, the internal priority value, the interval and
-/// the octet maximum, `-` where there is none (profile).
+/// the octet maximum, `-` where there is none; or, where that is 0, so that no frame passes, with `closed` and the interval
+/// (profile).
 pub fn write_stream(alloc: Global, list: &StreamList) -> Result<Vec<u8>, Memory>
     ensures { IfOk result (λ text. text.items ≡ text_of_stream_entries list.now) }
 {

@@ -7,15 +7,14 @@ ghost use Rattle.std.specs.Ordering.{nat_cmp};
 ghost use Rattle.cqf_model.specs.Domain.{leaves};
 ghost use Rattle.cqf_model.specs.History.{IsLegalHistory, Recorded, streams_of};
 ghost use Rattle.cqf_model.specs.Run.{AreOffers};
-ghost use Rattle.cqf_model.specs.Paces.{is_turn};
-ghost use Rattle.cqf_model.specs.Table.{begins_at, reserved_in, same_way};
+ghost use Rattle.cqf_model.specs.Table.{begins_at, same_way};
 ghost use Rattle.cqf_laws_report.specs.Judged.{StandInOrder};
 ghost use Rattle.cqf_instants_coverage.specs.Begun.{LeadsToLast};
 ghost use Rattle.cqf_instants_coverage.specs.Coverage.{AreJudged, IsJudged, used_behind, used_in};
 
 use crate::begun::{RowsBegun, begin, find_in_force};
 use cqf_laws_report::{counters_step, offers_stand_in_order, rows_follow, rows_say_the_tables};
-use cqf_model::{Hop, Offer, Pace, Reason, Row};
+use cqf_model::{Hop, Offer, Reason, Row};
 use cqf_topology::Domain;
 use cqf_units::{Cycle, Memory, cycle_of};
 use std::alloc::Global;
@@ -68,25 +67,6 @@ fn begins_at(domain: &Domain, row: &Row, bridge: u16) -> bool
     one_begins(domain, row.tree.as_slice(), bridge)
 }
 
-/// Whether a cycle is one of those of a pace, in which a stream's frames are offered.
-fn is_turn(pace: Pace, cycle: Cycle) -> bool
-    ensures { result ≡ is_turn pace 0 cycle.0 }
-{
-    let every = u32::from(pace.pause) + 1;
-    u32::from(pace.phase) % every == cycle.0 % every
-}
-
-/// What a row reserves in a cycle for frames that are offered in it, in octets: nothing in the cycles that aren't its own.
-fn reserved_in(row: &Row, cycle: Cycle) -> u32
-    ensures { result ≡ reserved_in row.now 0 cycle.0 }
-{
-    if is_turn(row.pace, cycle) {
-        row.octets
-    } else {
-        0
-    }
-}
-
 /// What is used of a row in a cycle behind an offer that it covers, of which so much is used before, or the first reason
 /// against the offer.
 fn used_behind(
@@ -105,7 +85,7 @@ fn used_behind(
         return Err(Reason::OtherBridge);
     }
     let (most, asked) = (
-        u64::from(reserved_in(row, cycle)),
+        u64::from(row.reserved_behind(None, u64::from(cycle.0))),
         u64::from(used) + u64::from(offer.octets),
     );
     if asked > most {

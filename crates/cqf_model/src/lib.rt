@@ -14,6 +14,7 @@ mod frames;
 mod gates;
 mod history;
 mod limits;
+mod pacing;
 mod ports;
 mod refusals;
 mod rows;
@@ -25,8 +26,8 @@ pub use gates::{OpenFor, StreamEntry};
 pub use history::{Receipt, Refused, Reply};
 pub use limits::{
     LARGE, LAST_UNTIL, LEAST_OCTETS, LONGEST_CYCLE, Limits, MOST_BRIDGES, MOST_CALLS, MOST_CYCLES,
-    MOST_HOPS, MOST_LINKS, MOST_NODES, MOST_OCTETS, MOST_ROWS, MOST_SEALS, MOST_STATIONS,
-    MOST_STREAMS, PROFILE,
+    MOST_EVERY, MOST_HOPS, MOST_LINKS, MOST_NODES, MOST_OCTETS, MOST_ROWS, MOST_SEALS,
+    MOST_STATIONS, MOST_STREAMS, PROFILE,
 };
 pub use ports::{Arrival, Start};
 pub use topology::{EACH_CYCLE, Hop, Link, Node, Pace, Row};

@@ -27,6 +27,9 @@ pub const LEAST_OCTETS: u32 = 64;
 /// See [`LEAST_OCTETS`].
 pub const MOST_OCTETS: u32 = 60_000;
 
+/// In how many cycles all paces repeat: a stream is offered in one cycle of a number that divides them.
+pub const MOST_EVERY: u32 = 80;
+
 /// The longest cycle, guard time and link delay, in nanoseconds.
 pub const LONGEST_CYCLE: u32 = 10_000_000;
 

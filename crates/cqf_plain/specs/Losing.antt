@@ -7,8 +7,6 @@ use Rattle.cqf_model.specs.Run.{Run}
 use Rattle.cqf_model.specs.Table.{table_of}
 use Rattle.cqf_model.specs.Traffic.{Policed, Received, police_all}
 use Rattle.cqf_laws_cycle.specs.BridgeCycle.{policed_of}
-use Rattle.cqf_bridge_gates.specs.declared.gates.KeptGate.{KeptGate}
-use Rattle.cqf_bridge_gates.specs.Gates.{AreKept, HaveCounted}
 use Rattle.cqf_plain.specs.declared.faults.RunFault.{RunFault}
 use Rattle.cqf_plain.specs.declared.faults.RunFault.TheVariants.{WrongTables, Inside, Memory}
 use Rattle.cqf_plain.specs.Driven.{FirstLoseNothing}

@@ -1,6 +1,5 @@
 //! Which frame is lost inside, where a bridge doesn't take what came to it.
-ghost use Rattle.std.specs.Prelude.{◌≡◌, ◌+◌, ◌++◌, ◌∷◌, ◌<◌, ℕ, [], Contains, List, IfOk, OnOk, false, map, true};
-ghost use Rattle.std.specs.List.Sorted.{IsNonDecreasingBy};
+ghost use Rattle.std.specs.Prelude.{◌≡◌, ◌++◌, ◌∷◌, ◌<◌, ℕ, [], Contains, List, IfOk, OnOk, false, map, true};
 ghost use Rattle.cqf_model.specs.declared.topology.Row.{Row as ARow};
 ghost use Rattle.cqf_model.specs.Domain.{cycle_of};
 ghost use Rattle.cqf_model.specs.Network.{IsLoss, Network};
@@ -11,7 +10,7 @@ ghost use Rattle.cqf_laws_cycle.specs.BridgeCycle.{policed_of};
 ghost use Rattle.cqf_laws_cycle.specs.Gathered.{IsInOrderOf};
 ghost use Rattle.cqf_bridge.specs.Batch.{LinkBatch};
 ghost use Rattle.cqf_bridge.specs.Taking.{CanGather, gathered_by, received_as};
-ghost use Rattle.cqf_bridge_gates.specs.Gates.{AreKept, HaveCounted};
+ghost use Rattle.cqf_bridge_gates.specs.Gates.{HaveCounted};
 ghost use Rattle.cqf_plain.specs.Driven.{HasCome, IsCycleOf, IsTableOf};
 ghost use Rattle.cqf_plain.specs.Losing.{IsLossFound};
 ghost use Rattle.cqf_model.specs.Limits.{most_cycles};
@@ -65,18 +64,16 @@ fn is_lost(
     frame: &Incoming,
     gates: &mut StreamGates,
 ) -> Result<bool, Memory>
-    requires in_cycle { cycle_of domain.now frame.now.at.0 ≡ table.now.cycle }
-    requires kept { AreKept domain.now.cycle_time (frame.now.at.0 + 1) gates.old }
-    ensures kept { OnOk result (AreKept domain.now.cycle_time (frame.now.at.0 + 1) gates.new) }
+    requires { cycle_of domain.now frame.now.at.0 ≡ table.now.cycle }
     ensures counted { OnOk result ((tables : List (List ARow)) (policed : List Policed) → table_of tables table.now.cycle ≡ table.now.rows →
-        HaveCounted domain.now.cycle_time table.now.cycle table.now.rows policed gates.old →
-        HaveCounted domain.now.cycle_time table.now.cycle table.now.rows
+        HaveCounted domain.now.cycle_time table.now.cycle policed gates.old →
+        HaveCounted domain.now.cycle_time table.now.cycle
         (policed ++ police domain.now tables number policed (received_as frame.now) ∷ []) gates.new) }
     ensures yes { IfOk result (λ lost. (tables : List (List ARow)) (policed : List Policed) → table_of tables table.now.cycle ≡ table.now.rows →
-        HaveCounted domain.now.cycle_time table.now.cycle table.now.rows policed gates.old →
+        HaveCounted domain.now.cycle_time table.now.cycle policed gates.old →
         lost ≡ true → IsLoss (police domain.now tables number policed (received_as frame.now)).verdict) }
     ensures no { IfOk result (λ lost. (tables : List (List ARow)) (policed : List Policed) → table_of tables table.now.cycle ≡ table.now.rows →
-        HaveCounted domain.now.cycle_time table.now.cycle table.now.rows policed gates.old →
+        HaveCounted domain.now.cycle_time table.now.cycle policed gates.old →
         lost ≡ false → ¬ IsLoss (police domain.now tables number policed (received_as frame.now)).verdict) }
 {
     match police(domain, number, table.cycle(), table, frame, gates)? {
@@ -95,8 +92,7 @@ fn lost_among(
     table: &Table,
     frames: &[Incoming],
 ) -> Result<Option<u32>, Memory>
-    requires in_cycle { (x : Received) → Contains (map received_as frames.now) x → cycle_of domain.now x.at ≡ table.now.cycle }
-    requires ordered { IsNonDecreasingBy (λ (x : Received). x.at) (map received_as frames.now) }
+    requires { (x : Received) → Contains (map received_as frames.now) x → cycle_of domain.now x.at ≡ table.now.cycle }
     ensures { IfOk result (λ found. (tables : List (List ARow)) → table_of tables table.now.cycle ≡ table.now.rows →
         IsLossFound (police_all domain.now tables number [] (map received_as frames.now)) found) }
 {

@@ -3,11 +3,14 @@ use Rattle.std.proofs.Common.{◌≡◌, ◌≤◌, ℕ, Bool, true, false, cond
 use Rattle.std.specs.Result.{result_map_both}
 use Rattle.toml.specs.Data.{Data, Items, Members, as_array, as_str, as_table, member, no_members}
 use Rattle.cqf_lists.specs.Results.{and_then}
+use Rattle.cqf_topology_fields.specs.declared.keys.Key.{Key}
 use Rattle.cqf_topology_fields.specs.declared.keys.Key.TheVariants as key
 use Rattle.cqf_topology_fields.specs.declared.faults.TomlFault.TheVariants.{BadValue}
-use Rattle.cqf_topology_fields.specs.Fields.{are_tables, key_text, number_from, read_at, value_at, whole_document}
+use Rattle.cqf_topology_fields.specs.Fields.{are_tables, key_text, number_from, number_or, number_or_by, read_at, value_at}
+use Rattle.cqf_topology_fields.specs.Fields.{whole_document}
+use Rattle.cqf_topology.specs.PacedText.{PacedText, paced_from}
 use Rattle.cqf_topology.specs.PlannedText.{deadline_by, deadline_from, planned_from}
-use Rattle.cqf_topology.specs.StreamsText.{RequestText, branches_from, request_from, streams_keys}
+use Rattle.cqf_topology.specs.StreamsText.{branches_from, streams_keys}
 use Rattle.cqf_topology.proofs.Refusals.{and_then-Ok, each_from-All, number-range, ok_or-Ok, refuse-Ok}
 use Rattle.cqf_traffic.specs.declared.faults.FlowsFault.{FlowsFault}
 use Rattle.cqf_traffic.specs.declared.faults.FlowsFault.TheVariants as flows_fault
@@ -36,6 +39,12 @@ default_in_range Offset n h = let e : 0 ≡ n = cc in subst (IsInRange Offset) e
 map_both-Ok : {A E F : Type 0} (f : E → F) (r : Result A E) (x : A) → result_map_both (λ y. y) f r ≡ Ok x → r ≡ Ok x
 map_both-Ok f (Ok y) x h = cc
 map_both-Ok f (Err e) x h = absurd (cc)
+
+-- the numbers of a request are such as may stand in a text
+record HasFew (request : PacedText) : Type 0 where
+  octets : request.octets ≤ 4294967295
+  every : request.every ≤ 4294967295
+  phase : request.phase ≤ 4294967295
 
 module _ (table : Members) where
   -- each number of traffic
@@ -95,26 +104,46 @@ module _ (table : Members) where
           let same : Some n ≡ deadline = cc in
           subst InRange same (number-range key.Deadline 1 4294967295 table n read)
 
-  -- and a reservation
-  pub octets_in_range : (request : RequestText) → request_from table ≡ Ok request → request.octets ≤ 4294967295
-  octets_in_range request h =
+  -- and a number that may be absent
+  number_or_in_range : (at : Key) (default n : ℕ) → default ≤ 4294967295 → number_or at default table ≡ Ok n → n ≤ 4294967295
+  number_or_in_range at default n few h = by (value_at at table) h
+    where
+      -- whether it stands there or not
+      by : (o : Option Data) → number_or_by o at default table ≡ Ok n → n ≤ 4294967295
+      by None h = let same : default ≡ n = cc in subst (λ m. m ≤ 4294967295) same few
+      by (Some d) h = (number-range at 0 4294967295 table n h).1
+
+  -- the numbers of a request are of 32 bits
+  request_in_range : (request : PacedText) → paced_from table ≡ Ok request → HasFew request
+  request_in_range request h =
       let (name, at_name, h1) = and_then-Ok (read_at key.Name as_str table) _ request h in
       let (octets, at_octets, h2) = and_then-Ok (read_at key.Octets (number_from 0 4294967295) table) _ request h1 in
-      let (paths, at_paths, h3) = and_then-Ok (branches_from table) _ request h2 in
-      let same : octets ≡ request.octets = cc in
-      subst (λ n. n ≤ 4294967295) same (number-range key.Octets 0 4294967295 table octets at_octets).1
+      let (every, at_every, h3) = and_then-Ok (number_or key.Every 1 table) _ request h2 in
+      let (phase, at_phase, h4) = and_then-Ok (number_or key.Phase 0 table) _ request h3 in
+      let (paths, at_paths, h5) = and_then-Ok (branches_from table) _ request h4 in
+      let read : PacedText = record { name = name; octets = octets; every = every; phase = phase; paths = paths } in
+      let same : read ≡ request = cc in
+      let good : HasFew read = record {
+        octets = (number-range key.Octets 0 4294967295 table octets at_octets).1;
+        every = number_or_in_range key.Every 1 every (omega arith) at_every;
+        phase = number_or_in_range key.Phase 0 phase (omega arith) at_phase;
+      } in
+      subst HasFew same good
 
   -- a stream that is read can be told
   pub flow_is_tellable : (flow : FlowText) → flow_from table ≡ Ok flow → IsTellable flow
   flow_is_tellable flow h =
       let (planned, at_planned, h1) = and_then-Ok (or_streams (planned_from table)) _ flow h in
       let (traffic, at_traffic, h2) = and_then-Ok (traffic_or table) _ flow h1 in
-      let (request, at_request, h3) = and_then-Ok (request_from table) _ planned (map_both-Ok flows_fault.Streams (planned_from table) planned at_planned) in
+      let (request, at_request, h3) = and_then-Ok (paced_from table) _ planned (map_both-Ok flows_fault.Streams (planned_from table) planned at_planned) in
       let (deadline, at_deadline, h4) = and_then-Ok (deadline_from table) _ planned h3 in
       let read : FlowText = ((request, deadline), traffic) in
       let same : read ≡ flow = cc in
+      let few : HasFew request = request_in_range request at_request in
       let good : IsTellable read = record {
-        octets = octets_in_range request at_request;
+        octets = few.octets;
+        every = few.every;
+        phase = few.phase;
         deadline = deadline_in_range deadline at_deadline;
         traffic = traffic_in_range traffic (map_both-Ok flows_fault.BadValue (traffic_from table) traffic at_traffic);
       } in

@@ -13,16 +13,17 @@ use Rattle.cqf_topology_fields.specs.declared.faults.TomlFault.TheVariants.{BadV
 use Rattle.cqf_topology_fields.specs.Fields.{and_first, are_tables, document_of, each_from, first_absent_within, first_missing, tables_from, tables_of_key}
 use Rattle.cqf_topology_fields.specs.Fields.{whole_document}
 use Rattle.cqf_topology.specs.DomainText.{IsDomain, as_domain_fault, checked, domain_from, domain_keys, domain_within, link_keys, read_text}
+use Rattle.cqf_topology.specs.PacedText.{paced_from}
 use Rattle.cqf_topology.specs.PlannedText.{planned_from}
 use Rattle.cqf_topology.specs.StreamsText.{request_from, stream_keys, streams_keys}
 use Rattle.cqf_traffic.specs.declared.faults.FlowsFault.{FlowsFault}
 use Rattle.cqf_traffic.specs.declared.faults.FlowsFault.TheVariants as flows_fault
 use Rattle.cqf_traffic.specs.FlowsText.{FlowText, first_lack_of, first_lack_within, flow_from, flows_from, flows_in, flows_of_text, or_streams}
 use Rattle.cqf_plants.specs.StreamMembers.{stream_members, streams_data}
-use Rattle.cqf_plants.specs.Plants.{IsTellable, IsToldPlant, ToldPlantsReadBack, plant_members}
+use Rattle.cqf_plants.specs.Plants.{IsTellable, IsToldPlant, ToldPlantsReadBack, plant_members, unpaced}
 use Rattle.cqf_plants.proofs.DomainChecks.{domain_passes, told_domain}
 use Rattle.cqf_plants.proofs.DomainReading.{domain_lacks_nothing, domain_reads}
-use Rattle.cqf_plants.proofs.StreamReading.{flow_is_read, planned_is_read, request_is_read, stream_lacks_no_key, stream_lacks_nothing}
+use Rattle.cqf_plants.proofs.StreamReading.{flow_is_read, paced_is_read, planned_is_read, request_is_read, stream_lacks_no_key, stream_lacks_nothing}
 
 -- the tables of streams
 abbrev tables : List FlowText → Items
@@ -100,5 +101,6 @@ told_reads_back d flows text good tellable told = record {
   domain_is = domain_reads_back d flows text told good;
   flows_are = flows_read_back d flows text told tellable;
   planned_are = streams_read d flows text told planned_from (λ flow. flow.0) planned_is_read tellable;
-  requests_are = streams_read d flows text told request_from (λ flow. flow.0.0) request_is_read tellable;
+  paced_are = streams_read d flows text told paced_from (λ flow. flow.0.0) paced_is_read tellable;
+  requests_are = streams_read d flows text told request_from (λ flow. unpaced flow.0.0) request_is_read tellable;
 }

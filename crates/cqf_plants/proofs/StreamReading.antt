@@ -1,6 +1,8 @@
 -- A stream's table, read.
-use Rattle.std.proofs.Common.{◌≡◌, ◌≤◌, ◌∙◌, ℕ, List, [], ◌∷◌, ◌||◌, ◌&&◌, true, false, cond, Option, Some, None, Ok, IfSome, option_map}
-use Rattle.std.proofs.Common.{find, is_none, is_some, map, ok_or, refl, ap, arith}
+use Rattle.std.proofs.Common.{◌≡◌, ◌==◌, ◌≤◌, ◌∙◌, ℕ, List, [], ◌∷◌, ◌||◌, ◌&&◌, Bool, true, false, cond, Option, Some, None, Ok, IfSome, option_map}
+use Rattle.std.proofs.Common.{find, is_none, is_some, map, ok_or, unwrap_or, refl, ap, sym, arith}
+use Rattle.std.proofs.lemmas.Bool.{and_parts}
+use Rattle.std.proofs.lemmas.Bool.Decides.{nat_tests}
 use Rattle.std.specs.Option.{option_and_then, option_or}
 use Rattle.std.specs.Result.{result_map_both}
 use Rattle.toml.specs.Data.{Members, as_array, as_str, string}
@@ -9,8 +11,9 @@ use Rattle.cqf_lists.specs.Results.{and_then}
 use Rattle.cqf_topology_fields.specs.declared.keys.Key.{Key}
 use Rattle.cqf_topology_fields.specs.declared.keys.Key.TheVariants as key
 use Rattle.cqf_topology_fields.specs.declared.faults.TomlFault.TheVariants.{BadValue, Missing}
-use Rattle.cqf_topology_fields.specs.Fields.{and_first, first_absent, lacks, number_from, read_at, text_lists_at, text_lists_from, texts_at, texts_from}
-use Rattle.cqf_topology_fields.specs.Fields.{value_at}
+use Rattle.cqf_topology_fields.specs.Fields.{and_first, first_absent, lacks, number_from, number_or, number_or_by, read_at, text_lists_at, text_lists_from}
+use Rattle.cqf_topology_fields.specs.Fields.{texts_at, texts_from, value_at}
+use Rattle.cqf_topology.specs.PacedText.{PacedText, paced_from}
 use Rattle.cqf_topology.specs.PlannedText.{deadline_by, deadline_from, planned_from}
 use Rattle.cqf_topology.specs.StreamsText.{branches_by, branches_from, request_from, stream_keys}
 use Rattle.cqf_traffic.specs.declared.faults.FlowsFault.TheVariants as flows_fault
@@ -21,8 +24,8 @@ use Rattle.cqf_traffic.specs.TrafficText.{IsInRange, IsTrafficText, TrafficText,
 use Rattle.cqf_traffic.specs.TrafficText.{traffic_from, value_at as traffic_at}
 use Rattle.cqf_traffic.specs.FlowsText.{FlowText, first_lack, flow_from, or_streams}
 use Rattle.cqf_plants.specs.DomainMembers.{texts_data}
-use Rattle.cqf_plants.specs.StreamMembers.{branches_data, number_of_traffic, stream_members}
-use Rattle.cqf_plants.specs.Plants.{IsTellable}
+use Rattle.cqf_plants.specs.StreamMembers.{branches_data, every_told, is_each_cycle, number_of_traffic, phase_told, stream_members}
+use Rattle.cqf_plants.specs.Plants.{IsTellable, unpaced}
 use Rattle.cqf_plants.proofs.DomainReading.{number_reads}
 use Rattle.cqf_plants.proofs.StreamValues.{HasStream, has_stream, number_data, path_data, paths_data}
 
@@ -35,8 +38,19 @@ branches_read : (at : Key) (paths : List (List (List ℕ))) → text_lists_from 
 branches_read at [] = refl
 branches_read at (path ∷ paths) = (λ i. and_first (texts_read at path i) (branches_read at paths i))
 
-module _ (table : Members) (name : List ℕ) (octets : ℕ) (paths : List (List (List ℕ))) (deadline : Option ℕ) (traffic : Option TrafficText)
-    (has : HasStream table name octets paths deadline traffic) where
+-- a number that is told only where the stream isn't offered in each cycle is the other where it is
+told_or : (same : Bool) (n default : ℕ) → (same ≡ true → n ≡ default) → unwrap_or (cond same None (Some n)) default ≡ n
+told_or true n default is = sym (is refl)
+told_or false n default is = refl
+
+each_every : (every phase : ℕ) → is_each_cycle every phase ≡ true → every ≡ 1
+each_every every phase is = let parts = and_parts (every == 1) (phase == 0) is in let one : (every == 1) ≡ true = parts.0 in grind (arith, nat_tests)
+
+each_phase : (every phase : ℕ) → is_each_cycle every phase ≡ true → phase ≡ 0
+each_phase every phase is = let parts = and_parts (every == 1) (phase == 0) is in let none : (phase == 0) ≡ true = parts.1 in grind (arith, nat_tests)
+
+module _ (table : Members) (request : PacedText) (deadline : Option ℕ) (traffic : Option TrafficText)
+    (has : HasStream table request deadline traffic) where
   -- the texts at `path`, and the branches at `paths`
   path_reads : (path : List (List ℕ)) → value_at key.Path table ≡ Some (texts_data path) → texts_at key.Path table ≡ Ok path
   path_reads path at =
@@ -54,15 +68,54 @@ module _ (table : Members) (name : List ℕ) (octets : ℕ) (paths : List (List 
       (λ i. branches_by (at_path i) (at_paths i) table) ∙ ap (λ r. and_then r (λ branch. Ok (branch ∷ []))) (path_reads path at_path)
   branches_by_read (path ∷ other ∷ more) at_path at_paths = (λ i. branches_by (at_path i) (at_paths i) table) ∙ paths_read (path ∷ other ∷ more) at_paths
 
-  -- the request
-  request_reads : octets ≤ 4294967295 → request_from table ≡ Ok (record { name = name; octets = octets; paths = paths })
-  request_reads few =
-      let name_is : read_at key.Name as_str table ≡ Ok name = ap (λ o. ok_or (option_and_then as_str o) (BadValue key.Name)) has.name_at in
-      let octets_are : read_at key.Octets (number_from 0 4294967295) table ≡ Ok octets =
+  -- its name, reservation and branches
+  name_read : read_at key.Name as_str table ≡ Ok request.name
+  name_read = ap (λ o. ok_or (option_and_then as_str o) (BadValue key.Name)) has.name_at
+
+  octets_read : request.octets ≤ 4294967295 → read_at key.Octets (number_from 0 4294967295) table ≡ Ok request.octets
+  octets_read few =
       ap (λ o. ok_or (option_and_then (number_from 0 4294967295) o) (BadValue key.Octets)) has.octets_at
-      ∙ ap (λ o. ok_or o (BadValue key.Octets)) (number_reads 0 4294967295 octets (omega arith) few) in
-      let branches_are : branches_from table ≡ Ok paths = branches_by_read paths has.path_at has.paths_at in
-      (λ i. and_then (name_is i) (λ n. and_then (octets_are i) (λ o. and_then (branches_are i) (λ p. Ok (record { name = n; octets = o; paths = p })))))
+      ∙ ap (λ o. ok_or o (BadValue key.Octets)) (number_reads 0 4294967295 request.octets (omega arith) few)
+
+  branches_are : branches_from table ≡ Ok request.paths
+  branches_are = branches_by_read request.paths has.path_at has.paths_at
+
+  -- a number that may be absent
+  number_or_reads : (at : Key) (default : ℕ) (some : Option ℕ) → value_at at table ≡ option_map number_data some → IfSome some (λ n. n ≤ 4294967295)
+      → number_or at default table ≡ Ok (unwrap_or some default)
+  number_or_reads at default None is few = ap (λ o. number_or_by o at default table) is
+  number_or_reads at default (Some n) is few =
+      ap (λ o. number_or_by o at default table) is ∙ ap (λ o. ok_or (option_and_then (number_from 0 4294967295) o) (BadValue at)) is
+      ∙ ap (λ o. ok_or o (BadValue at)) (number_reads 0 4294967295 n (omega arith) few)
+
+  -- the cycles in which it is offered
+  told_few : (same : Bool) (n : ℕ) → n ≤ 4294967295 → IfSome (cond same None (Some n)) (λ n. n ≤ 4294967295)
+  told_few true n few = tt
+  told_few false n few = few
+
+  every_read : request.every ≤ 4294967295 → number_or key.Every 1 table ≡ Ok request.every
+  every_read few =
+      let same : Bool = is_each_cycle request.every request.phase in
+      number_or_reads key.Every 1 (every_told request) has.every_at (told_few same request.every few)
+      ∙ ap Ok (told_or same request.every 1 (λ is. each_every request.every request.phase is))
+
+  phase_read : request.phase ≤ 4294967295 → number_or key.Phase 0 table ≡ Ok request.phase
+  phase_read few =
+      let same : Bool = is_each_cycle request.every request.phase in
+      number_or_reads key.Phase 0 (phase_told request) has.phase_at (told_few same request.phase few)
+      ∙ ap Ok (told_or same request.phase 0 (λ is. each_phase request.every request.phase is))
+
+  -- the request, with these cycles and without
+  request_reads : request.octets ≤ 4294967295 → request_from table ≡ Ok (unpaced request)
+  request_reads few =
+      (λ i. and_then (name_read i) (λ name. and_then (octets_read few i) (λ octets. and_then (branches_are i) (λ paths.
+      Ok (record { name = name; octets = octets; paths = paths })))))
+
+  paced_reads : request.octets ≤ 4294967295 → request.every ≤ 4294967295 → request.phase ≤ 4294967295 → paced_from table ≡ Ok request
+  paced_reads few_octets few_every few_phase =
+      (λ i. and_then (name_read i) (λ name. and_then (octets_read few_octets i) (λ octets. and_then (every_read few_every i) (λ every.
+      and_then (phase_read few_phase i) (λ phase. and_then (branches_are i) (λ paths.
+      Ok (record { name = name; octets = octets; every = every; phase = phase; paths = paths })))))))
 
   -- the deadline
   deadline_by_reads : (some : Option ℕ) → value_at key.Deadline table ≡ option_map number_data some → IfSome some (λ n. (1 ≤ n) × (n ≤ 4294967295))
@@ -120,7 +173,7 @@ module _ (table : Members) (name : List ℕ) (octets : ℕ) (paths : List (List 
   none_absent =
       let name_there : lacks key.Name table ≡ false = (λ i. is_none (has.name_at i) && true) in
       let octets_there : lacks key.Octets table ≡ false = (λ i. is_none (has.octets_at i) && true) in
-      let branches_there : lacks key.Path table ≡ false = (λ i. is_none (has.path_at i) && is_none (has.paths_at i)) ∙ has_branches paths in
+      let branches_there : lacks key.Path table ≡ false = (λ i. is_none (has.path_at i) && is_none (has.paths_at i)) ∙ has_branches request.paths in
       (λ i. cond (name_there i) (Some key.Name) (cond (octets_there i) (Some key.Octets) (cond (branches_there i) (Some key.Path) None)))
 
   -- nor one that traffic owes
@@ -132,32 +185,35 @@ module _ (table : Members) (name : List ℕ) (octets : ℕ) (paths : List (List 
       ∙ (λ i. cond (is_none (at Interval i)) (Some Interval) (cond (is_none (at Size i)) (Some Size) None))
 
 -- a stream's table has the stream's values
-has_values : (flow : FlowText) → HasStream (stream_members flow) flow.0.0.name flow.0.0.octets flow.0.0.paths flow.0.1 flow.1
-has_values flow = has_stream flow.0.0.name flow.0.0.octets flow.0.0.paths flow.0.1 flow.1
+has_values : (flow : FlowText) → HasStream (stream_members flow) flow.0.0 flow.0.1 flow.1
+has_values flow = has_stream flow.0.0 flow.0.1 flow.1
 
--- it is read as the stream's request, with its deadline, and with its traffic
-pub request_is_read : (flow : FlowText) → IsTellable flow → request_from (stream_members flow) ≡ Ok flow.0.0
-request_is_read flow good = request_reads (stream_members flow) _ _ _ _ _ (has_values flow) good.octets
+-- it is read as the stream's request, with its cycles, with its deadline, and with its traffic
+pub request_is_read : (flow : FlowText) → IsTellable flow → request_from (stream_members flow) ≡ Ok (unpaced flow.0.0)
+request_is_read flow good = request_reads (stream_members flow) _ _ _ (has_values flow) good.octets
+
+pub paced_is_read : (flow : FlowText) → IsTellable flow → paced_from (stream_members flow) ≡ Ok flow.0.0
+paced_is_read flow good = paced_reads (stream_members flow) _ _ _ (has_values flow) good.octets good.every good.phase
 
 pub planned_is_read : (flow : FlowText) → IsTellable flow → planned_from (stream_members flow) ≡ Ok flow.0
 planned_is_read flow good =
     let deadline_is : deadline_from (stream_members flow) ≡ Ok flow.0.1 =
-    deadline_by_reads (stream_members flow) _ _ _ _ _ (has_values flow) flow.0.1 (has_values flow).deadline_at good.deadline in
-    (λ i. and_then (request_is_read flow good i) (λ request. and_then (deadline_is i) (λ deadline. Ok (request, deadline))))
+    deadline_by_reads (stream_members flow) _ _ _ (has_values flow) flow.0.1 (has_values flow).deadline_at good.deadline in
+    (λ i. and_then (paced_is_read flow good i) (λ request. and_then (deadline_is i) (λ deadline. Ok (request, deadline))))
 
 pub flow_is_read : (flow : FlowText) → IsTellable flow → flow_from (stream_members flow) ≡ Ok flow
 flow_is_read flow good =
     let traffic_is : traffic_from (stream_members flow) ≡ Ok flow.1 =
-    traffic_by_reads (stream_members flow) _ _ _ _ _ (has_values flow) flow.1 good.traffic (has_values flow).traffic_is in
+    traffic_by_reads (stream_members flow) _ _ _ (has_values flow) flow.1 good.traffic (has_values flow).traffic_is in
     (λ i. and_then (or_streams (planned_is_read flow good i)) (λ planned.
     and_then (result_map_both (λ t. t) flows_fault.BadValue (traffic_is i)) (λ traffic. Ok (planned, traffic))))
 
 -- and nothing is missing of it
 pub stream_lacks_no_key : (flow : FlowText) → first_absent stream_keys (stream_members flow) ≡ None
-stream_lacks_no_key flow = none_absent (stream_members flow) _ _ _ _ _ (has_values flow)
+stream_lacks_no_key flow = none_absent (stream_members flow) _ _ _ (has_values flow)
 
 pub stream_lacks_nothing : (flow : FlowText) → first_lack (stream_members flow) ≡ None
 stream_lacks_nothing flow =
     let owed_none : first_owed (stream_members flow) ≡ None =
-    none_owed (stream_members flow) _ _ _ _ _ (has_values flow) flow.1 (has_values flow).traffic_is in
+    none_owed (stream_members flow) _ _ _ (has_values flow) flow.1 (has_values flow).traffic_is in
     (λ i. option_or (option_map (λ at. flows_fault.Streams (Missing at)) (stream_lacks_no_key flow i)) (option_map flows_fault.Missing (owed_none i)))

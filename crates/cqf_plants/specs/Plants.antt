@@ -6,8 +6,9 @@ use Rattle.toml.specs.Parse.{parse_document}
 use Rattle.toml.specs.Text.{IsDocumentText}
 use Rattle.cqf_model.specs.Domain.{Domain}
 use Rattle.cqf_topology.specs.DomainText.{IsDomain, domain_within}
+use Rattle.cqf_topology.specs.PacedText.{PacedText, paced_of_text}
 use Rattle.cqf_topology.specs.PlannedText.{planned_of_text}
-use Rattle.cqf_topology.specs.StreamsText.{streams_of_text}
+use Rattle.cqf_topology.specs.StreamsText.{RequestText, streams_of_text}
 use Rattle.cqf_traffic.specs.FlowsText.{FlowText, flows_of_text}
 use Rattle.cqf_traffic.specs.TrafficText.{IsTrafficText}
 use Rattle.cqf_plants.specs.DomainMembers.{domain_members}
@@ -26,15 +27,23 @@ pub record IsToldPlant (d : Domain) (flows : List FlowText) (text : List ℕ) : 
 -- a stream's numbers are such as may stand in a text
 pub record IsTellable (flow : FlowText) : Type 0 where
   pub octets : flow.0.0.octets ≤ 4294967295
+  pub every : flow.0.0.every ≤ 4294967295
+  pub phase : flow.0.0.phase ≤ 4294967295
   pub deadline : IfSome flow.0.1 (λ deadline. (1 ≤ deadline) × (deadline ≤ 4294967295))
   pub traffic : IfSome flow.1 IsTrafficText
 
--- a text reads as a plant: as its domain, and as its streams by each reader, with traffic, with deadlines alone, and as requests
+-- what is read of a request where nobody asks in which cycles its stream is offered
+abbrev pub unpaced : PacedText → RequestText
+unpaced request = record { name = request.name; octets = request.octets; paths = request.paths }
+
+-- a text reads as a plant: as its domain, and as its streams by each reader, with traffic, with deadlines alone, as requests, and as
+-- requests of which nobody asks in which cycles
 pub record ReadsAsPlant (d : Domain) (flows : List FlowText) (text : List ℕ) : Type 0 where
   pub domain_is : domain_within d.limits text ≡ Ok d
   pub flows_are : flows_of_text text ≡ Ok flows
   pub planned_are : planned_of_text text ≡ Ok (map (λ flow. flow.0) flows)
-  pub requests_are : streams_of_text text ≡ Ok (map (λ flow. flow.0.0) flows)
+  pub paced_are : paced_of_text text ≡ Ok (map (λ flow. flow.0.0) flows)
+  pub requests_are : streams_of_text text ≡ Ok (map (λ flow. unpaced flow.0.0) flows)
 
 -- a text that tells an accepted domain and streams that can be told reads as just these
 abbrev pub ToldPlantsReadBack : Type 0

@@ -1,10 +1,11 @@
 -- The tables that streams are told by (profile): their keys in the order of their bytes.
-use Rattle.std.specs.Prelude.{ℕ, pos, List, [], ◌∷◌, Option, Some, None, map}
+use Rattle.std.specs.Prelude.{ℕ, pos, List, [], ◌∷◌, ◌&&◌, ◌==◌, Bool, if◌then◌else◌, Option, Some, None, map}
 use Rattle.toml.specs.Data.{Data, string, integer, array, table, Members, no_members, member}
 use Rattle.toml.specs.View.{items_of}
-use Rattle.cqf_topology_fields.specs.declared.keys.Key.TheVariants.{Deadline, Name, Octets, Path, Paths}
+use Rattle.cqf_topology_fields.specs.declared.keys.Key.{Key}
+use Rattle.cqf_topology_fields.specs.declared.keys.Key.TheVariants.{Deadline, Every, Name, Octets, Path, Paths, Phase}
 use Rattle.cqf_topology_fields.specs.Fields.{key_text}
-use Rattle.cqf_topology.specs.StreamsText.{RequestText}
+use Rattle.cqf_topology.specs.PacedText.{PacedText}
 use Rattle.cqf_traffic.specs.declared.keys.TrafficKey.{TrafficKey}
 use Rattle.cqf_traffic.specs.declared.keys.TrafficKey.TheVariants.{Interval, Frames, Size, Jitter, Offset}
 use Rattle.cqf_traffic.specs.Keys.{key_text as traffic_key_text}
@@ -20,10 +21,20 @@ branches_data paths = array (items_of (map texts_data paths))
 abbrev pub number_then : List ℕ → ℕ → Members → Members
 number_then key n more = member key (integer (pos n)) more
 
--- a deadline in front of them, where there is one
-abbrev pub deadline_then : Option ℕ → Members → Members
-deadline_then None more = more
-deadline_then (Some deadline) more = number_then (key_text Deadline) deadline more
+-- the same, where there is such a number
+abbrev pub some_then : Key → Option ℕ → Members → Members
+some_then key None more = more
+some_then key (Some n) more = number_then (key_text key) n more
+
+-- a stream that isn't offered in each cycle says in which it is, by both numbers; one that is says neither
+abbrev pub is_each_cycle : ℕ → ℕ → Bool
+is_each_cycle every phase = (every == 1) && (phase == 0)
+
+abbrev pub every_told : PacedText → Option ℕ
+every_told request = if is_each_cycle request.every request.phase then None else Some request.every
+
+abbrev pub phase_told : PacedText → Option ℕ
+phase_told request = if is_each_cycle request.every request.phase then None else Some request.phase
 
 -- the branches of a stream: the only one is its `path`, and none or several are its `paths`
 abbrev pub branches_then : List (List (List ℕ)) → Members → Members
@@ -42,26 +53,30 @@ number_of_traffic Offset t = t.offset
 abbrev pub traffic_then : TrafficKey → TrafficText → Members → Members
 traffic_then key t more = number_then (traffic_key_text key) (number_of_traffic key t) more
 
--- a stream's table, of its name, reservation, branches, deadline and traffic: all five keys of traffic stand, or none
-abbrev pub members_by : List ℕ → ℕ → List (List (List ℕ)) → Option ℕ → Option TrafficText → Members
-members_by name octets paths deadline None =
-    deadline_then deadline (
-    member (key_text Name) (string name) (
-    number_then (key_text Octets) octets (
-    branches_then paths no_members)))
-members_by name octets paths deadline (Some t) =
-    deadline_then deadline (
+-- a stream's table, of its request, deadline and traffic: all five keys of traffic stand, or none
+abbrev pub members_by : PacedText → Option ℕ → Option TrafficText → Members
+members_by request deadline None =
+    some_then Deadline deadline (
+    some_then Every (every_told request) (
+    member (key_text Name) (string request.name) (
+    number_then (key_text Octets) request.octets (
+    branches_then request.paths (
+    some_then Phase (phase_told request) no_members)))))
+members_by request deadline (Some t) =
+    some_then Deadline deadline (
+    some_then Every (every_told request) (
     traffic_then Frames t (
     traffic_then Interval t (
     traffic_then Jitter t (
-    member (key_text Name) (string name) (
-    number_then (key_text Octets) octets (
+    member (key_text Name) (string request.name) (
+    number_then (key_text Octets) request.octets (
     traffic_then Offset t (
-    branches_then paths (
-    traffic_then Size t no_members))))))))
+    branches_then request.paths (
+    some_then Phase (phase_told request) (
+    traffic_then Size t no_members))))))))))
 
 abbrev pub stream_members : FlowText → Members
-stream_members flow = members_by flow.0.0.name flow.0.0.octets flow.0.0.paths flow.0.1 flow.1
+stream_members flow = members_by flow.0.0 flow.0.1 flow.1
 
 -- the streams, in order
 abbrev pub streams_data : List FlowText → Data
@@ -73,13 +88,16 @@ put_branches [] members = put (key_text Paths) (branches_data []) members
 put_branches (path ∷ []) members = put (key_text Path) (texts_data path) members
 put_branches (path ∷ other ∷ paths) members = put (key_text Paths) (branches_data (path ∷ other ∷ paths)) members
 
-abbrev pub put_request : RequestText → Members → Members
-put_request request members =
-    put_branches request.paths (put (key_text Octets) (integer (pos request.octets)) (put (key_text Name) (string request.name) members))
+abbrev pub put_some : Key → Option ℕ → Members → Members
+put_some key None members = members
+put_some key (Some n) members = put (key_text key) (integer (pos n)) members
 
-abbrev pub put_deadline : Option ℕ → Members → Members
-put_deadline None members = members
-put_deadline (Some deadline) members = put (key_text Deadline) (integer (pos deadline)) members
+abbrev pub put_pace : PacedText → Members → Members
+put_pace request members = put_some Phase (phase_told request) (put_some Every (every_told request) members)
+
+abbrev pub put_request : PacedText → Members → Members
+put_request request members =
+    put_branches request.paths (put_pace request (put (key_text Octets) (integer (pos request.octets)) (put (key_text Name) (string request.name) members)))
 
 abbrev pub put_number : TrafficKey → TrafficText → Members → Members
 put_number key t members = put (traffic_key_text key) (integer (pos (number_of_traffic key t))) members

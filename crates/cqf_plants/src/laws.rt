@@ -2,7 +2,8 @@
 ghost use Rattle.cqf_plants.specs.Plants.{ReadStreamsAreTellable, ToldPlantsReadBack};
 
 /// Law: the text that tells a domain and streams is read as just that domain, and as just these streams by each reader: with
-/// traffic, with deadlines alone, and as requests. So what is told is what every command reads.
+/// traffic, with deadlines alone, as requests, and as requests of which nobody asks in which cycles their streams are offered. So what is
+/// told is what every command reads.
 pub fn told_plants_read_back()
     ensures { ToldPlantsReadBack }
 {}

@@ -27,7 +27,8 @@
 //! size = 704
 //! ```
 //!
-//! is the text of a domain with one link, and one stream with a deadline and traffic.
+//! is the text of a domain with one link, and one stream with a deadline and traffic. A stream that isn't offered in each cycle has `every`
+//! and `phase` too.
 #![tactic(auto)]
 
 mod domain;

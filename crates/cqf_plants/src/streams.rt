@@ -2,14 +2,14 @@
 ghost use Rattle.std.specs.Prelude.{◌≡◌, ◌<◌, ◌^◌, IfOk, OnOk, map, pos, string_bytes};
 ghost use Rattle.toml.specs.Data.{integer};
 ghost use Rattle.toml.specs.View.{table_view, view};
-ghost use Rattle.cqf_topology.specs.StreamsText.{request_text};
+ghost use Rattle.cqf_topology.specs.PacedText.{paced_text};
 ghost use Rattle.cqf_traffic.specs.FlowsText.{flow_text};
 ghost use Rattle.cqf_traffic.specs.Keys.{key_text as traffic_key_text};
 ghost use Rattle.cqf_plants.specs.DomainMembers.{put, texts_data};
-ghost use Rattle.cqf_plants.specs.StreamMembers.{branches_data, put_branches, put_deadline, put_request, put_traffic, stream_members, streams_data};
+ghost use Rattle.cqf_plants.specs.StreamMembers.{branches_data, put_branches, put_pace, put_request, put_some, put_traffic, stream_members, streams_data};
 
 use crate::tables::{put_number, put_text, put_value};
-use cqf_topology::{Key, Request};
+use cqf_topology::{Key, PacedRequest};
 use cqf_traffic::{Flow, Traffic, TrafficKey};
 use cqf_units::{Memory, Nanos};
 use std::alloc::Global;
@@ -56,19 +56,32 @@ fn put_branches(alloc: Global, table: &mut Table, paths: &[Vec<String>]) -> Resu
     }
 }
 
+/// Puts the cycles in which a stream is offered into its table, where it isn't each. The error is want of memory.
+fn put_pace(alloc: Global, table: &mut Table, request: &PacedRequest) -> Result<(), Memory>
+    ensures { OnOk result (table_view table.new ≡ put_pace (paced_text request.now) (table_view table.old)) }
+{
+    if request.every == 1 && request.phase == 0 {
+        return Ok(());
+    }
+    put_number(alloc, table, Key::Every.as_str(), request.every)?;
+    put_number(alloc, table, Key::Phase.as_str(), request.phase)?;
+    Ok(())
+}
+
 /// Puts a request into its stream's table. The error is want of memory.
-fn put_request(alloc: Global, table: &mut Table, request: &Request) -> Result<(), Memory>
-    ensures { OnOk result (table_view table.new ≡ put_request (request_text request.now) (table_view table.old)) }
+fn put_request(alloc: Global, table: &mut Table, request: &PacedRequest) -> Result<(), Memory>
+    ensures { OnOk result (table_view table.new ≡ put_request (paced_text request.now) (table_view table.old)) }
 {
     put_text(alloc, table, Key::Name.as_str(), request.name.as_str())?;
     put_number(alloc, table, Key::Octets.as_str(), request.octets)?;
+    put_pace(alloc, table, request)?;
     put_branches(alloc, table, request.paths.as_slice())?;
     Ok(())
 }
 
 /// Puts a deadline into a stream's table, where there is one. The error is want of memory.
 fn put_deadline(alloc: Global, table: &mut Table, deadline: Option<u32>) -> Result<(), Memory>
-    ensures { OnOk result (table_view table.new ≡ put_deadline deadline (table_view table.old)) }
+    ensures { OnOk result (table_view table.new ≡ put_some Key.Deadline deadline (table_view table.old)) }
 {
     if let Some(deadline) = deadline {
         put_number(alloc, table, Key::Deadline.as_str(), deadline)?;

@@ -1,10 +1,10 @@
 //! Streams that are refused beside those that stand before them: names that are held, and budgets (profile).
 
 use crate::given::Given;
-use crate::network::{Link, Network};
+use crate::network::Network;
 use crate::places::Grouped;
 use crate::plant::Item;
-use crate::stream_faults::{Asked, streams_of};
+use crate::stream_faults::{Asked, MOST_EVERY, Pace, streams_of};
 use crate::told::Told;
 use std::alloc::{AllocError, Global};
 use std::collections::BTreeMap;
@@ -26,12 +26,19 @@ pub(crate) enum Wanted {
     BudgetShort,
 }
 
-/// The streams placed so far, by name, and what each link holds of them.
+/// The streams placed so far, by name, and what each link holds of them in each of the cycles after which all is as it was.
 #[derive(Drop)]
 struct Placed<'p> {
     network: Network<'p>,
     streams: BTreeMap<&'p str, Item<'p>>,
     held: Vec<u64>,
+}
+
+/// A link of a stream's tree, and how many links lead to it there.
+#[derive(Clone, Copy)]
+struct Hop {
+    link: usize,
+    depth: u64,
 }
 
 /// A link that has too little left for a stream.
@@ -60,14 +67,15 @@ fn tree_of(
     alloc: Global,
     network: &Network<'_>,
     asked: &Asked<'_>,
-) -> Result<Vec<usize>, AllocError> {
-    let mut tree: Vec<usize> = Vec::new(alloc);
+) -> Result<Vec<Hop>, AllocError> {
+    let mut tree: Vec<Hop> = Vec::new(alloc);
     for path in &asked.paths {
         let behind = path.iter().skip(1);
-        for (from, to) in path.iter().zip(behind) {
+        for (depth, (from, to)) in path.iter().zip(behind).enumerate() {
             if let Some(link) = network.link_between(from, to) {
-                if !tree.contains(&link) {
-                    tree.push(link)?;
+                if !tree.iter().any(|hop| hop.link == link) {
+                    let depth = depth as u64;
+                    tree.push(Hop { link, depth })?;
                 }
             }
         }
@@ -75,25 +83,43 @@ fn tree_of(
     Ok(tree)
 }
 
+/// Where stands what a link holds in a cycle.
+fn spot(link: usize, cycle: u64) -> usize {
+    link.saturating_mul(MOST_EVERY as usize)
+        .saturating_add(cycle as usize)
+}
+
 impl<'p> Placed<'p> {
-    /// What a link has left, with its budget.
-    fn left_on(&self, place: usize) -> Short {
-        let held = self.held.get(place).copied().unwrap_or(0);
-        let budget = match self.network.links.get(place) {
+    /// The most that a link holds in a cycle in which a stream's frames are on it.
+    fn held_beside(&self, hop: Hop, pace: Pace) -> u64 {
+        let mut most: u64 = 0;
+        for cycle in 0..MOST_EVERY {
+            if pace.is_turn(hop.depth, cycle) {
+                let held = self.held.get(spot(hop.link, cycle)).copied().unwrap_or(0);
+                most = most.max(held);
+            }
+        }
+        most
+    }
+
+    /// What a link has left for a stream, with its budget.
+    fn left_on(&self, hop: Hop, pace: Pace) -> Short {
+        let held = self.held_beside(hop, pace);
+        let budget = match self.network.links.get(hop.link) {
             Some(link) => self.network.budget(link),
             None => 0,
         };
         Short {
-            link: place,
+            link: hop.link,
             left: budget.saturating_sub(held),
             budget,
         }
     }
 
     /// The first link of a tree that has less left than a stream costs.
-    fn short_link(&self, tree: &[usize], cost: u64) -> Option<Short> {
-        for place in tree {
-            let short = self.left_on(*place);
+    fn short_link(&self, tree: &[Hop], pace: Pace, cost: u64) -> Option<Short> {
+        for hop in tree {
+            let short = self.left_on(*hop, pace);
             if short.left < cost {
                 return Some(short);
             }
@@ -101,35 +127,44 @@ impl<'p> Placed<'p> {
         None
     }
 
-    /// Places a stream on the links of its tree.
-    fn place(&mut self, asked: &Asked<'p>, tree: &[usize], cost: u64) -> Result<(), AllocError> {
-        self.streams.insert(asked.name, asked.item)?;
-        for place in tree {
-            if let Some(held) = self.held.get_mut(*place) {
-                *held = held.saturating_add(cost);
+    /// Adds a cost in those cycles in which a stream's frames are on a link.
+    fn put_cost(&mut self, hop: Hop, pace: Pace, cost: u64) {
+        for cycle in 0..MOST_EVERY {
+            if pace.is_turn(hop.depth, cycle) {
+                if let Some(held) = self.held.get_mut(spot(hop.link, cycle)) {
+                    *held = held.saturating_add(cost);
+                }
             }
+        }
+    }
+
+    /// Places a stream on the links of its tree.
+    fn place(&mut self, asked: &Asked<'p>, tree: &[Hop], cost: u64) -> Result<(), AllocError> {
+        self.streams.insert(asked.name, asked.item)?;
+        for hop in tree {
+            self.put_cost(*hop, asked.pace, cost);
         }
         Ok(())
     }
 
     /// The greatest reservation that all links of a tree have room for, in octets, or 0.
-    fn greatest_on(&self, tree: &[usize]) -> u64 {
+    fn greatest_on(&self, tree: &[Hop], pace: Pace) -> u64 {
         let mut least = u64::MAX;
-        for place in tree {
-            least = least.min(self.left_on(*place).left);
+        for hop in tree {
+            least = least.min(self.left_on(*hop, pace).left);
         }
         greatest_within(least)
     }
 
     /// The least cycle time at which all links of a tree have room for a cost, in ns.
-    fn least_cycle(&self, tree: &[usize], cost: u64) -> u64 {
+    fn least_cycle(&self, tree: &[Hop], pace: Pace, cost: u64) -> u64 {
         let mut least: u64 = 0;
-        for place in tree {
-            let held = self.held.get(*place).copied().unwrap_or(0);
+        for hop in tree {
+            let held = self.held_beside(*hop, pace);
             let octet_time = self
                 .network
                 .links
-                .get(*place)
+                .get(hop.link)
                 .map_or(0, |link| link.octet_time());
             let open = held.saturating_add(cost).saturating_mul(octet_time);
             least = least.max(open.saturating_add(self.network.guard));
@@ -157,7 +192,7 @@ fn tell_short(
     told: &mut Told,
     placed: &Placed<'_>,
     asked: &Asked<'_>,
-    tree: &[usize],
+    tree: &[Hop],
     short: Short,
 ) -> Result<(), AllocError> {
     let Some(link) = placed.network.links.get(short.link) else {
@@ -166,8 +201,8 @@ fn tell_short(
     let cost = cost_of(asked.octets);
     let remedy = remedy(
         given.alloc,
-        placed.greatest_on(tree),
-        placed.least_cycle(tree, cost),
+        placed.greatest_on(tree, asked.pace),
+        placed.least_cycle(tree, asked.pace, cost),
     )?;
     let (place, label) = (
         asked.item.place_of("octets"),
@@ -224,7 +259,7 @@ fn try_stream<'p>(
         if wanted == Wanted::TooManyStreams {
             tell_beyond(given, told, asked)?;
         }
-    } else if let Some(short) = placed.short_link(tree.as_slice(), cost) {
+    } else if let Some(short) = placed.short_link(tree.as_slice(), asked.pace, cost) {
         if wanted == Wanted::BudgetShort {
             tell_short(given, told, placed, asked, tree.as_slice(), short)?;
         }
@@ -244,7 +279,9 @@ pub(crate) fn tell_refused(
     let network = given.network()?;
     let mut held = Vec::new(given.alloc);
     for _ in &network.links {
-        held.push(0)?;
+        for _ in 0..MOST_EVERY {
+            held.push(0)?;
+        }
     }
     let mut placed = Placed {
         network,

@@ -17,6 +17,14 @@ const PATH_FORM: &str =
 /// The form of several paths, in words.
 const PATHS_FORM: &str = "paths is an array of paths, as [[\"a\", \"s\"], [\"a\", \"b\", \"t\"]]";
 
+/// The form of how many cycles apart a stream is offered, in words.
+pub(crate) const EVERY_FORM: &str =
+    "every is how many cycles apart its frames are offered: a whole number that divides 80";
+
+/// The form of the first of these cycles, in words.
+pub(crate) const PHASE_FORM: &str =
+    "phase is the first of the cycles in which its frames are offered: a whole number below every";
+
 /// The form of the cycle times of a sketch, in words.
 pub(crate) const CYCLES_FORM: &str =
     "a cycle time is a whole number, 10,000 to 10,000,000 ns, and a sketch may have an array of 1 to 1,000 of them";
@@ -99,6 +107,8 @@ fn form_of_stream(key: &str) -> Option<(Form, &'static str)> {
             Form::Number(0, 4_294_967_295),
             "a reservation is a whole number, 64 to 60,000 octets a cycle",
         )),
+        "every" => Some((Form::Number(0, 4_294_967_295), EVERY_FORM)),
+        "phase" => Some((Form::Number(0, 4_294_967_295), PHASE_FORM)),
         "path" => Some((Form::Path, PATH_FORM)),
         "paths" => Some((Form::Paths, PATHS_FORM)),
         "deadline" => Some((

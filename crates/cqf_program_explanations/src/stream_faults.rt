@@ -1,15 +1,22 @@
 //! Streams that are refused for their own form (profile).
 
-use crate::forms::NAME_FORM;
+use crate::forms::{EVERY_FORM, NAME_FORM, PHASE_FORM};
 use crate::given::Given;
 use crate::network::Network;
 use crate::places::Place;
-use crate::plant::{Item, Kind};
+use crate::plant::{Item, Kind, number_of};
 use crate::told::Told;
 use crate::words::shortened;
 use cqf_units::Name;
 use std::alloc::{AllocError, Global};
 use toml::Value;
+
+/// In which cycles a stream is offered: in one of `every`, the first of which is `phase`.
+#[derive(Clone, Copy, Debug)]
+pub(crate) struct Pace {
+    pub every: u64,
+    pub phase: u64,
+}
 
 /// A stream as it is written.
 #[derive(Drop)]
@@ -18,6 +25,8 @@ pub(crate) struct Asked<'p> {
     pub name: &'p str,
     /// What it reserves, in octets a cycle.
     pub octets: u64,
+    /// In which cycles it is offered.
+    pub pace: Pace,
     /// Its paths, each its bridges in order and then a station.
     pub paths: Vec<Vec<&'p str>>,
 }
@@ -27,6 +36,7 @@ pub(crate) struct Asked<'p> {
 pub(crate) enum FormFault {
     BadName,
     BadOctets,
+    BadPace,
     UnknownNode,
     BrokenPath,
     LoopingPath,
@@ -42,6 +52,9 @@ enum Broken<'p> {
     EndsAtBridge(&'p str),
     TooLong,
 }
+
+/// After how many cycles each stream is offered again, as it was: each `every` divides them.
+pub(crate) const MOST_EVERY: u64 = 80;
 
 /// How many nodes a path has at most: 16 bridges and a station.
 const MOST_NODES: usize = 17;
@@ -70,12 +83,21 @@ fn paths_of<'p>(alloc: Global, item: &Item<'p>) -> Result<Vec<Vec<&'p str>>, All
     Ok(paths)
 }
 
+/// In which cycles a stream is offered: in each, where it isn't written.
+fn pace_of(item: &Item<'_>) -> Pace {
+    Pace {
+        every: item.get("every").map_or(1, number_of),
+        phase: item.number("phase"),
+    }
+}
+
 /// A stream as it is written.
 fn asked_of<'p>(alloc: Global, item: &Item<'p>) -> Result<Asked<'p>, AllocError> {
     Ok(Asked {
         item: *item,
         name: item.text("name").unwrap_or(""),
         octets: item.number("octets"),
+        pace: pace_of(item),
         paths: paths_of(alloc, item)?,
     })
 }
@@ -186,6 +208,24 @@ fn are_broken(network: &Network<'_>, paths: &[Vec<&str>]) -> bool {
             .any(|path| broken_of(network, path.as_slice()).is_some())
 }
 
+impl Pace {
+    /// Whether so many cycles apart are a part of those after which all is as it was.
+    fn divides(self) -> bool {
+        MOST_EVERY.checked_rem(self.every) == Some(0)
+    }
+
+    /// Whether the stream's frames are in this cycle on a link to which so many lead: they are on each a cycle later than on the one before.
+    pub(crate) fn is_turn(self, depth: u64, cycle: u64) -> bool {
+        let offered = self.phase.saturating_add(depth);
+        offered.checked_rem(self.every) == cycle.checked_rem(self.every)
+    }
+
+    /// Whether there are such cycles.
+    fn is_good(self) -> bool {
+        self.divides() && self.phase < self.every
+    }
+}
+
 impl Asked<'_> {
     /// Why the stream is refused for its own form.
     pub(crate) fn form_fault(&self, network: &Network<'_>) -> Option<FormFault> {
@@ -194,6 +234,8 @@ impl Asked<'_> {
             Some(FormFault::BadName)
         } else if self.item.get("octets").is_some() && (self.octets < 64 || self.octets > 60_000) {
             Some(FormFault::BadOctets)
+        } else if !self.pace.is_good() {
+            Some(FormFault::BadPace)
         } else if !self.has_paths() {
             None
         } else if paths
@@ -229,6 +271,29 @@ impl Asked<'_> {
     /// Where its paths stand.
     fn paths_place(&self) -> Place<'_> {
         self.item.place_of(self.paths_key())
+    }
+}
+
+/// Tells of the cycles of a stream that are none.
+fn tell_pace(given: &Given<'_>, told: &mut Told, asked: &Asked<'_>) -> Result<(), AllocError> {
+    let (label, Pace { every, phase }) = (asked.item.counted(given.alloc)?, asked.pace);
+    if !asked.pace.divides() {
+        let place = asked.item.place_of("every");
+        return told.tell(format!(in given.alloc;
+            "{place}: {label}: every = {every}: {EVERY_FORM}"
+        )?);
+    }
+    let place = asked.item.place_of("phase");
+    match asked.item.found("every") {
+        Some(found) => {
+            let other = found.place;
+            told.tell(format!(in given.alloc;
+                "{place}: {label}: phase = {phase}, and every = {every} at {other}: {PHASE_FORM}"
+            )?)
+        }
+        None => told.tell(format!(in given.alloc;
+            "{place}: {label}: phase = {phase}, and there is no every: {PHASE_FORM}"
+        )?),
     }
 }
 
@@ -358,6 +423,7 @@ fn tell_form(
                 "{place}: {label}: octets = {octets}: a reservation is 64 to 60,000 octets a cycle"
             )?)
         }
+        FormFault::BadPace => tell_pace(given, told, asked),
         FormFault::UnknownNode => tell_unknown_nodes(given, told, network, asked),
         FormFault::BrokenPath => tell_broken_paths(given, told, network, asked),
         FormFault::LoopingPath => tell_loops(given, told, asked),
@@ -370,6 +436,7 @@ pub(crate) fn form_fault_of(fault: &str) -> Option<FormFault> {
     match fault {
         "BadName" => Some(FormFault::BadName),
         "BadOctets" => Some(FormFault::BadOctets),
+        "BadPace" => Some(FormFault::BadPace),
         "UnknownNode" => Some(FormFault::UnknownNode),
         "BrokenPath" => Some(FormFault::BrokenPath),
         "LoopingPath" => Some(FormFault::LoopingPath),

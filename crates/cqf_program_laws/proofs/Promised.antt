@@ -7,7 +7,7 @@ use Rattle.std.proofs.lemmas.Bool.{ltb-true}
 use Rattle.std.proofs.lemmas.List.Elements.{All-contains}
 use Rattle.std.proofs.lemmas.Option.{get_or_from_slice_get, same_Some, slice_get-map}
 use Rattle.cqf_lists.specs.Lists.{each_below}
-use Rattle.cqf_lists.proofs.Members.{contains_filter, contains_flat, contains_from_map, contains_map, find_member, place_of_member}
+use Rattle.cqf_lists.proofs.Members.{contains_filter, contains_flat, contains_map, find_member, place_of_member}
 use Rattle.cqf_lists.proofs.Pairs.{one_of_pairs}
 use Rattle.cqf_units.specs.Timing.{nanos_of_octet}
 use Rattle.cqf_model.specs.declared.frames.Background.{Background}
@@ -15,12 +15,13 @@ use Rattle.cqf_model.specs.declared.frames.Offer.{Offer}
 use Rattle.cqf_model.specs.declared.frames.Offered.{Offered}
 use Rattle.cqf_model.specs.declared.topology.Hop.{Hop}
 use Rattle.cqf_model.specs.declared.topology.Node.TheVariants.{Station}
+use Rattle.cqf_model.specs.declared.topology.Pace.{Pace}
 use Rattle.cqf_model.specs.declared.topology.Row.{Row}
 use Rattle.cqf_model.specs.Book.{Contents}
 use Rattle.cqf_model.specs.Domain.{Domain, end_of, is_text}
-use Rattle.cqf_model.specs.History.{Asked, Branch, Recorded, held_in, is_pace, most_beside, pace_of, tables_of, tree_of}
+use Rattle.cqf_model.specs.History.{Asked, Branch, Recorded, held_in, most_beside, pace_of, tables_of, tree_of}
 use Rattle.cqf_model.specs.Limits.{most_every}
-use Rattle.cqf_model.proofs.EachCycle.{reserved_same}
+use Rattle.cqf_model.specs.Paces.{is_turn}
 use Rattle.cqf_model.specs.HistoryBook.{run_of_history}
 use Rattle.cqf_model.specs.Run.{Run}
 use Rattle.cqf_model.specs.Shift.{IsCovered, offer_cycle}
@@ -31,7 +32,7 @@ use Rattle.cqf_laws_shift.proofs.Covered.{three_and}
 use Rattle.cqf_laws_shift.proofs.Trees.{same_hop}
 use Rattle.cqf_laws_latency.specs.Latency.{least_of, most_of, whole_of}
 use Rattle.cqf_laws_latency.specs.Listeners.{BranchesEnd}
-use Rattle.cqf_laws_latency.specs.Streams.{AdmittedHaveNames, AreGranted, ArePaced, IsOfList, ListCostsItsTable, RowsAreOfList, most_beside_all}
+use Rattle.cqf_laws_latency.specs.Streams.{AdmittedHaveNames, AreGranted, IsOfList, ListCostsItsTable, RowsAreOfList, most_beside_all}
 use Rattle.cqf_laws_latency.specs.Verdicts.{InTime, Late, MayBeLate, Sure, sure_of, sure_on}
 use Rattle.cqf_laws_traffic.specs.Covered.{ConformingOwnIsCovered, ConformingStreamIsCovered, is_own, own_offers}
 use Rattle.cqf_laws_traffic.specs.InTime.{ArrivesInTime, ComesThrough, ConformingOwnIsInTime, ConformingStreamIsInTime, IsBookOverList}
@@ -47,6 +48,7 @@ use Rattle.cqf_program_plans.specs.LatencyInput.{asked_in as asked_in_plan}
 use Rattle.cqf_program_plans.specs.LatencyText.{deadline_of, is_not_sure, is_station, latencies_of, latencies_of_row, latency_to, listeners_of, may_miss}
 use Rattle.cqf_program_plans.specs.LatencyText.{said_of_latency}
 use Rattle.cqf_program_plans.proofs.CompileLemmas.{same_ok}
+use Rattle.cqf_program_plans.proofs.GrantedPlans.{plan_paced}
 use Rattle.cqf_program_offers.specs.OffersOutput.{asked_in}
 use Rattle.cqf_program_placing.specs.declared.faults.PlanFault.{PlanFault}
 use Rattle.cqf_program_placing.specs.declared.faults.PlanFault.TheVariants.{TooSoon}
@@ -191,8 +193,9 @@ module _ (held : GrantedIsHeld) (goes_on : HistoryGoesOn) (counted : SealsAreCou
     enough =
         let of = of_list d entries all cycles (offer_cycle d x) row over.only member.0 in
         let octets : row.octets ≡ flow.0.0.octets = of.octets ∙ ap (λ (a : Asked). a.octets) (one_asked of) in
-        let same : reserved_in row 0 (offer_cycle d x) ≡ flow.0.0.octets =
-        reserved_same row 0 (offer_cycle d x) (of.pace ∙ ap pace_of (one_asked of)) ∙ octets in
+        let turn : is_turn row.pace 0 (offer_cycle d x) ≡ true =
+        ap (λ (p : Pace). is_turn p 0 (offer_cycle d x)) (of.pace ∙ ap pace_of (one_asked of)) ∙ promised.in_turn in
+        let same : reserved_in row 0 (offer_cycle d x) ≡ flow.0.0.octets = ap (λ (b : Bool). if b then row.octets else 0) turn ∙ octets in
         let needs : needed d.cycle_time (promise_of t) ≤ flow.0.0.octets =
         All-contains (λ (f : FlowText). ForSome f.1 (λ (u : TrafficText). needed d.cycle_time (promise_of u) ≤ f.0.0.octets)) flows flow plan.enough
         promised.listed t promised.has in
@@ -310,12 +313,6 @@ plans_keep_their_word held goes_on counted room of_list names costs ends covers 
           over flow t x row promised talker wished sent behind came;
     }
 
--- the streams of a plan are offered in each cycle
-flows_paced : (flows : List FlowText) → ArePaced (map asked_in flows)
-flows_paced flows asked among =
-    let (flow, listed, same) = contains_from_map asked_in flows asked among in
-    subst (λ (a : Asked). is_pace a.every a.phase ≡ true) same refl
-
 -- the streams of a plan, with their traffic and without
 asked_without : (flows : List FlowText) → asked_in_plan (map (λ (flow : FlowText). flow.0) flows) ≡ map asked_in flows
 asked_without [] = refl
@@ -330,7 +327,7 @@ plans_keep_their_word_to_scripts keep asks histories legal cycles input s flows 
       accepted = accepted;
       legal = legal cycles s short may.room;
       only = histories cycles s (map asked_in flows) only;
-      paced = flows_paced flows;
+      paced = plan_paced s.domain (map asked_in flows) plan.entries plan.admitted;
       offered = may.offers;
       beside = may.background;
       is_book = is.is_book;
@@ -345,7 +342,7 @@ plans_keep_their_word_on_threads keep asks accounts cycles input s flows entries
       accepted = accepted;
       legal = account.history.legal;
       only = accounts cycles s (map asked_in flows) asked entries only commands account.history;
-      paced = flows_paced flows;
+      paced = plan_paced s.domain (map asked_in flows) plan.entries plan.admitted;
       offered = may.offers;
       beside = may.background;
       is_book = record { sealed = account.sealed; is_book = account.keeps.is_book };

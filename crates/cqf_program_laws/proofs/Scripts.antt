@@ -19,7 +19,7 @@ use Rattle.cqf_text.specs.Lines.{lines_of}
 use Rattle.cqf_text.specs.Parts.{parts_of}
 use Rattle.cqf_topology.specs.DomainText.{domain_of_text}
 use Rattle.cqf_topology.specs.PlannedText.{PlannedText, planned_of_text}
-use Rattle.cqf_topology.specs.StreamsText.{RequestText, streams_of_text}
+use Rattle.cqf_topology.specs.PacedText.{PacedText, paced_of_text}
 use Rattle.cqf_admission.specs.Asking.{asked_by}
 use Rattle.cqf_admission_script.specs.declared.faults.ScriptFault.{ScriptFault}
 use Rattle.cqf_admission_script.specs.declared.faults.ScriptFault.TheVariants.{BadLine, UnknownStream, TooMany}
@@ -191,12 +191,12 @@ scenarios_ask_only cycles texts s requests h streams =
     let a = stepped {B = Scenario} (or_line domain_line (domain_of_text texts.domain))
     (λ (d : Domain). and_then (calls_in cycles texts) (made_by texts d)) s h in
     let b = stepped {B = Scenario} (calls_in cycles texts) (made_by texts a.0) s a.2 in
-    let e = stepped {B = List Called} (or_line streams_line (streams_of_text texts.streams)) (λ (found : List RequestText).
+    let e = stepped {B = List Called} (or_line streams_line (paced_of_text texts.streams)) (λ (found : List PacedText).
     or_line script_line (script_of (map asked_by found) cycles texts.script)) b.0 b.1 in
-    let read : e.0 ≡ requests = same_ok e.0 requests (sym (lined streams_line (streams_of_text texts.streams) e.0 e.1) ∙ streams) in
+    let read : e.0 ≡ requests = same_ok e.0 requests (sym (lined streams_line (paced_of_text texts.streams) e.0 e.1) ∙ streams) in
     let calls = lined script_line (script_of (map asked_by e.0) cycles texts.script) b.0 e.2 in
     subst (λ (xs : List Called). AskOnly (map asked_by requests) xs) (made_calls texts a.0 b.0 s b.2)
-    (subst (λ (found : List RequestText). AskOnly (map asked_by found) b.0) read (scripts_ask_only (map asked_by e.0) cycles texts.script b.0 calls))
+    (subst (λ (found : List PacedText). AskOnly (map asked_by found) b.0) read (scripts_ask_only (map asked_by e.0) cycles texts.script b.0 calls))
 
 -- of a scenario behind its domain and its streams
 behind_ask : (cycles : ℕ) (d : Domain) (streams : List Asked) (texts : RunTexts) (s : Scenario) → scenario_behind cycles d streams texts ≡ Ok s →

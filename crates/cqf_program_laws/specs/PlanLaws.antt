@@ -1,5 +1,5 @@
 -- A plan that was told keeps its word: of a stream whose talker keeps its own, no frame is lost and none is late (profile).
-use Rattle.std.specs.Prelude.{ℕ, ◌≡◌, ◌⊎◌, ◌+◌, ◌<◌, ◌≤◌, List, [], All, Contains, false, map, Option, Some, Ok, slice_get}
+use Rattle.std.specs.Prelude.{ℕ, ◌≡◌, ◌⊎◌, ◌+◌, ◌<◌, ◌≤◌, List, [], All, Contains, false, true, map, Option, Some, Ok, slice_get}
 use Rattle.std.specs.Option.{ForSome}
 use Rattle.cqf_model.specs.declared.frames.Background.{Background}
 use Rattle.cqf_model.specs.declared.frames.Offer.{Offer}
@@ -8,9 +8,10 @@ use Rattle.cqf_model.specs.declared.topology.Row.{Row}
 use Rattle.cqf_model.specs.Book.{Contents}
 use Rattle.cqf_model.specs.Domain.{Domain, IsAccepted}
 use Rattle.cqf_model.specs.Headline.{IsAccountOf}
-use Rattle.cqf_model.specs.History.{Act, Asked, Branch, Recorded, held_in}
+use Rattle.cqf_model.specs.History.{Act, Asked, Branch, Recorded, held_in, pace_of}
 use Rattle.cqf_model.specs.HistoryBook.{run_of_history}
 use Rattle.cqf_model.specs.Limits.{most_cycles}
+use Rattle.cqf_model.specs.Paces.{is_turn}
 use Rattle.cqf_model.specs.Run.{Run}
 use Rattle.cqf_model.specs.Shift.{IsCovered, offer_cycle}
 use Rattle.cqf_laws_latency.specs.Latency.{whole_of}
@@ -44,14 +45,15 @@ pub record IsKeptPlan (d : Domain) (flows : List FlowText) : Type 0 where
   pub in_time : All (λ (latency : Latency). is_not_sure latency ≡ false)
       (latencies_of d (held_in d entries 0) (map (λ (flow : FlowText). flow.0.1) flows))
 
--- a frame that is promised to come: it is offered of a stream of the plan at its edge, while a row of the stream's name is live, and its
--- talker keeps its word, in all that is offered by that name, or in the stream's own offers
+-- a frame that is promised to come: it is offered of a stream of the plan at its edge, in a cycle in which the stream is offered, while a
+-- row of the stream's name is live, and its talker keeps its word, in all that is offered by that name, or in the stream's own offers
 pub record IsPromised (run : Run) (flows : List FlowText) (flow : FlowText) (t : TrafficText) (x : Offered) (row : Row) : Type 0 where
   pub listed : Contains flows flow
   pub has : flow.1 ≡ Some t
   pub is_traffic : IsTraffic (promise_of t)
   pub name : row.name ≡ flow.0.0.name
   pub at_edge : IsAtItsEdge run x row
+  pub in_turn : is_turn (pace_of (asked_in flow)) 0 (offer_cycle run.domain x) ≡ true
   pub keeps : Conforms (promise_of t) (offers_named flow.0.0.name run.offers) ⊎ Conforms (promise_of t) (own_offers run row.no)
 
 -- the frame leaves on a link of this depth as many cycles after its own, and is whole at the link's end within the plan's bounds, and

@@ -4,7 +4,7 @@ use Rattle.cqf_model.specs.Calls.{IsHistoryOf}
 use Rattle.cqf_model.specs.History.{Act, Asked, IsLegalHistory, Recorded}
 use Rattle.cqf_model.specs.Limits.{most_cycles}
 use Rattle.cqf_topology.specs.PlannedText.{PlannedText}
-use Rattle.cqf_topology.specs.StreamsText.{RequestText, streams_of_text}
+use Rattle.cqf_topology.specs.PacedText.{PacedText, paced_of_text}
 use Rattle.cqf_admission.specs.Asking.{asked_by}
 use Rattle.cqf_admission_script.specs.Script.{Called, script_of}
 use Rattle.cqf_laws_latency.specs.Streams.{AdmitsOnly}
@@ -28,8 +28,8 @@ ScriptsAskOnly = (requests : List Asked) (cycles : ℕ) (text : List ℕ) (calls
 
 -- so it is with the scenario of an input's parts, whose streams text has these requests
 abbrev pub ScenariosAskOnly : Type 0
-ScenariosAskOnly = (cycles : ℕ) (texts : RunTexts) (s : Scenario) (requests : List RequestText) → scenario_of cycles texts ≡ Ok s →
-    streams_of_text texts.streams ≡ Ok requests → AskOnly (map asked_by requests) s.calls
+ScenariosAskOnly = (cycles : ℕ) (texts : RunTexts) (s : Scenario) (requests : List PacedText) → scenario_of cycles texts ≡ Ok s →
+    paced_of_text texts.streams ≡ Ok requests → AskOnly (map asked_by requests) s.calls
 
 -- and with that of an input that is read with its deadlines
 abbrev pub PlannedScenariosAskOnly : Type 0

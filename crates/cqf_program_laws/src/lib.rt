@@ -48,9 +48,9 @@ pub fn told_verdicts_hold()
 
 /// A plan keeps its word whose streams are all admitted before cycle 0, each with as much as its talker needs of a cycle, and none of
 /// which may miss its deadline. In each run that admits streams of the plan alone, whatever is withdrawn and offered by others, and
-/// beside any background frames, take a frame that a talker which keeps its own word offers of one of them at its edge, while the stream
-/// is live. It is covered, so it leaves on each link of its tree, and it is whole at each of the stream's listeners within its deadline,
-/// from its offer on. So it is in each script over the plan, on one thread and on threads.
+/// beside any background frames, take a frame that a talker which keeps its own word offers of one of them at its edge, in a cycle in
+/// which the stream is offered, while it is live. It is covered, so it leaves on each link of its tree, and it is whole at each of the
+/// stream's listeners within its deadline, from its offer on. So it is in each script over the plan, on one thread and on threads.
 ///
 /// Where the plan's deadline is what a talker's link leaves of that of a sketch, as it is of each stream that was settled, the frame is
 /// there within the sketch's deadline, from the instant at which the talker begins to send it (profile).

@@ -8,7 +8,7 @@ use Rattle.cqf_model.specs.History.{Asked}
 use Rattle.cqf_text.specs.Parts.{parts_of}
 use Rattle.cqf_topology.specs.DomainText.{domain_of_text}
 use Rattle.cqf_topology.specs.PlannedText.{planned_of_text}
-use Rattle.cqf_topology.specs.StreamsText.{streams_of_text}
+use Rattle.cqf_topology.specs.PacedText.{paced_of_text}
 use Rattle.cqf_admission.specs.Asking.{asked_by}
 use Rattle.cqf_admission_script.specs.Script.{script_of}
 use Rattle.cqf_traffic.specs.FlowsText.{FlowText, flows_of_text}
@@ -51,7 +51,7 @@ input_of first rest = first_text false first ++ flat_map text_behind rest
 -- the streams of a part, with their deadlines read or not
 abbrev pub asked_of_part : Bool → List ℕ → Result (List Asked) (List ℕ)
 asked_of_part true text = and_then (or_line streams_line (planned_of_text text)) (λ streams. Ok (asked_by_planned streams))
-asked_of_part false text = and_then (or_line streams_line (streams_of_text text)) (λ streams. Ok (map asked_by streams))
+asked_of_part false text = and_then (or_line streams_line (paced_of_text text)) (λ streams. Ok (map asked_by streams))
 
 -- a plant alone: calls and offers are made
 abbrev pub with_both : ℕ → List ℕ → List ℕ → Result (List ℕ) (List ℕ)

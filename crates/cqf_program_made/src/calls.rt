@@ -1,18 +1,18 @@
 //! Calls that admit all streams before cycle 0.
 ghost use Rattle.std.specs.Prelude.{◌≡◌, ◌++◌, IfErr, IfOk, Ok, map, string_bytes};
-ghost use Rattle.cqf_admission.specs.Asking.{asked_of};
+ghost use Rattle.cqf_admission.specs.Asking.{asked_paced};
 ghost use Rattle.cqf_program_made.specs.Made.{call_of, made_calls, script_text};
 ghost use Rattle.cqf_program_stop.specs.Stops.{IsRefused};
 
 use cqf_program_plans::rows_of_cycle_0;
 use cqf_program_stop::Stop;
-use cqf_topology::{Domain, Request};
+use cqf_topology::{Domain, PacedRequest};
 use cqf_units::Memory;
 use std::alloc::Global;
 
 /// The line of a script that admits a stream.
-fn call_of(alloc: Global, request: &Request) -> Result<String, Memory>
-    ensures { IfOk result (λ line. string_bytes line ≡ call_of (asked_of request.now)) }
+fn call_of(alloc: Global, request: &PacedRequest) -> Result<String, Memory>
+    ensures { IfOk result (λ line. string_bytes line ≡ call_of (asked_paced request.now)) }
 {
     let name = request.name.as_str();
     let line = format!(in alloc; "0 admit {name}\n")?;
@@ -20,8 +20,8 @@ fn call_of(alloc: Global, request: &Request) -> Result<String, Memory>
 }
 
 /// The script that admits streams.
-fn script_text(alloc: Global, requests: &[Request]) -> Result<Vec<u8>, Memory>
-    ensures { IfOk result (λ text. text.items ≡ script_text (map asked_of requests.now)) }
+fn script_text(alloc: Global, requests: &[PacedRequest]) -> Result<Vec<u8>, Memory>
+    ensures { IfOk result (λ text. text.items ≡ script_text (map asked_paced requests.now)) }
 {
     let mut text = Vec::new(alloc);
     for request in requests {
@@ -38,10 +38,10 @@ fn script_text(alloc: Global, requests: &[Request]) -> Result<Vec<u8>, Memory>
 pub(crate) fn made_calls(
     alloc: Global,
     domain: &Domain,
-    requests: &[Request],
+    requests: &[PacedRequest],
 ) -> Result<Vec<u8>, Stop>
-    ensures ok { IfOk result (λ text. made_calls domain.now (map asked_of requests.now) ≡ Ok text.items) }
-    ensures err { IfErr result (IsRefused (made_calls domain.now (map asked_of requests.now))) }
+    ensures ok { IfOk result (λ text. made_calls domain.now (map asked_paced requests.now) ≡ Ok text.items) }
+    ensures err { IfErr result (IsRefused (made_calls domain.now (map asked_paced requests.now))) }
 {
     let _rows = rows_of_cycle_0(alloc, domain, requests)?;
     match script_text(alloc, requests) {

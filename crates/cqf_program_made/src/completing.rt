@@ -1,7 +1,7 @@
 //! Inputs with what isn't given.
 ghost use Rattle.std.specs.Prelude.{ℕ, ◌≡◌, [], ◌∷◌, IfErr, IfOk, List, Ok, map};
 ghost use Rattle.std.specs.Option.{option_map_or};
-ghost use Rattle.cqf_admission.specs.Asking.{asked_of};
+ghost use Rattle.cqf_admission.specs.Asking.{asked_paced};
 ghost use Rattle.cqf_admission_script.specs.Script.{script_of};
 ghost use Rattle.cqf_admission_requests.specs.Orders.{ordered_in};
 ghost use Rattle.cqf_program_made.specs.Made.{calls_for, input_of, is_planned, made_for, made_of_parts, with_both, with_calls, with_offers};
@@ -18,7 +18,7 @@ use cqf_program_scenario::{domain_part, script_part};
 use cqf_program_stop::Stop;
 use cqf_program_words::{Job, joined};
 use cqf_text::parts;
-use cqf_topology::Request;
+use cqf_topology::PacedRequest;
 use std::alloc::Global;
 
 /// Whether a job reads deadlines.
@@ -63,12 +63,12 @@ fn with_both(alloc: Global, cycles: u32, domain: &[u8], streams: &[u8]) -> Resul
 fn check_script(
     alloc: Global,
     cycles: u32,
-    requests: &[Request],
+    requests: &[PacedRequest],
     script: &[u8],
 ) -> Result<Vec<Ordered>, Stop>
-    ensures ok { IfOk result (λ orders. script_of (map asked_of requests.now) cycles script.now
-        ≡ Ok (map (ordered_in (map asked_of requests.now) script.now) orders.items)) }
-    ensures err { IfErr result (IsRefused (or_line script_line (script_of (map asked_of requests.now) cycles script.now))) }
+    ensures ok { IfOk result (λ orders. script_of (map asked_paced requests.now) cycles script.now
+        ≡ Ok (map (ordered_in (map asked_paced requests.now) script.now) orders.items)) }
+    ensures err { IfErr result (IsRefused (or_line script_line (script_of (map asked_paced requests.now) cycles script.now))) }
 {
     let Ok(names) = Names::new(alloc, requests) else {
         return Err(Stop::memory(alloc));

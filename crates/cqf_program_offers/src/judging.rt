@@ -1,7 +1,7 @@
 //! Streams that are judged one after the other, as `load` judges them.
 ghost use Rattle.std.specs.Prelude.{◌≡◌, ◌++◌, ◌∷◌, [], ◌<◌, ◌^◌, List, IfErr, IfOk, string_bytes};
 ghost use Rattle.std.specs.List.{list_any};
-ghost use Rattle.cqf_admission.specs.Asking.{asked_of};
+ghost use Rattle.cqf_admission.specs.Asking.{asked_paced};
 ghost use Rattle.cqf_admission_trees.specs.Branches.{branches_of, places_of};
 ghost use Rattle.cqf_model.specs.Domain.{is_text};
 ghost use Rattle.cqf_model.specs.History.{Asked};
@@ -10,12 +10,12 @@ ghost use Rattle.cqf_program_plans.specs.Listing.{Weighs};
 ghost use Rattle.cqf_program_plans.specs.LoadOutput.{listed_from};
 ghost use Rattle.cqf_program_stop.specs.Stops.{IsRefused};
 
-use cqf_admission::{Judged, judge};
+use cqf_admission::{Judged, judge_paced};
 use cqf_admission_trees::count_places;
 use cqf_model::{Refused, Row};
 use cqf_program_plans::stream_stop;
 use cqf_program_stop::Stop;
-use cqf_topology::{Domain, Request};
+use cqf_topology::{Domain, PacedRequest};
 use cqf_units::{Cycle, Name};
 use std::alloc::Global;
 
@@ -28,11 +28,11 @@ fn has_name(rows: &[Row], name: &Name) -> bool
 
 /// The first reason but that a link has no room against a request beside others, which asks for less than 2^64 places, or what it is by
 /// itself.
-fn weigh(domain: &Domain, rows: &[Row], request: &Request) -> Result<Judged, Refused>
+fn weigh(domain: &Domain, rows: &[Row], request: &PacedRequest) -> Result<Judged, Refused>
     requires { places_of (branches_of request.now.paths.items) < 2 ^ 64 }
-    ensures { Weighs domain.now rows.now (asked_of request.now) result }
+    ensures { Weighs domain.now rows.now (asked_paced request.now) result }
 {
-    let judged = judge(domain, request)?;
+    let judged = judge_paced(domain, request)?;
     if has_name(rows, &judged.name) {
         return Err(Refused::NameHeld);
     }
@@ -47,12 +47,12 @@ pub(crate) fn row_of(
     alloc: Global,
     domain: &Domain,
     rows: &[Row],
-    request: &Request,
+    request: &PacedRequest,
 ) -> Result<Row, Stop>
     ensures ok { IfOk result (λ row. (more : List Asked) →
-        listed_from domain.now rows.now (asked_of request.now ∷ more) ≡ listed_from domain.now (rows.now ++ row ∷ []) more) }
+        listed_from domain.now rows.now (asked_paced request.now ∷ more) ≡ listed_from domain.now (rows.now ++ row ∷ []) more) }
     ensures named { IfOk result (λ row. row.name ≡ string_bytes request.now.name) }
-    ensures err { IfErr result (λ stop. (more : List Asked) → IsRefused (listed_from domain.now rows.now (asked_of request.now ∷ more)) stop) }
+    ensures err { IfErr result (λ stop. (more : List Asked) → IsRefused (listed_from domain.now rows.now (asked_paced request.now ∷ more)) stop) }
 {
     if count_places(request.paths.as_slice()).is_none() {
         return Err(Stop::memory(alloc));

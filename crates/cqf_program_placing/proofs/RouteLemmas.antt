@@ -12,12 +12,10 @@ use Rattle.cqf_model.specs.declared.topology.Link.{Link}
 use Rattle.cqf_model.specs.declared.topology.Node.{Node}
 use Rattle.cqf_model.specs.declared.topology.Node.TheVariants.{Bridge, Station}
 use Rattle.cqf_model.specs.declared.topology.Row.{Row}
-use Rattle.cqf_model.specs.Domain.{Domain, IsAccepted, IsNode, bridge_of, budget}
+use Rattle.cqf_model.specs.Domain.{Domain, IsAccepted, IsNode, bridge_of}
 use Rattle.cqf_model.specs.History.{Branch}
-use Rattle.cqf_model.specs.Table.{link_cost}
 use Rattle.cqf_model.proofs.Represented.{few_links, few_bridges}
 use Rattle.cqf_admission.specs.Costs.{left_beside}
-use Rattle.cqf_admission.proofs.CostLemmas.{most_from_each}
 use Rattle.arrayvec.specs.ArrayVec.{ArrayVec}
 use Rattle.cqf_ways.specs.Listeners.{AreFirstWays, IsFirstWithout}
 use Rattle.cqf_ways.specs.WayLaws.{FullWaysHaveAShortLink, NothingHasRoomEverywhere}
@@ -99,11 +97,6 @@ lefts_many d rows = length-singles (left_beside d rows) (length d.links)
 
 pub left_there : (d : Domain) (rows : List Row) (l : ℕ) → l < length d.links → get_or (lefts_on d rows) l 0 ≡ left_beside d rows l
 left_there d rows l inside = get_or-singles (left_beside d rows) (length d.links) l 0 inside
-
--- where its streams cost as much in each cycle, a link has left what is over of its budget
-pub left_of_each : (d : Domain) (rows : List Row) (l most held : ℕ) → most ≡ budget d l → ((cycle : ℕ) → held ≡ link_cost rows l cycle) →
-    most - held ≡ left_beside d rows l
-left_of_each d rows l most held is each = let same = sym (most_from_each rows l held each) in (λ i. is i - same i)
 
 -- a way asks for nothing where each link has room
 all_pass : (way : List ℕ) → list_all (λ l. true) way ≡ true

@@ -12,7 +12,7 @@ use Rattle.cqf_model.specs.Limits.{most_reserved}
 use Rattle.cqf_laws_traffic.specs.Traffic.{needed}
 use Rattle.cqf_ways.specs.Listeners.{AreFirstWays, IsFirstWithout}
 use Rattle.cqf_ways.specs.Ways.{IsFirstWay, has_room, short_link}
-use Rattle.cqf_admission.specs.Asking.{asked_of}
+use Rattle.cqf_admission.specs.Asking.{asked_paced}
 use Rattle.cqf_report.specs.Books.{name_of_bridge, name_of_node}
 use Rattle.cqf_traffic.specs.TrafficText.{TrafficText, promise_of}
 use Rattle.cqf_admission.specs.Costs.{left_beside}
@@ -30,7 +30,7 @@ pub data PlacedOr : Type 0 where
   Unplaced : PlanFault → PlacedOr
 
 abbrev pub outcome_value : Outcome → PlacedOr
-outcome_value (outcome.Placed request) = Placed (asked_of request)
+outcome_value (outcome.Placed request) = Placed (asked_paced request)
 outcome_value (outcome.Unplaced found) = Unplaced found
 
 -- the reservation of a stream: what its traffic needs of a cycle, or the octets that it asks for, which have to be enough

@@ -1,7 +1,7 @@
 //! Streams that are asked for.
 ghost use Rattle.std.specs.Prelude.{ℕ, ◌≡◌, ◌<◌, IfOk, Some, length};
 ghost use Rattle.cqf_admission.specs.Admission.{calls};
-ghost use Rattle.cqf_admission.specs.Asking.{asked_of};
+ghost use Rattle.cqf_admission.specs.Asking.{asked_paced};
 ghost use Rattle.cqf_model.specs.History.{held_in, refusal_of, seals};
 ghost use Rattle.cqf_model.specs.Limits.{most_calls};
 ghost use Rattle.cqf_program_plans.specs.CompileOutput.{with_asked};
@@ -10,7 +10,7 @@ ghost use Rattle.cqf_program_placing.specs.Placing.{answered, fault_of_refusal, 
 use crate::branches::{end_of_link, start_of_link};
 use crate::{Outcome, PlanFault};
 use cqf_admission::{Admission, Refused};
-use cqf_topology::{Domain, Request};
+use cqf_topology::{Domain, PacedRequest};
 use cqf_units::Memory;
 use std::alloc::AllocError;
 
@@ -36,16 +36,16 @@ fn fault_of_refusal(domain: &Domain, refused: Refused) -> PlanFault
 pub(crate) fn ask(
     domain: &Domain,
     admission: &mut Admission,
-    request: Request,
+    request: PacedRequest,
 ) -> Result<Outcome, Memory>
     requires domain { admission.old.domain ≡ domain.now }
     requires free { calls admission.old.entries < most_calls }
     ensures domain { admission.new.domain ≡ domain.now }
     ensures answered { let d = domain.now in let entries = admission.old.entries in IfOk result (λ outcome. outcome_value outcome
-        ≡ answered d (asked_of request) (refusal_of d (held_in d entries (seals entries)) (asked_of request))) }
-    ensures entered { IfOk result (λ _. admission.new.entries ≡ with_asked domain.now admission.old.entries (asked_of request)) }
+        ≡ answered d (asked_paced request) (refusal_of d (held_in d entries (seals entries)) (asked_paced request))) }
+    ensures entered { IfOk result (λ _. admission.new.entries ≡ with_asked domain.now admission.old.entries (asked_paced request)) }
 {
-    match admission.admit(SEAT, &request) {
+    match admission.admit_paced(SEAT, &request) {
         Ok(_) => Ok(Outcome::Placed(request)),
         Err(refused) => match refused {
             Refused::Memory => Err(AllocError),

@@ -1,13 +1,13 @@
 //! What becomes of a stream on a cycle time.
 
 use crate::PlanFault;
-use cqf_topology::Request;
+use cqf_topology::PacedRequest;
 
 /// What becomes of a stream on a cycle time.
 #[derive(Debug, Drop)]
 pub enum Outcome {
     /// It is placed, with this request.
-    Placed(Request),
+    Placed(PacedRequest),
     /// It isn't, and holds nothing.
     Unplaced(PlanFault),
 }

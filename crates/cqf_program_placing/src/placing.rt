@@ -1,7 +1,8 @@
 //! Settled streams, placed on a cycle time one after the other.
 ghost use Rattle.std.specs.Prelude.{ℕ, ◌≡◌, ◌+◌, ◌∷◌, ◌<◌, ◌≤◌, [], All, Err, IfErr, IfOk, Ok, length, map};
 ghost use Rattle.cqf_admission.specs.Admission.{calls};
-ghost use Rattle.cqf_admission.specs.Tables.{AreAlongLinks, AreOfEachCycle};
+ghost use Rattle.cqf_admission.specs.Tables.{AreAlongLinks};
+ghost use Rattle.cqf_admission_trees.specs.Turns.{AreOfGoodPaces};
 ghost use Rattle.cqf_admission_trees.specs.Branches.{branches_of};
 ghost use Rattle.cqf_laws_history.specs.StateLaws.{AreHeld};
 ghost use Rattle.cqf_admission.specs.Costs.{left_beside};
@@ -21,7 +22,7 @@ use cqf_admission::{Admission, SealFault, Table};
 use cqf_laws_history::state_follows_history;
 use cqf_model::{Link, Row};
 use cqf_sketch::SketchDomain;
-use cqf_topology::{Domain, Request};
+use cqf_topology::{Domain, PacedRequest};
 use cqf_units::{Memory, Octets, budget, cost};
 use cqf_ways::Room;
 use std::alloc::{AllocError, Global};
@@ -135,9 +136,11 @@ fn place_with(
         },
     };
     let name = String::from_str(alloc, stream.name.as_str())?;
-    let request = Request {
+    let request = PacedRequest {
         name,
         octets,
+        every: 1,
+        phase: 0,
         paths,
     };
     let outcome = ask(domain, admission, request)?;
@@ -219,7 +222,7 @@ pub fn place(
 /// The rows of a table, by number.
 fn rows_of_table(alloc: Global, table: &Table) -> Result<Vec<Row>, Memory>
     ensures rows { IfOk result (λ rows. rows.items ≡ table.now.rows) }
-    ensures paced { IfOk result (λ rows. AreOfEachCycle rows.items) }
+    ensures good { IfOk result (λ rows. AreOfGoodPaces rows.items) }
 {
     let mut rows = Vec::new(alloc);
     for row in table.rows() {
@@ -235,7 +238,7 @@ fn sealed_rows(alloc: Global, admission: Admission) -> Result<(Domain, Vec<Row>)
     ensures rows { IfOk result (λ told. told.1.items ≡ held_in admission.domain admission.entries (seals admission.entries)) }
     ensures along { IfOk result (λ told. AreAlongLinks admission.domain told.1.items) }
     ensures sound { IfOk result (λ told. (next : ℕ) × AreHeld admission.domain told.1.items next 0) }
-    ensures paced { IfOk result (λ told. AreOfEachCycle told.1.items) }
+    ensures good { IfOk result (λ told. AreOfGoodPaces told.1.items) }
 {
     state_follows_history();
     let mut admission = admission;
@@ -269,7 +272,7 @@ impl Placing {
         ensures rows { IfOk result (λ parts. parts.1.items ≡ held_in self.domain self.entries (seals self.entries)) }
         ensures along { IfOk result (λ parts. AreAlongLinks self.domain parts.1.items) }
         ensures sound { IfOk result (λ parts. (next : ℕ) × AreHeld self.domain parts.1.items next 0) }
-        ensures paced { IfOk result (λ parts. AreOfEachCycle parts.1.items) }
+        ensures good { IfOk result (λ parts. AreOfGoodPaces parts.1.items) }
         ensures outcomes { IfOk result (λ parts. map outcome_value parts.2.items ≡ self.outcomes) }
     {
         let Placing {
@@ -289,7 +292,7 @@ impl Placing {
         ensures rows { IfOk result (λ parts. parts.1.items ≡ held_in self.domain self.entries (seals self.entries)) }
         ensures along { IfOk result (λ parts. AreAlongLinks self.domain parts.1.items) }
         ensures sound { IfOk result (λ parts. (next : ℕ) × AreHeld self.domain parts.1.items next 0) }
-        ensures paced { IfOk result (λ parts. AreOfEachCycle parts.1.items) }
+        ensures good { IfOk result (λ parts. AreOfGoodPaces parts.1.items) }
     {
         sealed_rows(alloc, self.admission)
     }

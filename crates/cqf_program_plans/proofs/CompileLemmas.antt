@@ -9,13 +9,13 @@ use Rattle.cqf_model.specs.declared.history.Reply.TheVariants.{Accepted, Refused
 use Rattle.cqf_model.specs.declared.topology.Row.{Row}
 use Rattle.cqf_model.specs.Domain.{Domain}
 use Rattle.cqf_model.specs.History.{Admits, Asked, IsLegalHistory, Recorded, admit_reply, held_in, next_number, refusal_of, reply_to, seals}
-use Rattle.cqf_topology.specs.declared.streams.Request.{Request}
+use Rattle.cqf_topology.specs.declared.paced.PacedRequest.{PacedRequest}
 use Rattle.cqf_laws_history.specs.StateLaws.{AreHeld, GrantedFindsRoom, GrantedIsHeld, HeldAreSound, HistoryGoesOn, SealsAreCounted, granted_row, with_entry}
 use Rattle.cqf_admission.specs.Admission.{Administration, Answers, is_entered}
-use Rattle.cqf_admission.specs.Asking.{asked_by, asked_of}
+use Rattle.cqf_admission.specs.Asking.{asked_by, asked_paced}
 use Rattle.cqf_text.specs.Parts.{parts_of}
 use Rattle.cqf_topology.specs.DomainText.{domain_of_text}
-use Rattle.cqf_topology.specs.StreamsText.{request_text, streams_of_text}
+use Rattle.cqf_topology.specs.PacedText.{paced_text, paced_of_text}
 use Rattle.cqf_lists.specs.Results.{and_then, refuse}
 use Rattle.cqf_program_stop.specs.Stops.{EndsWith}
 use Rattle.cqf_program_plans.specs.CompileOutput.{AreAllHeld, admitted_from, compile_input, stream_line, with_asked}
@@ -179,13 +179,13 @@ refused-ends old new asked refused place stop more all answers line memory =
     line memory
 
 -- the domain and the streams that are read are the input's
-pub compile_input-is : (input domain_text streams_text : List ℕ) (domain : Domain) (requests : List Request) →
+pub compile_input-is : (input domain_text streams_text : List ℕ) (domain : Domain) (requests : List PacedRequest) →
     two_parts (parts_of input) ≡ Ok (domain_text, streams_text) → domain_of_text domain_text ≡ Ok domain →
-    streams_of_text streams_text ≡ Ok (map request_text requests) → compile_input input ≡ Ok (domain, map asked_of requests)
+    paced_of_text streams_text ≡ Ok (map paced_text requests) → compile_input input ≡ Ok (domain, map asked_paced requests)
 compile_input-is input domain_text streams_text domain requests parts domain_is streams_are =
     ap (λ found. and_then found (λ texts. and_then (or_line domain_line (domain_of_text texts.0))
-    (λ d. and_then (or_line streams_line (streams_of_text texts.1)) (λ read. Ok (d, map asked_by read))))) parts
+    (λ d. and_then (or_line streams_line (paced_of_text texts.1)) (λ read. Ok (d, map asked_by read))))) parts
     ∙ ap (λ found. and_then (or_line domain_line found)
-    (λ d. and_then (or_line streams_line (streams_of_text streams_text)) (λ read. Ok (d, map asked_by read)))) domain_is
+    (λ d. and_then (or_line streams_line (paced_of_text streams_text)) (λ read. Ok (d, map asked_by read)))) domain_is
     ∙ ap (λ found. and_then (or_line streams_line found) (λ read. Ok (domain, map asked_by read))) streams_are
     ∙ ap (λ asked. Ok (domain, asked)) (asked_texts requests)

@@ -2,10 +2,12 @@
 use Rattle.std.proofs.Common.{◌≡◌, ◌∙◌, ◌<◌, ◌++◌, ℕ, List, [], ◌∷◌, Option, Some, append_assoc, ap, codes, decimal}
 use Rattle.std.proofs.Common.{inl, inr, length, option_map, refl, slice_get, sym, arith}
 use Rattle.std.specs.Option.{option_map_or}
-use Rattle.std.proofs.lemmas.Fmt.{decimal_digit}
 use Rattle.std.proofs.lemmas.Option.{slice_get_cases}
+use Rattle.cqf_compile.specs.BridgeGates.{gate_at}
 use Rattle.cqf_compile.specs.ConfigText.{name_of, text_at, text_of_link}
-use Rattle.cqf_program_plans.specs.ConfigTold.{gate_entry_text, gate_text, port_list_text, row_front}
+use Rattle.cqf_program_plans.specs.ConfigTold.{port_list_text, row_front}
+use Rattle.cqf_gates.specs.StreamText.{line_of_open, octet_max_text, text_of_stream_entries}
+use Rattle.cqf_model.specs.declared.gates.StreamEntry.{StreamEntry}
 use Rattle.cqf_model.specs.declared.topology.Link.{Link}
 use Rattle.cqf_model.specs.declared.topology.Node.{Node}
 use Rattle.cqf_model.specs.declared.topology.Node.TheVariants.{Bridge, Station}
@@ -40,15 +42,16 @@ port_pieces d l text inside is = elim (slice_get_cases d.links l).1 [
 ]
 
 -- a stream's line at a bridge, and its gate behind it, piece by piece
-pub row_pieces : (d : Domain) (row : Row) (bridge : ℕ) → text_at d row bridge ≡ row_front row ++ (name_of_bridge d bridge ++ gate_text d.cycle_time row.octets)
-row_pieces d row bridge = append_assoc (row_front row) (name_of_bridge d bridge) (gate_text d.cycle_time row.octets)
+pub row_pieces : (d : Domain) (row : Row) (bridge : ℕ) →
+    text_at d row bridge ≡ (row_front row ++ (name_of_bridge d bridge ++ 10 ∷ [])) ++ text_of_stream_entries (gate_at d row bridge)
+row_pieces d row bridge =
+    let front : List ℕ = row_front row in
+    let name : List ℕ = name_of_bridge d bridge in
+    let gate : List ℕ = text_of_stream_entries (gate_at d row bridge) in
+    append_assoc front name (10 ∷ gate)
+    ∙ sym (append_assoc front (name ++ 10 ∷ []) gate ∙ ap (λ (text : List ℕ). front ++ text) (append_assoc name (10 ∷ []) gate))
 
--- a gate, as its two lines are put
-pub gate_pieces : (cycle_time reserved : ℕ) →
-    (gate_entry_text (codes "\nopen 6 ") cycle_time reserved ++ gate_entry_text (codes "\nopen 7 ") cycle_time reserved) ++ codes "\n"
-    ≡ gate_text cycle_time reserved
-gate_pieces cycle_time reserved =
-    let numbers : List ℕ → List ℕ = λ class. codes "open " ++ class ++ codes " " ++ decimal cycle_time ++ codes " " ++ decimal reserved in
-    append_assoc (gate_entry_text (codes "\nopen 6 ") cycle_time reserved) (gate_entry_text (codes "\nopen 7 ") cycle_time reserved) (codes "\n")
-    ∙ ap (λ (class : List ℕ). 10 ∷ (numbers class ++ 10 ∷ (numbers (55 ∷ []) ++ 10 ∷ []))) (sym (decimal_digit 6 (omega arith)))
-    ∙ ap (λ (class : List ℕ). 10 ∷ (numbers (decimal 6) ++ 10 ∷ (numbers class ++ 10 ∷ []))) (sym (decimal_digit 7 (omega arith)))
+-- the line of an entry in which frames may pass, piece by piece
+pub open_pieces : (entry : StreamEntry) →
+    codes "open " ++ (decimal entry.ipv ++ (codes " " ++ (decimal entry.interval ++ (codes " " ++ octet_max_text entry.octet_max)))) ≡ line_of_open entry
+open_pieces entry = simp append_assoc

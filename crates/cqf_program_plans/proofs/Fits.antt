@@ -45,15 +45,15 @@ fits_greatest left reserved least most =
     (λ costs. fits_forth (left / 84) left reserved refl least most costs, λ fits. fits_back (left / 84) left reserved refl least fits)
 
 -- where neither of two refusals is due
-first_none : (a b : Option Refused) → or_else a b ≡ None → a ≡ None
+pub first_none : (a b : Option Refused) → or_else a b ≡ None → a ≡ None
 first_none None b h = refl
 first_none (Some x) b h = cc
 
-second_none : (a b : Option Refused) → or_else a b ≡ None → b ≡ None
+pub second_none : (a b : Option Refused) → or_else a b ≡ None → b ≡ None
 second_none None b h = h
 second_none (Some x) b h = cc
 
-not_due : (due : Bool) (refused : Refused) → refused_if due refused ≡ None → due ≡ false
+pub not_due : (due : Bool) (refused : Refused) → refused_if due refused ≡ None → due ≡ false
 not_due false refused h = refl
 not_due true refused h = cc
 
@@ -172,7 +172,7 @@ within_both : (a b most : ℕ) → a ≤ most → b ≤ most → max a b ≤ mos
 within_both a b most first second = omega arith
 
 -- the most of what is taken in some turns is within what each of these is within
-most_taken : (test : ℕ → Bool) (costs : ℕ → ℕ) (most : ℕ) → ((turn : ℕ) → test turn ≡ true → costs turn ≤ most) → (n : ℕ) →
+pub most_taken : (test : ℕ → Bool) (costs : ℕ → ℕ) (most : ℕ) → ((turn : ℕ) → test turn ≡ true → costs turn ≤ most) → (n : ℕ) →
     fold max 0 (each_below (λ turn. if test turn then costs turn ∷ [] else []) n) ≤ most
 most_taken test costs most each zero = omega arith
 most_taken test costs most each (suc n) =
@@ -188,7 +188,7 @@ most_taken test costs most each (suc n) =
     ]
 
 -- the most that streams cost of a link in the turns of another is within what they cost at most in each of these
-most_within : (rows : List Row) (tree : List Hop) (pace : Pace) (l most : ℕ) → ((turn : ℕ) → uses tree pace l turn ≡ true → link_cost rows l turn ≤ most) →
+pub most_within : (rows : List Row) (tree : List Hop) (pace : Pace) (l most : ℕ) → ((turn : ℕ) → uses tree pace l turn ≡ true → link_cost rows l turn ≤ most) →
     most_beside rows tree pace l ≤ most
 most_within rows tree pace l most each = most_taken (uses tree pace l) (link_cost rows l) most each 80
 

@@ -12,9 +12,8 @@ mod Fits
 mod PlanFits
 mod HeldMost
 pub mod Loading
-mod GrantedPlans
-mod RowPaces
+pub mod GrantedPlans
 pub mod LookedOver
 pub mod Found
-mod LatencyRows
+mod CostsByTurn
 mod LatencyLines

@@ -1,24 +1,40 @@
 -- A stream that nothing speaks against is listed.
-use Rattle.std.proofs.Common.{ℕ, ◌≡◌, ◌∙◌, ◌≤◌, ◌<◌, Bool, false, List, None, ap, arith, length, min}
+use Rattle.std.proofs.Common.{ℕ, ◌≡◌, ◌∙◌, ◌≤◌, ◌<◌, ◌&&◌, Bool, true, false, not, List, None, ap, arith, length, min, subst, sym}
 use Rattle.std.specs.Prelude.{nat_le}
 use Rattle.std.specs.List.{list_any}
-use Rattle.std.proofs.lemmas.Bool.{lt-leb}
+use Rattle.std.proofs.lemmas.Bool.{lt-leb, not-false}
 use Rattle.std.proofs.lemmas.List.Elements.{All-weaker}
 use Rattle.cqf_lists.specs.Lists.{or_else}
 use Rattle.cqf_admission.proofs.GrantLemmas.{granted_countable}
 use Rattle.cqf_admission.specs.Judging.{form_refusal}
 use Rattle.cqf_admission.specs.Rows.{IsCountable}
-use Rattle.cqf_model.specs.declared.history.Refused.TheVariants.{NameHeld, TooManyStreams}
+use Rattle.cqf_model.specs.declared.history.Refused.TheVariants.{BadName, BadOctets, BadPace, NameHeld, TooManyStreams}
 use Rattle.cqf_model.specs.declared.topology.Row.{Row}
 use Rattle.cqf_model.specs.Domain.{Domain, is_text}
-use Rattle.cqf_model.specs.History.{Asked, refused_if}
+use Rattle.cqf_model.specs.History.{Asked, is_pace, refused_if}
 use Rattle.cqf_model.specs.Limits.{streams_within}
 use Rattle.cqf_model.specs.Table.{links_of}
+use Rattle.cqf_units.specs.Name.{is_name}
+use Rattle.cqf_admission_trees.proofs.TurnLemmas.{asked_is_good}
+use Rattle.cqf_admission_trees.specs.Branches.{tree_refusal}
+use Rattle.cqf_admission_trees.specs.Turns.{IsOfGoodPace}
+use Rattle.cqf_program_plans.proofs.Fits.{first_none, not_due, second_none}
 use Rattle.cqf_program_plans.specs.Listing.{IsListed, listed_row}
 
 -- no domain has more streams than the most that are counted
 few_of : (within number : ℕ) → number < min within 16384 → number < 16384
 few_of within number low = omega arith
+
+-- a request of good form has a pace
+form_paced : (d : Domain) (asked : Asked) → form_refusal d asked ≡ None → is_pace asked.every asked.phase ≡ true
+form_paced d asked form =
+    let tree = tree_refusal d asked.paths in
+    let pace = refused_if (not (is_pace asked.every asked.phase)) BadPace in
+    let octets = refused_if (not (nat_le 64 asked.octets && nat_le asked.octets 60000)) BadOctets in
+    let name = refused_if (not (is_name asked.name)) BadName in
+    not-false (is_pace asked.every asked.phase)
+    (not_due (not (is_pace asked.every asked.phase)) BadPace
+    (first_none pace tree (second_none octets (or_else pace tree) (second_none name (or_else octets (or_else pace tree)) form))))
 
 -- where its form is good, its name is free and there are not too many streams, a stream is listed with its row
 pub is_listed : (d : Domain) (rows : List Row) (asked : Asked) (row : Row) → form_refusal d asked ≡ None → asked.octets ≤ 60000 →
@@ -31,6 +47,7 @@ is_listed d rows asked row form most free few is = record {
       ∙ ap (λ (b : Bool). refused_if b TooManyStreams) (lt-leb (streams_within d.limits) (length rows) few);
   is = is;
   paced = ap (λ (r : Row). r.pace) is;
+  good = subst IsOfGoodPace (sym is) (asked_is_good asked (form_paced d asked form));
   countable = granted_countable d row asked (length rows) 0 is most;
   few = few_of d.limits.streams (length rows) few;
   free = ap (λ (r : Row). list_any (λ (other : Row). is_text other.name r.name) rows) is ∙ free;

@@ -2,7 +2,7 @@
 use Rattle.std.proofs.Common.{◌≡◌, ◌∙◌, ◌<◌, ◌+◌, ◌++◌, ℕ, List, [], ◌∷◌, Result, Ok, ap, drop, get_or, length, map, subst, sym}
 use Rattle.std.proofs.lemmas.List.{drop_more, get_or-map}
 use Rattle.cqf_admission.specs.Admission.{HoldsOneMore}
-use Rattle.cqf_admission.specs.Asking.{asked_of}
+use Rattle.cqf_admission.specs.Asking.{asked_paced}
 use Rattle.cqf_laws_history.specs.StateLaws.{granted_row}
 use Rattle.cqf_admission.specs.Forms.{IsRowOfGoodForm}
 use Rattle.cqf_admission.specs.Ledger.{Kept}
@@ -11,14 +11,14 @@ use Rattle.cqf_model.specs.declared.topology.Row.{Row}
 use Rattle.cqf_model.specs.Domain.{Domain}
 use Rattle.cqf_model.specs.History.{Asked, Recorded, held_in, seals}
 use Rattle.cqf_admission_requests.specs.Orders.{request_at}
-use Rattle.cqf_topology.specs.declared.streams.Request.{Request}
+use Rattle.cqf_topology.specs.declared.paced.PacedRequest.{PacedRequest}
 use Rattle.cqf_program_plans.specs.CompileOutput.{AreAllHeld, ArePlanned, admitted_from}
 
 -- the request at a place as it is asked for
-pub asked_at : (requests : List Request) (place : ℕ) (request : Request) → place < length requests → request ≡ get_or requests place request →
-    asked_of request ≡ request_at (map asked_of requests) place
+pub asked_at : (requests : List PacedRequest) (place : ℕ) (request : PacedRequest) → place < length requests → request ≡ get_or requests place request →
+    asked_paced request ≡ request_at (map asked_paced requests) place
 asked_at requests place request low is =
-    sym (get_or-map asked_of requests place request (record { name = []; octets = 0; every = 1; phase = 0; paths = [] }) low ∙ ap asked_of (sym is))
+    sym (get_or-map asked_paced requests place request (record { name = []; octets = 0; every = 1; phase = 0; paths = [] }) low ∙ ap asked_paced (sym is))
 
 -- one stream more is planned
 planned_step : (d : Domain) (requests : List Asked) (old new : Kept) (rows after : List Row) (row : Row) (receipt : Receipt) (k : ℕ) → old.requests ≡ requests →

@@ -14,7 +14,8 @@ use Rattle.cqf_model.specs.declared.topology.Hop.{Hop}
 use Rattle.cqf_model.specs.declared.topology.Row.{Row}
 use Rattle.cqf_model.specs.Domain.{Domain}
 use Rattle.cqf_model.specs.Table.{same_way}
-use Rattle.cqf_program_plans.specs.TcBridge.{comes_by, first_hop, is_new, stream_at}
+use Rattle.cqf_program_plans.specs.TcBridge.{comes_by, is_new, stream_at}
+use Rattle.cqf_compile.specs.BridgeGates.{first_hop}
 use Rattle.cqf_program_plans.specs.TcWays.{IsSeenWay, NotesWay, is_unseen}
 
 -- the row at a place of a loop, and the rows up to it

@@ -22,15 +22,19 @@ use Rattle.cqf_model.proofs.Texts.{is_text_itself, is_text_same}
 use Rattle.cqf_report.specs.Books.{name_of_bridge, name_of_link}
 use Rattle.cqf_topology.specs.DomainText.{IsDomain}
 use Rattle.cqf_admission.specs.Grants.{HaveNames}
+use Rattle.cqf_compile.specs.BridgeGates.{first_hop, gate_at}
+use Rattle.cqf_gates.specs.StreamText.{is_shut}
+use Rattle.cqf_model.specs.declared.gates.StreamEntry.{StreamEntry}
 use Rattle.cqf_program_plans.specs.EndNames.{name_of_end}
-use Rattle.cqf_program_plans.specs.TcBridge.{bridge_text, clearing_by, each_link, each_stream, first_hop, frame_needs, gate_call, if_left}
-use Rattle.cqf_program_plans.specs.TcBridge.{link_call, link_lines}
+use Rattle.cqf_program_plans.specs.TcBridge.{bridge_text, clearing_by, each_link, each_stream, frame_needs, gate_call, gate_target, if_left}
+use Rattle.cqf_program_plans.specs.TcBridge.{link_call, link_lines, list_call, pauses, plain_call}
+use Rattle.cqf_program_plans.specs.TcWords.{closed_words, entry_words, list_words, octets_word, open_words}
 use Rattle.cqf_program_plans.specs.TcBridge.{link_need, needs_by, out_need, stream_at, stream_clearing, stream_gates, stream_lines, stream_needs, way_at}
 use Rattle.cqf_program_plans.specs.TcBridge.{way_clearing, way_in, way_need, way_out, ways_out}
 use Rattle.cqf_program_plans.specs.TcCalls.{ScriptsCallWhatIsDue, calls_at, calls_due, function_of_bridge, gate_calls, head_of, is_call, lines_before}
 use Rattle.cqf_program_plans.specs.TcCalls.{lines_behind, link_calls}
 use Rattle.cqf_program_plans.specs.TcText.{choice_text, tc_text}
-use Rattle.cqf_program_plans.proofs.TcFunctions.{gate_found, link_found, to_bridges}
+use Rattle.cqf_program_plans.proofs.TcFunctions.{by_list_found, gate_found, link_found, to_bridges}
 use Rattle.cqf_program_plans.proofs.TcLines.{AreWithin, IsWithin, Reads, both_true, bridge_within, decimal_within, end_within, link_within, name_within}
 use Rattle.cqf_program_plans.proofs.TcLines.{begins, onto, reads_line, reads_none, reads_pieces, reads_then, within_onto, within_then}
 
@@ -220,44 +224,63 @@ module _ (d : Domain) (domain : IsDomain d) (bridge : ℕ) where
       of_hop true = decimal_within hop.link
       of_hop false = refl
 
-  call_within : (row : Row) (way : Option ℕ) → IsWithin (gate_call row way)
-  call_within row way = within_onto
-      (codes "    gate \"$" ∷ way_in row way ∷ codes "\" " ∷ decimal (row.no + 1) ∷ codes " \"$MAC_" ∷ decimal row.no ∷ codes "\" \"$VLAN_" ∷ decimal row.no
-      ∷ codes "\" " ∷ [])
-      (decimal row.octets) (
-        refl,
+  target_within : (row : Row) (way : Option ℕ) → IsWithin (gate_target row way)
+  target_within row way = within_onto
+      (way_in row way ∷ codes "\" " ∷ decimal (row.no + 1) ∷ codes " \"$MAC_" ∷ decimal row.no ∷ codes "\" \"$VLAN_" ∷ decimal row.no ∷ []) (codes "\"") (
+        way_within row way,
         (
-          way_within row way,
+          refl,
           (
-            refl,
+            decimal_within (row.no + 1),
             (
-              decimal_within (row.no + 1),
+              refl,
               (
-                refl,
-                (
-                  decimal_within row.no,
-                  (
-                    refl,
-                    (
-                      decimal_within row.no,
-                      (refl, decimal_within row.octets),
-                    ),
-                  ),
-                ),
+                decimal_within row.no,
+                (refl, (decimal_within row.no, refl)),
               ),
             ),
           ),
         ),
       )
 
+  plain_within : (row : Row) (way : Option ℕ) → IsWithin (plain_call row way)
+  plain_within row way = within_then (gate_target row way) (codes " " ++ decimal row.octets) (target_within row way) (decimal_within row.octets)
+
+  octets_within : (most : Option ℕ) → IsWithin (octets_word most)
+  octets_within None = refl
+  octets_within (Some most) = decimal_within most
+
+  entry_within : (entry : StreamEntry) → IsWithin (entry_words entry)
+  entry_within entry = by_test (is_shut entry.octet_max)
+    where
+      by_test : (b : Bool) → IsWithin (if b then closed_words entry.interval else open_words entry)
+      by_test true = within_then (decimal entry.interval) (codes " -1 -1") (decimal_within entry.interval) refl
+      by_test false =
+          within_then (decimal entry.interval) _ (decimal_within entry.interval)
+          (within_then (decimal entry.ipv) _ (decimal_within entry.ipv) (octets_within entry.octet_max))
+
+  entries_within : (entries : List StreamEntry) → IsWithin (list_words entries)
+  entries_within [] = refl
+  entries_within (entry ∷ entries) = within_then (entry_words entry) (list_words entries) (entry_within entry) (entries_within entries)
+
+  list_within : (row : Row) (way : Option ℕ) → IsWithin (list_call d bridge row way)
+  list_within row way =
+      within_then (gate_target row way) (list_words (gate_at d row bridge)) (target_within row way) (entries_within (gate_at d row bridge))
+
+  -- the call, by whether the stream pauses
+  says_gate : (row : Row) (way : Option ℕ) (b : Bool) →
+      Says ((if b then list_call d bridge row way else plain_call row way) ++ 10 ∷ []) ((if b then list_call d bridge row way else plain_call row way) ∷ [])
+  says_gate row way true = says_call (list_call d bridge row way) (list_within row way) refl refl
+  says_gate row way false = says_call (plain_call row way) (plain_within row way) refl refl
+
   says_stream : (row : Row) → IsWithin row.name → (hop : Option Hop) → Says (option_map_or (λ (hop : Hop). stream_lines d bridge row hop.from) hop [])
-      (option_map_or (λ (hop : Hop). gate_call row hop.from ∷ []) hop [])
+      (option_map_or (λ (hop : Hop). gate_call d bridge row hop.from ∷ []) hop [])
   says_stream row named None = says_none
   says_stream row named (Some hop) =
       says_line (codes "    # stream " ∷ decimal row.no ∷ codes " " ∷ row.name ∷ codes ", leaves by" ∷ ways_out d bridge row ∷ []) []
-      (gate_call row hop.from ++ 10 ∷ []) (gate_call row hop.from ∷ [])
+      (gate_call d bridge row hop.from ++ 10 ∷ []) (gate_call d bridge row hop.from ∷ [])
       (refl, (decimal_within row.no, (refl, (named, (refl, (ways_within row row.tree.items, refl)))))) refl refl
-      (says_call (gate_call row hop.from) (call_within row hop.from) refl refl)
+      (says_gate row hop.from (pauses row))
 
 -- a text whose lines end with `}`
 record Ends (text : List ℕ) (calls : List (List ℕ)) : Type 0 where
@@ -437,5 +460,6 @@ pub calls_are_due : ScriptsCallWhatIsDue
 calls_are_due d rows domain names = record {
   list = link_found d rows domain;
   gate = gate_found d rows domain;
+  by_list = by_list_found d rows domain;
   calls = called d rows domain names;
 }

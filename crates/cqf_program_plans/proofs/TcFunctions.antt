@@ -1,7 +1,8 @@
 -- The lines of the script before the functions of bridges, and what is found among them.
 use Rattle.std.proofs.Common.{ℕ, ◌≡◌, ◌++◌, ◌==◌, ◌∙◌, ◌||◌, ◌/◌, ◌%◌, Bool, true, false, not, List, [], ◌∷◌, append_assoc, ap, codes, cond, decimal}
 use Rattle.std.proofs.Common.{arith, length, refl, suc, zero}
-use Rattle.std.specs.List.{list_all}
+use Rattle.std.specs.List.{list_all, list_any}
+use Rattle.std.specs.Prelude.{if◌then◌else◌}
 use Rattle.std.proofs.lemmas.Bool.{and_from}
 use Rattle.std.proofs.lemmas.Bool.Decides.{nat_tests}
 use Rattle.cqf_lists.specs.Lists.{each_below}
@@ -11,9 +12,11 @@ use Rattle.cqf_model.specs.declared.topology.Row.{Row}
 use Rattle.cqf_model.specs.Domain.{Domain, is_text}
 use Rattle.cqf_model.specs.GateList.{Entry, port_list}
 use Rattle.cqf_topology.specs.DomainText.{IsDomain}
+use Rattle.cqf_program_plans.specs.TcBridge.{pauses}
 use Rattle.cqf_program_plans.specs.TcCalls.{head_of, lines_behind, lines_before, lines_of_function}
 use Rattle.cqf_program_plans.specs.TcChecks.{checks_text}
-use Rattle.cqf_program_plans.specs.TcText.{bridges_text, choice_text, gate_command, given_text, link_text, list_command, multiple, name_text}
+use Rattle.cqf_program_plans.specs.TcText.{bridges_text, by_list_lines, by_list_text, choice_text, list_gates_text}
+use Rattle.cqf_program_plans.specs.TcText.{gate_command, given_text, link_text, list_command, multiple, name_text}
 use Rattle.cqf_program_plans.specs.TcText.{names_text, no_gates_text, old_gates_text, opening_text, tc_gate_text, tc_text, undo_gate, undo_list, usage_text}
 use Rattle.cqf_program_plans.specs.TcWords.{tx_words}
 use Rattle.cqf_program_plans.proofs.TcLines.{IsWithin, Reads, Skips, begins, behind_within, bridge_within, decimal_within, is_within, none_within}
@@ -48,27 +51,27 @@ text_passed y head text rest of_head skipped =
     ap (lines_behind (y ∷ head)) (skipped.reads rest) ∙ passed_over y head skipped.lines (lines_of rest) of_head skipped.other
 
 -- the texts before the functions
-multiple_within : (d : Domain) → IsWithin (multiple d)
-multiple_within d = decimal_within _
+multiple_within : (d : Domain) (rows : List Row) → IsWithin (multiple d rows)
+multiple_within d rows = decimal_within _
 
 names_within : (d : Domain) → IsDomain d → (n : ℕ) → IsWithin (each_below (name_text d) n)
 names_within d domain zero = refl
 names_within d domain (suc n) = within_then (each_below (name_text d) n) (name_text d n) (names_within d domain n) (bridge_within d domain n)
 
-usage_skipped : (d : Domain) → Skips is_head_byte (usage_text d)
-usage_skipped d = skips is_head_byte (usage_text d) (none_within is_head_byte (multiple d) _ (multiple_within d) refl)
-    (behind_within (multiple d) _ (multiple_within d) refl)
+usage_skipped : (d : Domain) (rows : List Row) → Skips is_head_byte (usage_text d rows)
+usage_skipped d rows = skips is_head_byte (usage_text d rows) (none_within is_head_byte (multiple d rows) _ (multiple_within d rows) refl)
+    (behind_within (multiple d rows) _ (multiple_within d rows) refl)
 
 opening_skipped : (d : Domain) → IsDomain d → Skips is_head_byte (opening_text d)
 opening_skipped d domain = skips is_head_byte (opening_text d) (none_within is_head_byte (names_text d) _ (names_within d domain (length d.bridges)) refl)
     (behind_within (names_text d) _ (names_within d domain (length d.bridges)) refl)
 
-given_skipped : (d : Domain) → Skips is_head_byte (given_text d)
-given_skipped d =
-    let within = multiple_within d in
-    skips is_head_byte (given_text d)
-    (none_within is_head_byte (multiple d) _ within (none_within is_head_byte (multiple d) _ within (none_within is_head_byte (multiple d) _ within refl)))
-    (behind_within (multiple d) _ within (behind_within (multiple d) _ within (behind_within (multiple d) _ within refl)))
+given_skipped : (d : Domain) (rows : List Row) → Skips is_head_byte (given_text d rows)
+given_skipped d rows =
+    let within = multiple_within d rows in
+    skips is_head_byte (given_text d rows)
+    (none_within is_head_byte (multiple d rows) _ within (none_within is_head_byte (multiple d rows) _ within (none_within is_head_byte (multiple d rows) _ within refl)))
+    (behind_within (multiple d rows) _ within (behind_within (multiple d rows) _ within (behind_within (multiple d rows) _ within refl)))
 
 checks_skipped : Skips is_head_byte checks_text
 checks_skipped = skips is_head_byte checks_text refl refl
@@ -116,25 +119,31 @@ gate_reads : (d : Domain) → Reads (tc_gate_text d) (lines_of_gate d)
 gate_reads d = reads_joined (lines_of_gate d) (refl, (refl, (gate_within d, (refl, (refl, (refl, tt))))))
 
 -- behind the head of a function in the script are the lines behind it among those of the functions
+abbrev last_of : Domain → List Row → List ℕ
+last_of d rows = bridges_text d rows ++ choice_text d
+
 abbrev rest_of : Domain → List Row → List ℕ
-rest_of d rows = bridges_text d rows ++ choice_text d
+rest_of d rows = list_gates_text rows ++ last_of d rows
 
 to_functions : (d : Domain) (rows : List Row) (y : ℕ) (head : List ℕ) → IsDomain d → is_head_byte y ≡ true →
     lines_behind (y ∷ head) (lines_of (tc_text d rows)) ≡ lines_behind (y ∷ head)
     (lines_of (link_text d ++ (old_gates_text ++ (no_gates_text ++ (tc_gate_text d ++ rest_of d rows)))))
 to_functions d rows y head domain of_head =
     let rest = rest_of d rows in
-    let last = no_gates_text ++ tc_gate_text d in
+    let tail = last_of d rows in
+    let gates = tc_gate_text d ++ list_gates_text rows in
+    let last = no_gates_text ++ gates in
     let behind_link = old_gates_text ++ last in
     let behind_checks = link_text d ++ behind_link in
-    let one : (checks_text ++ behind_checks) ++ rest ≡ checks_text ++ (link_text d ++ (old_gates_text ++ (no_gates_text ++ (tc_gate_text d ++ rest)))) =
-    append_assoc checks_text behind_checks rest
-    ∙ ap (λ text. checks_text ++ text) (append_assoc (link_text d) behind_link rest
-    ∙ ap (λ text. link_text d ++ text) (append_assoc old_gates_text last rest
-    ∙ ap (λ text. old_gates_text ++ text) (append_assoc no_gates_text (tc_gate_text d) rest))) in
-    text_passed y head (usage_text d) _ of_head (usage_skipped d)
+    let one : (checks_text ++ behind_checks) ++ tail ≡ checks_text ++ (link_text d ++ (old_gates_text ++ (no_gates_text ++ (tc_gate_text d ++ rest)))) =
+    append_assoc checks_text behind_checks tail
+    ∙ ap (λ text. checks_text ++ text) (append_assoc (link_text d) behind_link tail
+    ∙ ap (λ text. link_text d ++ text) (append_assoc old_gates_text last tail
+    ∙ ap (λ text. old_gates_text ++ text) (append_assoc no_gates_text gates tail
+    ∙ ap (λ text. no_gates_text ++ text) (append_assoc (tc_gate_text d) (list_gates_text rows) tail)))) in
+    text_passed y head (usage_text d rows) _ of_head (usage_skipped d rows)
     ∙ text_passed y head (opening_text d) _ of_head (opening_skipped d domain)
-    ∙ text_passed y head (given_text d) _ of_head (given_skipped d)
+    ∙ text_passed y head (given_text d rows) _ of_head (given_skipped d rows)
     ∙ ap (λ text. lines_behind (y ∷ head) (lines_of text)) one
     ∙ text_passed y head checks_text (link_text d ++ (old_gates_text ++ (no_gates_text ++ (tc_gate_text d ++ rest)))) of_head checks_skipped
 
@@ -164,8 +173,37 @@ gate_found d rows domain =
     ap (lines_before (codes "}")) (to_gate d rows 103 (codes "ate() {") domain refl refl
     ∙ ap (lines_behind (head_of (codes "gate"))) (gate_reads d (rest_of d rows)))
 
+-- the lines of the function of lists
+abbrev lines_of_by_list : List (List ℕ)
+lines_of_by_list =
+    codes "# stream gate $2 at the interface $1: address $3, VLAN $4, and behind these the entries of its list" ∷ codes "gate_by_list() {"
+    ∷ (by_list_lines ++ (codes "}" ∷ [] ∷ []))
+
+by_list_reads : Reads by_list_text lines_of_by_list
+by_list_reads = reads_joined lines_of_by_list (refl, (refl, (refl, (refl, (refl, (refl, (refl, (refl, tt))))))))
+
+-- it is read where a stream pauses
+pub by_list_found : (d : Domain) (rows : List Row) → IsDomain d → list_any pauses rows ≡ true →
+    lines_of_function (codes "gate_by_list") (tc_text d rows) ≡ by_list_lines
+by_list_found d rows domain some =
+    let head = head_of (codes "gate_by_list") in
+    ap (lines_before (codes "}")) (to_gate d rows 103 (codes "ate_by_list() {") domain refl refl
+    ∙ ap (lines_behind head) (gate_reads d (rest_of d rows))
+    ∙ ap (λ (b : Bool). lines_behind head (lines_of ((if b then by_list_text else []) ++ last_of d rows))) some
+    ∙ ap (lines_behind head) (by_list_reads (last_of d rows)))
+
+-- and passed over where another is looked for
+lists_passed : (d : Domain) (rows : List Row) (head : List ℕ) →
+    lines_behind (98 ∷ head) (lines_of (rest_of d rows)) ≡ lines_behind (98 ∷ head) (lines_of (last_of d rows))
+lists_passed d rows head = by_test (list_any pauses rows)
+  where
+    by_test : (b : Bool) → lines_behind (98 ∷ head) (lines_of ((if b then by_list_text else []) ++ last_of d rows))
+        ≡ lines_behind (98 ∷ head) (lines_of (last_of d rows))
+    by_test true = ap (lines_behind (98 ∷ head)) (by_list_reads (last_of d rows))
+    by_test false = refl
+
 -- and those of bridges are looked for behind it
 pub to_bridges : (d : Domain) (rows : List Row) (head : List ℕ) → IsDomain d →
     lines_behind (98 ∷ head) (lines_of (tc_text d rows)) ≡ lines_behind (98 ∷ head) (lines_of (bridges_text d rows ++ choice_text d))
 to_bridges d rows head domain =
-    to_gate d rows 98 head domain refl refl ∙ ap (lines_behind (98 ∷ head)) (gate_reads d (rest_of d rows))
+    to_gate d rows 98 head domain refl refl ∙ ap (lines_behind (98 ∷ head)) (gate_reads d (rest_of d rows)) ∙ lists_passed d rows head

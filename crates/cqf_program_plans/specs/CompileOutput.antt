@@ -7,7 +7,7 @@ use Rattle.cqf_model.specs.History.{Admits, Asked, Recorded, held_in, IsLegalHis
 use Rattle.cqf_text.specs.Parts.{parts_of}
 use Rattle.cqf_topology.specs.DomainText.{domain_of_text}
 use Rattle.cqf_lists.specs.Results.{and_then, refuse}
-use Rattle.cqf_topology.specs.StreamsText.{streams_of_text}
+use Rattle.cqf_topology.specs.PacedText.{paced_of_text}
 use Rattle.cqf_laws_history.specs.StateLaws.{with_entry}
 use Rattle.cqf_admission.specs.Admission.{Administration}
 use Rattle.cqf_admission.specs.Asking.{asked_by}
@@ -38,7 +38,7 @@ admitted_from d entries place (asked ∷ more) =
 abbrev pub compile_input : List ℕ → Result (Domain × List Asked) (List ℕ)
 compile_input input = and_then (two_parts (parts_of input)) (λ parts.
     and_then (or_line domain_line (domain_of_text parts.0)) (λ domain.
-    and_then (or_line streams_line (streams_of_text parts.1)) (λ requests. Ok (domain, map asked_by requests))))
+    and_then (or_line streams_line (paced_of_text parts.1)) (λ requests. Ok (domain, map asked_by requests))))
 
 -- the configuration of a domain with all of these streams admitted before cycle 0
 abbrev pub configuration_of : Domain → List Asked → Result (List ℕ) (List ℕ)

@@ -1,14 +1,12 @@
 -- What the output of the command `compile` tells.
-use Rattle.cqf_model.specs.Paces.{each_cycle}
-use Rattle.std.specs.Prelude.{ℕ, ◌≡◌, ◌++◌, ◌∷◌, List, codes, decimal}
+use Rattle.std.specs.Prelude.{ℕ, ◌≡◌, ◌++◌, List, codes, decimal}
 use Rattle.cqf_admission.specs.Tables.{AreAlongLinks}
 use Rattle.cqf_compile.specs.ConfigText.{config_text}
+use Rattle.cqf_admission_trees.specs.Turns.{AreOfGoodPaces}
 use Rattle.cqf_gates.specs.GateListText.{text_of_entries}
-use Rattle.cqf_gates.specs.StreamText.{text_of_stream_entries}
 use Rattle.cqf_model.specs.declared.topology.Row.{Row}
 use Rattle.cqf_model.specs.Domain.{Domain}
 use Rattle.cqf_model.specs.GateList.{port_list}
-use Rattle.cqf_model.specs.StreamGate.{stream_list}
 
 -- a domain, and the rows of its streams
 pub record ConfiguredPlan : Type 0 where
@@ -23,18 +21,12 @@ text_of_config plan = config_text plan.domain plan.rows
 abbrev pub port_list_text : Domain → List ℕ
 port_list_text d = text_of_entries (port_list d.cycle_time d.guard)
 
--- the rows can be told: their trees go along links of the domain, and the text is that of each port's gate list
+-- the rows can be told: their trees go along links of the domain, their paces are good, and the text is that of each port's gate list
 pub record IsReadyConfig (d : Domain) (rows : List Row) (text : List ℕ) : Type 0 where
   pub along : AreAlongLinks d rows
+  pub paced : AreOfGoodPaces rows
   pub written : text ≡ port_list_text d
 
--- what stands in front of a bridge's name in a stream's line, and what stands behind it: the end of the line, and the stream's gate
+-- what stands in front of a bridge's name in a stream's line
 abbrev pub row_front : Row → List ℕ
 row_front row = codes "stream " ++ decimal row.no ++ codes " " ++ row.name ++ codes " bridge "
-
-abbrev pub gate_text : ℕ → ℕ → List ℕ
-gate_text cycle_time reserved = 10 ∷ text_of_stream_entries (stream_list cycle_time reserved each_cycle 0)
-
--- words, and then the numbers of a gate's entry
-abbrev pub gate_entry_text : List ℕ → ℕ → ℕ → List ℕ
-gate_entry_text words cycle_time reserved = words ++ decimal cycle_time ++ codes " " ++ decimal reserved

@@ -1,12 +1,12 @@
 -- What the command `latency` gives for its domain, its streams and their deadlines (profile).
-use Rattle.std.specs.Prelude.{ℕ, ◌≡◌, List, [], ◌∷◌, Bool, if◌then◌else◌, length, Option, None, Result, Ok}
+use Rattle.std.specs.Prelude.{ℕ, ◌≡◌, ◌<◌, ◌≤◌, List, [], Bool, if◌then◌else◌, length, Contains, Option, None, Result, Ok}
 use Rattle.cqf_model.specs.declared.topology.Row.{Row}
 use Rattle.cqf_model.specs.Domain.{Domain}
 use Rattle.cqf_model.specs.History.{Asked, held_in}
-use Rattle.cqf_lists.specs.Lists.{each_below}
+use Rattle.cqf_model.specs.Table.{link_cost}
+use Rattle.cqf_admission_trees.specs.Turns.{AreOfGoodPaces, Turned, sum_on}
 use Rattle.cqf_lists.specs.Results.{and_then, refuse}
-use Rattle.cqf_admission.specs.Rows.{costs_on}
-use Rattle.cqf_admission.specs.Tables.{AreAlongLinks, AreOfEachCycle}
+use Rattle.cqf_admission.specs.Rows.{IsCountable}
 use Rattle.cqf_program_plans.specs.CompileOutput.{admitted_from}
 use Rattle.cqf_program_plans.specs.LatencyText.{first_not_sure, latency_text}
 
@@ -26,8 +26,22 @@ pub record DomainTable : Type 0 where
   pub domain : Domain
   pub rows : List Row
 
--- the rows go along links of the domain, their streams are offered in each cycle, and these are what they cost of each link
-pub record AreCosts (d : Domain) (rows : List Row) (costs : List ℕ) : Type 0 where
-  pub along : AreAlongLinks d rows
-  pub paced : AreOfEachCycle rows
-  pub each : costs ≡ each_below (λ l. costs_on rows l ∷ []) (length d.links)
+-- what each row costs can be added to the sums of so many links
+abbrev pub AreCountable : ℕ → List Row → Type 0
+AreCountable links rows = (row : Row) → Contains rows row → IsCountable links row
+
+-- these are what rows cost of each of so many links in each cycle
+pub record AreCostsOf (links : ℕ) (rows : List Row) (costs : Turned) : Type 0 where
+  pub as_many : costs.links ≡ links
+  pub each : (l cycle : ℕ) → l < links → sum_on costs l cycle ≡ link_cost rows l cycle
+
+-- they are bounded, as the budgets are: by as many nanoseconds as a cycle has at most
+abbrev pub CostLittle : List Row → Type 0
+CostLittle rows = (l cycle : ℕ) → link_cost rows l cycle ≤ 10000000
+
+-- and of each link of a domain along which they go, where they repeat after 80 cycles
+pub record AreCosts (d : Domain) (rows : List Row) (costs : Turned) : Type 0 where
+  pub little : CostLittle rows
+  pub countable : AreCountable (length d.links) rows
+  pub good : AreOfGoodPaces rows
+  pub each : AreCostsOf (length d.links) rows costs

@@ -12,8 +12,9 @@ use Rattle.cqf_admission.specs.declared.judged.Judged.{Judged}
 use Rattle.cqf_admission.specs.Judging.{form_refusal, row_by}
 use Rattle.cqf_program_plans.specs.Fitting.{streams_on}
 use Rattle.cqf_model.specs.Limits.{most_links, most_streams, streams_within}
-use Rattle.cqf_admission.specs.Rows.{IsCountable, costs_on}
-use Rattle.cqf_admission.specs.Tables.{AreOfEachCycle}
+use Rattle.cqf_model.specs.Table.{link_cost}
+use Rattle.cqf_admission_trees.specs.Turns.{IsOfGoodPace, Turned, sum_on}
+use Rattle.cqf_admission.specs.Rows.{IsCountable}
 
 -- why a stream isn't listed beside others: as it would be refused beside them if each link had room
 abbrev pub listing_refusal : Domain → List Row → Asked → Option Refused
@@ -26,15 +27,14 @@ listing_refusal d rows asked =
 abbrev pub listed_row : Domain → List Row → Asked → Row
 listed_row d rows asked = granted_row d (length rows) 0 asked
 
--- beside the rows stand their names; by link stand what they cost of it, and how many go by it
-pub record IsListing (names : List (List ℕ)) (rows : List Row) (held crossing : List ℕ) : Type 0 where
+-- beside the rows stand their names; by link stand what they cost of it in each cycle, and how many go by it
+pub record IsListing (names : List (List ℕ)) (rows : List Row) (held : Turned) (crossing : List ℕ) : Type 0 where
   pub are_names : names ≡ map (λ (row : Row). row.name) rows
-  pub paced : AreOfEachCycle rows
   pub few : length rows ≤ most_streams
-  pub costs : length held ≡ most_links
+  pub costs : held.links ≡ most_links
   pub counts : length crossing ≡ most_links
-  pub cost : (l : ℕ) → l < most_links → slice_index_or held l 0 ≡ costs_on rows l
-  pub bounded : (l : ℕ) → l < most_links → slice_index_or held l 0 ≤ length rows * 100000
+  pub cost : (l cycle : ℕ) → l < most_links → sum_on held l cycle ≡ link_cost rows l cycle
+  pub bounded : (l cycle : ℕ) → l < most_links → sum_on held l cycle ≤ length rows * 100000
   pub count : (l : ℕ) → l < most_links → slice_index_or crossing l 0 ≡ streams_on rows l
   pub counted : (l : ℕ) → l < most_links → slice_index_or crossing l 0 ≤ length rows
 
@@ -43,6 +43,7 @@ pub record IsListed (d : Domain) (rows : List Row) (asked : Asked) (row : Row) :
   pub none : listing_refusal d rows asked ≡ None
   pub is : row ≡ listed_row d rows asked
   pub paced : row.pace ≡ pace_of asked
+  pub good : IsOfGoodPace row
   pub countable : IsCountable (length d.links) row
   pub few : length rows < most_streams
   pub free : list_any (λ (other : Row). is_text other.name row.name) rows ≡ false

@@ -1,6 +1,6 @@
 -- What a bridge does in the script, line by line (profile). Links and streams go by their numbers in variables, since a name may
 -- hold `-`.
-use Rattle.std.specs.Prelude.{ℕ, ◌+◌, ◌++◌, List, [], Bool, true, false, Option, Some, None, codes, decimal, find}
+use Rattle.std.specs.Prelude.{ℕ, ◌+◌, ◌++◌, ◌==◌, List, [], Bool, true, false, Option, Some, None, codes, decimal}
 use Rattle.std.specs.Prelude.{if◌then◌else◌, length, not, option_map, slice_get, take}
 use Rattle.std.specs.Option.{option_map_or}
 use Rattle.std.specs.List.{flat_map, list_any}
@@ -10,12 +10,9 @@ use Rattle.cqf_model.specs.declared.topology.Row.{Row}
 use Rattle.cqf_model.specs.Domain.{Domain, bridge_of, leaves}
 use Rattle.cqf_model.specs.Table.{same_way}
 use Rattle.cqf_report.specs.Books.{name_of_bridge, name_of_link}
+use Rattle.cqf_compile.specs.BridgeGates.{first_hop, gate_at}
 use Rattle.cqf_program_plans.specs.EndNames.{name_of_end}
-
--- the first hop by which a stream leaves a bridge. It comes there by the link before that hop, or where there is none from its
--- talker
-abbrev pub first_hop : Domain → ℕ → Row → Option Hop
-first_hop d bridge row = find (λ (hop : Hop). leaves d hop.link bridge) row.tree.items
+use Rattle.cqf_program_plans.specs.TcWords.{list_words}
 
 -- the variable of the interface by which it comes
 abbrev pub way_in : Row → Option ℕ → List ℕ
@@ -91,21 +88,35 @@ way_out d bridge hop = if leaves d hop.link bridge then codes " OUT_" ++ decimal
 abbrev pub ways_out : Domain → ℕ → Row → List ℕ
 ways_out d bridge row = flat_map (way_out d bridge) row.tree.items
 
--- the call that sets the gate of a stream that comes this way: its index, its frames, and the octets of its reservation
-abbrev pub gate_call : Row → Option ℕ → List ℕ
-gate_call row way =
-    codes "    gate \"$"
-    ++ (way_in row way
+-- whether a stream pauses between two cycles of its own
+abbrev pub pauses : Row → Bool
+pauses row = not (row.pace.pause == 0)
+
+-- what a call says of a stream's gate before its list: the interface by which the stream comes, the gate's index, and the frames
+abbrev pub gate_target : Row → Option ℕ → List ℕ
+gate_target row way =
+    way_in row way
     ++ (codes "\" "
     ++ (decimal (row.no + 1)
-    ++ (codes " \"$MAC_" ++ (decimal row.no ++ (codes "\" \"$VLAN_" ++ (decimal row.no ++ (codes "\" " ++ decimal row.octets))))))))
+    ++ (codes " \"$MAC_" ++ (decimal row.no ++ (codes "\" \"$VLAN_" ++ (decimal row.no ++ codes "\""))))))
+
+-- the call that sets the gate of a stream that is offered in each cycle and comes this way, with the octets of its reservation
+abbrev pub plain_call : Row → Option ℕ → List ℕ
+plain_call row way = codes "    gate \"$" ++ (gate_target row way ++ (codes " " ++ decimal row.octets))
+
+-- and of one that pauses, with its gate's list at the bridge
+abbrev pub list_call : Domain → ℕ → Row → Option ℕ → List ℕ
+list_call d bridge row way = codes "    gate_by_list \"$" ++ (gate_target row way ++ list_words (gate_at d row bridge))
+
+abbrev pub gate_call : Domain → ℕ → Row → Option ℕ → List ℕ
+gate_call d bridge row way = if pauses row then list_call d bridge row way else plain_call row way
 
 -- the lines of the stream: by which interfaces it leaves, and its gate
 abbrev pub stream_lines : Domain → ℕ → Row → Option ℕ → List ℕ
 stream_lines d bridge row way =
     codes "    # stream "
     ++ (decimal row.no
-    ++ (codes " " ++ (row.name ++ (codes ", leaves by" ++ (ways_out d bridge row ++ (codes "\n" ++ (gate_call row way ++ codes "\n")))))))
+    ++ (codes " " ++ (row.name ++ (codes ", leaves by" ++ (ways_out d bridge row ++ (codes "\n" ++ (gate_call d bridge row way ++ codes "\n")))))))
 
 -- a text for each link that leaves the bridge, by number
 abbrev pub if_left : Domain → ℕ → (ℕ → List ℕ) → ℕ → List ℕ

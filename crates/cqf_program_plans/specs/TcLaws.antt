@@ -1,16 +1,24 @@
 -- The lists of the script are those that are compiled.
-use Rattle.cqf_model.specs.Paces.{each_cycle}
-use Rattle.std.specs.Prelude.{ℕ, ◌≡◌, Some, Ok}
+use Rattle.std.specs.Prelude.{ℕ, ◌≡◌, ◌≤◌, ◌<◌, Some, Ok}
+use Rattle.cqf_compile.specs.BridgeGates.{gate_at}
+use Rattle.cqf_admission_trees.specs.Turns.{IsGoodPace}
+use Rattle.cqf_gates.specs.ReservedSpans.{reserved_spans}
+use Rattle.cqf_model.specs.declared.topology.Pace.{Pace}
+use Rattle.cqf_model.specs.declared.topology.Row.{Row}
 use Rattle.cqf_model.specs.Domain.{Domain, IsAccepted}
 use Rattle.cqf_model.specs.GateList.{port_list}
-use Rattle.cqf_model.specs.StreamGate.{stream_list}
-use Rattle.cqf_program_plans.specs.TcWords.{gate_of_words, gate_words, tx_of_words, tx_words}
+use Rattle.cqf_model.specs.Limits.{most_reserved}
+use Rattle.cqf_program_plans.specs.TcWords.{gate_of_words, gate_words, list_words, tx_of_words, tx_words}
 
--- in each accepted domain the words of a port are read as the list that each port is compiled to, and those of a stream's gate as
--- the list that the gate of a reservation is compiled to, where the fifth parameter is the reservation's octets
+-- in each accepted domain the words of a port are read as the list that each port is compiled to; those of the function of stream
+-- gates, where the fifth parameter is a reservation's octets, as the list that the gate of a stream is compiled to that is offered in
+-- each cycle, wherever its frames are; and those that a stream of another pace gives as the list that its gate at a bridge is compiled
+-- to
 pub record ScriptListsReadBack (d : Domain) : Type 0 where
   pub ports : tx_of_words (tx_words (port_list d.cycle_time d.guard)) ≡ Some (Ok (port_list d.cycle_time d.guard))
-  pub gates : (octets : ℕ) → gate_of_words octets (gate_words d.cycle_time) ≡ Some (stream_list d.cycle_time octets each_cycle 0)
+  pub gates : (octets depth : ℕ) (pace : Pace) → pace.pause ≡ 0 → gate_of_words octets (gate_words d.cycle_time) ≡ Some (reserved_spans d.cycle_time octets pace depth)
+  pub lists : (row : Row) (bridge octets : ℕ) → IsGoodPace row.pace → 0 < row.octets → row.octets ≤ most_reserved →
+      gate_of_words octets (list_words (gate_at d row bridge)) ≡ Some (gate_at d row bridge)
 
 abbrev pub ScriptsHoldTheLists : Type 0
 ScriptsHoldTheLists = (d : Domain) → IsAccepted d → ScriptListsReadBack d

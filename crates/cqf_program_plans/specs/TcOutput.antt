@@ -2,6 +2,8 @@
 -- `compile` has it.
 use Rattle.std.specs.Prelude.{ℕ, ◌≡◌, List, [], Result, Ok}
 use Rattle.cqf_lists.specs.Results.{and_then}
+use Rattle.cqf_admission_trees.specs.Turns.{AreOfGoodPaces}
+use Rattle.cqf_model.specs.declared.topology.Row.{Row}
 use Rattle.cqf_model.specs.Domain.{Domain}
 use Rattle.cqf_model.specs.GateList.{port_list}
 use Rattle.cqf_model.specs.History.{Asked, held_in}
@@ -26,3 +28,8 @@ text_of_tc plan = tc_text plan.domain plan.rows
 pub record AreWordsOf (d : Domain) (ports gates : List ℕ) : Type 0 where
   pub of_ports : ports ≡ tx_words (port_list d.cycle_time d.guard)
   pub of_gates : gates ≡ gate_words d.cycle_time
+
+-- the script can be told: the rows' paces are good, and the words are those of the domain's lists
+pub record IsReadyScript (d : Domain) (rows : List Row) (ports gates : List ℕ) : Type 0 where
+  pub paced : AreOfGoodPaces rows
+  pub words : AreWordsOf d ports gates

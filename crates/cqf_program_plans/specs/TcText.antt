@@ -1,28 +1,34 @@
 -- The script that `compile --format tc` writes: a POSIX shell script that sets the gates of a bridge by `tc` (profile).
-use Rattle.std.specs.Prelude.{ℕ, ◌*◌, ◌++◌, List, codes, decimal, length}
+use Rattle.std.specs.Prelude.{ℕ, ◌*◌, ◌++◌, List, [], ◌∷◌, codes, decimal, if◌then◌else◌, length}
+use Rattle.std.specs.List.{list_any}
 use Rattle.cqf_lists.specs.Lists.{each_below}
 use Rattle.cqf_model.specs.declared.topology.Row.{Row}
 use Rattle.cqf_model.specs.Domain.{Domain}
 use Rattle.cqf_model.specs.GateList.{port_list}
+use Rattle.cqf_model.specs.Limits.{most_every}
 use Rattle.cqf_report.specs.Books.{name_of_bridge}
-use Rattle.cqf_program_plans.specs.TcBridge.{bridge_text}
+use Rattle.cqf_program_plans.specs.TcBridge.{bridge_text, pauses}
 use Rattle.cqf_program_plans.specs.TcChecks.{checks_text}
 use Rattle.cqf_program_plans.specs.TcWords.{gate_words, tx_words}
 
--- the instant that the lists begin at is a multiple of this: of two cycles, in nanoseconds
-abbrev pub multiple : Domain → List ℕ
-multiple d = decimal (2 * d.cycle_time)
+-- how many cycles pass before all lists begin anew: two, or where a stream pauses as many as all paces repeat in
+abbrev pub rounds_in : List Row → ℕ
+rounds_in rows = if list_any pauses rows then most_every else 2
+
+-- the instant that the lists begin at is a multiple of this, in nanoseconds
+abbrev pub multiple : Domain → List Row → List ℕ
+multiple d rows = decimal (rounds_in rows * d.cycle_time)
 
 -- what the script is, and the variables that it takes
-abbrev pub usage_text : Domain → List ℕ
-usage_text d =
+abbrev pub usage_text : Domain → List Row → List ℕ
+usage_text d rows =
     codes "#!/bin/sh\n# Written by cqf compile --format tc. Each bridge runs it as root with its own name as the only argument, its links up and\n"
     ++ (codes "# its clock in step with the others'.\n"
     ++ (codes "#   OUT_L     the interface by which link L leaves that bridge, and IN_L the one by which it comes there\n"
     ++ (codes "#   TALKER_S  the interface at which stream S comes from its talker, where it begins at that bridge\n"
     ++ (codes "#   MAC_S and VLAN_S   the destination address and the VLAN of the frames of stream S, which the talker has to tag\n"
     ++ (codes "#   BASE      the instant of the PTP clock in ns at which an even cycle begins, a multiple of "
-    ++ (multiple d
+    ++ (multiple d rows
     ++ (codes "\n#   TC, IP and CHAIN   may be set: commands in place of tc and ip, the filter chain of the gates. TC=echo shows what would be\n"
     ++ (codes "#             done, and interfaces are then looked for only where IP is set\n"
     ++ (codes "# An interface has one neighbour. So OUT_L and IN_K may be the same where link K is the way back of link L, TALKER_R and\n"
@@ -46,16 +52,16 @@ opening_text d =
     ++ (codes " \"\nused=\"\" ways=\"\" old=\"\" streams=\"\" gates=\"\" undo=\"\"\n\n# ends the script where nothing is changed yet\nrefuse() {\n"
     ++ codes "    printf '%s\\n' \"$*\" >&2\n    exit 1\n}\n\n"))
 
--- a bridge and the instant have to be given, and the instant has to be a multiple of two cycles
-abbrev pub given_text : Domain → List ℕ
-given_text d =
+-- a bridge and the instant have to be given, and the instant has to be such a multiple
+abbrev pub given_text : Domain → List Row → List ℕ
+given_text d rows =
     codes "[ \"$#\" -eq 1 ] || refuse \"name one bridge:$bridges\"\ncase ${BASE:=} in\n"
     ++ (codes "\"\" | *[!0-9]* | 0?* | 9?????????????????? | ????????????????????*) refuse \"BASE: '$BASE' is no multiple of "
-    ++ (multiple d
+    ++ (multiple d rows
     ++ (codes " below 9000000000000000000\" ;;\nesac\n[ \"$((BASE % "
-    ++ (multiple d
+    ++ (multiple d rows
     ++ (codes "))\" -eq 0 ] || refuse \"BASE: $BASE is no multiple of "
-    ++ (multiple d
+    ++ (multiple d rows
     ++ (codes "\"\ncase $chain in\n*[!0-9]* | 0?* | ??????????*) refuse \"CHAIN: '$chain' is no number of a chain\" ;;\nesac\n"
     ++ (codes "[ -n \"$ip\" ] || if [ \"$tc\" = echo ]; then ip=:; else ip=ip; fi\n"
     ++ (codes "command -v \"${tc%% *}\" >/dev/null || refuse \"TC: there is no command $tc\"\n"
@@ -112,6 +118,28 @@ tc_gate_text d =
     codes "# stream gate $2 at the interface $1: address $3, VLAN $4, at most $5 octets a cycle\ngate() {\n"
     ++ (gate_command d ++ (codes "\n" ++ (undo_gate ++ codes "\n}\n\n")))
 
+-- the lines that set the gate of a stream that pauses by the list that they are given
+abbrev pub by_list_lines : List (List ℕ)
+by_list_lines =
+    codes "    gate_at=$1 gate_no=$2 gate_mac=$3 gate_vlan=$4"
+    ∷ codes "    shift 4"
+    ∷ (codes "    $tc filter add dev \"$gate_at\" ingress chain \"$chain\" protocol 802.1Q pref \"$gate_no\" handle \"$gate_no\" flower skip_sw"
+    ++ codes " dst_mac \"$gate_mac\" vlan_id \"$gate_vlan\" action gate index \"$gate_no\" base-time \"$BASE\" \"$@\"")
+    ∷ codes "    undo=\"filter del dev $gate_at ingress chain $chain protocol 802.1Q pref $gate_no handle $gate_no flower/$undo\""
+    ∷ []
+
+abbrev pub by_list_text : List ℕ
+by_list_text =
+    codes "# stream gate $2 at the interface $1: address $3, VLAN $4, and behind these the entries of its list\ngate_by_list() {\n"
+    ++ (codes "    gate_at=$1 gate_no=$2 gate_mac=$3 gate_vlan=$4\n    shift 4\n"
+    ++ (codes "    $tc filter add dev \"$gate_at\" ingress chain \"$chain\" protocol 802.1Q pref \"$gate_no\" handle \"$gate_no\" flower skip_sw"
+    ++ (codes " dst_mac \"$gate_mac\" vlan_id \"$gate_vlan\" action gate index \"$gate_no\" base-time \"$BASE\" \"$@\"\n"
+    ++ codes "    undo=\"filter del dev $gate_at ingress chain $chain protocol 802.1Q pref $gate_no handle $gate_no flower/$undo\"\n}\n\n")))
+
+-- they are written where a stream pauses
+abbrev pub list_gates_text : List Row → List ℕ
+list_gates_text rows = if list_any pauses rows then by_list_text else []
+
 -- a function a bridge, by number
 abbrev pub bridges_text : Domain → List Row → List ℕ
 bridges_text d rows = each_below (bridge_text d rows) (length d.bridges)
@@ -126,9 +154,9 @@ choice_text d =
     ++ (each_below (choice_line d) (length d.bridges) ++ codes "*) refuse \"there is no bridge $1:$bridges\" ;;\nesac\ntrap - EXIT\n")
 
 -- the functions that bridges call
-abbrev pub functions_text : Domain → List ℕ
-functions_text d = checks_text ++ (link_text d ++ (old_gates_text ++ (no_gates_text ++ tc_gate_text d)))
+abbrev pub functions_text : Domain → List Row → List ℕ
+functions_text d rows = checks_text ++ (link_text d ++ (old_gates_text ++ (no_gates_text ++ (tc_gate_text d ++ list_gates_text rows))))
 
 -- the script of a domain and the rows of its streams
 abbrev pub tc_text : Domain → List Row → List ℕ
-tc_text d rows = usage_text d ++ (opening_text d ++ (given_text d ++ (functions_text d ++ (bridges_text d rows ++ choice_text d))))
+tc_text d rows = usage_text d rows ++ (opening_text d ++ (given_text d rows ++ (functions_text d rows ++ (bridges_text d rows ++ choice_text d))))

@@ -7,6 +7,7 @@ use Rattle.cqf_model.specs.Domain.{is_text}
 use Rattle.cqf_model.specs.GateList.{Entry}
 use Rattle.cqf_gates.specs.declared.faults.TextFault.{TextFault}
 use Rattle.cqf_gates.specs.GateListText.{line_of_gates}
+use Rattle.cqf_gates.specs.StreamText.{is_shut}
 use Rattle.cqf_gates.specs.TxText.{list_of_text}
 
 -- the list of a port: for each entry its states, where bit k is class k, in hexadecimal, and its interval in nanoseconds, as
@@ -20,6 +21,26 @@ tx_words (entry ∷ entries) = codes " sched-entry S " ++ (line_of_gates entry +
 abbrev pub gate_words : ℕ → List ℕ
 gate_words cycle_time =
     codes " sched-entry open " ++ (decimal cycle_time ++ (codes " 6 \"$5\" sched-entry open " ++ (decimal cycle_time ++ codes " 7 \"$5\"")))
+
+-- a list that is given entry by entry: `sched-entry open` or `close`, the interval in nanoseconds, the internal priority value and the
+-- octets, or -1 for each of these where nothing passes, and for octets where there is no limit
+abbrev pub octets_word : Option ℕ → List ℕ
+octets_word None = codes "-1"
+octets_word (Some most) = decimal most
+
+abbrev pub open_words : StreamEntry → List ℕ
+open_words entry =
+    codes " sched-entry open " ++ (decimal entry.interval ++ (codes " " ++ (decimal entry.ipv ++ (codes " " ++ octets_word entry.octet_max))))
+
+abbrev pub closed_words : ℕ → List ℕ
+closed_words interval = codes " sched-entry close " ++ (decimal interval ++ codes " -1 -1")
+
+abbrev pub entry_words : StreamEntry → List ℕ
+entry_words entry = if is_shut entry.octet_max then closed_words entry.interval else open_words entry
+
+abbrev pub list_words : List StreamEntry → List ℕ
+list_words [] = []
+list_words (entry ∷ entries) = entry_words entry ++ list_words entries
 
 -- the words of a text, where a space parts one from the next
 abbrev pub in_front : ℕ → List (List ℕ) → List (List ℕ)
@@ -47,15 +68,25 @@ lines_of_words _ = None
 abbrev pub tx_of_words : List ℕ → Option (Result (List Entry) TextFault)
 tx_of_words text = option_map list_of_text (lines_of_words (words_of_tc text))
 
--- octets as the fifth parameter has them, and no other word
+-- octets as the fifth parameter has them, or as a number
 abbrev pub octets_of_word : ℕ → List ℕ → Option ℕ
-octets_of_word octets word = if is_text word (codes "\"$5\"") then Some octets else None
+octets_of_word octets word = if is_text word (codes "\"$5\"") then Some octets else decimal_value word
 
 -- an entry of a stream's gate that words tell, where the fifth parameter is so many octets
 abbrev pub gate_entry : ℕ → List ℕ → List ℕ → List ℕ → Option StreamEntry
 gate_entry octets interval ipv most =
     option_and_then (λ (time : ℕ). option_and_then (λ (value : ℕ). option_map (λ (limit : ℕ). record { ipv = value; interval = time; octet_max = Some limit })
     (octets_of_word octets most)) (decimal_value ipv)) (decimal_value interval)
+
+-- an entry in which nothing passes
+abbrev pub shut_for : List ℕ → Option StreamEntry
+shut_for interval = option_map (λ (time : ℕ). record { ipv = 6; interval = time; octet_max = Some 0 }) (decimal_value interval)
+
+-- the entry of a state: `open`, or `close`, which has no class and no octets
+abbrev pub entry_of_state : ℕ → List ℕ → List ℕ → List ℕ → List ℕ → Option StreamEntry
+entry_of_state octets state interval ipv most =
+    if is_text state (codes "open") then gate_entry octets interval ipv most
+    else (if is_text state (codes "close") && is_text ipv (codes "-1") && is_text most (codes "-1") then shut_for interval else None)
 
 -- an entry before others, where all are there
 abbrev pub before_others : Option StreamEntry → Option (List StreamEntry) → Option (List StreamEntry)
@@ -65,9 +96,7 @@ before_others entry others = option_and_then (λ (first : StreamEntry). option_m
 abbrev pub gate_of_parts : ℕ → List (List ℕ) → Option (List StreamEntry)
 gate_of_parts octets [] = Some []
 gate_of_parts octets (word ∷ state ∷ interval ∷ ipv ∷ most ∷ words) =
-    if is_text word (codes "sched-entry") && is_text state (codes "open")
-    then before_others (gate_entry octets interval ipv most) (gate_of_parts octets words)
-    else None
+    if is_text word (codes "sched-entry") then before_others (entry_of_state octets state interval ipv most) (gate_of_parts octets words) else None
 gate_of_parts octets _ = None
 
 abbrev pub gate_of_words : ℕ → List ℕ → Option (List StreamEntry)

@@ -1,19 +1,20 @@
 //! The command `compile`: the configuration of a domain and its streams.
 ghost use Rattle.std.specs.Prelude.{ℕ, ◌≡◌, ◌≢◌, ◌+◌, ◌++◌, ◌<◌, ◌^◌, [], ◌∷◌, List, Ok, IfOk, IfErr, OnOk, length, map, string_bytes};
 ghost use Rattle.cqf_admission.specs.Admission.{HoldsOneMore};
-ghost use Rattle.cqf_admission.specs.Asking.{asked_of};
-ghost use Rattle.cqf_admission.specs.Tables.{AreAlongLinks, AreOfEachCycle};
+ghost use Rattle.cqf_admission.specs.Asking.{asked_paced};
+ghost use Rattle.cqf_admission.specs.Tables.{AreAlongLinks};
 ghost use Rattle.cqf_laws_history.specs.StateLaws.{AreHeld};
 ghost use Rattle.cqf_admission.specs.Forms.{IsRowOfGoodForm};
 ghost use Rattle.cqf_model.specs.History.{Asked, Recorded};
 ghost use Rattle.cqf_program_plans.specs.CompileOutput.{stream_line, admitted_from, compile_input, compiled_input};
 ghost use Rattle.cqf_program_plans.specs.CompileOutput.{configuration_of, AreAllHeld, ArePlanned, HoldsAll};
 ghost use Rattle.cqf_program_plans.specs.ConfigTold.{text_of_config};
+ghost use Rattle.cqf_admission_trees.specs.Turns.{AreOfGoodPaces};
 ghost use Rattle.cqf_admission_requests.specs.Orders.{request_at};
 ghost use Rattle.cqf_program_stop.specs.Stops.{EndsWith, IsRefused};
 
 use crate::compile_outputs::ConfigOutput;
-use cqf_admission::{Ledger, Receipt, Refused, judge};
+use cqf_admission::{Ledger, Receipt, Refused, judge_paced};
 use cqf_admission_trees::count_places;
 use cqf_compile::compile;
 use cqf_gates::{compiled_list, write_tx};
@@ -22,7 +23,7 @@ use cqf_model::Row;
 use cqf_program_press::Sheet;
 use cqf_program_scenario::{domain_part, streams_part, two_parts};
 use cqf_program_stop::{REFUSED, Stop};
-use cqf_topology::{Domain, Request};
+use cqf_topology::{Domain, PacedRequest};
 use cqf_units::{Cycle, Memory};
 use std::alloc::Global;
 
@@ -34,8 +35,8 @@ const SEAT: u16 = 0;
 /// # Errors
 /// With status 1 and the line of the first fault of the input: of its parts, of the domain, or of the streams; and with status 3
 /// for want of memory.
-pub fn read_plan(alloc: Global, input: &[u8]) -> Result<(Domain, Vec<Request>), Stop>
-    ensures ok { IfOk result (λ found. compile_input input.now ≡ Ok (found.0, map asked_of found.1.items)) }
+pub fn read_plan(alloc: Global, input: &[u8]) -> Result<(Domain, Vec<PacedRequest>), Stop>
+    ensures ok { IfOk result (λ found. compile_input input.now ≡ Ok (found.0, map asked_paced found.1.items)) }
     ensures err { IfErr result (IsRefused (compile_input input.now)) }
 {
     let (domain_text, streams_text) = two_parts(alloc, input)?;
@@ -65,16 +66,16 @@ pub fn stream_stop(alloc: Global, place: usize, refused: Refused) -> Stop
 }
 
 /// The row of the stream at a place, from 0, as that of number 0 and of cycle 0: its form is good.
-fn row_at(alloc: Global, domain: &Domain, request: &Request, place: usize) -> Result<Row, Stop>
+fn row_at(alloc: Global, domain: &Domain, request: &PacedRequest, place: usize) -> Result<Row, Stop>
     requires { place + 1 < 2 ^ 64 }
-    ensures ok { IfOk result (IsRowOfGoodForm domain.now (asked_of request.now)) }
+    ensures ok { IfOk result (IsRowOfGoodForm domain.now (asked_paced request.now)) }
     ensures err { IfErr result (λ stop. (entries : List Recorded) → (more : List Asked) → IsRefused
-        (admitted_from domain.now entries (place + 1) (asked_of request.now ∷ more)) stop) }
+        (admitted_from domain.now entries (place + 1) (asked_paced request.now ∷ more)) stop) }
 {
     if count_places(request.paths.as_slice()).is_none() {
         return Err(Stop::memory(alloc));
     }
-    match judge(domain, request) {
+    match judge_paced(domain, request) {
         Ok(judged) => match judged.into_row(alloc, request.octets, 0, Cycle(0)) {
             Ok(row) => Ok(row),
             Err(_) => Err(Stop::memory(alloc)),
@@ -138,17 +139,17 @@ fn push_row(alloc: Global, rows: &mut Vec<Row>, row: Row, receipt: Receipt) -> R
 fn admit_all(
     alloc: Global,
     domain: &Domain,
-    requests: &[Request],
+    requests: &[PacedRequest],
     ledger: &mut Ledger<'_>,
     rows: &mut Vec<Row>,
 ) -> Result<(), Stop>
     requires domain { ledger.old.administration.domain ≡ domain.now }
     requires begins { ledger.old.administration.entries ≡ [] }
-    requires requests { ledger.old.requests ≡ map asked_of requests.now }
+    requires requests { ledger.old.requests ≡ map asked_paced requests.now }
     requires none { rows.old.items ≡ [] }
     ensures held { IfOk result (λ _. ArePlanned domain.now ledger.new.administration rows.new.items) }
-    ensures ok { IfOk result (λ _. admitted_from domain.now [] 1 (map asked_of requests.now) ≡ Ok ledger.new.administration.entries) }
-    ensures err { IfErr result (IsRefused (admitted_from domain.now [] 1 (map asked_of requests.now))) }
+    ensures ok { IfOk result (λ _. admitted_from domain.now [] 1 (map asked_paced requests.now) ≡ Ok ledger.new.administration.entries) }
+    ensures err { IfErr result (IsRefused (admitted_from domain.now [] 1 (map asked_paced requests.now))) }
 {
     // the history is legal: a fact for the loop
     let _legal = ledger.log();
@@ -171,17 +172,17 @@ fn admit_all(
 fn rows_with(
     alloc: Global,
     domain: &Domain,
-    requests: &[Request],
+    requests: &[PacedRequest],
     ledger: &mut Ledger<'_>,
 ) -> Result<Vec<Row>, Stop>
     requires domain { ledger.old.administration.domain ≡ domain.now }
     requires begins { ledger.old.administration.entries ≡ [] }
-    requires requests { ledger.old.requests ≡ map asked_of requests.now }
-    ensures held { IfOk result (λ rows. HoldsAll domain.now (map asked_of requests.now) rows.items) }
+    requires requests { ledger.old.requests ≡ map asked_paced requests.now }
+    ensures held { IfOk result (λ rows. HoldsAll domain.now (map asked_paced requests.now) rows.items) }
     ensures along { IfOk result (λ rows. AreAlongLinks domain.now rows.items) }
     ensures sound { IfOk result (λ rows. (next : ℕ) × AreHeld domain.now rows.items next 0) }
-    ensures paced { IfOk result (λ rows. AreOfEachCycle rows.items) }
-    ensures err { IfErr result (IsRefused (admitted_from domain.now [] 1 (map asked_of requests.now))) }
+    ensures good { IfOk result (λ rows. AreOfGoodPaces rows.items) }
+    ensures err { IfErr result (IsRefused (admitted_from domain.now [] 1 (map asked_paced requests.now))) }
 {
     state_follows_history();
     let mut rows = Vec::new(alloc);
@@ -197,13 +198,13 @@ fn rows_with(
 pub fn rows_of_cycle_0(
     alloc: Global,
     domain: &Domain,
-    requests: &[Request],
+    requests: &[PacedRequest],
 ) -> Result<Vec<Row>, Stop>
-    ensures held { IfOk result (λ rows. HoldsAll domain.now (map asked_of requests.now) rows.items) }
+    ensures held { IfOk result (λ rows. HoldsAll domain.now (map asked_paced requests.now) rows.items) }
     ensures along { IfOk result (λ rows. AreAlongLinks domain.now rows.items) }
     ensures sound { IfOk result (λ rows. (next : ℕ) × AreHeld domain.now rows.items next 0) }
-    ensures paced { IfOk result (λ rows. AreOfEachCycle rows.items) }
-    ensures err { IfErr result (IsRefused (admitted_from domain.now [] 1 (map asked_of requests.now))) }
+    ensures good { IfOk result (λ rows. AreOfGoodPaces rows.items) }
+    ensures err { IfErr result (IsRefused (admitted_from domain.now [] 1 (map asked_paced requests.now))) }
 {
     let Ok(mut ledger) = Ledger::new(alloc, domain, requests, &[]) else {
         return Err(Stop::memory(alloc));
@@ -213,7 +214,8 @@ pub fn rows_of_cycle_0(
 
 /// The domain's configuration with the streams of these rows, ready to be told.
 fn config_ready(alloc: Global, domain: &Domain, rows: Vec<Row>) -> Result<ConfigOutput, Memory>
-    requires { AreAlongLinks domain.now rows.items }
+    requires along { AreAlongLinks domain.now rows.items }
+    requires paced { AreOfGoodPaces rows.items }
     ensures { IfOk result (λ output. output ≡ record { domain = domain.now; rows = rows.items }) }
 {
     let port_list = compiled_list(domain.cycle_time(), domain.guard());
@@ -229,9 +231,13 @@ fn config_ready(alloc: Global, domain: &Domain, rows: Vec<Row>) -> Result<Config
 }
 
 /// The configuration of a domain with these streams, ready to be told.
-fn config_of(alloc: Global, domain: &Domain, requests: &[Request]) -> Result<ConfigOutput, Stop>
-    ensures ok { IfOk result (λ output. configuration_of domain.now (map asked_of requests.now) ≡ Ok (text_of_config output)) }
-    ensures err { IfErr result (IsRefused (configuration_of domain.now (map asked_of requests.now))) }
+fn config_of(
+    alloc: Global,
+    domain: &Domain,
+    requests: &[PacedRequest],
+) -> Result<ConfigOutput, Stop>
+    ensures ok { IfOk result (λ output. configuration_of domain.now (map asked_paced requests.now) ≡ Ok (text_of_config output)) }
+    ensures err { IfErr result (IsRefused (configuration_of domain.now (map asked_paced requests.now))) }
 {
     let rows = rows_of_cycle_0(alloc, domain, requests)?;
     match config_ready(alloc, domain, rows) {

@@ -1,6 +1,6 @@
-//! The pieces of text that a stream's lines have in common, kept in place.
+//! The piece of text that a stream's lines have in common, kept in place.
 ghost use Rattle.std.specs.Prelude.{◌≡◌, ◌≤◌, ◌+◌, ◌++◌, decimal, length};
-ghost use Rattle.cqf_program_plans.specs.ConfigTold.{gate_entry_text, gate_text, row_front};
+ghost use Rattle.cqf_program_plans.specs.ConfigTold.{row_front};
 
 use arrayvec::ArrayVec;
 use cqf_model::Row;
@@ -40,28 +40,5 @@ pub(crate) fn row_front(row: &Row) -> Piece
     add(&mut piece, b" ");
     add(&mut piece, row.name.as_bytes());
     add(&mut piece, b" bridge ");
-    piece
-}
-
-/// A piece with words behind it, and then the numbers of a gate's entry.
-fn add_entry(piece: &mut Piece, words: &[u8], cycle_time: u32, octets: u32)
-    requires { length piece.old.items + length words.now + 21 ≤ 64 }
-    ensures text { piece.new.items ≡ piece.old.items ++ gate_entry_text words.now cycle_time octets }
-    ensures few { length (gate_entry_text words.now cycle_time octets) ≤ length words.now + 21 }
-{
-    add(piece, words);
-    add_number(piece, cycle_time);
-    add(piece, b" ");
-    add_number(piece, octets);
-}
-
-/// What stands behind the bridge: the end of the line, and the stream's gate (profile).
-pub(crate) fn gate_text(cycle_time: u32, octets: u32) -> Piece
-    ensures { result.items ≡ gate_text cycle_time octets }
-{
-    let mut piece = ArrayVec::new();
-    add_entry(&mut piece, b"\nopen 6 ", cycle_time, octets);
-    add_entry(&mut piece, b"\nopen 7 ", cycle_time, octets);
-    add(&mut piece, b"\n");
     piece
 }

@@ -1,7 +1,7 @@
 //! The command `latency`: the latencies of a domain's streams.
 ghost use Rattle.std.specs.Prelude.{ℕ, ◌≡◌, true, Ok, IfOk, IfErr, OnOk, find, map, option_copied, string_bytes};
-ghost use Rattle.cqf_admission.specs.Asking.{asked_of};
-ghost use Rattle.cqf_admission.specs.Tables.{AreAlongLinks, AreOfEachCycle};
+ghost use Rattle.cqf_admission.specs.Asking.{asked_paced};
+ghost use Rattle.cqf_admission_trees.specs.Turns.{AreOfGoodPaces};
 ghost use Rattle.cqf_laws_history.specs.StateLaws.{AreHeld};
 ghost use Rattle.cqf_program_stop.specs.Stops.{EndsWith, IsRefused};
 ghost use Rattle.cqf_program_plans.specs.LatencyText.{first_line_of, first_not_sure, is_not_sure, latencies_of, latency_text, not_sure_line, text_of_latency};
@@ -17,7 +17,7 @@ use crate::rows_of_cycle_0;
 use cqf_model::Row;
 use cqf_program_press::Sheet;
 use cqf_program_stop::{REFUSED, Stop};
-use cqf_topology::{Domain, Planned, Request};
+use cqf_topology::{Domain, PacedRequest, Planned};
 use cqf_units::Memory;
 use std::alloc::Global;
 
@@ -74,9 +74,8 @@ fn latencies_ready(
     rows: Vec<Row>,
     deadlines: &[Option<u32>],
 ) -> Result<LatencyOutput, Memory>
-    requires along { AreAlongLinks domain rows.items }
     requires held { (next : ℕ) × AreHeld domain rows.items next 0 }
-    requires paced { AreOfEachCycle rows.items }
+    requires good { AreOfGoodPaces rows.items }
     ensures { IfOk result (λ output. output ≡ latencies_of domain rows.items deadlines.now) }
 {
     let latencies = latencies_of_rows(alloc, &domain, rows.as_slice(), deadlines)?;
@@ -92,9 +91,8 @@ fn output_of_rows(
     rows: Vec<Row>,
     deadlines: &[Option<u32>],
 ) -> Result<LatencyOutput, Stop>
-    requires along { AreAlongLinks domain rows.items }
     requires held { (next : ℕ) × AreHeld domain rows.items next 0 }
-    requires paced { AreOfEachCycle rows.items }
+    requires good { AreOfGoodPaces rows.items }
     ensures ok { let told = unless_strict strict (first_not_sure domain rows.items deadlines.now) (latency_text domain rows.items deadlines.now) in
         IfOk result (λ output. told ≡ Ok (text_of_latency output)) }
     ensures err { let told = unless_strict strict (first_not_sure domain rows.items deadlines.now) (latency_text domain rows.items deadlines.now) in
@@ -120,11 +118,11 @@ fn latency_of(
     alloc: Global,
     strict: bool,
     domain: Domain,
-    requests: &[Request],
+    requests: &[PacedRequest],
     deadlines: &[Option<u32>],
 ) -> Result<LatencyOutput, Stop>
-    ensures ok { IfOk result (λ output. latency_of_plan strict domain (map asked_of requests.now) deadlines.now ≡ Ok (text_of_latency output)) }
-    ensures err { IfErr result (IsRefused (latency_of_plan strict domain (map asked_of requests.now) deadlines.now)) }
+    ensures ok { IfOk result (λ output. latency_of_plan strict domain (map asked_paced requests.now) deadlines.now ≡ Ok (text_of_latency output)) }
+    ensures err { IfErr result (IsRefused (latency_of_plan strict domain (map asked_paced requests.now) deadlines.now)) }
 {
     let rows = rows_of_cycle_0(alloc, &domain, requests)?;
     output_of_rows(alloc, strict, domain, rows, deadlines)

@@ -1,25 +1,27 @@
 //! What the streams of some rows cost of each link.
-ghost use Rattle.std.specs.Prelude.{ℕ, ◌≡◌, ◌<◌, ◌≤◌, ◌^◌, ◌∷◌, [], All, IfOk, length};
-ghost use Rattle.cqf_admission.specs.Rows.{cost_by_link, costs_on};
-ghost use Rattle.cqf_admission.specs.Tables.{AreAlongLinks, AreOfEachCycle};
+ghost use Rattle.std.specs.Prelude.{ℕ, ◌≡◌, ◌<◌, ◌∷◌, [], Contains, IfOk, length};
+ghost use Rattle.cqf_admission.specs.Costs.{most_cost};
+ghost use Rattle.cqf_admission.specs.Rows.{IsCountable};
+ghost use Rattle.cqf_admission_trees.specs.Turns.{AreOfGoodPaces, IsOfGoodPace};
 ghost use Rattle.cqf_laws_history.specs.StateLaws.{AreHeld};
 ghost use Rattle.cqf_lists.specs.Lists.{each_below};
-ghost use Rattle.cqf_model.specs.declared.topology.Row.{Row as ARow};
-ghost use Rattle.cqf_model.specs.Limits.{most_reserved};
+ghost use Rattle.cqf_model.specs.History.{most_beside};
+ghost use Rattle.cqf_program_plans.specs.LatencyOutput.{AreCostsOf, AreCountable};
 
-use cqf_model::Row;
+use crate::row_costs::add_cost;
+use cqf_admission_trees::Sums;
+use cqf_model::{Hop, Row};
 use cqf_topology::Domain;
-use cqf_units::{Memory, Octets, cost};
+use cqf_units::Memory;
 use std::alloc::Global;
 use std::marker::Model;
 
-/// The rows of a domain's table, and what their streams cost of each link, in octets a cycle.
+/// The rows of a domain's table, and what their streams cost of each link in each cycle, in octets.
 #[derive(Drop)]
 pub(crate) struct Costs<'r> {
     domain: &'r Domain,
     rows: &'r [Row],
-    /// One for each link, by number.
-    costs: Vec<u32>,
+    costs: Sums,
 }
 
 impl<'r> Model for Costs<'r> {
@@ -29,48 +31,40 @@ impl<'r> Model for Costs<'r> {
 
     ghost view = { λ c. record { domain = c.domain.now; rows = c.rows.now } };
 
-    ghost invariant = { λ c. AreCosts c.domain.now c.rows.now c.costs.items };
+    ghost invariant = { λ c. AreCosts c.domain.now c.rows.now c.costs };
 }
 
-/// What a row's stream costs of a link.
-fn cost_on(row: &Row, link: u16) -> u32
-    requires { row.now.octets ≤ most_reserved }
-    ensures { result ≡ cost_by_link row.now link }
+/// What the rows' streams cost of each link in each cycle, unless memory runs out.
+fn costs_of(alloc: Global, domain: &Domain, rows: &[Row]) -> Result<Sums, Memory>
+    requires held { (next : ℕ) × AreHeld domain.now rows.now next 0 }
+    requires good { AreOfGoodPaces rows.now }
+    ensures { IfOk result (λ costs. AreCostsOf (length domain.now.links) rows.now costs) }
 {
-    if row.crosses(link) {
-        cost(Octets(row.octets)).0
-    } else {
-        0
-    }
-}
-
-/// What the rows' streams cost of a link.
-fn link_cost(rows: &[Row], link: u16) -> u32
-    requires octets { All (λ (row : ARow). row.octets ≤ most_reserved) rows.now }
-    requires fits { costs_on rows.now link < 2 ^ 32 }
-    ensures { result ≡ costs_on rows.now link }
-{
-    let mut total = 0;
+    domain.know();
+    let mut costs = Sums::new(alloc, domain.links())?;
     for row in rows {
-        total += cost_on(row, link);
+        add_cost(&mut costs, row);
     }
-    total
+    Ok(costs)
 }
 
-/// What the streams of these rows of a table of the domain, which are offered in each cycle, cost of each link, by number, in octets a
-/// cycle.
+/// What the streams of these rows of a table of the domain cost of each link at most in a cycle, by number, in octets.
 ///
 /// # Errors
 /// `Memory` where a growth is refused.
 pub fn link_costs(alloc: Global, domain: &Domain, rows: &[Row]) -> Result<Vec<u32>, Memory>
     requires held { (next : ℕ) × AreHeld domain.now rows.now next 0 }
-    requires paced { AreOfEachCycle rows.now }
-    ensures { IfOk result (λ costs. costs.items ≡ each_below (λ l. costs_on rows.now l ∷ []) (length domain.now.links)) }
+    requires good { AreOfGoodPaces rows.now }
+    ensures { IfOk result (λ costs. costs.items ≡ each_below (λ l. most_cost rows.now l ∷ []) (length domain.now.links)) }
 {
+    // the domain is accepted: its cycle is short
     domain.know();
+    let sums = costs_of(alloc, domain, rows)?;
     let mut costs = Vec::new(alloc);
     for link in 0..domain.links() {
-        costs.push(link_cost(rows, link))?;
+        let most = sums.most_of(link);
+        prove!(most <= 10_000_000);
+        costs.push(most as u32)?;
     }
     Ok(costs)
 }
@@ -82,12 +76,13 @@ impl<'r> Costs<'r> {
         domain: &'r Domain,
         rows: &'r [Row],
     ) -> Result<Costs<'r>, Memory>
-        requires along { AreAlongLinks domain.now rows.now }
         requires held { (next : ℕ) × AreHeld domain.now rows.now next 0 }
-        requires paced { AreOfEachCycle rows.now }
+        requires good { AreOfGoodPaces rows.now }
         ensures { IfOk result (λ costs. costs ≡ record { domain = domain.now; rows = rows.now }) }
     {
-        let costs = link_costs(alloc, domain, rows)?;
+        // the domain is accepted: its cycle is short
+        domain.know();
+        let costs = costs_of(alloc, domain, rows)?;
         Ok(Costs {
             domain,
             rows,
@@ -105,17 +100,21 @@ impl<'r> Costs<'r> {
     /// The rows of the streams, by number.
     pub(crate) fn rows(&self) -> &[Row]
         ensures rows { result.now ≡ self.now.rows }
-        ensures along { AreAlongLinks self.now.domain self.now.rows }
-        ensures paced { AreOfEachCycle self.now.rows }
+        ensures countable { AreCountable (length self.now.domain.links) self.now.rows }
+        ensures good { AreOfGoodPaces self.now.rows }
     {
         self.rows
     }
 
-    /// What the streams cost of a link, in octets a cycle.
-    pub(crate) fn of_link(&self, link: u16) -> u32
-        requires { link < length self.now.domain.links }
-        ensures { result ≡ costs_on self.now.rows link }
+    /// What the streams cost at most, in octets, of the link of a hop in the cycles in which a row's frames go by it.
+    pub(crate) fn at_hop(&self, row: &Row, hop: &Hop) -> u32
+        requires of_tree { Contains row.now.tree.items hop.now }
+        requires countable { IsCountable (length self.now.domain.links) row.now }
+        requires good { IsOfGoodPace row.now }
+        ensures { result ≡ most_beside self.now.rows row.now.tree.items row.now.pace hop.now.link }
     {
-        self.costs[usize::from(link)]
+        let most = self.costs.most_at(hop, row.pace);
+        prove!(most <= 10_000_000);
+        most as u32
     }
 }

@@ -1,14 +1,13 @@
 //! The latencies of the streams of a table to their listeners.
-ghost use Rattle.std.specs.Prelude.{ℕ, ◌≡◌, ◌*◌, ◌<◌, ◌≤◌, ◌^◌, ◌++◌, All, IfOk, OnOk, Some, None, if◌then◌else◌, length};
-ghost use Rattle.cqf_admission.specs.Tables.{AreAlongLinks, AreOfEachCycle};
+ghost use Rattle.std.specs.Prelude.{ℕ, ◌≡◌, ◌*◌, ◌<◌, ◌≤◌, ◌^◌, ◌++◌, Contains, IfOk, OnOk, Some, None, if◌then◌else◌, length};
+ghost use Rattle.cqf_admission.specs.Rows.{IsCountable};
+ghost use Rattle.cqf_admission_trees.specs.Turns.{AreOfGoodPaces, IsOfGoodPace};
 ghost use Rattle.cqf_laws_history.specs.StateLaws.{AreHeld};
 ghost use Rattle.cqf_laws_latency.specs.Latency.{least_of, most_of, window_of};
 ghost use Rattle.cqf_program_plans.specs.EndNames.{name_of_end};
 ghost use Rattle.cqf_program_plans.specs.LatencyText.{deadline_of, is_station, latencies_of, latencies_of_row, latency_to};
 ghost use Rattle.cqf_model.specs.Domain.{end_of};
-ghost use Rattle.cqf_model.specs.Paces.{each_cycle};
-ghost use Rattle.cqf_admission.specs.Rows.{costs_on};
-ghost use Rattle.cqf_model.specs.Table.{links_of};
+ghost use Rattle.cqf_model.specs.History.{most_beside};
 
 use crate::latency_costs::Costs;
 use crate::latency_latencies::Latency;
@@ -59,16 +58,21 @@ pub fn listener_at(domain: &Domain, link: u16) -> Option<Name>
     }
 }
 
-/// The latency to the end of a hop of a row's tree, where a listener is there.
-fn latency_at(costs: &Costs<'_>, row: &Row, deadline: Option<u32>, hop: &Hop) -> Option<Latency>
-    requires { hop.now.link < length costs.now.domain.links }
-    ensures { let cost = costs_on costs.now.rows hop.now.link in result
-        ≡ (if is_station (end_of costs.now.domain hop.now.link) then Some (latency_to costs.now.domain cost row.now deadline hop.now) else None) }
+/// The latency to a listener at the end of a hop of a row's tree, where the streams cost so much of its link.
+fn latency_to(
+    domain: &Domain,
+    cost: u32,
+    row: &Row,
+    deadline: Option<u32>,
+    hop: &Hop,
+    listener: Name,
+) -> Latency
+    requires link { hop.now.link < length domain.now.links }
+    requires named { listener ≡ name_of_end domain.now hop.now.link }
+    ensures { result ≡ latency_to domain.now cost row.now deadline hop.now }
 {
-    let (domain, link, depth) = (costs.domain(), hop.link, hop.depth);
-    let listener = listener_at(domain, link)?;
-    let cost = costs.of_link(link);
-    Some(Latency {
+    let (link, depth) = (hop.link, hop.depth);
+    Latency {
         stream: row.name.copied(),
         listener,
         bridges: depth,
@@ -76,7 +80,26 @@ fn latency_at(costs: &Costs<'_>, row: &Row, deadline: Option<u32>, hop: &Hop) ->
         most: most_to(domain, link, depth, u64::from(cost)),
         window: window_at(domain, link, cost),
         deadline,
-    })
+    }
+}
+
+/// The latency to the end of a hop of a row's tree, where a listener is there.
+fn latency_at(costs: &Costs<'_>, row: &Row, deadline: Option<u32>, hop: &Hop) -> Option<Latency>
+    requires link { hop.now.link < length costs.now.domain.links }
+    requires of_tree { Contains row.now.tree.items hop.now }
+    requires countable { IsCountable (length costs.now.domain.links) row.now }
+    requires good { IsOfGoodPace row.now }
+    ensures { let cost = most_beside costs.now.rows row.now.tree.items row.now.pace hop.now.link in result
+        ≡ (if is_station (end_of costs.now.domain hop.now.link) then Some (latency_to costs.now.domain cost row.now deadline hop.now) else None) }
+{
+    let domain = costs.domain();
+    match listener_at(domain, hop.link) {
+        Some(listener) => {
+            let cost = costs.at_hop(row, hop);
+            Some(latency_to(domain, cost, row, deadline, hop, listener))
+        }
+        None => None,
+    }
 }
 
 /// Puts the latencies to the listeners of a row behind those before it.
@@ -86,9 +109,8 @@ fn push_listeners(
     row: &Row,
     deadline: Option<u32>,
 ) -> Result<(), Memory>
-    requires along { All (λ l. l < length costs.now.domain.links) (links_of row.now) }
-    requires paced { row.now.pace ≡ each_cycle }
-    requires all { AreOfEachCycle costs.now.rows }
+    requires countable { IsCountable (length costs.now.domain.links) row.now }
+    requires good { IsOfGoodPace row.now }
     ensures { OnOk result (latencies.new.items ≡ latencies.old.items ++ latencies_of_row costs.now.domain costs.now.rows row.now deadline) }
 {
     for hop in row.tree.as_slice() {
@@ -135,9 +157,8 @@ pub fn latencies_of_rows(
     rows: &[Row],
     deadlines: &[Option<u32>],
 ) -> Result<Vec<Latency>, Memory>
-    requires along { AreAlongLinks domain.now rows.now }
     requires held { (next : ℕ) × AreHeld domain.now rows.now next 0 }
-    requires paced { AreOfEachCycle rows.now }
+    requires good { AreOfGoodPaces rows.now }
     ensures { IfOk result (λ latencies. latencies.items ≡ latencies_of domain.now rows.now deadlines.now) }
 {
     let costs = Costs::new(alloc, domain, rows)?;

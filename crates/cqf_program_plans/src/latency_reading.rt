@@ -1,13 +1,13 @@
 //! What the command `latency` reads.
 ghost use Rattle.std.specs.Prelude.{◌≡◌, Ok, IfErr, IfOk, map};
-ghost use Rattle.cqf_admission.specs.Asking.{asked_of};
+ghost use Rattle.cqf_admission.specs.Asking.{asked_paced};
 ghost use Rattle.cqf_program_plans.specs.LatencyInput.{asked_in, deadlines_in, latency_input};
 ghost use Rattle.cqf_program_stop.specs.Stops.{IsRefused};
 ghost use Rattle.cqf_topology.specs.PlannedText.{planned_text};
 
 use cqf_program_scenario::{domain_part, planned_part, two_parts};
 use cqf_program_stop::Stop;
-use cqf_topology::{Domain, Planned, Request};
+use cqf_topology::{Domain, PacedRequest, Planned};
 use cqf_units::Memory;
 use std::alloc::Global;
 
@@ -29,8 +29,8 @@ pub(crate) fn read_planned(alloc: Global, input: &[u8]) -> Result<(Domain, Vec<P
 pub fn parted(
     alloc: Global,
     streams: Vec<Planned>,
-) -> Result<(Vec<Request>, Vec<Option<u32>>), Memory>
-    ensures requests { IfOk result (λ found. map asked_of found.0.items ≡ asked_in (map planned_text streams.items)) }
+) -> Result<(Vec<PacedRequest>, Vec<Option<u32>>), Memory>
+    ensures requests { IfOk result (λ found. map asked_paced found.0.items ≡ asked_in (map planned_text streams.items)) }
     ensures deadlines { IfOk result (λ found. found.1.items ≡ deadlines_in (map planned_text streams.items)) }
 {
     let mut requests = Vec::with_capacity(alloc, streams.len())?;

@@ -16,7 +16,8 @@
 //!   and [`plan_fits`] of `left` that it is nowhere below 0 just where all streams are admitted.
 //! - [`latency_output`]: how long the frames of each stream take to each of its listeners, at least and at most, and whether
 //!   they keep their deadline for sure ([`LatencyOutput`], with a [`Latency`] a row, and its [`Verdict`]). [`latencies_of_rows`] has
-//!   this of the rows of a table, and [`link_costs`] what they cost of each link. [`parted`] parts streams from their deadlines.
+//!   this of the rows of a table, and [`link_costs`] what they cost of each link in a cycle at most. [`add_cost`] adds what one costs
+//!   to sums. [`parted`] parts streams from their deadlines.
 //!   [`told_latencies_hold`] says that frames take no less and no more in any run over the plan, and that the verdicts are true.
 //!
 //! `specs/` has the value of an input (`PortOutput`, `CompileOutput`, `TcOutput`, `LoadOutput`, `LatencyInput`), and what an
@@ -71,11 +72,13 @@ mod load_outputs;
 mod load_told;
 mod port_command;
 mod port_outputs;
+mod row_costs;
 mod tc_bridges;
 mod tc_checks;
 mod tc_command;
 mod tc_frame;
 mod tc_laws;
+mod tc_lists;
 mod tc_outputs;
 mod tc_told;
 mod tc_ways;
@@ -96,6 +99,7 @@ pub use load_laws::{greatest_fits, plan_fits};
 pub use load_outputs::LoadOutput;
 pub use port_command::port_output;
 pub use port_outputs::PortOutput;
+pub use row_costs::add_cost;
 pub use tc_command::tc_output;
 pub use tc_laws::{scripts_call_what_is_due, scripts_hold_the_lists};
 pub use tc_outputs::TcOutput;

@@ -1,7 +1,7 @@
 //! The command `load`: what each link holds of the streams of a plan, and what it has left.
 ghost use Rattle.std.specs.Prelude.{◌≡◌, ◌∷◌, [], IfErr, IfOk, List, Ok, map};
 ghost use Rattle.cqf_model.specs.History.{Asked};
-ghost use Rattle.cqf_admission.specs.Asking.{asked_of};
+ghost use Rattle.cqf_admission.specs.Asking.{asked_paced};
 ghost use Rattle.cqf_program_plans.specs.LoadOutput.{listed_from, loaded_input};
 ghost use Rattle.cqf_program_plans.specs.LoadText.{text_of_load};
 ghost use Rattle.cqf_program_stop.specs.Stops.{IsRefused};
@@ -12,7 +12,7 @@ use crate::{read_plan, stream_stop};
 use cqf_admission_trees::count_places;
 use cqf_program_press::Sheet;
 use cqf_program_stop::Stop;
-use cqf_topology::{Domain, Request};
+use cqf_topology::{Domain, PacedRequest};
 use std::alloc::Global;
 
 /// The streams with one more listed behind them, whatever room links have, or the end where it is refused.
@@ -20,10 +20,10 @@ fn list_one(
     alloc: Global,
     domain: &Domain,
     listing: Listing,
-    request: &Request,
+    request: &PacedRequest,
 ) -> Result<Listing, Stop>
-    ensures ok { IfOk result (λ after. (more : List Asked) → listed_from domain.now listing (asked_of request.now ∷ more) ≡ listed_from domain.now after more) }
-    ensures err { IfErr result (λ stop. (more : List Asked) → IsRefused (listed_from domain.now listing (asked_of request.now ∷ more)) stop) }
+    ensures ok { IfOk result (λ after. (more : List Asked) → listed_from domain.now listing (asked_paced request.now ∷ more) ≡ listed_from domain.now after more) }
+    ensures err { IfErr result (λ stop. (more : List Asked) → IsRefused (listed_from domain.now listing (asked_paced request.now ∷ more)) stop) }
 {
     domain.know();
     if count_places(request.paths.as_slice()).is_none() {
@@ -42,9 +42,9 @@ fn list_one(
 }
 
 /// Streams listed in turn, or the end with the line of the first that is refused.
-fn list_all(alloc: Global, domain: &Domain, requests: &[Request]) -> Result<Listing, Stop>
-    ensures ok { IfOk result (λ listing. listed_from domain.now [] (map asked_of requests.now) ≡ Ok listing) }
-    ensures err { IfErr result (IsRefused (listed_from domain.now [] (map asked_of requests.now))) }
+fn list_all(alloc: Global, domain: &Domain, requests: &[PacedRequest]) -> Result<Listing, Stop>
+    ensures ok { IfOk result (λ listing. listed_from domain.now [] (map asked_paced requests.now) ≡ Ok listing) }
+    ensures err { IfErr result (IsRefused (listed_from domain.now [] (map asked_paced requests.now))) }
 {
     let Ok(mut listing) = Listing::new(alloc) else {
         return Err(Stop::memory(alloc));

@@ -3,29 +3,30 @@ ghost use Rattle.std.specs.Prelude.{ℕ, ◌≡◌, ◌≤◌, ◌<◌, ◌^◌,
 ghost use Rattle.std.specs.List.{list_any};
 ghost use Rattle.cqf_model.specs.Domain.{is_text};
 ghost use Rattle.cqf_admission_trees.specs.Branches.{branches_of, places_of};
-ghost use Rattle.cqf_admission.specs.Asking.{asked_of};
+ghost use Rattle.cqf_admission.specs.Asking.{asked_paced};
 ghost use Rattle.cqf_program_plans.specs.Listing.{Lists, Weighs};
 ghost use Rattle.cqf_program_plans.specs.Fitting.{streams_on};
 ghost use Rattle.cqf_program_plans.specs.Adding.{AddsWhere};
 ghost use Rattle.cqf_admission.specs.Costs.{most_cost};
 ghost use Rattle.cqf_admission.specs.Rows.{IsCountable};
 ghost use Rattle.cqf_model.specs.Limits.{most_links, most_streams};
-ghost use Rattle.cqf_model.specs.Paces.{each_cycle};
+ghost use Rattle.cqf_admission_trees.specs.Turns.{IsOfGoodPace};
 
-use cqf_admission::{Judged, judge};
-use cqf_admission_trees::add_on;
+use crate::row_costs::add_cost;
+use cqf_admission::{Judged, judge_paced};
+use cqf_admission_trees::{Sums, add_on};
 use cqf_model::{MOST_LINKS, Refused, Row};
-use cqf_topology::{Domain, NameList, Request};
-use cqf_units::{Cycle, Memory, Name, Octets, cost};
+use cqf_topology::{Domain, NameList, PacedRequest};
+use cqf_units::{Cycle, Memory, Name};
 use std::alloc::Global;
 use std::marker::Model;
 
-/// The rows of streams by number, with what they cost of each link and how many go by it.
+/// The rows of streams by number, with what they cost of each link in each cycle, and how many go by it.
 #[derive(Drop)]
 pub(crate) struct Listing {
     names: NameList,
     rows: Vec<Row>,
-    held: Vec<u64>,
+    held: Sums,
     crossing: Vec<u64>,
 }
 
@@ -38,7 +39,7 @@ impl Model for Listing {
 
     ghost view = { λ l. l.rows.items };
 
-    ghost invariant = { λ l. IsListing l.names.keys l.rows.items l.held.items l.crossing.items };
+    ghost invariant = { λ l. IsListing l.names.keys l.rows.items l.held l.crossing.items };
 }
 
 /// As many sums as these, each 0, unless memory runs out.
@@ -63,7 +64,7 @@ impl Listing {
     pub(crate) fn new(alloc: Global) -> Result<Listing, Memory>
         ensures { IfOk result (λ listing. listing ≡ []) }
     {
-        let held = no_sums(alloc, MOST_LINKS)?;
+        let held = Sums::new(alloc, MOST_LINKS as u16)?;
         let crossing = no_sums(alloc, MOST_LINKS)?;
         Ok(Listing {
             names: NameList::new(alloc),
@@ -93,8 +94,7 @@ impl Listing {
         ensures cost { result ≡ most_cost self.now link }
         ensures bounded { result ≤ 1638400000 }
     {
-        let rows = &self.rows;
-        self.held[usize::from(link)]
+        self.held.most_of(link)
     }
 
     /// How many of them go by it.
@@ -107,11 +107,11 @@ impl Listing {
     }
 
     /// The first reason but that a link has no room against a request that asks for less than 2^64 places, or what it is by itself.
-    fn weigh(&self, domain: &Domain, request: &Request) -> Result<Judged, Refused>
+    fn weigh(&self, domain: &Domain, request: &PacedRequest) -> Result<Judged, Refused>
         requires { places_of (branches_of request.now.paths.items) < 2 ^ 64 }
-        ensures { Weighs domain.now self.now (asked_of request.now) result }
+        ensures { Weighs domain.now self.now (asked_paced request.now) result }
     {
-        let judged = judge(domain, request)?;
+        let judged = judge_paced(domain, request)?;
         if self.has_name(&judged.name) {
             return Err(Refused::NameHeld);
         }
@@ -127,10 +127,10 @@ impl Listing {
         &self,
         alloc: Global,
         domain: &Domain,
-        request: &Request,
+        request: &PacedRequest,
     ) -> Result<Result<Row, Refused>, Memory>
         requires { places_of (branches_of request.now.paths.items) < 2 ^ 64 }
-        ensures { IfOk result (λ looked. Lists domain.now self.now (asked_of request.now) looked) }
+        ensures { IfOk result (λ looked. Lists domain.now self.now (asked_paced request.now) looked) }
     {
         match self.weigh(domain, request) {
             Ok(judged) => {
@@ -145,7 +145,7 @@ impl Listing {
     pub(crate) fn with(self, row: Row) -> Result<Listing, Memory>
         requires few { length self < most_streams }
         requires countable { IsCountable most_links row }
-        requires paced { row.pace ≡ each_cycle }
+        requires good { IsOfGoodPace row }
         requires free { list_any (λ other. is_text other.name row.name) self ≡ false }
         ensures { IfOk result (λ listing. listing ≡ self ++ row ∷ []) }
     {
@@ -156,7 +156,7 @@ impl Listing {
             crossing,
         } = self;
         let (mut names, mut rows, mut held, mut crossing) = (names, rows, held, crossing);
-        add_where(&mut held, &row, cost(Octets(row.octets)).0);
+        add_cost(&mut held, &row);
         add_where(&mut crossing, &row, 1);
         names.add(&row.name)?;
         rows.push(row)?;

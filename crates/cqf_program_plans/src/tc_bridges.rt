@@ -3,14 +3,17 @@ ghost use Rattle.std.specs.Prelude.{◌≡◌, [], Some, None, if◌then◌else�
 ghost use Rattle.std.specs.List.{flat_map};
 ghost use Rattle.std.specs.Option.{option_map_or};
 ghost use Rattle.cqf_model.specs.Domain.{bridge_of};
+ghost use Rattle.cqf_admission_trees.specs.Turns.{AreOfGoodPaces, IsGoodPace};
 ghost use Rattle.cqf_program_press.specs.Press.{Puts};
 ghost use Rattle.cqf_program_plans.specs.EndNames.{name_of_end};
 ghost use Rattle.cqf_program_plans.specs.TcBridge.{bridge_text, clearing_by, each_link, each_stream, frame_needs};
-ghost use Rattle.cqf_program_plans.specs.TcBridge.{gate_call, if_left, link_call, link_lines, link_need, needs_by};
+ghost use Rattle.cqf_program_plans.specs.TcBridge.{gate_call, gate_target, if_left, link_call, link_lines, link_need, list_call, needs_by, plain_call};
 ghost use Rattle.cqf_program_plans.specs.TcBridge.{out_need, stream_clearing, stream_gates, stream_lines, stream_needs};
 ghost use Rattle.cqf_program_plans.specs.TcBridge.{way_clearing, way_in, way_need, way_out, ways_out};
 
-use crate::tc_ways::{first_hop, leaves, way_of};
+use crate::tc_lists::{pauses, put_list_words};
+use crate::tc_ways::way_of;
+use cqf_compile::{first_hop, gate_of, leaves};
 use cqf_model::{Hop, Row};
 use cqf_program_press::{Press, Sink};
 use cqf_program_telling::{put_bridge, put_link, put_node};
@@ -183,11 +186,10 @@ fn put_ways_out<W: Sink>(press: &mut Press<'_, W>, domain: &Domain, bridge: u16,
     }
 }
 
-/// Puts the call that sets a stream's gate at the interface by which it comes.
-fn put_gate_call<W: Sink>(press: &mut Press<'_, W>, row: &Row, way: Option<u16>)
-    ensures { Puts W.contents press.old press.new (gate_call row.now way) }
+/// Puts the interface by which a stream comes, its gate's index, and its frames.
+fn put_gate_target<W: Sink>(press: &mut Press<'_, W>, row: &Row, way: Option<u16>)
+    ensures { Puts W.contents press.old press.new (gate_target row.now way) }
 {
-    press.put(b"    gate \"$");
     put_way(press, row, way);
     press.put(b"\" ");
     press.put_number(u64::from(row.no) + 1);
@@ -195,8 +197,51 @@ fn put_gate_call<W: Sink>(press: &mut Press<'_, W>, row: &Row, way: Option<u16>)
     press.put_number(row.no);
     press.put(b"\" \"$VLAN_");
     press.put_number(row.no);
-    press.put(b"\" ");
+    press.put(b"\"");
+}
+
+/// Puts the call that sets the gate of a stream that is offered in each cycle.
+fn put_plain_call<W: Sink>(press: &mut Press<'_, W>, row: &Row, way: Option<u16>)
+    ensures { Puts W.contents press.old press.new (plain_call row.now way) }
+{
+    press.put(b"    gate \"$");
+    put_gate_target(press, row, way);
+    press.put(b" ");
     press.put_number(row.octets);
+}
+
+/// Puts the call that sets the gate of one that pauses, by its list at the bridge.
+fn put_list_call<W: Sink>(
+    press: &mut Press<'_, W>,
+    domain: &Domain,
+    bridge: u16,
+    row: &Row,
+    way: Option<u16>,
+)
+    requires { IsGoodPace row.now.pace }
+    ensures { Puts W.contents press.old press.new (list_call domain.now bridge row.now way) }
+{
+    press.put(b"    gate_by_list \"$");
+    put_gate_target(press, row, way);
+    put_list_words(press, &gate_of(domain, row, bridge));
+}
+
+/// Puts the call that sets a stream's gate at the interface by which it comes.
+fn put_gate_call<W: Sink>(
+    press: &mut Press<'_, W>,
+    domain: &Domain,
+    bridge: u16,
+    row: &Row,
+    way: Option<u16>,
+)
+    requires { IsGoodPace row.now.pace }
+    ensures { Puts W.contents press.old press.new (gate_call domain.now bridge row.now way) }
+{
+    if pauses(row) {
+        put_list_call(press, domain, bridge, row, way);
+    } else {
+        put_plain_call(press, row, way);
+    }
 }
 
 /// Puts the lines of a stream that comes that way.
@@ -207,6 +252,7 @@ fn put_stream_lines<W: Sink>(
     row: &Row,
     way: Option<u16>,
 )
+    requires { IsGoodPace row.now.pace }
     ensures { Puts W.contents press.old press.new (stream_lines domain.now bridge row.now way) }
 {
     press.put(b"    # stream ");
@@ -216,7 +262,7 @@ fn put_stream_lines<W: Sink>(
     press.put(b", leaves by");
     put_ways_out(press, domain, bridge, row);
     press.put(b"\n");
-    put_gate_call(press, row, way);
+    put_gate_call(press, domain, bridge, row, way);
     press.put(b"\n");
 }
 
@@ -342,6 +388,7 @@ fn put_clearings<W: Sink>(press: &mut Press<'_, W>, domain: &Domain, bridge: u16
 
 /// Puts the lines of a stream, where it leaves the bridge.
 fn put_stream<W: Sink>(press: &mut Press<'_, W>, domain: &Domain, bridge: u16, row: &Row)
+    requires { IsGoodPace row.now.pace }
     ensures { Puts W.contents press.old press.new (stream_gates domain.now bridge row.now) }
 {
     if let Some(hop) = first_hop(domain, row, bridge) {
@@ -351,6 +398,7 @@ fn put_stream<W: Sink>(press: &mut Press<'_, W>, domain: &Domain, bridge: u16, r
 
 /// Puts the lines of the streams that leave the bridge.
 fn put_streams<W: Sink>(press: &mut Press<'_, W>, domain: &Domain, bridge: u16, rows: &[Row])
+    requires { AreOfGoodPaces rows.now }
     ensures { Puts W.contents press.old press.new (flat_map (stream_gates domain.now bridge) rows.now) }
 {
     for row in rows {
@@ -365,6 +413,7 @@ pub(crate) fn put_bridge_function<W: Sink>(
     bridge: u16,
     rows: &[Row],
 )
+    requires { AreOfGoodPaces rows.now }
     ensures { Puts W.contents press.old press.new (bridge_text domain.now rows.now bridge) }
 {
     press.put(b"bridge_");

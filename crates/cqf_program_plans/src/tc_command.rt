@@ -1,6 +1,7 @@
 //! The command `compile --format tc`: the script for a domain and its streams.
 ghost use Rattle.std.specs.Prelude.{◌≡◌, Ok, IfOk, IfErr, map};
-ghost use Rattle.cqf_admission.specs.Asking.{asked_of};
+ghost use Rattle.cqf_admission.specs.Asking.{asked_paced};
+ghost use Rattle.cqf_admission_trees.specs.Turns.{AreOfGoodPaces};
 ghost use Rattle.cqf_program_plans.specs.CompileOutput.{compiled_input, configuration_of};
 ghost use Rattle.cqf_program_stop.specs.Stops.{IsRefused};
 ghost use Rattle.cqf_program_plans.specs.TcOutput.{tc_of, tc_of_input, text_of_tc};
@@ -12,12 +13,13 @@ use cqf_gates::compiled_list;
 use cqf_model::Row;
 use cqf_program_press::Sheet;
 use cqf_program_stop::Stop;
-use cqf_topology::{Domain, Request};
+use cqf_topology::{Domain, PacedRequest};
 use cqf_units::Memory;
 use std::alloc::Global;
 
 /// The script of a domain with the streams of these rows, ready to be told.
 fn script_ready(alloc: Global, domain: Domain, rows: Vec<Row>) -> Result<TcOutput, Memory>
+    requires { AreOfGoodPaces rows.items }
     ensures { IfOk result (λ output. output ≡ record { domain = domain; rows = rows.items }) }
 {
     let port_list = compiled_list(domain.cycle_time(), domain.guard());
@@ -34,10 +36,10 @@ fn script_ready(alloc: Global, domain: Domain, rows: Vec<Row>) -> Result<TcOutpu
 }
 
 /// The script of a domain with these streams, ready to be told.
-fn script_of(alloc: Global, domain: Domain, requests: &[Request]) -> Result<TcOutput, Stop>
-    ensures ok { IfOk result (λ output. tc_of domain (map asked_of requests.now) ≡ Ok (text_of_tc output)) }
-    ensures err { IfErr result (IsRefused (tc_of domain (map asked_of requests.now))) }
-    ensures as_compile { IfErr result (IsRefused (configuration_of domain (map asked_of requests.now))) }
+fn script_of(alloc: Global, domain: Domain, requests: &[PacedRequest]) -> Result<TcOutput, Stop>
+    ensures ok { IfOk result (λ output. tc_of domain (map asked_paced requests.now) ≡ Ok (text_of_tc output)) }
+    ensures err { IfErr result (IsRefused (tc_of domain (map asked_paced requests.now))) }
+    ensures as_compile { IfErr result (IsRefused (configuration_of domain (map asked_paced requests.now))) }
 {
     let rows = rows_of_cycle_0(alloc, &domain, requests)?;
     match script_ready(alloc, domain, rows) {

@@ -8,20 +8,22 @@ ghost use Rattle.cqf_program_plans.specs.TcText.{multiple, name_text, names_text
 ghost use Rattle.cqf_program_plans.specs.TcText.{tc_gate_text, usage_text};
 ghost use Rattle.cqf_program_plans.specs.TcWords.{gate_words, tx_words};
 
+use crate::tc_lists::rounds_in;
+use cqf_model::Row;
 use cqf_program_press::{Press, Sink};
 use cqf_program_telling::put_bridge;
 use cqf_topology::Domain;
 
-/// Puts the length of two cycles in nanoseconds.
-fn put_multiple<W: Sink>(press: &mut Press<'_, W>, domain: &Domain)
-    ensures { Puts W.contents press.old press.new (multiple domain.now) }
+/// Puts how long it takes before all lists begin anew, in nanoseconds.
+fn put_multiple<W: Sink>(press: &mut Press<'_, W>, domain: &Domain, rows: &[Row])
+    ensures { Puts W.contents press.old press.new (multiple domain.now rows.now) }
 {
-    press.put_number(2 * domain.cycle_time().0);
+    press.put_number(rounds_in(rows) * domain.cycle_time().0);
 }
 
 /// Puts what the script is, and the variables that it takes.
-pub(crate) fn put_usage<W: Sink>(press: &mut Press<'_, W>, domain: &Domain)
-    ensures { Puts W.contents press.old press.new (usage_text domain.now) }
+pub(crate) fn put_usage<W: Sink>(press: &mut Press<'_, W>, domain: &Domain, rows: &[Row])
+    ensures { Puts W.contents press.old press.new (usage_text domain.now rows.now) }
 {
     press.put(
         b"#!/bin/sh\n# Written by cqf compile --format tc. Each bridge runs it as root with its own name as the only argument, its links up and\n",
@@ -39,7 +41,7 @@ pub(crate) fn put_usage<W: Sink>(press: &mut Press<'_, W>, domain: &Domain)
     press.put(
         b"#   BASE      the instant of the PTP clock in ns at which an even cycle begins, a multiple of ",
     );
-    put_multiple(press, domain);
+    put_multiple(press, domain, rows);
     press.put(
         b"\n#   TC, IP and CHAIN   may be set: commands in place of tc and ip, the filter chain of the gates. TC=echo shows what would be\n",
     );
@@ -90,19 +92,19 @@ pub(crate) fn put_opening<W: Sink>(press: &mut Press<'_, W>, domain: &Domain)
     press.put(b"    printf '%s\\n' \"$*\" >&2\n    exit 1\n}\n\n");
 }
 
-/// Puts what ends the script where a bridge or the instant isn't given, or the instant is no multiple of two cycles.
-pub(crate) fn put_given<W: Sink>(press: &mut Press<'_, W>, domain: &Domain)
-    ensures { Puts W.contents press.old press.new (given_text domain.now) }
+/// Puts what ends the script where a bridge or the instant isn't given, or the instant is no such multiple.
+pub(crate) fn put_given<W: Sink>(press: &mut Press<'_, W>, domain: &Domain, rows: &[Row])
+    ensures { Puts W.contents press.old press.new (given_text domain.now rows.now) }
 {
     press.put(b"[ \"$#\" -eq 1 ] || refuse \"name one bridge:$bridges\"\ncase ${BASE:=} in\n");
     press.put(
         b"\"\" | *[!0-9]* | 0?* | 9?????????????????? | ????????????????????*) refuse \"BASE: '$BASE' is no multiple of ",
     );
-    put_multiple(press, domain);
+    put_multiple(press, domain, rows);
     press.put(b" below 9000000000000000000\" ;;\nesac\n[ \"$((BASE % ");
-    put_multiple(press, domain);
+    put_multiple(press, domain, rows);
     press.put(b"))\" -eq 0 ] || refuse \"BASE: $BASE is no multiple of ");
-    put_multiple(press, domain);
+    put_multiple(press, domain, rows);
     press.put(
         b"\"\ncase $chain in\n*[!0-9]* | 0?* | ??????????*) refuse \"CHAIN: '$chain' is no number of a chain\" ;;\nesac\n",
     );

@@ -18,11 +18,11 @@ pub struct TcOutput {
 
 impl Model for TcOutput {
     ghost use Rattle.cqf_program_plans.specs.ConfigTold.{ConfiguredPlan};
-    ghost use Rattle.cqf_program_plans.specs.TcOutput.{AreWordsOf};
+    ghost use Rattle.cqf_program_plans.specs.TcOutput.{IsReadyScript};
 
     ghost Value = { ConfiguredPlan };
 
     ghost view = { λ o. record { domain = o.domain; rows = o.rows.items } };
 
-    ghost invariant = { λ o. AreWordsOf o.domain o.port_words.items o.gate_words.items };
+    ghost invariant = { λ o. IsReadyScript o.domain o.rows.items o.port_words.items o.gate_words.items };
 }

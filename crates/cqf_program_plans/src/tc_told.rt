@@ -1,7 +1,8 @@
 //! The script, told line by line.
+ghost use Rattle.cqf_admission_trees.specs.Turns.{AreOfGoodPaces};
 ghost use Rattle.cqf_program_press.specs.Edge.{HasTold, writing};
 ghost use Rattle.cqf_program_press.specs.Press.{Puts};
-ghost use Rattle.cqf_program_plans.specs.TcOutput.{AreWordsOf, text_of_tc};
+ghost use Rattle.cqf_program_plans.specs.TcOutput.{AreWordsOf, IsReadyScript, text_of_tc};
 ghost use Rattle.cqf_program_plans.specs.TcText.{bridges_text, functions_text, tc_text};
 
 use crate::tc_bridges::put_bridge_function;
@@ -10,6 +11,7 @@ use crate::tc_frame::{
     put_choice, put_gate_function, put_given, put_link_function, put_no_gates_function,
     put_old_gates_function, put_opening, put_usage,
 };
+use crate::tc_lists::put_list_gates;
 use crate::tc_outputs::TcOutput;
 use cqf_model::Row;
 use cqf_program_press::{Press, Sink, Told};
@@ -17,6 +19,7 @@ use cqf_topology::Domain;
 
 /// Puts a function a bridge.
 fn put_bridges<W: Sink>(press: &mut Press<'_, W>, domain: &Domain, rows: &[Row])
+    requires { AreOfGoodPaces rows.now }
     ensures { Puts W.contents press.old press.new (bridges_text domain.now rows.now) }
 {
     for bridge in 0..domain.bridges() {
@@ -28,17 +31,19 @@ fn put_bridges<W: Sink>(press: &mut Press<'_, W>, domain: &Domain, rows: &[Row])
 fn put_functions<W: Sink>(
     press: &mut Press<'_, W>,
     domain: &Domain,
+    rows: &[Row],
     port_words: &[u8],
     gate_words: &[u8],
 )
     requires { AreWordsOf domain.now port_words.now gate_words.now }
-    ensures { Puts W.contents press.old press.new (functions_text domain.now) }
+    ensures { Puts W.contents press.old press.new (functions_text domain.now rows.now) }
 {
     put_checks(press);
     put_link_function(press, domain, port_words);
     put_old_gates_function(press);
     put_no_gates_function(press);
     put_gate_function(press, domain, gate_words);
+    put_list_gates(press, rows);
 }
 
 /// Puts the script of a domain and the rows of its streams, with the words of the lists of ports and of gates.
@@ -49,13 +54,13 @@ fn put_script<W: Sink>(
     port_words: &[u8],
     gate_words: &[u8],
 )
-    requires { AreWordsOf domain.now port_words.now gate_words.now }
+    requires { IsReadyScript domain.now rows.now port_words.now gate_words.now }
     ensures { Puts W.contents press.old press.new (tc_text domain.now rows.now) }
 {
-    put_usage(press, domain);
+    put_usage(press, domain, rows);
     put_opening(press, domain);
-    put_given(press, domain);
-    put_functions(press, domain, port_words, gate_words);
+    put_given(press, domain, rows);
+    put_functions(press, domain, rows, port_words, gate_words);
     put_bridges(press, domain, rows);
     put_choice(press, domain);
 }

@@ -1,39 +1,12 @@
 //! By which interfaces streams come to a bridge.
-ghost use Rattle.std.specs.Prelude.{ℕ, ◌≡◌, ◌<◌, ◌++◌, ◌∷◌, [], List, Some, option_copied};
-ghost use Rattle.cqf_model.specs.Domain.{leaves};
+ghost use Rattle.std.specs.Prelude.{ℕ, ◌≡◌, ◌<◌, ◌++◌, ◌∷◌, [], List, Some};
 ghost use Rattle.cqf_model.specs.declared.topology.Row.{Row as ARow};
-ghost use Rattle.cqf_program_plans.specs.TcBridge.{first_hop, way_at};
+ghost use Rattle.cqf_program_plans.specs.TcBridge.{way_at};
 ghost use Rattle.cqf_program_plans.specs.TcWays.{IsSeenWay, NotesWay, is_unseen};
 
-use cqf_model::{Hop, Row};
+use cqf_compile::first_hop;
+use cqf_model::Row;
 use cqf_topology::Domain;
-
-/// Whether a link leaves the bridge. A link that the domain lacks doesn't.
-pub(crate) fn leaves(domain: &Domain, link: u16, bridge: u16) -> bool
-    ensures { result ≡ leaves domain.now link bridge }
-{
-    link < domain.links() && domain.link(link).from == bridge
-}
-
-/// Where the first hop stands by which the row's stream leaves the bridge.
-fn find_hop<'r>(domain: &Domain, row: &'r Row, bridge: u16) -> Option<&'r Hop>
-    ensures { option_copied result ≡ first_hop domain.now bridge row.now }
-{
-    row.tree
-        .as_slice()
-        .iter()
-        .find(|hop| leaves(domain, hop.link, bridge))
-}
-
-/// The first hop by which the row's stream leaves the bridge.
-pub(crate) fn first_hop(domain: &Domain, row: &Row, bridge: u16) -> Option<Hop>
-    ensures { result ≡ first_hop domain.now bridge row.now }
-{
-    match find_hop(domain, row, bridge) {
-        Some(hop) => Some(*hop),
-        None => None,
-    }
-}
 
 /// Whether no stream was seen to come that way.
 fn is_unseen(seen: &[bool; 65536], way: Option<u16>) -> bool

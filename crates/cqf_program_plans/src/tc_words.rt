@@ -2,7 +2,7 @@
 ghost use Rattle.std.specs.Prelude.{ℕ, ◌≡◌, ◌<◌, ◌^◌, ◌++◌, IfOk, OnOk, Ok, Some, codes, string_bytes};
 ghost use Rattle.cqf_gates.specs.GateListText.{line_of_gates};
 ghost use Rattle.cqf_model.specs.Paces.{each_cycle};
-ghost use Rattle.cqf_model.specs.StreamGate.{stream_list};
+ghost use Rattle.cqf_gates.specs.ReservedSpans.{reserved_spans};
 ghost use Rattle.cqf_program_plans.specs.TcWords.{gate_of_words, gate_words, tx_of_words, tx_words};
 
 use cqf_gates::{TxList, hex_digit_of};
@@ -58,11 +58,11 @@ fn gate_words_of(alloc: Global, cycle_time: u32) -> Result<String, AllocError>
 
 /// The words of `tc` that set the list of a stream's gate, in the script's function whose fifth parameter is the reservation in
 /// octets: a space before each, and for each of two cycles, of so many nanoseconds, `sched-entry open`, the cycle's length,
-/// the internal priority value and that parameter. With the octets of a reservation they are read as the list that its gate is
-/// compiled to (man tc-gate; profile).
+/// the internal priority value and that parameter. With the octets of a reservation they are read as the list that the gate of a stream is
+/// compiled to that is offered in each cycle (man tc-gate; profile).
 pub fn write_gate_words(alloc: Global, cycle_time: u32) -> Result<Vec<u8>, Memory>
     ensures words { IfOk result (λ words. words.items ≡ gate_words cycle_time) }
-    ensures again { IfOk result (λ words. (octets : ℕ) → gate_of_words octets words.items ≡ Some (stream_list cycle_time octets each_cycle 0)) }
+    ensures again { IfOk result (λ words. (octets : ℕ) → gate_of_words octets words.items ≡ Some (reserved_spans cycle_time octets each_cycle 0)) }
 {
     let words = gate_words_of(alloc, cycle_time)?;
     Ok(Vec::from_slice(alloc, words.as_bytes())?)

@@ -15,9 +15,9 @@ use Rattle.cqf_model.specs.History.{Asked, Recorded, seals, table_at, tables_of}
 use Rattle.cqf_model.specs.Shift.{offer_cycle}
 use Rattle.cqf_model.specs.Traffic.{numbered}
 use Rattle.cqf_model.specs.Promise.{IsDecided}
-use Rattle.cqf_topology.specs.declared.streams.Request.{Request}
+use Rattle.cqf_topology.specs.declared.paced.PacedRequest.{PacedRequest}
 use Rattle.cqf_topology.specs.PlannedText.{PlannedText}
-use Rattle.cqf_admission.specs.Asking.{asked_by, asked_of}
+use Rattle.cqf_admission.specs.Asking.{asked_by, asked_paced}
 use Rattle.cqf_lists.proofs.Mapped.{position-map}
 use Rattle.cqf_admission_requests.specs.Names.{place_named}
 use Rattle.cqf_lists.proofs.Firsts.{found_nowhere, found_there}
@@ -59,7 +59,7 @@ abbrev named : List ℕ → PlannedText → Bool
 named name planned = is_text planned.0.name name
 
 -- so the deadline of a name is that of the first stream of it
-pub due_is : (streams : List PlannedText) (requests : List Request) (deadlines : List (Option ℕ)) → ArePlannedBeside streams requests deadlines
+pub due_is : (streams : List PlannedText) (requests : List PacedRequest) (deadlines : List (Option ℕ)) → ArePlannedBeside streams requests deadlines
     → (name : List ℕ) →
     deadline_in (record { requests = requests; deadlines = deadlines }) name ≡ deadline_named streams name
 due_is streams requests deadlines planned name =
@@ -70,7 +70,7 @@ due_is streams requests deadlines planned name =
     -- the first request of it stands where the first stream does
     places : place_named requests name ≡ position (named name) streams
     places =
-        sym (position-map (λ (asked : Asked). is_text asked.name name) asked_of requests)
+        sym (position-map (λ (asked : Asked). is_text asked.name name) asked_paced requests)
         ∙ ap (position (λ (asked : Asked). is_text asked.name name)) planned.asked
         ∙ position-map (λ (asked : Asked). is_text asked.name name) (λ (p : PlannedText). asked_by p.0) streams
 

@@ -3,10 +3,10 @@ use Rattle.std.proofs.Common.{◌≡◌, ◌∙◌, ℕ, List, Result, Ok, map, 
 use Rattle.cqf_lists.specs.Results.{and_then}
 use Rattle.cqf_model.specs.Domain.{Domain}
 use Rattle.cqf_model.specs.History.{Asked}
-use Rattle.cqf_topology.specs.declared.streams.Request.{Request}
+use Rattle.cqf_topology.specs.declared.paced.PacedRequest.{PacedRequest}
 use Rattle.cqf_topology.specs.DomainText.{domain_of_text}
 use Rattle.cqf_topology.specs.PlannedText.{PlannedText, planned_of_text}
-use Rattle.cqf_admission.specs.Asking.{asked_of}
+use Rattle.cqf_admission.specs.Asking.{asked_paced}
 use Rattle.cqf_program_scenario.specs.Lines.{domain_line, streams_line}
 use Rattle.cqf_program_scenario.specs.Parts.{RunTexts}
 use Rattle.cqf_program_plans.specs.LatencyInput.{asked_in}
@@ -30,15 +30,15 @@ module _ (cycles : ℕ) (texts : RunTexts) (d : Domain) (streams : List PlannedT
       ∙ ap (λ found. and_then (or_line streams_line found) (with_streams d)) read
 
   -- where that is read, all is
-  pub planned-Ok : (requests : List Request) (s : Scenario) → map asked_of requests ≡ asked_in streams →
-      scenario_behind cycles d (map asked_of requests) texts ≡ Ok s → planned_scenario_of cycles texts ≡ Ok (s, streams)
+  pub planned-Ok : (requests : List PacedRequest) (s : Scenario) → map asked_paced requests ≡ asked_in streams →
+      scenario_behind cycles d (map asked_paced requests) texts ≡ Ok s → planned_scenario_of cycles texts ≡ Ok (s, streams)
   planned-Ok requests s asked is =
       planned_is
       ∙ ap (λ found. and_then found (with_scenario streams)) (ap (λ (found : List Asked). scenario_behind cycles d found texts) (sym asked) ∙ is)
 
   -- and where that is refused, all is
-  pub planned-refused : (requests : List Request) (stop : Stop) → map asked_of requests ≡ asked_in streams →
-      IsRefused (scenario_behind cycles d (map asked_of requests) texts) stop → IsRefused (planned_scenario_of cycles texts) stop
+  pub planned-refused : (requests : List PacedRequest) (stop : Stop) → map asked_paced requests ≡ asked_in streams →
+      IsRefused (scenario_behind cycles d (map asked_paced requests) texts) stop → IsRefused (planned_scenario_of cycles texts) stop
   planned-refused requests stop asked refused = record {
     statuses = refused.statuses;
     line = λ one. planned_is

@@ -8,7 +8,7 @@ use Rattle.cqf_model.specs.History.{Recorded, table_at}
 use Rattle.cqf_model.specs.Shift.{offer_cycle}
 use Rattle.cqf_model.specs.Traffic.{numbered}
 use Rattle.cqf_topology.specs.PlannedText.{PlannedText}
-use Rattle.cqf_admission.specs.Asking.{asked_of}
+use Rattle.cqf_admission.specs.Asking.{asked_paced}
 use Rattle.cqf_admission.specs.declared.logs.Logged.{Logged}
 use Rattle.cqf_admission.specs.Ledger.{recorded_in}
 use Rattle.cqf_program_scenario.specs.declared.given.Given.{Given}
@@ -127,15 +127,15 @@ module _ (cycles : ℕ) (planned : PlannedGiven) (deliveries : List Delivery) (c
 -- the first call of a log that is refused is that of the scenario's history
 pub refused_is : (cycles : ℕ) (given : Given) (log : List Logged) (book : Contents) (first : Option (ℕ × Logged)) → IsRunOf cycles given log book →
     refused_from 1 log ≡ first → first_refused (history_of cycles (scenario_given given))
-    ≡ option_map (λ (call : ℕ × Logged). (call.0, recorded_in (map asked_of given.requests.items) given.script.items call.1)) first
+    ≡ option_map (λ (call : ℕ × Logged). (call.0, recorded_in (map asked_paced given.requests.items) given.script.items call.1)) first
 refused_is cycles given log book first ran is =
-    ap first_refused (sym ran.entries) ∙ first_refused-log (map asked_of given.requests.items) given.script.items log
-    ∙ ap (option_map (λ (call : ℕ × Logged). (call.0, recorded_in (map asked_of given.requests.items) given.script.items call.1))) is
+    ap first_refused (sym ran.entries) ∙ first_refused-log (map asked_paced given.requests.items) given.script.items log
+    ∙ ap (option_map (λ (call : ℕ × Logged). (call.0, recorded_in (map asked_paced given.requests.items) given.script.items call.1))) is
 
 -- and its line is told of what was read
 pub IsRefusedGiven-call : (cycles : ℕ) (planned : PlannedGiven) (log : List Logged) (book : Contents) (call : ℕ × Logged) (stop : Stop) →
     IsRunOf cycles planned.given log book → refused_from 1 log ≡ Some call →
-    EndsWith 1 (refused_call_line (call.0, recorded_in (map asked_of planned.given.requests.items) planned.given.script.items call.1)) stop →
+    EndsWith 1 (refused_call_line (call.0, recorded_in (map asked_paced planned.given.requests.items) planned.given.script.items call.1)) stop →
     IsRefusedGiven cycles planned stop
 IsRefusedGiven-call cycles planned log book call stop ran is ends = record {
   statuses = ends.statuses;

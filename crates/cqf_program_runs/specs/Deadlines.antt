@@ -1,12 +1,12 @@
 -- Streams that were read, each request with its deadline.
 use Rattle.std.specs.Prelude.{ℕ, List, Option, None, slice_index_or}
 use Rattle.std.specs.Option.{option_and_then}
-use Rattle.cqf_topology.specs.declared.streams.Request.{Request}
+use Rattle.cqf_topology.specs.declared.paced.PacedRequest.{PacedRequest}
 use Rattle.cqf_admission_requests.specs.Names.{place_named}
 
 -- requests, and their deadlines by the same places
 pub record Due : Type 0 where
-  pub requests : List Request
+  pub requests : List PacedRequest
   pub deadlines : List (Option ℕ)
 
 -- the deadline of a name: that of the first request of it

@@ -1,8 +1,8 @@
 -- A scenario that was read with its streams, and the deliveries that were made of it.
 use Rattle.std.specs.Prelude.{ℕ, ◌≡◌, List, Option, Ok, map}
-use Rattle.cqf_admission.specs.Asking.{asked_of}
+use Rattle.cqf_admission.specs.Asking.{asked_paced}
 use Rattle.cqf_model.specs.Book.{Contents}
-use Rattle.cqf_topology.specs.declared.streams.Request.{Request}
+use Rattle.cqf_topology.specs.declared.paced.PacedRequest.{PacedRequest}
 use Rattle.cqf_topology.specs.PlannedText.{PlannedText, planned_of_text}
 use Rattle.cqf_program_scenario.specs.Parts.{RunTexts}
 use Rattle.cqf_program_plans.specs.LatencyInput.{asked_in, deadlines_in}
@@ -16,12 +16,12 @@ use Rattle.cqf_program_runs.specs.declared.deliveries_reading.PlannedGiven.{Plan
 use Rattle.cqf_program_runs.specs.PlannedScenario.{planned_scenario, planned_scenario_of, run_of_scenario}
 
 -- requests and deadlines, by the same places, are those of some streams
-pub record ArePlannedBeside (streams : List PlannedText) (requests : List Request) (deadlines : List (Option ℕ)) : Type 0 where
-  pub asked : map asked_of requests ≡ asked_in streams
+pub record ArePlannedBeside (streams : List PlannedText) (requests : List PacedRequest) (deadlines : List (Option ℕ)) : Type 0 where
+  pub asked : map asked_paced requests ≡ asked_in streams
   pub ends : deadlines ≡ deadlines_in streams
 
 -- they are those of a text
-pub record ArePlannedIn (text : List ℕ) (requests : List Request) (deadlines : List (Option ℕ)) : Type 0 where
+pub record ArePlannedIn (text : List ℕ) (requests : List PacedRequest) (deadlines : List (Option ℕ)) : Type 0 where
   pub streams : List PlannedText
   pub holds : planned_of_text text ≡ Ok streams
   pub planned : ArePlannedBeside streams requests deadlines

@@ -3,7 +3,7 @@ ghost use Rattle.std.specs.Prelude.{◌≡◌, IfOk, None, slice_index_or};
 ghost use Rattle.cqf_program_runs.specs.Deadlines.{deadline_in};
 
 use cqf_admission_requests::Names;
-use cqf_topology::Request;
+use cqf_topology::PacedRequest;
 use cqf_units::{Memory, Name};
 use std::alloc::Global;
 use std::marker::Model;
@@ -40,7 +40,7 @@ impl<'r> Deadlines<'r> {
     /// Where a growth is refused.
     pub fn new(
         alloc: Global,
-        requests: &'r [Request],
+        requests: &'r [PacedRequest],
         deadlines: &'r [Option<u32>],
     ) -> Result<Deadlines<'r>, Memory>
         ensures { IfOk result (λ made. made ≡ record { requests = requests.now; deadlines = deadlines.now }) }

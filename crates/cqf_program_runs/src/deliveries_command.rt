@@ -1,6 +1,6 @@
 //! The commands `deliveries` and `check`.
 ghost use Rattle.std.specs.Prelude.{ℕ, ◌≡◌, ◌≤◌, true, List, None, Ok, Err, IfErr, IfOk, Option, map};
-ghost use Rattle.cqf_admission.specs.Asking.{asked_of};
+ghost use Rattle.cqf_admission.specs.Asking.{asked_paced};
 ghost use Rattle.cqf_admission.specs.Ledger.{recorded_in};
 ghost use Rattle.cqf_admission_requests.specs.Orders.{StandsIn};
 ghost use Rattle.cqf_program_scenario.specs.Calls.{history_of};
@@ -184,10 +184,10 @@ fn check_frames(
 
 /// The end with a call that is refused.
 fn refused_stop(alloc: Global, given: &Given, number: usize, logged: &Logged) -> Stop
-    requires there { StandsIn (map asked_of given.now.requests.items) given.now.script.items logged.now.what }
+    requires there { StandsIn (map asked_paced given.now.requests.items) given.now.script.items logged.now.what }
     requires refused { is_refused logged.now.reply ≡ true }
     ensures { EndsWith 1
-        (refused_call_line (number, recorded_in (map asked_of given.now.requests.items) given.now.script.items logged.now)) result }
+        (refused_call_line (number, recorded_in (map asked_paced given.now.requests.items) given.now.script.items logged.now)) result }
 {
     let requests = given.requests.as_slice();
     let script = given.script.as_slice();

@@ -10,7 +10,7 @@ ghost use Rattle.cqf_program_runs.specs.DeliveriesReading.{ArePlannedIn, IsPlann
 use cqf_program_plans::parted;
 use cqf_program_scenario::{Given, RunParts, domain_part, planned_part, read_behind, run_parts};
 use cqf_program_stop::Stop;
-use cqf_topology::Request;
+use cqf_topology::PacedRequest;
 use std::alloc::Global;
 
 /// What a run is given, and the deadlines of its streams.
@@ -22,7 +22,10 @@ pub struct PlannedGiven {
 }
 
 /// The requests for the streams of a part, and their deadlines.
-fn read_streams(alloc: Global, text: &[u8]) -> Result<(Vec<Request>, Vec<Option<u32>>), Stop>
+fn read_paced_streams(
+    alloc: Global,
+    text: &[u8],
+) -> Result<(Vec<PacedRequest>, Vec<Option<u32>>), Stop>
     ensures ok { IfOk result (λ found. ArePlannedIn text.now found.0.items found.1.items) }
     ensures err { IfErr result (IsRefused (or_line streams_line (planned_of_text text.now))) }
 {
@@ -39,7 +42,7 @@ fn read_planned_parts(alloc: Global, cycles: u32, parts: RunParts<'_>) -> Result
     ensures err { IfErr result (IsRefused (planned_scenario_of cycles (texts_of parts.entry))) }
 {
     let domain = domain_part(alloc, parts.domain)?;
-    let (requests, deadlines) = read_streams(alloc, parts.streams)?;
+    let (requests, deadlines) = read_paced_streams(alloc, parts.streams)?;
     let given = read_behind(alloc, cycles, domain, requests, parts)?;
     Ok(PlannedGiven { given, deadlines })
 }

@@ -1,6 +1,6 @@
 //! What the line is given beside its offers: its stream, which is admitted before cycle 0.
 ghost use Rattle.std.specs.Prelude.{◌≡◌, ◌∷◌, [], IfOk, codes, map, string_bytes};
-ghost use Rattle.cqf_admission.specs.Asking.{asked_of};
+ghost use Rattle.cqf_admission.specs.Asking.{asked_paced};
 ghost use Rattle.cqf_program_runs.specs.Line.{line_asked, line_domain, line_scenario};
 ghost use Rattle.cqf_program_scenario.specs.Closing.{scenario_given};
 ghost use Rattle.cqf_program_scenario.specs.Logged.{HasOrders};
@@ -8,7 +8,7 @@ ghost use Rattle.cqf_program_scenario.specs.Logged.{HasOrders};
 use cqf_admission_requests::{Ordered, What};
 use cqf_model::Offer;
 use cqf_program_scenario::Given;
-use cqf_topology::{Domain, Request};
+use cqf_topology::{Domain, PacedRequest};
 use cqf_units::{Memory, Octets};
 use std::alloc::Global;
 
@@ -32,14 +32,16 @@ fn path_of_line(alloc: Global) -> Result<Vec<String>, Memory>
 }
 
 /// The request for the stream `x`.
-fn request_of_line(alloc: Global) -> Result<Request, Memory>
-    ensures { IfOk result (λ request. asked_of request ≡ line_asked) }
+fn request_of_line(alloc: Global) -> Result<PacedRequest, Memory>
+    ensures { IfOk result (λ request. asked_paced request ≡ line_asked) }
 {
     let mut paths = Vec::with_capacity(alloc, 1)?;
     paths.push(path_of_line(alloc)?)?;
-    Ok(Request {
+    Ok(PacedRequest {
         name: String::from_str(alloc, "x")?,
         octets: RESERVED.0,
+        every: 1,
+        phase: 0,
         paths,
     })
 }

@@ -22,7 +22,7 @@ use crate::under_way::{UnderWay, whole_in};
 use cqf_instants_coverage::Judgement;
 use cqf_model::{Hop, Offer, Offered, Row};
 use cqf_program_plans::listener_at;
-use cqf_topology::{Domain, Request};
+use cqf_topology::{Domain, PacedRequest};
 use cqf_units::{Nanos, cycle_of};
 
 /// What the deliveries of a run that is over are told from ([`Noted::over`](crate::Noted::over)).
@@ -37,7 +37,7 @@ pub struct Ended<'r> {
     /// What becomes of each offer, by its place.
     pub(crate) judgements: &'r [Judgement],
     /// The requests of the scenario, and the deadlines of their frames, by the same places.
-    pub(crate) requests: &'r [Request],
+    pub(crate) requests: &'r [PacedRequest],
     pub(crate) deadlines: &'r [Option<u32>],
     /// By these the deadline of each offer's frame, by its place.
     pub(crate) dues: &'r [Option<u32>],

@@ -1,6 +1,6 @@
 //! The first call of a log that is refused, and what a check says of it.
 ghost use Rattle.std.specs.Prelude.{◌≡◌, true, IfOk, map, string_bytes};
-ghost use Rattle.cqf_admission.specs.Asking.{asked_of};
+ghost use Rattle.cqf_admission.specs.Asking.{asked_paced};
 ghost use Rattle.cqf_admission.specs.Ledger.{recorded_in};
 ghost use Rattle.cqf_admission_requests.specs.Orders.{StandsIn, act_in};
 ghost use Rattle.cqf_program_runs.specs.RefusedCalls.{act_text, is_refused, refused_call_line};
@@ -9,7 +9,7 @@ ghost use Rattle.cqf_program_runs.specs.RefusedInLog.{is_call, refused_from};
 use cqf_admission::Logged;
 use cqf_admission_requests::{What, word_of};
 use cqf_model::Reply;
-use cqf_topology::Request;
+use cqf_topology::PacedRequest;
 use std::alloc::{AllocError, Global};
 
 /// Whether an entry is a call: a Seal is none.
@@ -51,12 +51,12 @@ pub(crate) fn first_refused(log: &[Logged]) -> Option<(usize, Logged)>
 /// What was called for: the word, and the stream's name as it is.
 fn call_text(
     alloc: Global,
-    requests: &[Request],
+    requests: &[PacedRequest],
     script: &[u8],
     what: What,
 ) -> Result<String, AllocError>
-    requires { StandsIn (map asked_of requests.now) script.now what }
-    ensures { IfOk result (λ text. string_bytes text ≡ act_text (act_in (map asked_of requests.now) script.now what)) }
+    requires { StandsIn (map asked_paced requests.now) script.now what }
+    ensures { IfOk result (λ text. string_bytes text ≡ act_text (act_in (map asked_paced requests.now) script.now what)) }
 {
     match what {
         What::Admit(place) => {
@@ -82,15 +82,15 @@ fn call_text(
 /// Where a growth is refused.
 pub(crate) fn refused_line(
     alloc: Global,
-    requests: &[Request],
+    requests: &[PacedRequest],
     script: &[u8],
     number: usize,
     logged: &Logged,
 ) -> Result<String, AllocError>
-    requires there { StandsIn (map asked_of requests.now) script.now logged.now.what }
+    requires there { StandsIn (map asked_paced requests.now) script.now logged.now.what }
     requires refused { is_refused logged.now.reply ≡ true }
     ensures { IfOk result (λ line. string_bytes line
-        ≡ refused_call_line (number, recorded_in (map asked_of requests.now) script.now logged.now)) }
+        ≡ refused_call_line (number, recorded_in (map asked_paced requests.now) script.now logged.now)) }
 {
     let Reply::Refused(refused) = logged.reply else {
         unreachable!();

@@ -3,7 +3,7 @@ use Rattle.std.specs.Prelude.{ℕ, ◌≤◌, [], length, map}
 use Rattle.cqf_model.specs.Run.{AreBackground, AreOffers}
 use Rattle.cqf_laws_report.specs.Judged.{StandInOrder}
 use Rattle.cqf_admission_requests.specs.Orders.{ordered_in}
-use Rattle.cqf_admission.specs.Asking.{asked_of}
+use Rattle.cqf_admission.specs.Asking.{asked_paced}
 use Rattle.cqf_program_scenario.specs.declared.given.Given.{Given}
 use Rattle.cqf_program_scenario.specs.Calls.{HasRoom}
 use Rattle.cqf_program_scenario.specs.Scenario.{Scenario}
@@ -13,7 +13,7 @@ use Rattle.cqf_model.specs.Limits.{most_rows}
 abbrev pub scenario_given : Given → Scenario
 scenario_given given = record {
   domain = given.domain;
-  calls = map (ordered_in (map asked_of given.requests.items) given.script.items) given.orders.items;
+  calls = map (ordered_in (map asked_paced given.requests.items) given.script.items) given.orders.items;
   sealer = given.sealer;
   offers = given.offers.items;
   background = given.background.items;

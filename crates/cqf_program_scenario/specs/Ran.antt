@@ -2,7 +2,7 @@
 use Rattle.std.specs.Prelude.{ℕ, ◌≡◌, List, map}
 use Rattle.cqf_model.specs.Book.{Contents}
 use Rattle.cqf_model.specs.History.{IsLegalHistory, seals}
-use Rattle.cqf_admission.specs.Asking.{asked_of}
+use Rattle.cqf_admission.specs.Asking.{asked_paced}
 use Rattle.cqf_instants_layout.specs.History.{IsLaidOutHistoryOf}
 use Rattle.cqf_program_telling.specs.ExactBooks.{TellsBook}
 use Rattle.cqf_admission.specs.declared.logs.Logged.{Logged}
@@ -18,7 +18,7 @@ use Rattle.cqf_program_scenario.specs.Logged.{entries_in}
 pub record IsRunOf (cycles : ℕ) (given : Given) (log : List Logged) (book : Contents) : Type 0 where
   pub entries : entries_in given log ≡ history_of cycles (scenario_given given)
   pub legal : IsLegalHistory given.domain (entries_in given log)
-  pub there : AreThere (map asked_of given.requests.items) given.script.items log
+  pub there : AreThere (map asked_paced given.requests.items) given.script.items log
   pub closed : seals (entries_in given log) ≡ cycles
   pub is_book : IsBookOfScenario cycles (scenario_given given) book
 

@@ -8,7 +8,7 @@ use Rattle.cqf_model.specs.History.{Asked}
 use Rattle.cqf_text.specs.Lines.{lines_of}
 use Rattle.cqf_text.specs.Parts.{parts_of}
 use Rattle.cqf_topology.specs.DomainText.{domain_of_text}
-use Rattle.cqf_topology.specs.StreamsText.{streams_of_text}
+use Rattle.cqf_topology.specs.PacedText.{paced_of_text}
 use Rattle.cqf_admission.specs.Asking.{asked_by}
 use Rattle.cqf_report.specs.BackgroundFrames.{background_frames_of}
 use Rattle.cqf_report.specs.Offers.{offers_of}
@@ -27,7 +27,7 @@ pub record Scenario : Type 0 where
 
 -- the calls of a script, by the streams of the part before it; or the line of the first fault of the two
 abbrev pub calls_in : ℕ → RunTexts → Result (List Called) (List ℕ)
-calls_in cycles texts = and_then (or_line streams_line (streams_of_text texts.streams)) (λ streams.
+calls_in cycles texts = and_then (or_line streams_line (paced_of_text texts.streams)) (λ streams.
     or_line script_line (script_of (map asked_by streams) cycles texts.script))
 
 -- the background frames, of which there are none where there is no part of them

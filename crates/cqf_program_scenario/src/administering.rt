@@ -1,6 +1,6 @@
 //! The orders of a scenario, carried out in turn by a ledger.
 ghost use Rattle.std.specs.Prelude.{◌≡◌, ◌-◌, ◌≤◌, ◌<◌, [], All, Err, IfOk, map};
-ghost use Rattle.cqf_admission.specs.Asking.{asked_of};
+ghost use Rattle.cqf_admission.specs.Asking.{asked_paced};
 ghost use Rattle.cqf_admission.specs.Running.{AreThere};
 ghost use Rattle.cqf_model.specs.History.{IsLegalHistory, Seals, seals, streams_of};
 ghost use Rattle.cqf_admission_requests.specs.declared.orders.Ordered.{Ordered as AnOrdered};
@@ -98,11 +98,11 @@ pub(crate) fn log_of(
     given: &Given,
 ) -> Result<(Vec<Logged>, Vec<Row>), Memory>
     requires short { cycles ≤ most_cycles }
-    requires room { HasRoom cycles [] (map (ordered_in (map asked_of given.now.requests.items) given.now.script.items) given.now.orders.items) }
+    requires room { HasRoom cycles [] (map (ordered_in (map asked_paced given.now.requests.items) given.now.script.items) given.now.orders.items) }
     requires stand { HasOrders given.now }
     ensures entries { IfOk result (λ made. entries_in given.now made.0.items ≡ history_of cycles (scenario_given given.now)) }
     ensures legal { IfOk result (λ made. IsLegalHistory given.now.domain (entries_in given.now made.0.items)) }
-    ensures there { IfOk result (λ made. AreThere (map asked_of given.now.requests.items) given.now.script.items made.0.items) }
+    ensures there { IfOk result (λ made. AreThere (map asked_paced given.now.requests.items) given.now.script.items made.0.items) }
     ensures all { IfOk result (λ made. seals (entries_in given.now made.0.items) ≡ cycles) }
     ensures rows { IfOk result (λ made. made.1.items ≡ streams_of given.now.domain (entries_in given.now made.0.items)) }
 {

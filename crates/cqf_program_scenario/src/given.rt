@@ -1,6 +1,6 @@
 //! The scenario of an input.
 ghost use Rattle.std.specs.Prelude.{◌≡◌, ◌≤◌, [], All, Ok, IfOk, IfErr, length, map, option_map};
-ghost use Rattle.cqf_admission.specs.Asking.{asked_of};
+ghost use Rattle.cqf_admission.specs.Asking.{asked_paced};
 ghost use Rattle.cqf_program_scenario.specs.Lines.{script_line};
 ghost use Rattle.cqf_program_scenario.specs.RunParts.{texts_of};
 ghost use Rattle.cqf_laws_report.specs.Judged.{StandInOrder};
@@ -23,7 +23,7 @@ use cqf_admission_script::administrators;
 use cqf_laws_report::offers_stand_in_order;
 use cqf_model::{Background, Offer};
 use cqf_program_stop::Stop;
-use cqf_topology::{Domain, Request};
+use cqf_topology::{Domain, PacedRequest};
 use cqf_units::Memory;
 use std::alloc::Global;
 
@@ -32,7 +32,7 @@ use std::alloc::Global;
 pub struct Given {
     pub domain: Domain,
     /// The requests for the streams that may be admitted.
-    pub requests: Vec<Request>,
+    pub requests: Vec<PacedRequest>,
     /// The script's text.
     pub script: Vec<u8>,
     /// What its lines order, each by where what it names stands among the requests or in the text.
@@ -46,15 +46,15 @@ pub struct Given {
 /// The orders of a script, by the streams that may be admitted.
 fn read_orders(
     alloc: Global,
-    requests: &[Request],
+    requests: &[PacedRequest],
     cycles: u32,
     text: &[u8],
 ) -> Result<Vec<Ordered>, Stop>
-    ensures ok { IfOk result (λ orders. or_line script_line (script_of (map asked_of requests.now) cycles text.now)
-        ≡ Ok (map (ordered_in (map asked_of requests.now) text.now) orders.items)) }
-    ensures stand { IfOk result (λ orders. All (λ (order : AnOrdered). StandsIn (map asked_of requests.now) text.now order.what) orders.items) }
-    ensures room { IfOk result (λ orders. HasRoom cycles [] (map (ordered_in (map asked_of requests.now) text.now) orders.items)) }
-    ensures err { IfErr result (IsRefused (or_line script_line (script_of (map asked_of requests.now) cycles text.now))) }
+    ensures ok { IfOk result (λ orders. or_line script_line (script_of (map asked_paced requests.now) cycles text.now)
+        ≡ Ok (map (ordered_in (map asked_paced requests.now) text.now) orders.items)) }
+    ensures stand { IfOk result (λ orders. All (λ (order : AnOrdered). StandsIn (map asked_paced requests.now) text.now order.what) orders.items) }
+    ensures room { IfOk result (λ orders. HasRoom cycles [] (map (ordered_in (map asked_paced requests.now) text.now) orders.items)) }
+    ensures err { IfErr result (IsRefused (or_line script_line (script_of (map asked_paced requests.now) cycles text.now))) }
 {
     let Ok(names) = Names::new(alloc, requests) else {
         return Err(Stop::memory(alloc));
@@ -117,14 +117,14 @@ pub fn read_behind(
     alloc: Global,
     cycles: u32,
     domain: Domain,
-    requests: Vec<Request>,
+    requests: Vec<PacedRequest>,
     parts: RunParts<'_>,
 ) -> Result<Given, Stop>
-    ensures ok { IfOk result (λ given. scenario_behind cycles domain (map asked_of requests.items) (texts_of parts.entry) ≡ Ok (scenario_given given)) }
+    ensures ok { IfOk result (λ given. scenario_behind cycles domain (map asked_paced requests.items) (texts_of parts.entry) ≡ Ok (scenario_given given)) }
     ensures same { IfOk result (λ given. given.requests.items ≡ requests.items) }
     ensures stand { IfOk result (λ given. HasOrders given) }
     ensures good { IfOk result (λ given. MayBeRun cycles (scenario_given given)) }
-    ensures err { IfErr result (IsRefused (scenario_behind cycles domain (map asked_of requests.items) (texts_of parts.entry))) }
+    ensures err { IfErr result (IsRefused (scenario_behind cycles domain (map asked_paced requests.items) (texts_of parts.entry))) }
 {
     let orders = read_orders(alloc, requests.as_slice(), cycles, parts.script)?;
     let (offers, background) = read_frames(alloc, &domain, parts)?;

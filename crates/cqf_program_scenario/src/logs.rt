@@ -1,13 +1,13 @@
 //! The log of a scenario's history, with what its entries stand for.
 ghost use Rattle.std.specs.Prelude.{◌≡◌, map};
-ghost use Rattle.cqf_admission.specs.Asking.{asked_of};
+ghost use Rattle.cqf_admission.specs.Asking.{asked_paced};
 ghost use Rattle.cqf_admission.specs.Ledger.{recorded_in};
 ghost use Rattle.cqf_admission.specs.Running.{AreThere};
 ghost use Rattle.cqf_model.specs.History.{IsLegalHistory, streams_of};
 
 use cqf_admission::Logged;
 use cqf_model::Row;
-use cqf_topology::{Domain, Request};
+use cqf_topology::{Domain, PacedRequest};
 use std::marker::Model;
 
 /// The log of a legal history of a domain, with the requests and the script's text in which its entries stand. To those who hold
@@ -15,7 +15,7 @@ use std::marker::Model;
 #[derive(Debug, Drop)]
 pub struct Log {
     domain: Domain,
-    requests: Vec<Request>,
+    requests: Vec<PacedRequest>,
     script: Vec<u8>,
     entries: Vec<Logged>,
     /// The streams that were ever granted, by number.
@@ -24,7 +24,7 @@ pub struct Log {
 
 impl Model for Log {
     ghost use Rattle.std.specs.Prelude.{◌≡◌, map};
-    ghost use Rattle.cqf_admission.specs.Asking.{asked_of};
+    ghost use Rattle.cqf_admission.specs.Asking.{asked_paced};
     ghost use Rattle.cqf_admission.specs.Ledger.{Kept, recorded_in};
     ghost use Rattle.cqf_admission.specs.Running.{AreThere};
     ghost use Rattle.cqf_model.specs.History.{IsLegalHistory, streams_of};
@@ -34,15 +34,15 @@ impl Model for Log {
     ghost view = { λ l. record {
       administration = record {
         domain = l.domain;
-        entries = map (recorded_in (map asked_of l.requests.items) l.script.items) l.entries.items;
+        entries = map (recorded_in (map asked_paced l.requests.items) l.script.items) l.entries.items;
       };
-      requests = map asked_of l.requests.items;
+      requests = map asked_paced l.requests.items;
       script = l.script.items;
     } };
 
-    ghost invariant = { λ l. IsLegalHistory l.domain (map (recorded_in (map asked_of l.requests.items) l.script.items) l.entries.items)
-        × AreThere (map asked_of l.requests.items) l.script.items l.entries.items
-        × (l.rows.items ≡ streams_of l.domain (map (recorded_in (map asked_of l.requests.items) l.script.items) l.entries.items)) };
+    ghost invariant = { λ l. IsLegalHistory l.domain (map (recorded_in (map asked_paced l.requests.items) l.script.items) l.entries.items)
+        × AreThere (map asked_paced l.requests.items) l.script.items l.entries.items
+        × (l.rows.items ≡ streams_of l.domain (map (recorded_in (map asked_paced l.requests.items) l.script.items) l.entries.items)) };
 }
 
 impl Log {
@@ -50,16 +50,16 @@ impl Log {
     /// script's text.
     pub(crate) fn new(
         domain: Domain,
-        requests: Vec<Request>,
+        requests: Vec<PacedRequest>,
         script: Vec<u8>,
         entries: Vec<Logged>,
         rows: Vec<Row>,
     ) -> Log
-        requires legal { IsLegalHistory domain (map (recorded_in (map asked_of requests.items) script.items) entries.items) }
-        requires there { AreThere (map asked_of requests.items) script.items entries.items }
-        requires rows { rows.items ≡ streams_of domain (map (recorded_in (map asked_of requests.items) script.items) entries.items) }
+        requires legal { IsLegalHistory domain (map (recorded_in (map asked_paced requests.items) script.items) entries.items) }
+        requires there { AreThere (map asked_paced requests.items) script.items entries.items }
+        requires rows { rows.items ≡ streams_of domain (map (recorded_in (map asked_paced requests.items) script.items) entries.items) }
         ensures domain { result.administration.domain ≡ domain }
-        ensures entries { result.administration.entries ≡ map (recorded_in (map asked_of requests.items) script.items) entries.items }
+        ensures entries { result.administration.entries ≡ map (recorded_in (map asked_paced requests.items) script.items) entries.items }
     {
         Log {
             domain,
@@ -78,8 +78,8 @@ impl Log {
     }
 
     /// The requests among which what is admitted stands.
-    pub fn requests(&self) -> &[Request]
-        ensures { map asked_of result.now ≡ self.now.requests }
+    pub fn requests(&self) -> &[PacedRequest]
+        ensures { map asked_paced result.now ≡ self.now.requests }
     {
         self.requests.as_slice()
     }

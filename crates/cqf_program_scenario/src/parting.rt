@@ -41,6 +41,7 @@ fn command_of(call: Call) -> Option<Command>
 {
     match call {
         Call::Admit(request) => Some(Command::Admit(request)),
+        Call::AdmitPaced(request) => Some(Command::AdmitPaced(request)),
         Call::Withdraw(name) => Some(Command::Withdraw(name)),
         Call::Seal => None,
     }

@@ -1,6 +1,6 @@
 //! The readers of parts that several commands have (profile).
 ghost use Rattle.std.specs.Prelude.{◌≡◌, ◌≢◌, ◌≤◌, [], All, Ok, IfOk, IfErr, length, map};
-ghost use Rattle.cqf_admission.specs.Asking.{asked_of};
+ghost use Rattle.cqf_admission.specs.Asking.{asked_paced};
 ghost use Rattle.cqf_program_scenario.specs.Lines.{background_line, domain_line, offers_line, script_line, streams_line};
 ghost use Rattle.cqf_model.specs.Run.{AreBackground, AreOffers};
 ghost use Rattle.cqf_report.specs.BackgroundFrames.{background_frames_of};
@@ -12,7 +12,7 @@ ghost use Rattle.cqf_admission_script.specs.Script.{AreFew, script_of};
 ghost use Rattle.cqf_program_stop.specs.Stops.{EndsWith, IsRefused, fault_line, or_line};
 ghost use Rattle.cqf_topology.specs.DomainText.{domain_of_text};
 ghost use Rattle.cqf_topology.specs.PlannedText.{planned_of_text, planned_text};
-ghost use Rattle.cqf_topology.specs.StreamsText.{request_text, streams_of_text};
+ghost use Rattle.cqf_topology.specs.PacedText.{paced_text, paced_of_text};
 ghost use Rattle.cqf_model.specs.Limits.{most_rows};
 
 use cqf_admission_requests::{Names, Ordered};
@@ -21,7 +21,8 @@ use cqf_model::{Background, Offer};
 use cqf_program_stop::Stop;
 use cqf_report::{TableFault, read_background, read_offers};
 use cqf_topology::{
-    Domain, DomainFault, Planned, Request, StreamsFault, read_planned_streams, read_streams,
+    Domain, DomainFault, PacedRequest, Planned, StreamsFault, read_paced_streams,
+    read_planned_streams,
 };
 use std::alloc::Global;
 
@@ -81,11 +82,11 @@ pub fn domain_part(alloc: Global, text: &[u8]) -> Result<Domain, Stop>
 }
 
 /// The streams of a part. `Err` as [`domain_part`].
-pub fn streams_part(alloc: Global, text: &[u8]) -> Result<Vec<Request>, Stop>
-    ensures ok { IfOk result (λ requests. streams_of_text text.now ≡ Ok (map request_text requests.items)) }
-    ensures err { IfErr result (IsRefused (or_line streams_line (streams_of_text text.now))) }
+pub fn streams_part(alloc: Global, text: &[u8]) -> Result<Vec<PacedRequest>, Stop>
+    ensures ok { IfOk result (λ requests. paced_of_text text.now ≡ Ok (map paced_text requests.items)) }
+    ensures err { IfErr result (IsRefused (or_line streams_line (paced_of_text text.now))) }
 {
-    match read_streams(alloc, text) {
+    match read_paced_streams(alloc, text) {
         Ok(requests) => Ok(requests),
         Err(fault) => Err(streams_stop(alloc, fault)),
     }
@@ -110,11 +111,11 @@ pub fn script_part(
     cycles: u32,
     text: &[u8],
 ) -> Result<Vec<Ordered>, Stop>
-    ensures ok { IfOk result (λ orders. script_of (map asked_of names.now) cycles text.now
-        ≡ Ok (map (ordered_in (map asked_of names.now) text.now) orders.items)) }
-    ensures stand { IfOk result (λ orders. All (λ (ordered : AnOrdered). StandsIn (map asked_of names.now) text.now ordered.what) orders.items) }
-    ensures few { IfOk result (λ orders. AreFew cycles (map (ordered_in (map asked_of names.now) text.now) orders.items)) }
-    ensures err { IfErr result (IsRefused (or_line script_line (script_of (map asked_of names.now) cycles text.now))) }
+    ensures ok { IfOk result (λ orders. script_of (map asked_paced names.now) cycles text.now
+        ≡ Ok (map (ordered_in (map asked_paced names.now) text.now) orders.items)) }
+    ensures stand { IfOk result (λ orders. All (λ (ordered : AnOrdered). StandsIn (map asked_paced names.now) text.now ordered.what) orders.items) }
+    ensures few { IfOk result (λ orders. AreFew cycles (map (ordered_in (map asked_paced names.now) text.now) orders.items)) }
+    ensures err { IfErr result (IsRefused (or_line script_line (script_of (map asked_paced names.now) cycles text.now))) }
 {
     match read_orders(alloc, text, names, cycles) {
         Ok(orders) => Ok(orders),

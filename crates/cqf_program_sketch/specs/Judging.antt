@@ -22,7 +22,7 @@ use Rattle.cqf_program_sketch.specs.declared.candidates.Slack.{Slack}
 -- a stream that is placed, as a plant has it: with its deadline and its traffic
 abbrev pub flow_of : SettledStream → Asked → FlowText
 flow_of stream asked =
-    ((record { name = asked.name; octets = asked.octets; paths = asked.paths }, stream.deadline), stream.traffic)
+    ((record { name = asked.name; octets = asked.octets; every = asked.every; phase = asked.phase; paths = asked.paths }, stream.deadline), stream.traffic)
 
 -- those of some streams that are placed
 abbrev pub flows_placed : List SettledStream → List PlacedOr → List FlowText

@@ -1,6 +1,6 @@
 //! What is told of a candidate for the cycle time.
 ghost use Rattle.std.specs.Prelude.{ℕ, ◌≡◌, ◌++◌, IfOk, OnOk, count_by, length, map};
-ghost use Rattle.cqf_admission.specs.Tables.{AreAlongLinks, AreOfEachCycle};
+ghost use Rattle.cqf_admission_trees.specs.Turns.{AreOfGoodPaces};
 ghost use Rattle.cqf_laws_history.specs.StateLaws.{AreHeld};
 ghost use Rattle.cqf_lists.specs.Lists.{or_else};
 ghost use Rattle.cqf_program_placing.specs.Placing.{outcome_value};
@@ -159,9 +159,8 @@ pub(crate) fn candidate_of(
     outcomes: &[Outcome],
 ) -> Result<Candidate, Memory>
     requires each { length outcomes.now ≡ length streams.now }
-    requires along { AreAlongLinks domain.now rows.now }
     requires held { (next : ℕ) × AreHeld domain.now rows.now next 0 }
-    requires paced { AreOfEachCycle rows.now }
+    requires good { AreOfGoodPaces rows.now }
     ensures { let those = map settled_value streams.now in let become = map outcome_value outcomes.now in IfOk result (λ candidate. candidate
         ≡ candidate_by domain.now.cycle_time (length (flows_placed those become)) (shares_of domain.now rows.now)
         (latencies_of domain.now rows.now (deadlines_placed those become)) (first_unplaced those become)) }

@@ -1,6 +1,6 @@
 //! A plan, as a plant has it, or the line that tells why there is none.
 ghost use Rattle.std.specs.Prelude.{◌≡◌, ◌++◌, IfOk, OnOk, Some, length, map, string_bytes};
-ghost use Rattle.cqf_admission.specs.Asking.{asked_of};
+ghost use Rattle.cqf_admission.specs.Asking.{asked_paced};
 ghost use Rattle.cqf_program_placing.specs.Placing.{outcome_value};
 ghost use Rattle.cqf_program_placing.specs.Settled.{settled_value};
 ghost use Rattle.cqf_traffic.specs.FlowsText.{flow_text};
@@ -10,14 +10,14 @@ ghost use Rattle.cqf_program_sketch.specs.Steps.{flows_by};
 
 use crate::candidates::Candidate;
 use cqf_program_placing::{Outcome, Settled};
-use cqf_topology::{Planned, Request};
+use cqf_topology::{PacedRequest, Planned};
 use cqf_traffic::Flow;
 use cqf_units::Memory;
 use std::alloc::Global;
 
 /// A stream that is placed with a request, as a plant has it.
-fn flow_of(stream: &Settled, request: Request) -> Flow
-    ensures { flow_text result ≡ flow_of (settled_value stream.now) (asked_of request) }
+fn flow_of(stream: &Settled, request: PacedRequest) -> Flow
+    ensures { flow_text result ≡ flow_of (settled_value stream.now) (asked_paced request) }
 {
     Flow {
         planned: Planned {

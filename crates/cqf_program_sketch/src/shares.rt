@@ -1,6 +1,6 @@
 //! How much of the links' budgets is held.
 ghost use Rattle.std.specs.Prelude.{ℕ, ◌≡◌, ◌<◌, IfOk, fold, length, slice_index};
-ghost use Rattle.cqf_admission.specs.Tables.{AreOfEachCycle};
+ghost use Rattle.cqf_admission_trees.specs.Turns.{AreOfGoodPaces};
 ghost use Rattle.cqf_lists.specs.Lists.{each_below};
 ghost use Rattle.cqf_laws_history.specs.StateLaws.{AreHeld};
 ghost use Rattle.cqf_model.specs.Domain.{budget};
@@ -47,14 +47,14 @@ fn greatest_by(domain: &Domain, held: &[u32]) -> Option<u64>
     most
 }
 
-/// The greatest share of a link's budget that the streams of these rows hold, in thousandths, rounded down.
+/// The greatest share of a link's budget that the streams of these rows hold in a cycle, in thousandths, rounded down.
 pub(crate) fn greatest_share(
     alloc: Global,
     domain: &Domain,
     rows: &[Row],
 ) -> Result<Option<u64>, Memory>
     requires held { (next : ℕ) × AreHeld domain.now rows.now next 0 }
-    requires paced { AreOfEachCycle rows.now }
+    requires good { AreOfGoodPaces rows.now }
     ensures { IfOk result (λ used. used ≡ greatest_of (shares_of domain.now rows.now)) }
 {
     let held = link_costs(alloc, domain, rows)?;

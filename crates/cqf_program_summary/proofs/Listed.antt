@@ -1,18 +1,18 @@
 -- One stream more is listed.
-use Rattle.std.proofs.Common.{◌≡◌, ◌∙◌, ◌+◌, ◌*◌, ◌++◌, ◌∷◌, ◌≤◌, ◌<◌, ◌^◌, [], ℕ, All, Bool, true, false, Contains, List, Some, None, Option, ap, append-nil, arith, filter, get_or, if◌then◌else◌, inl, inr, length, map, refl, subst, sym}
-use Rattle.std.specs.Prelude.{◌==◌, fold, is_none, max, option_map, replicate, slice_get, sum_by}
+use Rattle.std.proofs.Common.{◌≡◌, ◌∙◌, ◌+◌, ◌*◌, ◌++◌, ◌∷◌, ◌≤◌, ◌<◌, ◌^◌, [], ℕ, All, Bool, true, false, Contains, List, Some, None, Option, ap, append-nil, arith, filter, if◌then◌else◌, inl, inr, length, map, refl, subst, sym}
+use Rattle.std.specs.Prelude.{fold, is_none, max, option_map, slice_get}
 use Rattle.std.specs.List.{list_any}
-use Rattle.std.proofs.lemmas.Bool.{cases_Bool, eq-eqb}
-use Rattle.std.proofs.lemmas.List.{get_or-replicate, length-map, length-replicate, length_push, map-append}
-use Rattle.std.proofs.lemmas.List.Elements.{All-weaker, filter-append}
-use Rattle.std.proofs.lemmas.List.Sums.{fold-append, sum_by-cons, sum_by_push}
+use Rattle.std.proofs.lemmas.Bool.{cases_Bool, false_from_ne_true}
+use Rattle.std.proofs.lemmas.List.{length-map, length_push, map-append}
+use Rattle.std.proofs.lemmas.List.Elements.{filter-append}
+use Rattle.std.proofs.lemmas.List.Sums.{fold-append, sum_by_push}
 use Rattle.std.proofs.lemmas.Simd.{map-map}
 use Rattle.std.proofs.lemmas.Option.{slice_get_within}
 use Rattle.cqf_lists.proofs.Any.{list_any-map}
 use Rattle.cqf_lists.proofs.EachBelow.{same_below}
-use Rattle.cqf_lists.proofs.EachOnce.{keep, once_from}
-use Rattle.cqf_lists.proofs.Made.{map_same}
-use Rattle.cqf_lists.proofs.Members.{all_from_members, contains_cases, contains_from_filter, contains_from_map, contains_here, contains_later, contains_map, contains_none, contains_one, member_any}
+use Rattle.cqf_lists.proofs.EachOnce.{keep}
+use Rattle.cqf_lists.proofs.Made.{contains_if, map_same}
+use Rattle.cqf_lists.proofs.Members.{all_from_members, contains_from_filter, contains_from_map, contains_one}
 use Rattle.cqf_units.specs.Name.{is_name}
 use Rattle.cqf_units.specs.Timing.{cost_of}
 use Rattle.cqf_model.specs.declared.history.Refused.{Refused}
@@ -21,59 +21,87 @@ use Rattle.cqf_model.specs.declared.topology.Link.{Link}
 use Rattle.cqf_model.specs.declared.topology.Row.{Row}
 use Rattle.cqf_model.specs.Domain.{Domain, IsAccepted, end_of, is_text}
 use Rattle.cqf_model.specs.History.{Asked, pace_of, tree_of}
-use Rattle.cqf_model.specs.Paces.{each_cycle}
-use Rattle.cqf_model.specs.Table.{cost_on, crosses, links_in, links_of, uses}
-use Rattle.cqf_model.proofs.EachCycle.{cost_same, most_same, uses_same}
+use Rattle.cqf_model.specs.Table.{cost_on, uses}
 use Rattle.cqf_model.proofs.Represented.{few_links}
 use Rattle.cqf_laws_history.specs.StateLaws.{granted_row}
 use Rattle.cqf_laws_latency.specs.Latency.{most_of}
 use Rattle.cqf_laws_latency.specs.Streams.{cost_of_all}
-use Rattle.cqf_admission.specs.Rows.{IsCountable, cost_by_link}
-use Rattle.cqf_admission.proofs.GrantLemmas.{granted_countable}
-use Rattle.cqf_admission_trees.specs.Sums.{part_on}
+use Rattle.cqf_admission.specs.Rows.{IsSummable}
+use Rattle.cqf_admission.proofs.Most.{most_within}
+use Rattle.cqf_admission.proofs.GrantLemmas.{form_octets, form_paced, granted_countable}
 use Rattle.cqf_admission.specs.Judging.{form_refusal}
+use Rattle.cqf_admission_trees.proofs.TurnLemmas.{asked_is_good, low_at, most_of_uses}
+use Rattle.cqf_admission_trees.specs.Turns.{AreNone, HasRoomFor, IsOfGoodPace, Turned, most_at, sum_on}
+use Rattle.cqf_program_plans.proofs.LookedOver.{countable_within}
 use Rattle.cqf_program_plans.specs.EndNames.{name_of_end}
 use Rattle.cqf_program_plans.specs.LatencyText.{is_station, listeners_of}
+use Rattle.cqf_program_summary.specs.declared.fares.Listener.{Listener}
 use Rattle.cqf_program_summary.specs.declared.listing.Listed.{Listed}
 use Rattle.cqf_topology.specs.DomainText.{is_among}
 use Rattle.cqf_program_summary.specs.declared.listing.Listing.{Listing}
-use Rattle.cqf_program_summary.specs.Listing.{AreBounded, CostsWith, IsListing, IsOfStream, ListsOne, MayBeCounted, cost_in, costs_by_link, fare_named, listed_of}
+use Rattle.cqf_program_summary.specs.Listing.{AreBounded, CostsWith, IsListing, IsOfStream, ListsOne, MayBeSummed, cost_beside, cost_of_good, fare_named, listed_of}
 use Rattle.cqf_program_summary.specs.Summary.{fare_of, listener_to, listeners_by, summary_by, way_to}
 use Rattle.cqf_program_summary.specs.Told.{is_good, row_of_stream, row_unless, told_cost, told_streams}
 
 -- none is listed
-pub none_listed : (d : Domain) (listing : Listing) → listing.names.keys ≡ [] → listing.streams.items ≡ [] → listing.costs.items ≡ replicate 4096 0 → IsListing d [] listing
-none_listed d listing names streams costs = record {
+pub none_listed : (d : Domain) (listing : Listing) → listing.names.keys ≡ [] → listing.streams.items ≡ [] → AreNone listing.costs 4096 → IsListing d [] listing
+none_listed d listing names streams none = record {
   names = names;
   are = streams;
   few = omega arith;
-  paced = λ asked among. absurd (contains_none asked among);
-  all = ap length costs ∙ length-replicate {A = ℕ} 4096 0;
-  costs = λ l low. ap (λ (cs : List ℕ). get_or cs l 0) costs ∙ get_or-replicate {A = ℕ} 4096 l 0 0 low;
-  bounded = λ l low. omega (arith, ap (λ (cs : List ℕ). get_or cs l 0) costs, get_or-replicate {A = ℕ} 4096 l 0 0 low);
+  all = none.of_links;
+  costs = λ l cycle low. none.none l cycle;
+  bounded = λ l cycle low. omega (arith, none.none l cycle);
 }
 
--- a cost has room beside those that are bounded
-pub room_bounded : (sums links : List ℕ) (number l : ℕ) → number < 2 ^ 32 → cost_in sums l ≤ 2 ^ 32 * 100000 → cost_in sums l + part_on links number l < 2 ^ 64
-room_bounded sums links number l small low = elim (cases_Bool (list_any (λ k. k == l) links)) [
-  | inl on ↦ omega (arith, low, small, ap {B = ℕ} (λ (b : Bool). if b then number else 0) on)
-  | inr off ↦ omega (arith, low, ap {B = ℕ} (λ (b : Bool). if b then number else 0) off)
+-- what a row's stream costs of a link in a cycle is bounded
+short : (row : Row) (l cycle : ℕ) → row.octets ≤ 60000 → cost_on row l cycle ≤ 100000
+short row l cycle few = elim (cases_Bool (uses row.tree.items row.pace l cycle)) [
+  | inl goes ↦ omega (arith, few, ap {B = ℕ} (λ (b : Bool). if b then cost_of row.octets else 0) goes)
+  | inr stays ↦ omega (arith, ap {B = ℕ} (λ (b : Bool). if b then cost_of row.octets else 0) stays)
 ]
 
--- a granted row's links are among those that are represented
-pub granted_counted : (d : Domain) (asked : Asked) (row : Row) → IsAccepted d → row ≡ granted_row d 0 0 asked → asked.octets ≤ 60000 → IsCountable 4096 row
-granted_counted d asked row accepted is few =
-    let count = granted_countable d row asked 0 0 is few in
-    let most = few_links d accepted in
-    record {
-      octets = count.octets;
-      inside = All-weaker (λ (l : ℕ). l < length d.links) (λ (l : ℕ). l < 4096) (λ l below. omega (arith, below, most)) (links_of row) count.inside;
-      apart = count.apart;
-    }
+-- so it has room beside costs that are bounded
+pub room_bounded : (costs : Turned) (row : Row) → costs.links ≡ 4096 → AreBounded costs → row.octets ≤ 60000 →
+    HasRoomFor costs row.tree.items row.pace (cost_of row.octets)
+room_bounded costs row all bounded few l cycle low = omega (arith, short row l cycle few, bounded l cycle (omega (arith, low, all)))
+
+-- a granted row's links are among those that are represented, and it has a good pace
+pub granted_summed : (d : Domain) (asked : Asked) (row : Row) → IsAccepted d → row ≡ granted_row d 0 0 asked → form_refusal d asked ≡ None → IsSummable 4096 row
+granted_summed d asked row accepted is none = record {
+  countable = countable_within row (length d.links) 4096 (omega (arith, few_links d accepted)) (granted_countable d row asked 0 0 is (form_octets d asked none));
+  paced = subst IsOfGoodPace (sym is) (asked_is_good asked (form_paced d asked none));
+}
+
+-- so what a stream's row costs can be added, if it has one
+pub stream_summed : (d : Domain) (asked : Asked) → IsAccepted d → MayBeSummed (row_of_stream d asked)
+stream_summed d asked accepted = by (form_refusal d asked) refl
+  where
+    by : (o : Option Refused) → form_refusal d asked ≡ o → MayBeSummed (row_unless d asked o)
+    by None none = granted_summed d asked (granted_row d 0 0 asked) accepted refl none
+    by (Some refused) e = tt
 
 -- costs are bounded, by few streams
-pub bounded_listing : (d : Domain) (streams : List Asked) (listing : Listing) → IsListing d streams listing → AreBounded listing.costs.items
-bounded_listing d streams listing is l low = omega (arith, is.bounded l low, is.few)
+pub bounded_listing : (d : Domain) (streams : List Asked) (listing : Listing) → IsListing d streams listing → AreBounded listing.costs
+bounded_listing d streams listing is l cycle low = omega (arith, is.bounded l cycle low, is.few)
+
+-- and so are the most of them
+pub most_bounded : (costs : Turned) (row : Row) (l : ℕ) → AreBounded costs → l < 4096 → cost_beside costs (Some row) l ≤ 2 ^ 32 * 100000
+most_bounded costs row l bounded low =
+    most_within (λ cycle. if uses row.tree.items row.pace l cycle then sum_on costs l cycle ∷ [] else []) 80 (2 ^ 32 * 100000) (λ cycle x among.
+    subst (λ (n : ℕ). n ≤ 2 ^ 32 * 100000)
+    (contains_one (sum_on costs l cycle) x (contains_if (uses row.tree.items row.pace l cycle) (sum_on costs l cycle ∷ []) x among)) (bounded l cycle low))
+
+-- the links of a row's hops are represented
+pub hop_low : (row : Row) (hop : Hop) → IsSummable 4096 row → Contains row.tree.items hop → hop.link < 4096
+hop_low row hop summable there =
+    subst (λ (h : Hop). h.link < 4096) there.2 (low_at row.tree.items there.0 hop 4096 there.1 summable.countable.inside)
+
+-- the most of them is the greatest sum at a hop of the row's tree
+pub most_told : (costs : Turned) (row : Row) (hop : Hop) → IsSummable 4096 row → Contains row.tree.items hop →
+    most_at costs hop.link row.pace hop.depth ≡ cost_beside costs (Some row) hop.link
+most_told costs row hop summable there =
+    most_of_uses costs row.tree.items row.pace hop (sum_on costs hop.link) summable.countable.apart there (λ cycle below. refl)
 
 -- the comparison of names by which one is found
 pub known_by_name : (d : Domain) (streams : List Asked) (listing : Listing) → IsListing d streams listing → (name : List ℕ) →
@@ -110,87 +138,70 @@ module _ (before : List Asked) (asked : Asked) where
       told_more ∙ ap (λ (b : Bool). fold (keep same_name) (told_streams before) (if b then asked ∷ [] else [])) named
       ∙ ap (λ (b : Bool). if b then told_streams before else told_streams before ++ asked ∷ []) new
 
--- where each has the pace, each has it with one more
-paced_more : (before : List Asked) (asked : Asked) → ((a : Asked) → Contains before a → pace_of a ≡ each_cycle) → pace_of asked ≡ each_cycle →
-    (a : Asked) → Contains (before ++ asked ∷ []) a → pace_of a ≡ each_cycle
-paced_more [] asked each one a among = subst (λ (b : Asked). pace_of b ≡ each_cycle) (contains_one asked a among) one
-paced_more (first ∷ before) asked each one a among = elim (contains_cases first (before ++ asked ∷ []) a among) [
-  | inl here ↦ subst (λ (b : Asked). pace_of b ≡ each_cycle) here (each first (contains_here first before))
-  | inr later ↦ paced_more before asked (λ b c. each b (contains_later first before b c)) one a later
-]
-
 -- where nothing more is told of, the listing stays
 pub listing_stays : (d : Domain) (before : List Asked) (asked : Asked) (listing : Listing) → told_streams (before ++ asked ∷ []) ≡ told_streams before →
-    pace_of asked ≡ each_cycle → IsListing d before listing → IsListing d (before ++ asked ∷ []) listing
-listing_stays d before asked listing same paced is = record {
+    IsListing d before listing → IsListing d (before ++ asked ∷ []) listing
+listing_stays d before asked listing same is = record {
   names = is.names ∙ ap (map (λ (a : Asked). a.name)) (sym same);
   are = is.are ∙ ap (map (listed_of d)) (sym same);
   few = omega (arith, is.few, ap (λ (them : List Asked). length them) same);
-  paced = paced_more before asked is.paced paced;
   all = is.all;
-  costs = λ l low. is.costs l low ∙ ap (λ (them : List Asked). costs_by_link d them l) (sym same);
-  bounded = λ l low. omega (arith, is.bounded l low, ap (λ (them : List Asked). length them) same);
+  costs = λ l cycle low. is.costs l cycle low ∙ ap (λ (them : List Asked). cost_of_good d them l cycle) (sym same);
+  bounded = λ l cycle low. omega (arith, is.bounded l cycle low, ap (λ (them : List Asked). length them) same);
 }
 
 -- what a stream more costs
-module _ (d : Domain) (told : List Asked) (asked : Asked) (l : ℕ) where
+module _ (d : Domain) (told : List Asked) (asked : Asked) (l cycle : ℕ) where
   abbrev cost_more : Option Refused → ℕ
-  cost_more o = if is_none o then cost_by_link (granted_row d 0 0 asked) l else 0
+  cost_more o = if is_none o then cost_on (granted_row d 0 0 asked) l cycle else 0
 
   abbrev summed : List Asked → ℕ
-  summed them = sum_by (λ (a : Asked). cost_by_link (granted_row d 0 0 a) l) them
+  summed them = cost_of_all d them l cycle
 
-  told_cost_more : costs_by_link d (told ++ asked ∷ []) l ≡ costs_by_link d told l + cost_more (form_refusal d asked)
+  told_cost_more : cost_of_good d (told ++ asked ∷ []) l cycle ≡ cost_of_good d told l cycle + cost_more (form_refusal d asked)
   told_cost_more = ap summed (filter-append (is_good d) told (asked ∷ [])) ∙ by (is_good d asked)
     where
       by : (b : Bool) → summed (filter (is_good d) told ++ (if b then asked ∷ [] else []))
-          ≡ costs_by_link d told l + (if b then cost_by_link (granted_row d 0 0 asked) l else 0)
-      by true = sum_by_push (λ (a : Asked). cost_by_link (granted_row d 0 0 a) l) (filter (is_good d) told) asked
+          ≡ cost_of_good d told l cycle + (if b then cost_on (granted_row d 0 0 asked) l cycle else 0)
+      by true = sum_by_push (λ (a : Asked). cost_on (granted_row d 0 0 a) l cycle) (filter (is_good d) told) asked
       by false =
-          let none : costs_by_link d told l ≡ costs_by_link d told l + 0 = omega arith in
+          let none : cost_of_good d told l cycle ≡ cost_of_good d told l cycle + 0 = omega arith in
           ap summed (append-nil (filter (is_good d) told)) ∙ none
 
   -- is what its row adds, which is bounded
-  pub costs_more : (costs after : List ℕ) → l < 4096 → cost_in costs l ≡ costs_by_link d told l → CostsWith costs (row_of_stream d asked) after →
-      MayBeCounted (row_of_stream d asked) →
-      (cost_in after l ≡ costs_by_link d (told ++ asked ∷ []) l) × (cost_in after l ≤ cost_in costs l + 100000)
-  costs_more costs after low are adds countable = by (form_refusal d asked) refl adds countable
+  pub costs_more : (costs after : Turned) → l < costs.links → sum_on costs l cycle ≡ cost_of_good d told l cycle → CostsWith costs (row_of_stream d asked) after →
+      MayBeSummed (row_of_stream d asked) →
+      (sum_on after l cycle ≡ cost_of_good d (told ++ asked ∷ []) l cycle) × (sum_on after l cycle ≤ sum_on costs l cycle + 100000)
+  costs_more costs after low are adds summable = by (form_refusal d asked) refl adds summable
     where
-      short : (row : Row) → row.octets ≤ 60000 → cost_by_link row l ≤ 100000
-      short row few = elim (cases_Bool (crosses row l)) [
-        | inl goes ↦ omega (arith, few, ap {B = ℕ} (λ (b : Bool). if b then cost_of row.octets else 0) goes)
-        | inr stays ↦ omega (arith, ap {B = ℕ} (λ (b : Bool). if b then cost_of row.octets else 0) stays)
-      ]
-
-      by : (o : Option Refused) → form_refusal d asked ≡ o → CostsWith costs (row_unless d asked o) after → MayBeCounted (row_unless d asked o) →
-          (cost_in after l ≡ costs_by_link d (told ++ asked ∷ []) l) × (cost_in after l ≤ cost_in costs l + 100000)
-      by None e adds count =
-          let more = adds.each l low in
-          let whole = told_cost_more ∙ ap (λ (o : Option Refused). costs_by_link d told l + cost_more o) e in
-          (omega (arith, more, whole, are), omega (arith, more, short (granted_row d 0 0 asked) count.octets))
-      by (Some refused) e same count =
-          let whole = told_cost_more ∙ ap (λ (o : Option Refused). costs_by_link d told l + cost_more o) e in
-          let stays = ap (λ (cs : List ℕ). cost_in cs l) same in
+      by : (o : Option Refused) → form_refusal d asked ≡ o → CostsWith costs (row_unless d asked o) after → MayBeSummed (row_unless d asked o) →
+          (sum_on after l cycle ≡ cost_of_good d (told ++ asked ∷ []) l cycle) × (sum_on after l cycle ≤ sum_on costs l cycle + 100000)
+      by None e adds sum =
+          let more = adds.each l cycle low in
+          let whole = told_cost_more ∙ ap (λ (o : Option Refused). cost_of_good d told l cycle + cost_more o) e in
+          (omega (arith, more, whole, are), omega (arith, more, short (granted_row d 0 0 asked) l cycle sum.countable.octets))
+      by (Some refused) e same sum =
+          let whole = told_cost_more ∙ ap (λ (o : Option Refused). cost_of_good d told l cycle + cost_more o) e in
+          let stays = ap (λ (costs : Turned). sum_on costs l cycle) same in
           (omega (arith, stays, whole, are), omega (arith, stays))
 
 -- one for each link
-costs_all : (before after : List ℕ) (row : Option Row) → length before ≡ 4096 → CostsWith before row after → length after ≡ 4096
-costs_all before after None all same = ap length same ∙ all
-costs_all before after (Some row) all adds = adds.all
+costs_all : (before after : Turned) (row : Option Row) → before.links ≡ 4096 → CostsWith before row after → after.links ≡ 4096
+costs_all before after None all same = ap (λ (costs : Turned). costs.links) same ∙ all
+costs_all before after (Some row) all adds = adds.links ∙ all
 
 -- with a stream more
 pub listing_more : (d : Domain) (before : List Asked) (asked : Asked) (listing after : Listing) → IsListing d before listing → is_name asked.name ≡ true →
     list_any (λ (a : Asked). is_text a.name asked.name) (told_streams before) ≡ false → length listing.names.keys < 2 ^ 32 →
-    MayBeCounted (row_of_stream d asked) → pace_of asked ≡ each_cycle → ListsOne listing asked.name (row_of_stream d asked) after →
-    IsListing d (before ++ asked ∷ []) after
-listing_more d before asked listing after is named new few countable paced adds =
+    MayBeSummed (row_of_stream d asked) → ListsOne listing asked.name (row_of_stream d asked) after → IsListing d (before ++ asked ∷ []) after
+listing_more d before asked listing after is named new few summable adds =
     let told = told_streams before in
     let grown = told_new before asked named new in
     let longer : length (told_streams (before ++ asked ∷ [])) ≡ length told + 1 = ap length grown ∙ length_push told asked in
     let as_many : length listing.names.keys ≡ length told = ap length is.names ∙ length-map told (λ (a : Asked). a.name) in
-    let cost : (l : ℕ) → l < 4096 → (cost_in after.costs.items l ≡ costs_by_link d (told ++ asked ∷ []) l)
-    × (cost_in after.costs.items l ≤ cost_in listing.costs.items l + 100000)
-    = λ l low. costs_more d told asked l listing.costs.items after.costs.items low (is.costs l low) adds.costs countable in
+    let cost : (l cycle : ℕ) → l < 4096 → (sum_on after.costs l cycle ≡ cost_of_good d (told ++ asked ∷ []) l cycle)
+    × (sum_on after.costs l cycle ≤ sum_on listing.costs l cycle + 100000)
+    = λ l cycle low. costs_more d told asked l cycle listing.costs after.costs (omega (arith, low, is.all)) (is.costs l cycle low) adds.costs summable in
     record {
       names = adds.names
           ∙ ap (λ (ns : List (List ℕ)). ns ++ asked.name ∷ []) is.names
@@ -199,10 +210,9 @@ listing_more d before asked listing after is named new few countable paced adds 
           ∙ ap (λ (ls : List Listed). ls ++ listed_of d asked ∷ []) is.are
           ∙ sym (ap (map (listed_of d)) grown ∙ map-append (listed_of d) told (asked ∷ []));
       few = omega (arith, few, longer, as_many);
-      paced = paced_more before asked is.paced paced;
-      all = costs_all listing.costs.items after.costs.items (row_of_stream d asked) is.all adds.costs;
-      costs = λ l low. (cost l low).0 ∙ ap (λ (them : List Asked). costs_by_link d them l) (sym grown);
-      bounded = λ l low. omega (arith, (cost l low).1, is.bounded l low, longer);
+      all = costs_all listing.costs after.costs (row_of_stream d asked) is.all adds.costs;
+      costs = λ l cycle low. (cost l cycle low).0 ∙ ap (λ (them : List Asked). cost_of_good d them l cycle) (sym grown);
+      bounded = λ l cycle low. omega (arith, (cost l cycle low).1, is.bounded l cycle low, longer);
     }
 
 -- each that is listed is of a stream
@@ -220,61 +230,42 @@ station_link d link ends = by (slice_get d.links link) refl ends
     by None e ends = absurd cc
     by (Some l) e ends = slice_get_within d.links link l e
 
--- each of which is told is one of the streams
-told_among : (streams : List Asked) (a : Asked) → Contains (told_streams streams) a → Contains streams a
-told_among streams a among = (contains_from_filter has_name streams a (once_from same_name (filter has_name streams) a among)).0
+-- and behind these nobody listens
+pub none_behind : (d : Domain) (link : ℕ) (listener : Listener) → length d.links ≤ link →
+    None ≡ (if is_station (end_of d link) then Some listener else None)
+none_behind d link listener behind =
+    sym (ap (λ (b : Bool). if b then Some listener else None)
+    (false_from_ne_true (is_station (end_of d link)) (λ ends. omega (arith, station_link d link ends, behind))))
 
--- what some streams that are each offered in each cycle cost of a link in a cycle is what they cost of it by link
-costs_each : (d : Domain) (them : List Asked) (l cycle : ℕ) → ((a : Asked) → Contains them a → pace_of a ≡ each_cycle) →
-    cost_of_all d them l cycle ≡ sum_by (λ (a : Asked). cost_by_link (granted_row d 0 0 a) l) them
-costs_each d [] l cycle paced = refl
-costs_each d (a ∷ them) l cycle paced =
-    let first = cost_same (granted_row d 0 0 a) l cycle (paced a (contains_here a them)) in
-    let rest = costs_each d them l cycle (λ b c. paced b (contains_later a them b c)) in
-    let one = sum_by-cons (λ (b : Asked). cost_on (granted_row d 0 0 b) l cycle) a them in
-    let two = sum_by-cons (λ (b : Asked). cost_by_link (granted_row d 0 0 b) l) a them in
-    omega (arith, one, two, first, rest)
+-- so what is told of a stream's listeners is by the costs of its links in its cycles
+module _ (d : Domain) (accepted : IsAccepted d) (streams : List Asked) (listing : Listing) (is : IsListing d streams listing) (asked : Asked) where
+  abbrev told : ℕ → ℕ
+  told = told_cost d (told_streams streams) asked
 
--- so it is the most beside one of them that goes by the link
-most_is : (d : Domain) (told : List Asked) (asked : Asked) (l : ℕ) → ((a : Asked) → Contains told a → pace_of a ≡ each_cycle) →
-    pace_of asked ≡ each_cycle → list_any (λ k. k == l) (links_in (tree_of d asked.paths)) ≡ true → costs_by_link d told l ≡ told_cost d told asked l
-most_is d told asked l paced pace crossed =
-    let good = filter (is_good d) told in
-    let tree = tree_of d asked.paths in
-    let plain : ℕ = costs_by_link d told l in
-    let each : (a : Asked) → Contains good a → pace_of a ≡ each_cycle = λ a c. paced a (contains_from_filter (is_good d) told a c).0 in
-    let taken : Bool → ℕ → List ℕ = λ b n. if b then n ∷ [] else [] in
-    sym (ap (fold max 0) (same_below (λ k. taken (uses tree (pace_of asked) l k) (cost_of_all d good l k)) (λ k. plain ∷ []) 80
-    (λ k below. (λ i. taken (((λ j. uses tree (pace j) l k) ∙ uses_same tree l k ∙ crossed) i) (costs_each d good l k each i)))) ∙ most_same plain 79)
+  at_link : (l : ℕ) → l < 4096 → cost_beside listing.costs (Some (granted_row d 0 0 asked)) l ≡ told l
+  at_link l low =
+      let taken : Bool → ℕ → List ℕ = λ b n. if b then n ∷ [] else [] in
+      let used : ℕ → Bool = uses (tree_of d asked.paths) (pace_of asked) l in
+      ap (fold max 0) (same_below (λ cycle. taken (used cycle) (sum_on listing.costs l cycle))
+      (λ cycle. taken (used cycle) (cost_of_good d (told_streams streams) l cycle)) 80 (λ cycle below. ap (taken (used cycle)) (is.costs l cycle low)))
 
--- so what is told of a stream's listeners is by the costs of its links
-module _ (d : Domain) (accepted : IsAccepted d) (streams : List Asked) (listing : Listing) (is : IsListing d streams listing) (asked : Asked)
-    (told : Contains (told_streams streams) asked) where
-  abbrev one : ℕ → ℕ
-  one = cost_in listing.costs.items
-
-  abbrev two : ℕ → ℕ
-  two = told_cost d (told_streams streams) asked
-
-  at_hop : (hop : Hop) → Contains (listeners_of d (granted_row d 0 0 asked)) hop → one hop.link ≡ two hop.link
+  at_hop : (hop : Hop) → Contains (listeners_of d (granted_row d 0 0 asked)) hop →
+      cost_beside listing.costs (Some (granted_row d 0 0 asked)) hop.link ≡ told hop.link
   at_hop hop c =
       let found = contains_from_filter (λ (h : Hop). is_station (end_of d h.link)) (tree_of d asked.paths) hop c in
-      let low : hop.link < 4096 = omega (arith, station_link d hop.link found.1, few_links d accepted) in
-      let crossed : list_any (λ k. k == hop.link) (links_in (tree_of d asked.paths)) ≡ true =
-      member_any (λ k. k == hop.link) (links_in (tree_of d asked.paths)) hop.link
-      (contains_map (λ (h : Hop). h.link) (tree_of d asked.paths) hop found.0) (eq-eqb hop.link hop.link refl) in
-      is.costs hop.link low
-      ∙ most_is d (told_streams streams) asked hop.link (λ a k. is.paced a (told_among streams a k)) (is.paced asked (told_among streams asked told)) crossed
+      at_link hop.link (omega (arith, station_link d hop.link found.1, few_links d accepted))
 
-  listeners_same : (o : Option Refused) → listeners_by d one (row_unless d asked o) ≡ listeners_by d two (row_unless d asked o)
+  listeners_same : (o : Option Refused) →
+      listeners_by d (cost_beside listing.costs (row_unless d asked o)) (row_unless d asked o) ≡ listeners_by d told (row_unless d asked o)
   listeners_same (Some refused) = refl
   listeners_same None =
-      map_same (λ (hop : Hop). Some (listener_to d one hop)) (λ (hop : Hop). Some (listener_to d two hop)) (listeners_of d (granted_row d 0 0 asked)) (λ hop c.
+      map_same (λ (hop : Hop). Some (listener_to d (cost_beside listing.costs (Some (granted_row d 0 0 asked))) hop)) (λ (hop : Hop). Some (listener_to d told hop))
+      (listeners_of d (granted_row d 0 0 asked)) (λ hop c.
       ap (λ (cost : ℕ). Some (record { name = name_of_end d hop.link; bound = most_of d hop.link hop.depth cost })) (at_hop hop c))
 
   -- of a stream of which nothing is offered
   pub fare_first : (due : List ℕ → Option ℕ) →
-      fare_named d one due (listed_of d asked) ≡ fare_of d (told_cost d (told_streams streams)) due [] [] asked
+      fare_named d listing.costs due (listed_of d asked) ≡ fare_of d (told_cost d (told_streams streams)) due [] [] asked
   fare_first due = λ i. record {
     name = asked.name;
     deadline = due asked.name;
@@ -285,9 +276,9 @@ module _ (d : Domain) (accepted : IsAccepted d) (streams : List Asked) (listing 
 
 -- so what is told at first is a summary by no offers
 pub first_fares : (d : Domain) (streams : List Asked) (due : List ℕ → Option ℕ) (listing : Listing) → IsAccepted d → IsListing d streams listing →
-    map (fare_named d (cost_in listing.costs.items) due) listing.streams.items ≡ (summary_by d (told_streams streams) due [] []).fares
+    map (fare_named d listing.costs due) listing.streams.items ≡ (summary_by d (told_streams streams) due [] []).fares
 first_fares d streams due listing accepted is =
-    ap (map (fare_named d (cost_in listing.costs.items) due)) is.are
-    ∙ map-map (fare_named d (cost_in listing.costs.items) due) (listed_of d) (told_streams streams)
-    ∙ map_same (λ (a : Asked). fare_named d (cost_in listing.costs.items) due (listed_of d a)) (fare_of d (told_cost d (told_streams streams)) due [] [])
-    (told_streams streams) (λ a c. fare_first d accepted streams listing is a c due)
+    ap (map (fare_named d listing.costs due)) is.are
+    ∙ map-map (fare_named d listing.costs due) (listed_of d) (told_streams streams)
+    ∙ map_same (λ (a : Asked). fare_named d listing.costs due (listed_of d a)) (fare_of d (told_cost d (told_streams streams)) due [] [])
+    (told_streams streams) (λ a c. fare_first d accepted streams listing is a due)

@@ -3,7 +3,7 @@ use Rattle.std.proofs.Common.{◌≡◌, ◌∙◌, ℕ, List, ap, length, map, 
 use Rattle.cqf_lists.proofs.EachBelow.{length-singles}
 use Rattle.cqf_model.specs.History.{table_at}
 use Rattle.cqf_model.specs.Traffic.{numbered}
-use Rattle.cqf_admission.specs.Asking.{asked_of}
+use Rattle.cqf_admission.specs.Asking.{asked_paced}
 use Rattle.cqf_program_scenario.specs.Calls.{history_of}
 use Rattle.cqf_program_scenario.specs.Closing.{scenario_given}
 use Rattle.cqf_program_runs.specs.declared.deliveries_made.Noted.{Noted}
@@ -24,7 +24,7 @@ use Rattle.cqf_program_summary.specs.Told.{told_streams}
 -- by what is noted of a scenario
 pub IsSummaryOf-noted : (cycles : ℕ) (planned : PlannedGiven) (noted : Noted) (under_way : UnderWay) (summary : Summary)
     (is : IsNotedOf cycles planned noted under_way) →
-    summary ≡ summary_by planned.given.domain (told_streams (map asked_of planned.given.requests.items))
+    summary ≡ summary_by planned.given.domain (told_streams (map asked_paced planned.given.requests.items))
     (deadline_in (record { requests = planned.given.requests.items; deadlines = planned.deadlines.items }))
     (offers_within planned.given.domain cycles (numbered planned.given.offers.items)) (deliveries_over (over_by planned cycles noted is.whole)) →
     IsSummaryOf cycles planned summary

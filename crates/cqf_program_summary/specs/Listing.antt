@@ -1,39 +1,39 @@
 -- The streams of which is told, as they are listed.
-use Rattle.std.specs.Prelude.{ℕ, ◌≡◌, ◌+◌, ◌*◌, ◌++◌, ◌∷◌, ◌≤◌, ◌<◌, ◌^◌, ⊤, Contains, List, [], Option, Some, None, filter, if◌then◌else◌, length, map, slice_index_or, sum_by}
+use Rattle.std.specs.Prelude.{ℕ, ◌≡◌, ◌*◌, ◌++◌, ◌∷◌, ◌≤◌, ◌<◌, ◌^◌, ⊤, List, [], Option, Some, None, filter, fold, if◌then◌else◌, length, map, max}
+use Rattle.cqf_lists.specs.Lists.{each_below}
+use Rattle.cqf_units.specs.Timing.{cost_of}
 use Rattle.cqf_model.specs.declared.topology.Row.{Row}
 use Rattle.cqf_model.specs.Domain.{Domain}
-use Rattle.cqf_model.specs.History.{Asked, pace_of}
-use Rattle.cqf_model.specs.Limits.{most_links}
-use Rattle.cqf_model.specs.Paces.{each_cycle}
-use Rattle.cqf_laws_history.specs.StateLaws.{granted_row}
-use Rattle.cqf_admission.specs.Rows.{IsCountable, cost_by_link}
+use Rattle.cqf_model.specs.History.{Asked}
+use Rattle.cqf_model.specs.Limits.{most_every, most_links}
+use Rattle.cqf_model.specs.Table.{uses}
+use Rattle.cqf_admission.specs.Rows.{IsSummable}
+use Rattle.cqf_admission_trees.specs.Turns.{AreMoreIn, Turned, sum_on}
+use Rattle.cqf_laws_latency.specs.Streams.{cost_of_all}
 use Rattle.cqf_program_summary.specs.declared.listing.Listed.{Listed}
 use Rattle.cqf_program_summary.specs.declared.listing.Listing.{Listing}
 use Rattle.cqf_program_summary.specs.Summary.{Fare, ways_of}
 use Rattle.cqf_program_summary.specs.Told.{is_good, row_of_stream, told_streams}
 
--- what costs by link say of a link
-abbrev pub cost_in : List ℕ → ℕ → ℕ
-cost_in costs l = slice_index_or costs l 0
+-- the most that costs by link and cycle say of a link in a cycle in which the frames of a row's stream go by it
+abbrev pub cost_beside : Turned → Option Row → ℕ → ℕ
+cost_beside costs None l = 0
+cost_beside costs (Some row) l =
+    fold max 0 (each_below (λ cycle. if uses row.tree.items row.pace l cycle then sum_on costs l cycle ∷ [] else []) most_every)
 
 -- they are bounded, as those of fewer than 2^32 streams are
-abbrev pub AreBounded : List ℕ → Type 0
-AreBounded costs = (l : ℕ) → l < most_links → cost_in costs l ≤ 2 ^ 32 * 100000
-
--- each link has more by what a row's stream costs of it
-pub record AddsCost (before : List ℕ) (row : Row) (after : List ℕ) : Type 0 where
-  pub all : length after ≡ most_links
-  pub each : (l : ℕ) → l < most_links → cost_in after l ≡ cost_in before l + cost_by_link row l
+abbrev pub AreBounded : Turned → Type 0
+AreBounded costs = (l cycle : ℕ) → l < most_links → sum_on costs l cycle ≤ 2 ^ 32 * 100000
 
 -- a stream that has a row costs that, and another nothing
-abbrev pub CostsWith : List ℕ → Option Row → List ℕ → Type 0
+abbrev pub CostsWith : Turned → Option Row → Turned → Type 0
 CostsWith before None after = after ≡ before
-CostsWith before (Some row) after = AddsCost before row after
+CostsWith before (Some row) after = AreMoreIn before row.tree.items row.pace (cost_of row.octets) after
 
--- what a row costs can be added to costs by link
-abbrev pub MayBeCounted : Option Row → Type 0
-MayBeCounted None = ⊤
-MayBeCounted (Some row) = IsCountable most_links row
+-- what a row costs can be added to costs by link and cycle
+abbrev pub MayBeSummed : Option Row → Type 0
+MayBeSummed None = ⊤
+MayBeSummed (Some row) = IsSummable most_links row
 
 -- a stream that is listed
 abbrev pub listed_of : Domain → Asked → Listed
@@ -47,26 +47,24 @@ abbrev pub fare_from : Domain → (ℕ → ℕ) → Option ℕ → Listed → Fa
 fare_from d cost deadline listed =
     record { name = listed.name; deadline = deadline; offered = 0; dropped = 0; ways = ways_of d cost [] listed.row }
 
-abbrev pub fare_named : Domain → (ℕ → ℕ) → (List ℕ → Option ℕ) → Listed → Fare
-fare_named d cost due listed = fare_from d cost (due listed.name) listed
+abbrev pub fare_named : Domain → Turned → (List ℕ → Option ℕ) → Listed → Fare
+fare_named d costs due listed = fare_from d (cost_beside costs listed.row) (due listed.name) listed
 
 -- a listing with a stream more
 pub record ListsOne (before : Listing) (name : List ℕ) (row : Option Row) (after : Listing) : Type 0 where
   pub names : after.names.keys ≡ before.names.keys ++ name ∷ []
   pub streams : after.streams.items ≡ before.streams.items ++ record { name = name; row = row } ∷ []
-  pub costs : CostsWith before.costs.items row after.costs.items
+  pub costs : CostsWith before.costs row after.costs
 
--- what the good ones of some streams cost of a link that they go by, where each is offered in each cycle
-abbrev pub costs_by_link : Domain → List Asked → ℕ → ℕ
-costs_by_link d told l = sum_by (λ (asked : Asked). cost_by_link (granted_row d 0 0 asked) l) (filter (is_good d) told)
+-- what the good ones of some streams cost of a link in a cycle
+abbrev pub cost_of_good : Domain → List Asked → ℕ → ℕ → ℕ
+cost_of_good d told l cycle = cost_of_all d (filter (is_good d) told) l cycle
 
--- what is listed is told of some streams: their names, their rows, and what they cost of each link, where each is offered in each
--- cycle
+-- what is listed is told of some streams: their names, their rows, and what they cost of each link in each cycle
 pub record IsListing (d : Domain) (streams : List Asked) (listing : Listing) : Type 0 where
   pub names : listing.names.keys ≡ map (λ (asked : Asked). asked.name) (told_streams streams)
   pub are : listing.streams.items ≡ map (listed_of d) (told_streams streams)
   pub few : length (told_streams streams) ≤ 2 ^ 32
-  pub paced : (asked : Asked) → Contains streams asked → pace_of asked ≡ each_cycle
-  pub all : length listing.costs.items ≡ most_links
-  pub costs : (l : ℕ) → l < most_links → cost_in listing.costs.items l ≡ costs_by_link d (told_streams streams) l
-  pub bounded : (l : ℕ) → l < most_links → cost_in listing.costs.items l ≤ length (told_streams streams) * 100000
+  pub all : listing.costs.links ≡ most_links
+  pub costs : (l cycle : ℕ) → l < most_links → sum_on listing.costs l cycle ≡ cost_of_good d (told_streams streams) l cycle
+  pub bounded : (l cycle : ℕ) → l < most_links → sum_on listing.costs l cycle ≤ length (told_streams streams) * 100000

@@ -23,7 +23,7 @@ use Rattle.cqf_program_summary.specs.Tallies.{is_dropped, tally_to}
 use Rattle.cqf_program_summary.specs.Told.{is_other, row_of_stream, told_cost, told_streams}
 
 -- what is told of a stream: its name and its deadline, how many offers claim the name, how many of these are dropped, and the ways
--- to its listeners; of a stream whose octets or path are refused one way to none
+-- to its listeners; of a stream whose octets, pace or path are refused one way to none
 pub record Fare : Type 0 where
   pub name : List ℕ
   pub deadline : Option ℕ

@@ -19,7 +19,7 @@ told_streams streams = each_once (λ (a b : Asked). is_text a.name b.name) (filt
 abbrev pub is_other : List Asked → List ℕ → Bool
 is_other told name = not (list_any (λ (asked : Asked). is_text asked.name name) told)
 
--- whether a stream's octets and path are good as well
+-- whether a stream's octets, pace and path are good as well
 abbrev pub is_good : Domain → Asked → Bool
 is_good d asked = is_none (form_refusal d asked)
 

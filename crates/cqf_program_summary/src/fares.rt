@@ -1,16 +1,18 @@
 //! How the frames of a stream fare to its listeners.
-ghost use Rattle.std.specs.Prelude.{ℕ, ◌≡◌, ◌+◌, ◌*◌, ◌≤◌, ◌<◌, ◌^◌, ◌++◌, ◌∷◌, [], Some, None, IfOk, OnOk, if◌then◌else◌, length, map, position, slice_get};
+ghost use Rattle.std.specs.Prelude.{ℕ, ◌≡◌, ◌+◌, ◌*◌, ◌≤◌, ◌<◌, ◌^◌, ◌++◌, ◌∷◌, [], Some, None, Contains, IfOk, OnOk, if◌then◌else◌, length, map, position, slice_get};
+ghost use Rattle.cqf_admission.specs.Rows.{IsSummable};
 ghost use Rattle.cqf_model.specs.Domain.{end_of};
 ghost use Rattle.cqf_model.specs.Limits.{most_links};
 ghost use Rattle.cqf_program_plans.specs.LatencyText.{is_station};
 ghost use Rattle.cqf_program_runs.specs.Deliveries.{fate_of};
 ghost use Rattle.cqf_program_summary.specs.Counting.{AreApart, FareWithin, OthersWithin, WaysWithin};
 ghost use Rattle.cqf_program_summary.specs.Counting.{fare_with, fare_with_each, fare_with_offer, leads_there, leads_to, others_with, place_by, way_with, ways_with};
-ghost use Rattle.cqf_program_summary.specs.Listing.{AreBounded, IsOfStream, cost_in, fare_from};
+ghost use Rattle.cqf_program_summary.specs.Listing.{AreBounded, IsOfStream, MayBeSummed, cost_beside, fare_from};
 ghost use Rattle.cqf_program_summary.specs.Summary.{listener_to, way_to, ways_of};
 
 use crate::listing::Listed;
 use crate::tallies::{Tally, count_dropped, drops_of};
+use cqf_admission_trees::Sums;
 use cqf_model::{Hop, Row};
 use cqf_program_plans::{listener_at, most_to};
 use cqf_program_runs::{Delivery, Fate, Journey, Passage};
@@ -31,7 +33,7 @@ pub(crate) struct Listener {
 /// The way of a stream to one of its listeners.
 #[derive(Debug, Drop)]
 pub(crate) struct Way {
-    /// The listener; none is known of a stream whose octets or path are refused.
+    /// The listener; none is known of a stream whose octets, pace or path are refused.
     pub(crate) to: Option<Listener>,
     /// How its frames fare.
     pub(crate) tally: Tally,
@@ -71,11 +73,25 @@ pub(crate) struct Others {
     pub(crate) dropped: u32,
 }
 
-/// The listener at the end of a hop, where one is there. Hops by links that the domain lacks have none.
-fn listener_to(domain: &Domain, costs: &[u64], hop: &Hop) -> Option<Listener>
+/// The most that streams cost of a hop's link in a cycle in which the frames of the row go by it, in octets.
+fn cost_to(costs: &Sums, row: &Row, hop: &Hop) -> u64
     requires bounded { AreBounded costs.now }
-    requires all { length costs.now ≡ most_links }
-    ensures { result ≡ (if is_station (end_of domain.now hop.now.link) then Some (listener_to domain.now (cost_in costs.now) hop.now) else None) }
+    requires all { costs.now.links ≡ most_links }
+    requires summable { IsSummable most_links row.now }
+    requires of_tree { Contains row.now.tree.items hop.now }
+    ensures cost { result ≡ cost_beside costs.now (Some row.now) hop.now.link }
+    ensures bounded { result ≤ 2 ^ 32 * 100000 }
+{
+    costs.most_at(hop, row.pace)
+}
+
+/// The listener at the end of a hop of a row's tree, where one is there. Hops by links that the domain lacks have none.
+fn listener_to(domain: &Domain, costs: &Sums, row: &Row, hop: &Hop) -> Option<Listener>
+    requires bounded { AreBounded costs.now }
+    requires all { costs.now.links ≡ most_links }
+    requires summable { IsSummable most_links row.now }
+    requires of_tree { Contains row.now.tree.items hop.now }
+    ensures { result ≡ (if is_station (end_of domain.now hop.now.link) then Some (listener_to domain.now (cost_beside costs.now (Some row.now)) hop.now) else None) }
 {
     // the domain is accepted: it has no more links than are represented
     domain.know();
@@ -83,7 +99,7 @@ fn listener_to(domain: &Domain, costs: &[u64], hop: &Hop) -> Option<Listener>
         return None;
     }
     let name = listener_at(domain, hop.link)?;
-    let cost = costs[usize::from(hop.link)];
+    let cost = cost_to(costs, row, hop);
     Some(Listener {
         name,
         bound: most_to(domain, hop.link, hop.depth, cost),
@@ -105,15 +121,16 @@ fn push_way(ways: &mut Vec<Way>, to: Option<Listener>) -> Result<(), Memory>
 fn push_listeners(
     ways: &mut Vec<Way>,
     domain: &Domain,
-    costs: &[u64],
+    costs: &Sums,
     row: &Row,
 ) -> Result<(), Memory>
     requires bounded { AreBounded costs.now }
-    requires all { length costs.now ≡ most_links }
-    ensures { OnOk result (ways.new.items ≡ ways.old.items ++ ways_of domain.now (cost_in costs.now) [] (Some row.now)) }
+    requires all { costs.now.links ≡ most_links }
+    requires summable { IsSummable most_links row.now }
+    ensures { OnOk result (ways.new.items ≡ ways.old.items ++ ways_of domain.now (cost_beside costs.now (Some row.now)) [] (Some row.now)) }
 {
     for hop in row.tree.as_slice() {
-        if let Some(listener) = listener_to(domain, costs, hop) {
+        if let Some(listener) = listener_to(domain, costs, row, hop) {
             push_way(ways, Some(listener))?;
         }
     }
@@ -124,12 +141,13 @@ fn push_listeners(
 fn ways_of(
     alloc: Global,
     domain: &Domain,
-    costs: &[u64],
+    costs: &Sums,
     row: &Option<Row>,
 ) -> Result<Vec<Way>, Memory>
     requires bounded { AreBounded costs.now }
-    requires all { length costs.now ≡ most_links }
-    ensures { IfOk result (λ ways. ways.items ≡ ways_of domain.now (cost_in costs.now) [] row.now) }
+    requires all { costs.now.links ≡ most_links }
+    requires summable { MayBeSummed row.now }
+    ensures { IfOk result (λ ways. ways.items ≡ ways_of domain.now (cost_beside costs.now row.now) [] row.now) }
 {
     let mut ways = Vec::new(alloc);
     match row {
@@ -207,16 +225,16 @@ impl Fares {
     pub(crate) fn new(
         alloc: Global,
         domain: &Domain,
-        costs: &[u64],
+        costs: &Sums,
         listed: &Listed,
         deadline: Option<u32>,
     ) -> Result<Fares, Memory>
         requires bounded { AreBounded costs.now }
-        requires all { length costs.now ≡ most_links }
+        requires all { costs.now.links ≡ most_links }
         requires listed { IsOfStream domain.now listed.now }
-        ensures { IfOk result (λ fares. fares ≡ fare_from domain.now (cost_in costs.now) deadline listed.now) }
+        ensures { IfOk result (λ fares. fares ≡ fare_from domain.now (cost_beside costs.now listed.now.row) deadline listed.now) }
     {
-        // names are apart: a fact for the ways
+        // names are apart, and the domain is accepted: facts for the ways
         domain.know();
         let ways = ways_of(alloc, domain, costs, &listed.row)?;
         Ok(Fares {

@@ -1,55 +1,58 @@
 //! The streams of which is told, and what they cost of links.
-ghost use Rattle.std.specs.Prelude.{◌≡◌, ◌++◌, ◌∷◌, [], false, IfOk, List, length, map, replicate};
-ghost use Rattle.cqf_admission.specs.Asking.{asked_of};
+ghost use Rattle.std.specs.Prelude.{◌≡◌, ◌++◌, ◌∷◌, [], false, IfOk, List, map};
+ghost use Rattle.cqf_admission.specs.Asking.{asked_paced};
+ghost use Rattle.cqf_admission.specs.Rows.{IsSummable};
+ghost use Rattle.cqf_admission_trees.specs.Turns.{AreMoreIn};
 ghost use Rattle.cqf_model.specs.Domain.{Domain as ADomain};
 ghost use Rattle.cqf_model.specs.History.{Asked};
-ghost use Rattle.cqf_admission.specs.Rows.{IsCountable};
 ghost use Rattle.cqf_model.specs.Limits.{most_links};
 ghost use Rattle.cqf_topology.specs.DomainText.{is_among};
-ghost use Rattle.cqf_program_summary.specs.Listing.{AddsCost, AreBounded, CostsWith, IsListing, ListsOne, MayBeCounted};
+ghost use Rattle.cqf_units.specs.Timing.{cost_of};
+ghost use Rattle.cqf_program_summary.specs.Listing.{AreBounded, CostsWith, IsListing, ListsOne, MayBeSummed};
 ghost use Rattle.cqf_program_summary.specs.Told.{row_of_stream};
 
-use cqf_admission::judge;
-use cqf_admission_trees::{add_on, count_places};
+use cqf_admission::judge_paced;
+use cqf_admission_trees::{Sums, count_places};
 use cqf_model::{MOST_LINKS, Row};
-use cqf_topology::{Domain, NameList, Request};
-use cqf_units::{Cycle, Memory, Name, Octets, cost};
+use cqf_program_plans::add_cost;
+use cqf_topology::{Domain, NameList, PacedRequest};
+use cqf_units::{Cycle, Memory, Name};
 use std::alloc::{AllocError, Global};
 
 /// A stream of which is told.
 #[derive(Drop)]
 pub(crate) struct Listed {
     pub(crate) name: Name,
-    /// Its row, as if it were the first of all; none where its octets or its path are refused.
+    /// Its row, as if it were the first of all; none where its octets, its pace or its path are refused.
     pub(crate) row: Option<Row>,
 }
 
-/// The streams of which is told, of each name the first, and what those with a row cost of each link, whether or not they fit.
+/// The streams of which is told, of each name the first, and what those with a row cost of each link in each cycle, whether or not they fit.
 #[derive(Drop)]
 pub(crate) struct Listing {
     /// Their names, in their order.
     pub(crate) names: NameList,
     pub(crate) streams: Vec<Listed>,
-    /// In octets a cycle, by link number.
-    pub(crate) costs: Vec<u64>,
+    /// In octets, by link and cycle.
+    pub(crate) costs: Sums,
 }
 
-/// Adds what a row's stream costs to that of each link by which it goes.
-fn add(costs: &mut Vec<u64>, row: &Row)
-    requires countable { IsCountable most_links row.now }
-    requires all { length costs.old.items ≡ most_links }
-    requires bounded { AreBounded costs.old.items }
-    ensures { AddsCost costs.old.items row.now costs.new.items }
+/// Adds what a row's stream costs to that of its links in its cycles.
+fn add(costs: &mut Sums, row: &Row)
+    requires summable { IsSummable most_links row.now }
+    requires all { costs.old.links ≡ most_links }
+    requires bounded { AreBounded costs.old }
+    ensures { AreMoreIn costs.old row.now.tree.items row.now.pace (cost_of row.now.octets) costs.new }
 {
-    add_on(costs, row.tree.as_slice(), cost(Octets(row.octets)).0);
+    add_cost(costs, row);
 }
 
-/// By link, what a stream costs of it more: nothing where it has no row.
-fn costs_with(costs: Vec<u64>, row: &Option<Row>) -> Vec<u64>
-    requires countable { MayBeCounted row.now }
-    requires all { length costs.items ≡ most_links }
-    requires bounded { AreBounded costs.items }
-    ensures { CostsWith costs.items row.now result.items }
+/// By link and cycle, what a stream costs of it more: nothing where it has no row.
+fn costs_with(costs: Sums, row: &Option<Row>) -> Sums
+    requires summable { MayBeSummed row.now }
+    requires all { costs.links ≡ most_links }
+    requires bounded { AreBounded costs }
+    ensures { CostsWith costs row.now result }
 {
     let mut costs = costs;
     if let Some(row) = row {
@@ -58,27 +61,24 @@ fn costs_with(costs: Vec<u64>, row: &Option<Row>) -> Vec<u64>
     costs
 }
 
-/// The row of a request, as if it were the first of all; none where its octets or its path are refused.
-fn row_of_request(alloc: Global, domain: &Domain, request: &Request) -> Result<Option<Row>, Memory>
-    ensures row { IfOk result (λ row. row ≡ row_of_stream domain.now (asked_of request.now)) }
-    ensures countable { IfOk result MayBeCounted }
+/// The row of a request, as if it were the first of all; none where its octets, its pace or its path are refused.
+fn row_of_request(
+    alloc: Global,
+    domain: &Domain,
+    request: &PacedRequest,
+) -> Result<Option<Row>, Memory>
+    ensures row { IfOk result (λ row. row ≡ row_of_stream domain.now (asked_paced request.now)) }
+    ensures summable { IfOk result MayBeSummed }
 {
     // the domain is accepted: it has no more links than are represented
     domain.know();
     if count_places(request.paths.as_slice()).is_none() {
         return Err(AllocError);
     }
-    match judge(domain, request) {
+    match judge_paced(domain, request) {
         Ok(judged) => Ok(Some(judged.into_row(alloc, request.octets, 0, Cycle(0))?)),
         Err(_) => Ok(None),
     }
-}
-
-/// What no streams cost of each link.
-fn no_costs(alloc: Global) -> Result<Vec<u64>, Memory>
-    ensures { IfOk result (λ costs. costs.items ≡ replicate most_links 0) }
-{
-    Ok(vec![in alloc; 0; MOST_LINKS]?)
 }
 
 impl Listing {
@@ -86,7 +86,7 @@ impl Listing {
     fn new(alloc: Global) -> Result<Listing, Memory>
         ensures { IfOk result (λ listing. (d : ADomain) → IsListing d [] listing) }
     {
-        let costs = no_costs(alloc)?;
+        let costs = Sums::new(alloc, MOST_LINKS as u16)?;
         Ok(Listing {
             names: NameList::new(alloc),
             streams: Vec::new(alloc),
@@ -97,9 +97,9 @@ impl Listing {
     /// The listing with a stream more, of a name that isn't listed.
     fn push(self, name: Name, row: Option<Row>) -> Result<Listing, Memory>
         requires free { is_among name self.names.keys ≡ false }
-        requires countable { MayBeCounted row }
-        requires all { length self.costs.items ≡ most_links }
-        requires bounded { AreBounded self.costs.items }
+        requires summable { MayBeSummed row }
+        requires all { self.costs.links ≡ most_links }
+        requires bounded { AreBounded self.costs }
         ensures { IfOk result (ListsOne self name row) }
     {
         let Listing {
@@ -119,10 +119,10 @@ impl Listing {
     }
 
     /// The listing with the stream of a request behind those before it, where it is told of. No memory has room for 2^32 of them.
-    fn with(self, alloc: Global, domain: &Domain, request: &Request) -> Result<Listing, Memory>
+    fn with(self, alloc: Global, domain: &Domain, request: &PacedRequest) -> Result<Listing, Memory>
         requires { (before : List Asked) × IsListing domain.now before self }
         ensures { IfOk result (λ after. (before : List Asked) → IsListing domain.now before self →
-            IsListing domain.now (before ++ asked_of request.now ∷ []) after) }
+            IsListing domain.now (before ++ asked_paced request.now ∷ []) after) }
     {
         let Some(name) = Name::new(request.name.as_bytes()) else {
             return Ok(self);
@@ -143,9 +143,9 @@ impl Listing {
 pub(crate) fn list_streams(
     alloc: Global,
     domain: &Domain,
-    requests: &[Request],
+    requests: &[PacedRequest],
 ) -> Result<Listing, Memory>
-    ensures { IfOk result (IsListing domain.now (map asked_of requests.now)) }
+    ensures { IfOk result (IsListing domain.now (map asked_paced requests.now)) }
 {
     let mut listing = Listing::new(alloc)?;
     for request in requests {

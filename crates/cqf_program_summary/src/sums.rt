@@ -1,17 +1,18 @@
 //! How the frames of all streams fare, found by name.
 ghost use Rattle.std.specs.Prelude.{ℕ, ◌≡◌, ◌≤◌, ◌+◌, [], All, IfOk, length, map};
-ghost use Rattle.cqf_admission.specs.Asking.{asked_of};
+ghost use Rattle.cqf_admission.specs.Asking.{asked_paced};
 ghost use Rattle.cqf_model.specs.Limits.{most_links};
 ghost use Rattle.cqf_program_runs.specs.Deadlines.{deadline_in};
 ghost use Rattle.cqf_program_summary.specs.Counting.{SummaryWithin, summary_with};
-ghost use Rattle.cqf_program_summary.specs.Listing.{AreBounded, IsOfStream, cost_in, fare_named};
+ghost use Rattle.cqf_program_summary.specs.Listing.{AreBounded, IsOfStream, fare_named};
 ghost use Rattle.cqf_program_summary.specs.Summary.{summary_by};
 ghost use Rattle.cqf_program_summary.specs.Told.{told_streams};
 
 use crate::fares::{Fares, Others};
 use crate::listing::{Listed, Listing, list_streams};
+use cqf_admission_trees::Sums as CycleSums;
 use cqf_program_runs::{Deadlines, Delivery};
-use cqf_topology::{Domain, NameList, Request};
+use cqf_topology::{Domain, NameList, PacedRequest};
 use cqf_units::{Memory, Name};
 use std::alloc::Global;
 use std::marker::Model;
@@ -39,14 +40,14 @@ impl Model for Sums {
 fn fares_of(
     alloc: Global,
     domain: &Domain,
-    costs: &[u64],
+    costs: &CycleSums,
     streams: &[Listed],
     deadlines: &Deadlines<'_>,
 ) -> Result<Vec<Fares>, Memory>
     requires bounded { AreBounded costs.now }
-    requires all { length costs.now ≡ most_links }
+    requires all { costs.now.links ≡ most_links }
     requires listed { All (IsOfStream domain.now) streams.now }
-    ensures { IfOk result (λ fares. fares.items ≡ map (fare_named domain.now (cost_in costs.now) (deadline_in deadlines.now)) streams.now) }
+    ensures { IfOk result (λ fares. fares.items ≡ map (fare_named domain.now costs.now (deadline_in deadlines.now)) streams.now) }
 {
     let mut fares = Vec::with_capacity(alloc, streams.len())?;
     for listed in streams {
@@ -61,11 +62,11 @@ impl Sums {
     pub(crate) fn new(
         alloc: Global,
         domain: &Domain,
-        requests: &[Request],
+        requests: &[PacedRequest],
         deadlines: &[Option<u32>],
     ) -> Result<Sums, Memory>
         ensures { let due = deadline_in (record { requests = requests.now; deadlines = deadlines.now }) in
-            IfOk result (λ sums. sums ≡ summary_by domain.now (told_streams (map asked_of requests.now)) due [] []) }
+            IfOk result (λ sums. sums ≡ summary_by domain.now (told_streams (map asked_paced requests.now)) due [] []) }
     {
         // the domain is accepted: it has no more links than are represented
         domain.know();
@@ -74,7 +75,7 @@ impl Sums {
         let fares = fares_of(
             alloc,
             domain,
-            listing.costs.as_slice(),
+            &listing.costs,
             listing.streams.as_slice(),
             &due,
         )?;

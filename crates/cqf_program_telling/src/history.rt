@@ -116,6 +116,10 @@ fn put_text<W: Sink>(press: &mut Press<'_, W>, entry: &Entry)
             let name = request.name.as_str();
             put_call(press, entry.seat, b" admit ", name, entry.reply);
         }
+        Call::AdmitPaced(request) => {
+            let name = request.name.as_str();
+            put_call(press, entry.seat, b" admit ", name, entry.reply);
+        }
         Call::Withdraw(name) => {
             put_call(press, entry.seat, b" withdraw ", name.as_str(), entry.reply);
         }

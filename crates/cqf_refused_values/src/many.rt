@@ -196,12 +196,12 @@ fn passed(alloc: Global, domain: &Domain, table: &Table) -> Told {
     };
     let mut gates = StreamGates::new(alloc);
     mark(alloc);
-    let first = gates.pass(domain, row, Nanos(0), Octets(1500));
+    let first = gates.pass(domain, row, None, Nanos(0), Octets(1500));
     mark(alloc);
     match first {
         Ok(passed) => once(passed == Passed::Class(6)),
         Err(_) => {
-            let again = gates.pass(domain, row, Nanos(0), Octets(1500));
+            let again = gates.pass(domain, row, None, Nanos(0), Octets(1500));
             twice(true, again == Ok(Passed::Class(6)))
         }
     }

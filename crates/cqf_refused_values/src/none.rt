@@ -165,8 +165,9 @@ pub(crate) fn table_told(alloc: Global) -> Told {
 
 /// Whether a plan has its domain and its one list, and a row its gate.
 fn is_plan(plan: &Plan, table: &Table) -> bool {
+    let _rows = table.rows();
     let has_gate = match table.row_of(0) {
-        Some(row) => gate_of(plan.domain(), row).entries().len() == 2,
+        Some(row) => gate_of(plan.domain(), row, 0).entries().len() == 2,
         None => false,
     };
     has_gate && plan.domain().links() == 3 && plan.list(2).entries() == LIST

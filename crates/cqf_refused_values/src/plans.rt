@@ -1,6 +1,7 @@
 //! Plans that are compiled, and configurations that are written.
 ghost use Rattle.std.specs.Prelude.{◌≡◌, IfSome};
 ghost use Rattle.cqf_admission.specs.Tables.{AreAlongLinks};
+ghost use Rattle.cqf_admission_trees.specs.Turns.{AreOfGoodPaces};
 
 use crate::gates::{LIST, is_text};
 use cqf_admission::{Admission, Table};
@@ -68,7 +69,8 @@ fn sealed(admission: &mut Admission) -> Option<Table>
 
 /// The configuration is written.
 fn written(alloc: Global, plan: &Plan, table: &Table) -> Told
-    requires { AreAlongLinks plan.now table.now.rows }
+    requires along { AreAlongLinks plan.now table.now.rows }
+    requires paced { AreOfGoodPaces table.now.rows }
 {
     mark(alloc);
     let first = write_config(alloc, plan, table);
@@ -83,7 +85,10 @@ fn written(alloc: Global, plan: &Plan, table: &Table) -> Told
 /// It is, of a plan.
 fn config_of(alloc: Global, plan: &Plan) -> Told {
     match first_table(alloc, plan) {
-        Some(table) => written(alloc, plan, &table),
+        Some(table) => {
+            let _rows = table.rows();
+            written(alloc, plan, &table)
+        }
         None => Told::NotReady,
     }
 }

@@ -39,6 +39,11 @@ fn entry_line(alloc: Global, entry: &Entry) -> Result<String, Memory>
             let line = format!(in alloc; "{seat} admit {name} {reply}\n")?;
             Ok(line)
         }
+        Call::AdmitPaced(request) => {
+            let name = request.name.as_str();
+            let line = format!(in alloc; "{seat} admit {name} {reply}\n")?;
+            Ok(line)
+        }
         Call::Withdraw(name) => {
             let name = name.as_str();
             let line = format!(in alloc; "{seat} withdraw {name} {reply}\n")?;

@@ -4,6 +4,8 @@
 #[cfg(test)]
 mod calls;
 #[cfg(test)]
+mod gates;
+#[cfg(test)]
 mod longer;
 #[cfg(test)]
 mod runs;
@@ -11,3 +13,5 @@ mod runs;
 mod tables;
 #[cfg(test)]
 mod turns;
+#[cfg(test)]
+mod written_gates;

@@ -387,7 +387,7 @@ fn ends_in(asked: &Admission, entries: usize, reply: Reply) -> bool {
 /// Whether an entry stands at this place of a full history.
 fn is_of_full(place: usize, entry: &Entry) -> bool {
     match &entry.call {
-        Call::Admit(_) => false,
+        Call::Admit(_) | Call::AdmitPaced(_) => false,
         Call::Withdraw(name) => {
             let is_refused = entry.reply == Reply::Refused(Refused::NotHeld);
             is_refused && place < 100_000 && name.as_str() == "q"

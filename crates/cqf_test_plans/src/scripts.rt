@@ -88,6 +88,8 @@ fn is_call(call: &(u16, Call), wanted: &Wanted) -> bool {
         Call::Admit(request) => {
             what == "admit" && request.name.as_str() == name && request.octets == 1500
         }
+        // a script of requests without paces asks for no other
+        Call::AdmitPaced(_) => false,
         Call::Withdraw(stream) => what == "withdraw" && stream.as_str() == name,
         Call::Seal => what == "seal",
     };

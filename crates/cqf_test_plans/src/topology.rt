@@ -1,9 +1,12 @@
 //! Domains and streams read, or refused.
 use cqf_admission::Admission;
 use cqf_test_fixtures::{Asked, is_request, line, one_link, request, ring};
-use cqf_topology::{Domain, DomainFault, Link, Node, Request, StreamsFault, read_streams};
+use cqf_topology::{
+    Domain, DomainFault, Link, Node, PacedRequest, Request, StreamsFault, read_paced_streams,
+    read_planned_streams, read_streams,
+};
 use cqf_units::{Nanos, Rate};
-use std::alloc::Global;
+use std::alloc::{AllocError, Global};
 
 /// Whether a fault of a domain's text prints so.
 fn domain_prints(alloc: Global, fault: DomainFault, wanted: &str) -> bool {
@@ -356,5 +359,138 @@ const STREAMS: &[(&str, &str)] = &[
 fn streams_texts_are_refused_by_their_first_fault(rt: HostRuntime) {
     for (text, wanted) in STREAMS {
         assert!(rt; streams_answer(rt.alloc(), text, wanted), "{text}");
+    }
+}
+
+/// Whether a request is for a stream that is offered so, and for what else the text asks.
+fn is_paced(request: &PacedRequest, every: u32, phase: u32) -> bool {
+    request.name.as_str() == "x"
+        && request.octets == 64
+        && request.every == every
+        && request.phase == phase
+        && request.paths.len() == 1
+}
+
+/// The text of one stream with some keys between the others.
+fn with_keys(alloc: Global, keys: &str) -> Result<String, AllocError> {
+    format!(in alloc; "[[streams]]\nname = \"x\"\noctets = 64\n{keys}path = [\"a\", \"s\"]\n")
+}
+
+/// Whether a text's only request, and a copy of it, are for a stream that is offered so, whether or not its deadline is asked for.
+fn asks_paced(alloc: Global, text: &str, every: u32, phase: u32) -> bool {
+    let Ok(paced) = read_paced_streams(alloc, text.as_bytes()) else {
+        return false;
+    };
+    let Ok(planned) = read_planned_streams(alloc, text.as_bytes()) else {
+        return false;
+    };
+    let ([one], [other]) = (paced.as_slice(), planned.as_slice()) else {
+        return false;
+    };
+    let Ok(copy) = one.try_copy(alloc) else {
+        return false;
+    };
+    is_paced(one, every, phase)
+        && is_paced(&copy, every, phase)
+        && is_paced(&other.request, every, phase)
+}
+
+/// Keys of a stream, and in which cycles it is offered: how many these are apart, and the first of them.
+const PACES: &[(&str, u32, u32)] = &[
+    ("", 1, 0),
+    ("every = 16\nphase = 3\n", 16, 3),
+    ("phase = 3\nevery = 16\n", 16, 3),
+    ("every = 4\n", 4, 0),
+    ("phase = 2\n", 1, 2),
+    ("every = 0\nphase = 4294967295\n", 0, 4_294_967_295),
+    ("every = 4294967295\n", 4_294_967_295, 0),
+];
+
+/// Whether the keys of a stream are read so.
+fn are_read_so(alloc: Global, keys: &str, every: u32, phase: u32) -> bool {
+    match with_keys(alloc, keys) {
+        Ok(text) => asks_paced(alloc, text.as_str(), every, phase),
+        Err(_) => false,
+    }
+}
+
+#[test]
+fn streams_are_offered_in_each_cycle_or_in_those_of_a_phase(rt: HostRuntime) {
+    for (keys, every, phase) in PACES {
+        assert!(rt; are_read_so(rt.alloc(), keys, *every, *phase), "{keys}");
+    }
+}
+
+/// Whether a text is refused so by the readers of requests and of deadlines, and of requests of which nobody asks in which cycles.
+fn is_refused_so(alloc: Global, text: &str, wanted: &str, unpaced: &str) -> bool {
+    let paced = match read_paced_streams(alloc, text.as_bytes()) {
+        Ok(_requests) => wanted == "read",
+        Err(fault) => streams_print(alloc, fault, wanted),
+    };
+    let planned = match read_planned_streams(alloc, text.as_bytes()) {
+        Ok(_streams) => wanted == "read",
+        Err(fault) => streams_print(alloc, fault, wanted),
+    };
+    paced && planned && streams_answer(alloc, text, unpaced)
+}
+
+/// Texts, the answer where the cycles are asked for, and where they aren't.
+const PACED: &[(&str, &str, &str)] = &[
+    (
+        "[[streams]]\nname = 7\noctets = -1\nevery = -1\nphase = -1\npath = 7",
+        "BadValue name",
+        "BadValue name",
+    ),
+    (
+        "[[streams]]\nname = \"x\"\noctets = -1\nevery = -1\nphase = -1\npath = 7",
+        "BadValue octets",
+        "BadValue octets",
+    ),
+    (
+        "[[streams]]\nname = \"x\"\noctets = 64\nevery = -1\nphase = -1\npath = 7",
+        "BadValue every",
+        "BadValue path",
+    ),
+    (
+        "[[streams]]\nname = \"x\"\noctets = 64\nevery = 3\nphase = -1\npath = 7",
+        "BadValue phase",
+        "BadValue path",
+    ),
+    (
+        "[[streams]]\nname = \"x\"\noctets = 64\nevery = 3\nphase = 7\npath = 7",
+        "BadValue path",
+        "BadValue path",
+    ),
+    (
+        "[[streams]]\nname = \"x\"\noctets = 64\nevery = \"2\"\npath = []",
+        "BadValue every",
+        "read",
+    ),
+    (
+        "[[streams]]\nname = \"x\"\noctets = 64\nevery = 4294967296\npath = []",
+        "BadValue every",
+        "read",
+    ),
+    (
+        "[[streams]]\nname = \"x\"\noctets = 64\nphase = 0.5\npath = []",
+        "BadValue phase",
+        "read",
+    ),
+    (
+        "[[streams]]\nname = \"x\"\noctets = 64\nevery = 2\nphase = 4294967296\npath = []",
+        "BadValue phase",
+        "read",
+    ),
+    (
+        "[[streams]]\nname = \"x\"\noctets = 64\nevery = -1",
+        "Missing path",
+        "Missing path",
+    ),
+];
+
+#[test]
+fn cycles_of_streams_are_read_behind_octets(rt: HostRuntime) {
+    for (text, wanted, unpaced) in PACED {
+        assert!(rt; is_refused_so(rt.alloc(), text, wanted, unpaced), "{text}");
     }
 }

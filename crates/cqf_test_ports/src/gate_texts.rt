@@ -89,6 +89,18 @@ fn stream_is_written(alloc: Global, entries: &[StreamEntry], wanted: &[u8]) -> b
     }
 }
 
+/// An entry in which nothing passes.
+const SHUT: &[StreamEntry] = &[StreamEntry {
+    ipv: 7,
+    interval: 250_000,
+    octet_max: Some(0),
+}];
+
+#[test]
+fn an_entry_in_which_nothing_passes_is_written_as_closed(rt: HostRuntime) {
+    assert!(rt; stream_is_written(rt.alloc(), SHUT, b"closed 250000\n"));
+}
+
 #[test]
 fn the_list_of_a_reservation_is_written(rt: HostRuntime) {
     let wanted = b"open 6 125000 1500\nopen 7 125000 -\n".as_slice();

@@ -8,6 +8,8 @@ mod lanes;
 #[cfg(test)]
 mod ports;
 #[cfg(test)]
+mod spans;
+#[cfg(test)]
 mod streams;
 #[cfg(test)]
 mod text;

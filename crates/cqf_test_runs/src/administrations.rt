@@ -6,7 +6,6 @@ ghost use Rattle.cqf_model.specs.Run.{AreOffers};
 ghost use Rattle.cqf_instants_layout.specs.History.{SomeHistory};
 
 use cqf_admission::{Admission, Call, Table};
-use cqf_admission_granted::granted_streams;
 use cqf_admission_script::read_script;
 use cqf_instants_coverage::{Judgement, cover};
 use cqf_model::{Offer, Row};
@@ -45,6 +44,7 @@ impl Administration {
     fn takes(&mut self, seat: u16, call: &Call) -> bool {
         match call {
             Call::Admit(request) => self.admission.admit(seat, request).is_ok(),
+            Call::AdmitPaced(request) => self.admission.admit_paced(seat, request).is_ok(),
             Call::Withdraw(name) => self.admission.withdraw(seat, name.as_str()).is_ok(),
             Call::Seal => self.closes(seat),
         }
@@ -114,8 +114,7 @@ pub(crate) fn judged(
     if admission.next_cycle().0 < cycles {
         return Err(AllocError);
     }
-    let domain = admission.domain();
-    let rows = granted_streams(alloc, domain, admission.history())?;
-    let judgements = cover(alloc, domain, rows.as_slice(), offers)?;
+    let (_entries, rows) = admission.try_copy(alloc)?.into_parts()?;
+    let judgements = cover(alloc, admission.domain(), rows.as_slice(), offers)?;
     Ok((rows, judgements))
 }

@@ -109,8 +109,82 @@ stations = []
 streams = []
 ";
 
-/// Whether a plant that is read and told again is this text.
-fn is_told_again(alloc: Global, text: &str) -> bool {
+/// Streams that aren't offered in each cycle: with traffic and with none, in the first of their cycles and in a later one, and one whose
+/// phase is none of its cycles.
+const PACED: &str = "bridges = [\"a\"]
+cycle = 125000
+guard = 4000
+stations = [\"s\", \"t\"]
+
+[[links]]
+delay = 500
+from = \"a\"
+rate = 1000
+to = \"s\"
+
+[[links]]
+delay = 500
+from = \"a\"
+rate = 1000
+to = \"t\"
+
+[[streams]]
+deadline = 300000
+every = 16
+frames = 1
+interval = 2000000
+jitter = 0
+name = \"axis\"
+octets = 256
+offset = 0
+path = [\"a\", \"s\"]
+phase = 3
+size = 256
+
+[[streams]]
+every = 4
+name = \"valve\"
+octets = 64
+paths = [[\"a\", \"s\"], [\"a\", \"t\"]]
+phase = 0
+
+[[streams]]
+every = 1
+name = \"never\"
+octets = 64
+path = [\"a\", \"t\"]
+phase = 2
+";
+
+/// A plant whose stream is offered in each cycle, and says so.
+const EACH_CYCLE: &str = "bridges = [\"a\"]
+cycle = 125000
+guard = 4000
+stations = [\"s\"]
+links = [{ from = \"a\", to = \"s\", rate = 1000, delay = 500 }]
+streams = [{ name = \"x\", octets = 64, every = 1, phase = 0, path = [\"a\", \"s\"] }]
+";
+
+/// The same plant, told.
+const EACH_CYCLE_TOLD: &str = "bridges = [\"a\"]
+cycle = 125000
+guard = 4000
+stations = [\"s\"]
+
+[[links]]
+delay = 500
+from = \"a\"
+rate = 1000
+to = \"s\"
+
+[[streams]]
+name = \"x\"
+octets = 64
+path = [\"a\", \"s\"]
+";
+
+/// Whether a plant that is read and told again is another text.
+fn is_told_as(alloc: Global, text: &str, wanted: &str) -> bool {
     let Ok(domain) = Domain::read(alloc, text.as_bytes()) else {
         return false;
     };
@@ -118,14 +192,19 @@ fn is_told_again(alloc: Global, text: &str) -> bool {
         return false;
     };
     match write_plant(alloc, &domain, flows.as_slice()) {
-        Ok(told) => told.as_str() == text,
+        Ok(told) => told.as_str() == wanted,
         Err(_) => false,
     }
 }
 
 #[test]
 fn told_plants_are_told_again(rt: HostRuntime) {
-    for text in [PLAN, ALONE] {
-        assert!(rt; is_told_again(rt.alloc(), text), "{text}");
+    for text in [PLAN, ALONE, PACED] {
+        assert!(rt; is_told_as(rt.alloc(), text, text), "{text}");
     }
+}
+
+#[test]
+fn streams_of_each_cycle_are_told_without_their_cycles(rt: HostRuntime) {
+    assert!(rt; is_told_as(rt.alloc(), EACH_CYCLE, EACH_CYCLE_TOLD));
 }

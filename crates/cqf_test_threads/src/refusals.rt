@@ -16,7 +16,7 @@ type Ending = Result<usize, ConductFault>;
 /// Whether an entry is the withdrawal of a stream that nobody has asked for, or a Seal.
 fn is_in_vain(entry: &Entry) -> bool {
     match &entry.call {
-        Call::Admit(_) => false,
+        Call::Admit(_) | Call::AdmitPaced(_) => false,
         Call::Withdraw(_) => entry.reply == Reply::Refused(Refused::NotHeld),
         Call::Seal => entry.reply == Reply::Sealed,
     }

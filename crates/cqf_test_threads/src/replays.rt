@@ -83,6 +83,9 @@ fn closes_again(admission: &mut Admission, tables: &mut Vec<Table>, entry: &Entr
 fn is_made_again(admission: &mut Admission, tables: &mut Vec<Table>, entry: &Entry) -> bool {
     match &entry.call {
         Call::Admit(request) => is_answered(admission.admit(entry.seat, request), entry.reply),
+        Call::AdmitPaced(request) => {
+            is_answered(admission.admit_paced(entry.seat, request), entry.reply)
+        }
         Call::Withdraw(name) => is_answered(
             admission.withdraw(entry.seat, name.as_str()),
             entry.reply,

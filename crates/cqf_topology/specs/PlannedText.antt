@@ -6,14 +6,15 @@ use Rattle.cqf_topology_fields.specs.declared.keys.Key.TheVariants.{Streams, Dea
 use Rattle.cqf_topology_fields.specs.declared.faults.TomlFault.{TomlFault}
 use Rattle.cqf_topology_fields.specs.Fields.{value_at, whole_document, read_at, tables_of_key, number_from}
 use Rattle.cqf_topology.specs.declared.planned.Planned.{Planned}
-use Rattle.cqf_topology.specs.StreamsText.{RequestText, request_from, request_text, streams_keys, stream_keys}
+use Rattle.cqf_topology.specs.PacedText.{PacedText, paced_from, paced_text}
+use Rattle.cqf_topology.specs.StreamsText.{streams_keys, stream_keys}
 
 -- a request as texts and numbers, and its deadline in nanoseconds
 abbrev pub PlannedText : Type 0
-PlannedText = RequestText × Option ℕ
+PlannedText = PacedText × Option ℕ
 
 abbrev pub planned_text : Planned → PlannedText
-planned_text planned = (request_text planned.request, planned.deadline)
+planned_text planned = (paced_text planned.request, planned.deadline)
 
 -- the deadline of a stream's table, by what stands there: none where nothing does
 abbrev pub deadline_by : Option Data → Members → Result (Option ℕ) TomlFault
@@ -25,7 +26,7 @@ deadline_from table = deadline_by (value_at Deadline table) table
 
 -- a stream's table: the deadline is read behind its other keys
 abbrev pub planned_from : Members → Result PlannedText TomlFault
-planned_from table = and_then (request_from table) (λ request. and_then (deadline_from table) (λ deadline. Ok (request, deadline)))
+planned_from table = and_then (paced_from table) (λ request. and_then (deadline_from table) (λ deadline. Ok (request, deadline)))
 
 -- the streams of a text, or its first fault
 abbrev pub planned_of_text : List ℕ → Result (List PlannedText) TomlFault

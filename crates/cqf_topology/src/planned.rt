@@ -6,7 +6,8 @@ ghost use Rattle.cqf_lists.specs.Results.{and_then};
 ghost use Rattle.cqf_topology_fields.specs.Fields.{Gives, tables_of_key, tables_from};
 ghost use Rattle.cqf_topology.specs.PlannedText.{deadline_from, planned_from, planned_of_text, planned_text};
 
-use crate::streams::{KEYS, Request, STREAM_KEYS, read_request};
+use crate::paced::{PacedRequest, read_paced};
+use crate::streams::{KEYS, STREAM_KEYS};
 use crate::{Key, StreamsFault};
 use cqf_topology_fields::{are_all_tables, array_at, number_at, read_document, value_at};
 use std::alloc::Global;
@@ -15,7 +16,7 @@ use toml::{Table, Value};
 /// A request for a stream, and how long its frames may take.
 #[derive(Debug, Drop)]
 pub struct Planned {
-    pub request: Request,
+    pub request: PacedRequest,
     /// The most that a frame may take from its offer to being whole at each listener, in nanoseconds, from 1, where the text
     /// says it.
     pub deadline: Option<u32>,
@@ -45,7 +46,7 @@ pub fn deadline_of(table: &Table) -> Result<Option<u32>, StreamsFault>
 pub fn read_planned(alloc: Global, table: &Table) -> Result<Planned, StreamsFault>
     ensures { Gives StreamsFault.Memory planned_text result (planned_from (table_view table.now)) }
 {
-    let request = read_request(alloc, table)?;
+    let request = read_paced(alloc, table)?;
     let deadline = deadline_of(table)?;
     Ok(Planned { request, deadline })
 }
@@ -86,11 +87,11 @@ fn all_planned(alloc: Global, table: &Table) -> Result<Vec<Planned>, StreamsFaul
 
 /// The requests of a streams text, in its order, with their deadlines.
 ///
-/// The text is that of [`crate::read_streams`], where a table may have `deadline` too, an integer from 1 to 4,294,967,295, in
+/// The text is that of [`crate::read_paced_streams`], where a table may have `deadline` too, an integer from 1 to 4,294,967,295, in
 /// nanoseconds (profile). It is read behind the table's other keys.
 ///
 /// # Errors
-/// As of [`crate::read_streams`]; and `BadValue` of `deadline` where another value stands there.
+/// As of [`crate::read_paced_streams`]; and `BadValue` of `deadline` where another value stands there.
 pub fn read_planned_streams(alloc: Global, text: &[u8]) -> Result<Vec<Planned>, StreamsFault>
     ensures { Gives StreamsFault.Memory (λ streams. map planned_text streams.items) result (planned_of_text text.now) }
 {

@@ -37,14 +37,10 @@ impl Request {
     pub fn try_copy(&self, alloc: Global) -> Result<Request, Memory>
         ensures { IfOk result (λ copy. request_text copy ≡ request_text self.now) }
     {
-        let mut paths = Vec::with_capacity(alloc, self.paths.len())?;
-        for path in &self.paths {
-            paths.push(copied(alloc, path.as_slice())?)?;
-        }
         Ok(Request {
             name: String::from_str(alloc, self.name.as_str())?,
             octets: self.octets,
-            paths,
+            paths: copied_paths(alloc, self.paths.as_slice())?,
         })
     }
 }
@@ -56,6 +52,17 @@ fn copied(alloc: Global, texts: &[String]) -> Result<Vec<String>, Memory>
     let mut copies = Vec::with_capacity(alloc, texts.len())?;
     for text in texts {
         copies.push(String::from_str(alloc, text.as_str())?)?;
+    }
+    Ok(copies)
+}
+
+/// The same branches again, unless memory runs out.
+pub(crate) fn copied_paths(alloc: Global, paths: &[Vec<String>]) -> Result<Vec<Vec<String>>, Memory>
+    ensures { IfOk result (λ copies. map (λ path. map string_bytes path.items) copies.items ≡ map (λ path. map string_bytes path.items) paths.now) }
+{
+    let mut copies = Vec::with_capacity(alloc, paths.len())?;
+    for path in paths {
+        copies.push(copied(alloc, path.as_slice())?)?;
     }
     Ok(copies)
 }

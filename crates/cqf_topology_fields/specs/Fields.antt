@@ -10,7 +10,7 @@ use Rattle.cqf_units.specs.Name.{is_name}
 use Rattle.cqf_topology_fields.specs.declared.keys.Key.{Key}
 use Rattle.cqf_topology_fields.specs.declared.keys.Key.TheVariants.{Cycle, Guard, Bridges, Stations, Links, From, To}
 use Rattle.cqf_topology_fields.specs.declared.keys.Key.TheVariants.{Rate, Delay, Streams, Name, Octets, Path, Paths}
-use Rattle.cqf_topology_fields.specs.declared.keys.Key.TheVariants.{Deadline}
+use Rattle.cqf_topology_fields.specs.declared.keys.Key.TheVariants.{Deadline, Every, Phase}
 use Rattle.cqf_topology_fields.specs.declared.faults.TomlFault.{TomlFault}
 use Rattle.cqf_topology_fields.specs.declared.faults.TomlFault.TheVariants.{NotToml, Missing, BadValue}
 
@@ -36,6 +36,8 @@ key_text Octets = codes "octets"
 key_text Path = codes "path"
 key_text Paths = codes "paths"
 key_text Deadline = codes "deadline"
+key_text Every = codes "every"
+key_text Phase = codes "phase"
 
 -- what stands at a key of a table
 abbrev pub value_at : Key → Members → Option Data
@@ -111,6 +113,14 @@ within_range least most (negsuc n) = None
 
 abbrev pub number_from : ℕ → ℕ → Data → Option ℕ
 number_from least most d = option_and_then (within_range least most) (as_integer d)
+
+-- the number of up to 32 bits at a key, by what stands there: another one where nothing does
+abbrev pub number_or_by : Option Data → Key → ℕ → Members → Result ℕ TomlFault
+number_or_by None key default table = Ok default
+number_or_by (Some d) key default table = read_at key (number_from 0 4294967295) table
+
+abbrev pub number_or : Key → ℕ → Members → Result ℕ TomlFault
+number_or key default table = number_or_by (value_at key table) key default table
 
 -- a text of the form of a name
 abbrev pub if_name : List ℕ → Option (List ℕ)

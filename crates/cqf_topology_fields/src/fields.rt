@@ -3,7 +3,7 @@ ghost use Rattle.std.specs.Prelude.{◌≡◌, option_map, ok_or};
 ghost use Rattle.std.specs.Result.{result_map_both};
 ghost use Rattle.toml.specs.View.{view, table_view, items_view};
 ghost use Rattle.toml.specs.Data.{as_array};
-ghost use Rattle.cqf_topology_fields.specs.Fields.{Gives, value_at, names_at, names_from, read_at, number_from, name_from, are_tables};
+ghost use Rattle.cqf_topology_fields.specs.Fields.{Gives, value_at, names_at, names_from, number_or, read_at, number_from, name_from, are_tables};
 
 use crate::{Key, TomlFault};
 use cqf_units::Name;
@@ -43,6 +43,19 @@ pub fn number_at(table: &Table, key: Key, least: u32, most: u32) -> Result<u32, 
         Some(number) => Ok(number),
         None => Err(TomlFault::BadValue(key)),
     }
+}
+
+/// The number at a key, which is an integer from 0 to 4,294,967,295, or another where the table lacks the key.
+///
+/// # Errors
+/// `BadValue` of the key, where another value stands there.
+pub fn number_or(table: &Table, key: Key, default: u32) -> Result<u32, TomlFault>
+    ensures { result ≡ number_or key default (table_view table.now) }
+{
+    if value_at(table, key).is_none() {
+        return Ok(default);
+    }
+    number_at(table, key, 0, u32::MAX)
 }
 
 /// The text of a value.

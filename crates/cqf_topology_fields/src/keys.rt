@@ -22,6 +22,8 @@ pub enum Key {
     Path,
     Paths,
     Deadline,
+    Every,
+    Phase,
 }
 
 impl Key {
@@ -45,6 +47,8 @@ impl Key {
             Key::Path => "path",
             Key::Paths => "paths",
             Key::Deadline => "deadline",
+            Key::Every => "every",
+            Key::Phase => "phase",
         }
     }
 

@@ -13,7 +13,7 @@ use Rattle.cqf_lists.proofs.Places.{slice_get_behind}
 use Rattle.cqf_model.specs.History.{Act, is_seal}
 use Rattle.cqf_model.specs.Calls.{acts_of}
 use Rattle.cqf_admission.specs.declared.entries.Command.{Command}
-use Rattle.cqf_admission.specs.declared.entries.Command.TheVariants.{Admit, Withdraw}
+use Rattle.cqf_admission.specs.declared.entries.Command.TheVariants.{Admit, AdmitPaced, Withdraw}
 use Rattle.cqf_admission.specs.Commands.{act_of_command}
 use Rattle.cqf_desk.specs.Desk.{Sitting, fresh_seats}
 use Rattle.cqf_laws_account.specs.Seated.{AreSeated, AsksForNoSeal}
@@ -105,6 +105,7 @@ zipped_at R (z ∷ xs) (y ∷ ys) (suc k) x all there = zipped_at R xs ys k x al
 -- no command calls for a Seal
 never_seal : (c : Command) → is_seal (act_of_command c) ≡ false
 never_seal (Admit request) = refl
+never_seal (AdmitPaced request) = refl
 never_seal (Withdraw name) = refl
 
 -- so no administrator asks for one

@@ -14,7 +14,7 @@ use Rattle.cqf_laws_history.specs.StateLaws.{SealsAreCounted}
 use Rattle.cqf_laws_history.specs.TableLaws.{ClosedTablesStay}
 use Rattle.cqf_laws_cycle.specs.BridgeCycle.{IsCompiledNetwork}
 use Rattle.cqf_admission.specs.declared.entries.Command.{Command}
-use Rattle.cqf_admission.specs.declared.entries.Command.TheVariants.{Admit, Withdraw}
+use Rattle.cqf_admission.specs.declared.entries.Command.TheVariants.{Admit, AdmitPaced, Withdraw}
 use Rattle.cqf_admission.specs.Admission.{Administration, Answers, is_entered, reply_of}
 use Rattle.cqf_admission.specs.Tables.{CycleTable}
 use Rattle.cqf_world.specs.declared.parts.Line.{Line}
@@ -27,6 +27,7 @@ use Rattle.cqf_world.proofs.Keeping.{given_entries}
 -- no command closes a cycle
 pub no_seal : (command : Command) → is_seal (act_of_command command) ≡ false
 no_seal (Admit request) = refl
+no_seal (AdmitPaced request) = refl
 no_seal (Withdraw name) = refl
 
 module _ (v : WorldState) (tables : List CycleTable) (driven : List Driven) (lines : List Line) (entries : List Recorded)

@@ -1,31 +1,15 @@
-use Rattle.std.proofs.Common.{◌≡◌, ◌∙◌, ap, sym, true, refl}
-use Rattle.std.proofs.lemmas.Result.{err_from_is_err_and}
-use Rattle.cqf_units.specs.Name.{is_name}
-use Rattle.cqf_model.specs.History.{tree_of}
-use Rattle.cqf_admission.specs.Asking.{asked_of}
-use Rattle.cqf_admission_trees.specs.Branches.{branches_of, tree_refusal}
-use Rattle.cqf_admission.proofs.GrantLemmas.{form_by_tree}
+use Rattle.std.proofs.Common.{◌≡◌, ◌<◌, ◌^◌, subst, sym}
+use Rattle.cqf_model.specs.History.{Asked}
+use Rattle.cqf_admission.specs.Asking.{asked_of, asked_with}
+use Rattle.cqf_admission.specs.Judging.{Judges}
+use Rattle.cqf_admission_trees.specs.Branches.{branches_of, places_of}
 use Rattle.cqf_admission.proofs.judged.judge.Goals as goal
 
-pub returns-in_err-tree : goal.returns-in_err-tree
-returns-in_err-tree c =
-    let d = c.args.domain.now in
-    let asked = asked_of c.args.request.now in
-    let form : is_name asked.name ≡ true = ap is_name (sym c.as_bytes.ensures.value) ∙ c.in-Some.ensures.form.0 refl in
-    let p = err_from_is_err_and c.from_residual.result c.from_residual.ensures.1 in
-    rw (p.1, p.2) (form_by_tree d asked form refl c.if-request-lt-LEAST_OCTETS.false c.if-request-gt-MOST_OCTETS.false
-    ∙ ap (λ xs. tree_refusal d (branches_of xs)) (sym c.as_slice.ensures.value) ∙ c.in_err-tree.ensures)
+pub judge_parts-requires : goal.judge_parts-requires
+judge_parts-requires c = subst (λ paths. places_of (branches_of paths) < 2 ^ 64) (sym c.as_slice-paths.ensures.value) c.requires
 
 pub returns : goal.returns
 returns c =
-    let d = c.args.domain.now in
-    let asked = asked_of c.args.request.now in
-    let form : is_name asked.name ≡ true = ap is_name (sym c.as_bytes.ensures.value) ∙ c.in-Some.ensures.form.0 refl in
-    record {
-      none = form_by_tree d asked form refl c.if-request-lt-LEAST_OCTETS.false c.if-request-gt-MOST_OCTETS.false
-          ∙ ap (λ xs. tree_refusal d (branches_of xs)) (sym c.as_slice.ensures.value) ∙ c.in_ok-tree.ensures.0;
-      named = c.in-Some.ensures.value ∙ c.as_bytes.ensures.value;
-      costs = c.cost.ensures;
-      linked = c.in_ok-tree.ensures.1 ∙ ap (λ xs. tree_of d (branches_of xs)) c.as_slice.ensures.value;
-      most_octets = c.if-request-gt-MOST_OCTETS.false;
-    }
+    let same : asked_with c.as_str-name.result.now c.args.request.now.octets 1 0 (branches_of c.as_slice-paths.result.now) ≡ asked_of c.args.request.now =
+    λ i. asked_with (c.as_str-name.ensures.value i) c.args.request.now.octets 1 0 (branches_of (c.as_slice-paths.ensures.value i)) in
+    subst (λ (asked : Asked). Judges c.args.domain.now asked c.judge_parts.result) same c.judge_parts.ensures

@@ -1,6 +1,6 @@
 -- An order's name is the end of its line.
 use Rattle.std.proofs.Common.{◌≡◌, arith, Result, Some, false, map, refl, subst, sym}
-use Rattle.cqf_admission.specs.Asking.{asked_of}
+use Rattle.cqf_admission.specs.Asking.{asked_paced}
 use Rattle.cqf_topology_fields.specs.Fields.{Gives}
 use Rattle.cqf_admission_requests.specs.Orders.{ordered_in}
 use Rattle.cqf_admission_script.specs.declared.faults.ScriptFault.{ScriptFault}
@@ -25,7 +25,7 @@ pub returns-in-Some-clause-value : goal.returns-in-Some-clause-value
 returns-in-Some-clause-value c = λ text at.
     let ends = name_ends c.args.line.now (written c.in-Some.order) (sym c.in-Some.ensures.value) in
     let placed = name_at text c.args.end c.args.line.now c.in-Some.order.name.now at ends in
-    let requests = map asked_of c.args.names.now in
+    let requests = map asked_paced c.args.names.now in
     let order = written c.in-Some.order in
     let place = c.args.place in
     let off : is_seal_line c.args.line.now ≡ false = sym c.if-is_seal_line.ensures in

@@ -1,6 +1,6 @@
 -- An order calls for what its name finds.
 use Rattle.std.proofs.Common.{◌∙◌, Ok, sym, ap, map}
-use Rattle.cqf_admission.specs.Asking.{asked_of}
+use Rattle.cqf_admission.specs.Asking.{asked_paced}
 use Rattle.cqf_model.specs.History.{Admits, Withdraws}
 use Rattle.cqf_admission_requests.specs.Orders.{act_in, request_at}
 use Rattle.cqf_admission_script.specs.Script.{act_for}
@@ -16,7 +16,7 @@ returns-in_default-clause-value c =
 
 pub returns-then-many-clause-value : goal.returns-then-many-clause-value
 returns-then-many-clause-value c = λ text ends other.
-    let requests = map asked_of c.args.names.now in
+    let requests = map asked_paced c.args.names.now in
     let order = written c.args.order.now in
     elim c.match-order.branch [
       | in-Admit+in-Some w ↦
@@ -31,7 +31,7 @@ returns-then-many-clause-value c = λ text ends other.
 
 pub returns-clause-value : goal.returns-clause-value
 returns-clause-value c = λ text ends.
-    let requests = map asked_of c.args.names.now in
+    let requests = map asked_paced c.args.names.now in
     let order = written c.args.order.now in
     elim c.match-order.branch [
       | in-Admit+in-Some w ↦

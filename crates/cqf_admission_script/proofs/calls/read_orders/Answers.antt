@@ -4,7 +4,7 @@ use Rattle.std.proofs.lemmas.Grind.{common_steps}
 use Rattle.std.proofs.lemmas.List.{map-append}
 use Rattle.std.specs.List.{after_first, before_first}
 use Rattle.cqf_text.specs.Lines.{is_line_feed, lines_of}
-use Rattle.cqf_admission.specs.Asking.{asked_of}
+use Rattle.cqf_admission.specs.Asking.{asked_paced}
 use Rattle.cqf_admission_requests.specs.Orders.{ordered_in}
 use Rattle.cqf_admission_script.specs.Placed.{LineEnds}
 use Rattle.cqf_admission_script.specs.Script.{call_of_line, script_of}
@@ -14,7 +14,7 @@ use Rattle.cqf_admission_script.proofs.calls.read_orders.Goals as goal
 
 pub returns-in-Err-clause-orders : goal.returns-in-Err-clause-orders
 returns-in-Err-clause-orders c = λ other.
-    let requests = map asked_of c.args.names.now in
+    let requests = map asked_paced c.args.names.now in
     let text = c.args.text.now in
     let place = c.loop-line.place in
     let line = c.in-Some.line.now in
@@ -33,7 +33,7 @@ returns-in-Err-clause-orders c = λ other.
 
 pub loop-line-preserved : goal.loop-line-preserved
 loop-line-preserved c =
-    let requests = map asked_of c.args.names.now in
+    let requests = map asked_paced c.args.names.now in
     let text = c.args.text.now in
     let show = ordered_in requests text in
     let place = c.loop-line.place in
@@ -63,7 +63,7 @@ loop-line-preserved c =
 -- and they are few
 pub returns-clause-few : goal.returns-clause-few
 returns-clause-few c =
-    let requests = map asked_of c.args.names.now in
+    let requests = map asked_paced c.args.names.now in
     let show = ordered_in requests c.args.text.now in
     let read : script_of requests c.args.cycles c.args.text.now ≡ Ok (map show c.loop-line.orders.items) = grind (arith, common_steps) in
     AreFew-script requests c.args.cycles c.args.text.now (map show c.loop-line.orders.items) read

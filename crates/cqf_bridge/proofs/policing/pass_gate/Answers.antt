@@ -1,40 +1,41 @@
-use Rattle.std.proofs.Common.{◌∙◌, ◌+◌, None, Some, ap, arith, sym}
+use Rattle.std.proofs.Common.{◌∙◌, None, Option, Some, ap, arith, sym, ℕ}
 use Rattle.std.proofs.lemmas.Bool.{cond-false, cond-true}
 use Rattle.cqf_model.specs.StreamGate.{gate_class}
 use Rattle.cqf_model.specs.Traffic.{came_by}
-use Rattle.cqf_gates.specs.StreamGate.{Gate, lets_pass}
-use Rattle.cqf_bridge_gates.specs.Gates.{gate_in}
+use Rattle.cqf_gates.specs.StreamGate.{Gate, lets_pass, verdict_on}
+use Rattle.cqf_bridge_gates.specs.Gates.{gate_in, kept_after, with_gate}
 use Rattle.cqf_bridge.specs.Taking.{class_in, passes_by, received_as}
-use Rattle.cqf_bridge.proofs.Verdicts.{gate_entries, gate_last, gate_there, went_by_gate, word_class, word_over}
+use Rattle.cqf_bridge.proofs.Verdicts.{went_by_gate, word_class, word_over}
 use Rattle.cqf_bridge.proofs.policing.pass_gate.Goals as goal
-
-pub pass-requires : goal.pass-requires
-pass-requires c =
-    let x = received_as c.args.frame.now in
-    omega (
-      arith,
-      gate_last c.args.domain.now.cycle_time (x.at + 1) c.args.gates.now c.args.row.now.no c.args.row.now.octets (omega arith) c.requires.kept,
-    )
 
 pub returns-in-Class-clause-passes : goal.returns-in-Class-clause-passes
 returns-in-Class-clause-passes c =
     let d = c.args.domain.now in
     let x = received_as c.args.frame.now in
     let row = c.args.row.now in
-    let gate : Gate = gate_in d.cycle_time c.args.gates.now row.no row.octets in
-    let w = word_class (lets_pass gate x.at x.octets) c.in-Class.class (gate_class gate.entries x.at) (sym c.in-Class.is ∙ c.in_ok-class.ensures.verdict) in
-    let entries = ap (λ es. gate_class es x.at) (gate_entries d.cycle_time (x.at + 1) c.args.gates.now row.no row.octets c.requires.kept ∙ gate_there d row (came_by x.way) c.requires.paced) in
-    went_by_gate d c.args.cycle.0 x row c.args.gates.now c.pass.new.self (omega (arith, c.know.ensures.accepted.cycle_least))
-    c.requires.kept c.requires.in_cycle c.in_ok-class.ensures.after c.gate_counts_cycles.ensures (Some c.in-Class.class)
-    (ap Some (w.1 ∙ entries) ∙ sym (cond-true (passes_by d.cycle_time c.args.gates.now x row) (Some (class_in d x row)) None w.0))
+    let gates = c.args.gates.now in
+    let met : Option ℕ → Gate = λ way. gate_in d gates row way in
+    let said = sym c.in-Class.is ∙ c.in_ok-class.ensures.verdict
+    ∙ ap (λ (way : Option ℕ). verdict_on (met way) x.at x.octets) c.link-way.ensures in
+    let gate = met (came_by x.way) in
+    let w = word_class (lets_pass gate x.at x.octets) c.in-Class.class (gate_class gate.entries x.at) said in
+    went_by_gate d c.args.cycle.0 x row gates c.pass.new.self (omega (arith, c.know.ensures.accepted.cycle_least)) c.requires.in_cycle
+    (c.in_ok-class.ensures.after ∙ ap (λ (way : Option ℕ). with_gate gates (kept_after d.cycle_time row.no (met way) x.at x.octets)) c.link-way.ensures)
+    c.gate_counts_cycles.ensures (Some c.in-Class.class)
+    (ap Some w.1 ∙ sym (cond-true (passes_by d gates x row) (Some (class_in d x row)) None w.0))
 
 pub returns-in-OverOctets-clause-passes : goal.returns-in-OverOctets-clause-passes
 returns-in-OverOctets-clause-passes c =
     let d = c.args.domain.now in
     let x = received_as c.args.frame.now in
     let row = c.args.row.now in
-    let gate : Gate = gate_in d.cycle_time c.args.gates.now row.no row.octets in
-    let stops = word_over (lets_pass gate x.at x.octets) (gate_class gate.entries x.at) (sym c.in-OverOctets.is ∙ c.in_ok-class.ensures.verdict) in
-    went_by_gate d c.args.cycle.0 x row c.args.gates.now c.pass.new.self (omega (arith, c.know.ensures.accepted.cycle_least))
-    c.requires.kept c.requires.in_cycle c.in_ok-class.ensures.after c.gate_counts_cycles.ensures None
-    (sym (cond-false (passes_by d.cycle_time c.args.gates.now x row) (Some (class_in d x row)) None stops))
+    let gates = c.args.gates.now in
+    let met : Option ℕ → Gate = λ way. gate_in d gates row way in
+    let said = sym c.in-OverOctets.is ∙ c.in_ok-class.ensures.verdict
+    ∙ ap (λ (way : Option ℕ). verdict_on (met way) x.at x.octets) c.link-way.ensures in
+    let gate = met (came_by x.way) in
+    let stops = word_over (lets_pass gate x.at x.octets) (gate_class gate.entries x.at) said in
+    went_by_gate d c.args.cycle.0 x row gates c.pass.new.self (omega (arith, c.know.ensures.accepted.cycle_least)) c.requires.in_cycle
+    (c.in_ok-class.ensures.after ∙ ap (λ (way : Option ℕ). with_gate gates (kept_after d.cycle_time row.no (met way) x.at x.octets)) c.link-way.ensures)
+    c.gate_counts_cycles.ensures None
+    (sym (cond-false (passes_by d gates x row) (Some (class_in d x row)) None stops))

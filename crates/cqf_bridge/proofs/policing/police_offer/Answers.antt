@@ -1,20 +1,11 @@
 use Rattle.std.proofs.Common.{◌∙◌, Bool, None, Some, ap, not, refl, sym}
 use Rattle.std.specs.Prelude.{if◌then◌else◌, option_copied}
-use Rattle.cqf_lists.proofs.Members.{find_member}
 use Rattle.cqf_model.specs.declared.frames.Reason.TheVariants.{Octets, Unknown}
-use Rattle.cqf_model.specs.Domain.{is_text}
 use Rattle.cqf_model.specs.Traffic.{DroppedFor, Queued, is_queued_of}
 use Rattle.cqf_bridge.specs.declared.policing.Outcome.TheVariants.{Dropped, GoesOn}
 use Rattle.cqf_bridge.specs.Taking.{PassesGate, class_in, passes_by, received_as, verdict_if, verdict_unless}
 use Rattle.cqf_bridge.proofs.Verdicts.{class_given, none_given, polices_none, polices_row, verdict_at_edge}
 use Rattle.cqf_bridge.proofs.policing.police_offer.Goals as goal
-
-pub pass_gate-requires-clause-paced : goal.pass_gate-requires-clause-paced
-pass_gate-requires-clause-paced c =
-    let rows = c.args.phase.table.now.rows in
-    let row = c.in-Some.row.now in
-    let found = ap option_copied (sym c.in-Some.is) ∙ c.row_named.ensures.found in
-    c.rows-order.ensures.paced row (find_member (λ r. is_text r.name c.args.name.now) rows row (sym found)).0
 
 pub returns-in_default-clause-polices : goal.returns-in_default-clause-polices
 returns-in_default-clause-polices c =
@@ -23,19 +14,19 @@ returns-in_default-clause-polices c =
     c.args.name.now None c.requires.way (ap option_copied (sym c.in_default.is) ∙ c.row_named.ensures.found) in
     polices_none c.args.phase.domain.now c.args.phase.table.now.rows c.args.phase.number c.args.phase.cycle.0 (received_as c.args.frame.now)
     c.args.gates.now _ (Dropped Unknown)
-    (sym v) tt (λ number. refl) c.requires.kept refl
+    (sym v) tt (λ number. refl) refl
 
 pub returns-in-Some-refused-clause-polices : goal.returns-in-Some-refused-clause-polices
 returns-in-Some-refused-clause-polices c =
     let d = c.args.phase.domain.now in
     let x = received_as c.args.frame.now in
     let row = c.in-Some.row.now in
-    let passes = passes_by d.cycle_time c.args.gates.now x in
+    let passes = passes_by d c.args.gates.now x in
     let v = verdict_at_edge d c.args.phase.table.now.rows c.args.phase.number c.args.phase.cycle.0 c.args.gates.now x c.args.name.now (Some row) c.requires.way
     (ap option_copied (sym c.in-Some.is) ∙ c.row_named.ensures.found)
     ∙ c.refused.ensures passes ∙ ap (λ o. verdict_unless o (passes row) row) c.in-Some-refused.is in
     polices_none d c.args.phase.table.now.rows c.args.phase.number c.args.phase.cycle.0 x c.args.gates.now _ (Dropped c.in-Some-refused.reason)
-    (sym v) tt (λ number. refl) c.requires.kept refl
+    (sym v) tt (λ number. refl) refl
 
 pub returns-in-Some-2-clause-polices : goal.returns-in-Some-2-clause-polices
 returns-in-Some-2-clause-polices c =
@@ -43,7 +34,7 @@ returns-in-Some-2-clause-polices c =
     let rows = c.args.phase.table.now.rows in
     let x = received_as c.args.frame.now in
     let row = c.in-Some.row.now in
-    let passes = passes_by d.cycle_time c.args.gates.now x in
+    let passes = passes_by d c.args.gates.now x in
     let found = ap option_copied (sym c.in-Some.is) ∙ c.row_named.ensures.found in
     let p : PassesGate d c.args.phase.cycle.0 x row c.args.gates.now c.pass_gate.new.gates (Some c.in-Some-2.class) =
     rw c.in-Some-2.is at c.in_ok-class.ensures.passes in
@@ -51,8 +42,7 @@ returns-in-Some-2-clause-polices c =
     let v = verdict_at_edge d rows c.args.phase.number c.args.phase.cycle.0 c.args.gates.now x c.args.name.now (Some row) c.requires.way found
     ∙ c.refused.ensures passes ∙ ap (λ o. verdict_unless o (passes row) row) c.in_default-refused.is
     ∙ ap (λ (b : Bool). if not b then DroppedFor Octets else Queued row) w.0 in
-    polices_row d rows c.args.phase.number c.args.phase.cycle.0 x c.args.gates.now _ row c.rows-order.ensures.order
-    (find_member (λ r. is_text r.name c.args.name.now) rows row (sym found)).0 (Some c.in-Some-2.class) p (GoesOn c.in-Some.row c.in-Some-2.class) (sym v) w.1
+    polices_row d rows c.args.phase.number c.args.phase.cycle.0 x c.args.gates.now _ row (Some c.in-Some-2.class) p (GoesOn c.in-Some.row c.in-Some-2.class) (sym v) w.1
     (λ number. ap (λ (b : Bool). is_queued_of number (verdict_if b row)) w.0)
 
 pub returns-in-None-clause-polices : goal.returns-in-None-clause-polices
@@ -61,13 +51,12 @@ returns-in-None-clause-polices c =
     let rows = c.args.phase.table.now.rows in
     let x = received_as c.args.frame.now in
     let row = c.in-Some.row.now in
-    let passes = passes_by d.cycle_time c.args.gates.now x in
+    let passes = passes_by d c.args.gates.now x in
     let found = ap option_copied (sym c.in-Some.is) ∙ c.row_named.ensures.found in
     let p : PassesGate d c.args.phase.cycle.0 x row c.args.gates.now c.pass_gate.new.gates None = rw c.in-None.is at c.in_ok-class.ensures.passes in
     let over = none_given (passes row) (class_in d x row) p.decided in
     let v = verdict_at_edge d rows c.args.phase.number c.args.phase.cycle.0 c.args.gates.now x c.args.name.now (Some row) c.requires.way found
     ∙ c.refused.ensures passes ∙ ap (λ o. verdict_unless o (passes row) row) c.in_default-refused.is
     ∙ ap (λ (b : Bool). if not b then DroppedFor Octets else Queued row) over in
-    polices_row d rows c.args.phase.number c.args.phase.cycle.0 x c.args.gates.now _ row c.rows-order.ensures.order
-    (find_member (λ r. is_text r.name c.args.name.now) rows row (sym found)).0 None p (Dropped Octets) (sym v) tt
+    polices_row d rows c.args.phase.number c.args.phase.cycle.0 x c.args.gates.now _ row None p (Dropped Octets) (sym v) tt
     (λ number. ap (λ (b : Bool). is_queued_of number (verdict_if b row)) over)

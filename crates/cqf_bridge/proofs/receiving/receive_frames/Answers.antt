@@ -44,10 +44,10 @@ returns-clause-takes c =
     let frames = map received_as c.as_slice.result.now in
     let order = subst (λ (xs : List Incoming). IsInOrderOf (λ (x : Received). x.at) (gathered_by d c.args.batches.now c.args.offers.now) (map received_as xs))
     (sym c.as_slice.ensures.value) c.in_ok-frames.ensures in
-    let policed : HasPoliced d rows c.args.phase.number c.args.phase.cycle.0 c.args.ports.now.items []
+    let policed : HasPoliced d c.args.phase.number c.args.phase.cycle.0 c.args.ports.now.items []
     (policed_by d rows c.args.phase.number c.args.phase.cycle.0 frames)
     c.take_all.new.gates c.take_all.new.ports.items c.take_all.new.drops.items =
-    subst (λ (ds : List Dropped). HasPoliced d rows c.args.phase.number c.args.phase.cycle.0 c.args.ports.now.items ds
+    subst (λ (ds : List Dropped). HasPoliced d c.args.phase.number c.args.phase.cycle.0 c.args.ports.now.items ds
     (policed_by d rows c.args.phase.number c.args.phase.cycle.0 frames)
     c.take_all.new.gates c.take_all.new.ports.items c.take_all.new.drops.items) c.new-drops.ensures.items c.in-Ok.ensures.takes in
     let up = IsNonDecreasingBy-from_sort_by_key frame_of_drop _ c.in_ok-sort_by_key.ensures.sorted (λ a r q k. search rules) in

@@ -12,8 +12,8 @@ in_order-requires c =
     may_gather p.0 p.1 c.args.table.now.cycle p.2 c.args.driven.now p.3 p.5 c.requires.early c.domain-domain.result.now c.as_slice.result.now
     c.domain-domain.ensures.value c.as_slice.ensures.value
 
-pub lost_among-requires-clause-in_cycle : goal.lost_among-requires-clause-in_cycle
-lost_among-requires-clause-in_cycle c =
+pub lost_among-requires : goal.lost_among-requires
+lost_among-requires c =
     let p = c.requires.part in
     let offered = c.offers-offers.ensures ∙ ap (offers_listed_at c.args.driven.now.agenda) c.cycle.ensures in
     let order = subst (λ (xs : List Received). IsInOrderOf (λ (x : Received). x.at)

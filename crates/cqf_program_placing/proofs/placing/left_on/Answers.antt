@@ -1,11 +1,10 @@
-use Rattle.std.proofs.Common.{ℕ, ◌≡◌, ◌∙◌, subst, sym}
+use Rattle.std.proofs.Common.{◌≡◌, ◌∙◌, ◌-◌, subst, sym}
 use Rattle.std.specs.Option.{option_map_or}
 use Rattle.cqf_units.specs.Timing.{budget_of, nanos_of_octet}
 use Rattle.cqf_model.specs.declared.topology.Link.{Link}
 use Rattle.cqf_model.specs.Domain.{Domain, budget}
 use Rattle.cqf_model.specs.History.{held_in, seals}
-use Rattle.cqf_model.specs.Table.{link_cost}
-use Rattle.cqf_program_placing.proofs.RouteLemmas.{left_of_each}
+use Rattle.cqf_admission.specs.Costs.{most_cost}
 use Rattle.cqf_program_placing.proofs.placing.left_on.Goals as goal
 
 pub returns : goal.returns
@@ -17,6 +16,6 @@ returns c =
     c.budget-most.ensures
     ∙ (λ i. budget_of (c.cycle_time.ensures.value i) (c.guard.ensures i)
     (option_map_or (λ (link : Link). nanos_of_octet link.rate) (sym c.link-rate.ensures i) 0)) in
-    let each = subst (λ (there : Domain). (cycle : ℕ) → held ≡ link_cost (held_in there entries (seals entries)) c.args.link cycle) c.requires.domain
-    c.held_on-held.ensures.held in
-    left_of_each d (held_in d entries (seals entries)) c.args.link c.budget-most.result.0 held most each
+    let greatest : held ≡ most_cost (held_in d entries (seals entries)) c.args.link =
+    subst (λ (there : Domain). held ≡ most_cost (held_in there entries (seals entries)) c.args.link) c.requires.domain c.held_on-held.ensures.held in
+    (λ i. most i - greatest i)

@@ -1,6 +1,6 @@
 use Rattle.std.proofs.Common.{◌∙◌, ◌+◌, ◌<◌, ◌∷◌, [], List, ap, arith, length, map, refl, subst, sym}
 use Rattle.std.proofs.lemmas.List.{length-map}
-use Rattle.cqf_admission.specs.Asking.{asked_of}
+use Rattle.cqf_admission.specs.Asking.{asked_paced}
 use Rattle.cqf_admission.specs.Forms.{IsRowOfGoodForm}
 use Rattle.cqf_admission.specs.Ledger.{Kept}
 use Rattle.cqf_model.specs.Domain.{Domain}
@@ -15,12 +15,12 @@ use Rattle.cqf_program_plans.proofs.compile_command.admit_all.Goals as goal
 pub loop-place-preserved : goal.loop-place-preserved
 loop-place-preserved c =
     let d = c.args.domain.now in
-    let requests : List Asked = map asked_of c.args.requests.now in
+    let requests : List Asked = map asked_paced c.args.requests.now in
     let so_far = c.loop-place.invariant in
     let place = c.loop-place.place in
     let old = c.loop-place.ledger in
     let learnt = c.learn.new.ledger in
-    let inside : place < length requests = omega (arith, c.loop-place-test.true, length-map c.args.requests.now asked_of) in
+    let inside : place < length requests = omega (arith, c.loop-place-test.true, length-map c.args.requests.now asked_paced) in
     let asked = asked_at c.args.requests.now place c.index-requests-place.result c.loop-place-test.true c.index-requests-place.is in
     let good : IsRowOfGoodForm d (request_at requests place) c.in-Ok.row =
     subst (λ (one : Asked). IsRowOfGoodForm d one c.in-Ok.row) asked c.in-Ok.ensures.ok in (
@@ -36,11 +36,11 @@ loop-place-preserved c =
 pub returns-in-Err-clause-err : goal.returns-in-Err-clause-err
 returns-in-Err-clause-err c =
     let d = c.args.domain.now in
-    let requests : List Asked = map asked_of c.args.requests.now in
+    let requests : List Asked = map asked_paced c.args.requests.now in
     let so_far = c.loop-place.invariant in
     let place = c.loop-place.place in
     let old = c.loop-place.ledger in
-    let inside : place < length requests = omega (arith, c.loop-place-test.true, length-map c.args.requests.now asked_of) in
+    let inside : place < length requests = omega (arith, c.loop-place-test.true, length-map c.args.requests.now asked_paced) in
     let asked = asked_at c.args.requests.now place c.index-requests-place.result c.loop-place-test.true c.index-requests-place.is
     ∙ ap (λ (rs : List Asked). request_at rs place) (sym so_far.0) in
     refused_whole (λ found. IsRefused found c.in-Err.stop) d requests old old place (admitted_from d [] 1 requests) refl so_far.0
@@ -54,9 +54,9 @@ returns-in-Err-clause-err c =
 pub returns-in-Err-admit_one-clause-err : goal.returns-in-Err-admit_one-clause-err
 returns-in-Err-admit_one-clause-err c =
     let d = c.args.domain.now in
-    let requests : List Asked = map asked_of c.args.requests.now in
+    let requests : List Asked = map asked_paced c.args.requests.now in
     let so_far = c.loop-place.invariant in
     let place = c.loop-place.place in
-    let inside : place < length requests = omega (arith, c.loop-place-test.true, length-map c.args.requests.now asked_of) in
+    let inside : place < length requests = omega (arith, c.loop-place-test.true, length-map c.args.requests.now asked_paced) in
     refused_whole (λ found. IsRefused found c.in-Err-admit_one.stop) d requests c.loop-place.ledger c.learn.new.ledger place (admitted_from d [] 1 requests)
     c.learn.ensures.same so_far.0 so_far.1.domain inside so_far.2 c.in-Err-admit_one.ensures.err

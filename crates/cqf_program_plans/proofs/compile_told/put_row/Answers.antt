@@ -1,8 +1,9 @@
 -- One more bridge is put.
-use Rattle.std.proofs.Common.{◌+◌, ◌++◌, List, ℕ, get_or, take}
+use Rattle.std.proofs.Common.{◌+◌, ◌++◌, ◌∷◌, [], List, ℕ, get_or, take}
 use Rattle.std.specs.List.{flat_map}
 use Rattle.cqf_compile.proofs.Pieces.{flat_map_taken}
 use Rattle.cqf_compile.specs.ConfigText.{text_at}
+use Rattle.cqf_gates.specs.StreamText.{text_of_stream_entries}
 use Rattle.cqf_program_press.proofs.PressLemmas.{Puts-as, Puts-then}
 use Rattle.cqf_report.specs.Books.{name_of_bridge}
 use Rattle.cqf_program_plans.proofs.ConfigPieces.{row_pieces}
@@ -17,17 +18,15 @@ loop-bridge-preserved g c =
     let more = flat_map_taken (text_at d row) bridges k 0 c.loop-bridge-test.true in
     let pieces = row_pieces d row (get_or bridges k 0) in
     let so_far : List ℕ = flat_map (text_at d row) (take k bridges) in
-    let put : List ℕ =
-    c.as_slice.result.now ++ (name_of_bridge c.domain-domain.result.now (get_or bridges k 0) ++ c.as_slice-in-loop-bridge.result.now) in
-    Puts-as (so_far ++ put) (flat_map (text_at d row) (take (k + 1) bridges))
+    let line : List ℕ = c.as_slice.result.now ++ (name_of_bridge c.domain-domain.result.now (get_or bridges k 0) ++ 10 ∷ []) in
+    let gate : List ℕ = text_of_stream_entries c.gate_of.result in
+    Puts-as (so_far ++ (line ++ gate)) (flat_map (text_at d row) (take (k + 1) bridges))
     (cc (
       more,
       pieces,
       c.as_slice.ensures.value,
       c.row_front-front.ensures,
       c.domain-domain.ensures.value,
-      c.cycle_time.ensures.value,
-      c.as_slice-in-loop-bridge.ensures.value,
-      c.gate_text-gate.ensures,
+      c.gate_of.ensures,
     ))
-    (Puts-then so_far put c.loop-bridge.invariant c.put_at.ensures)
+    (Puts-then so_far (line ++ gate) c.loop-bridge.invariant (Puts-then line gate c.put_at.ensures c.put_gate.ensures))

@@ -1,8 +1,16 @@
-use Rattle.std.proofs.Common.{subst, sym}
-use Rattle.cqf_admission.specs.Tables.{AreOfEachCycle}
+use Rattle.std.proofs.Common.{List, length, subst, sym}
+use Rattle.cqf_model.specs.declared.topology.Row.{Row}
+use Rattle.cqf_admission_trees.specs.Turns.{AreOfGoodPaces}
+use Rattle.cqf_program_plans.specs.LatencyOutput.{AreCountable}
 use Rattle.cqf_program_plans.proofs.latency_listeners.latencies_of.Goals as goal
 
-pub push_listeners-requires-clause-paced : goal.push_listeners-requires-clause-paced
-push_listeners-requires-clause-paced c =
-    let each : AreOfEachCycle c.rows-row-items.result.now = subst AreOfEachCycle (sym c.rows-row-items.ensures.rows) c.rows-row-items.ensures.paced in
+pub push_listeners-requires-clause-countable : goal.push_listeners-requires-clause-countable
+push_listeners-requires-clause-countable c =
+    let each : AreCountable (length c.args.costs.now.domain.links) c.rows-row-items.result.now =
+    subst (λ (rows : List Row). AreCountable (length c.args.costs.now.domain.links) rows) (sym c.rows-row-items.ensures.rows) c.rows-row-items.ensures.countable in
+    each c.row-item.result (c.loop-row.row-index, c.loop-row-test.true, sym c.row-item.is)
+
+pub push_listeners-requires-clause-good : goal.push_listeners-requires-clause-good
+push_listeners-requires-clause-good c =
+    let each : AreOfGoodPaces c.rows-row-items.result.now = subst AreOfGoodPaces (sym c.rows-row-items.ensures.rows) c.rows-row-items.ensures.good in
     each c.row-item.result (c.loop-row.row-index, c.loop-row-test.true, sym c.row-item.is)

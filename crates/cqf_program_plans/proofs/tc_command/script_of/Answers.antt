@@ -16,3 +16,7 @@ returns-in-Ok-clause-ok c =
     ap (λ (found : Result (List Recorded) (List ℕ)). and_then found (λ entries. told (held_in d entries 0))) held.admitted
     ∙ ap told (sym held.held)
     ∙ ap told_of (sym c.in-Ok.ensures)
+
+-- held streams have good paces
+pub script_ready-requires : goal.script_ready-requires
+script_ready-requires c = c.in_ok-rows.ensures.good

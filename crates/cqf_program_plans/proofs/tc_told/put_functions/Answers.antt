@@ -6,4 +6,5 @@ returns g c = Puts-then _ _ c.put_checks.ensures
     (Puts-then _ _ c.put_link_function.ensures
     (Puts-then _ _ c.put_old_gates_function.ensures
     (Puts-then _ _ c.put_no_gates_function.ensures
-    c.put_gate_function.ensures)))
+    (Puts-then _ _ c.put_gate_function.ensures
+    c.put_list_gates.ensures))))

@@ -1,6 +1,6 @@
 use Rattle.std.proofs.Common.{◌≡◌, ◌∙◌, ℕ, None, Some, ap, map, sym}
 use Rattle.std.proofs.lemmas.List.Elements.{All-contains}
-use Rattle.cqf_admission.specs.Asking.{asked_of}
+use Rattle.cqf_admission.specs.Asking.{asked_paced}
 use Rattle.cqf_admission.specs.declared.logs.Logged.{Logged}
 use Rattle.cqf_admission_requests.specs.Orders.{StandsIn}
 use Rattle.cqf_program_runs.specs.RefusedInLog.{refused_from}
@@ -14,7 +14,7 @@ refused_stop-requires-clause-there c =
     let log = c.args.ran.entries.items in
     let call : ℕ × Logged = (c.in-Some.number, c.in-Some.logged) in
     let first : refused_from 1 log ≡ Some call = ap (refused_from 1) (sym c.as_slice.ensures.value) ∙ sym c.first_refused.ensures ∙ c.in-Some.is in
-    All-contains (λ (logged : Logged). StandsIn (map asked_of given.requests.items) given.script.items logged.what) log c.in-Some.logged
+    All-contains (λ (logged : Logged). StandsIn (map asked_paced given.requests.items) given.script.items logged.what) log c.in-Some.logged
     c.requires.ran.told.2.there (found_refused log call first).0
 
 pub refused_stop-requires-clause-refused : goal.refused_stop-requires-clause-refused

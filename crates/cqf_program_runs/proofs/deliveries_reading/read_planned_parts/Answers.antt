@@ -1,6 +1,6 @@
 use Rattle.std.proofs.Common.{List, ap, map, ◌∙◌}
-use Rattle.cqf_topology.specs.declared.streams.Request.{Request}
-use Rattle.cqf_admission.specs.Asking.{asked_of}
+use Rattle.cqf_topology.specs.declared.paced.PacedRequest.{PacedRequest}
+use Rattle.cqf_admission.specs.Asking.{asked_paced}
 use Rattle.cqf_program_scenario.specs.RunParts.{texts_of}
 use Rattle.cqf_program_scenario.specs.Closing.{scenario_given}
 use Rattle.cqf_program_stop.specs.Stops.{IsRefused}
@@ -20,7 +20,7 @@ returns-clause-ok c =
       streams = found.streams;
       holds = planned-Ok c.args.cycles texts d found.streams c.in_ok-domain.ensures.ok found.holds requests (scenario_given given) found.planned.asked
           c.in_ok-given.ensures.ok;
-      planned = record { asked = ap (λ (rs : List Request). map asked_of rs) c.in_ok-given.ensures.same ∙ found.planned.asked; ends = found.planned.ends };
+      planned = record { asked = ap (λ (rs : List PacedRequest). map asked_paced rs) c.in_ok-given.ensures.same ∙ found.planned.asked; ends = found.planned.ends };
       may = c.in_ok-given.ensures.good;
       stand = c.in_ok-given.ensures.stand;
     }

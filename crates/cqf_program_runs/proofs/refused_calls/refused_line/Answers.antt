@@ -4,7 +4,7 @@ use Rattle.cqf_model.specs.declared.history.Reply.{Reply}
 use Rattle.cqf_model.specs.Refusals.{text_of_refusal}
 use Rattle.cqf_report.specs.HistoryText.{reply_text}
 use Rattle.cqf_program_stop.specs.Stops.{fault_line}
-use Rattle.cqf_admission.specs.Asking.{asked_of}
+use Rattle.cqf_admission.specs.Asking.{asked_paced}
 use Rattle.cqf_admission_requests.specs.Orders.{act_in}
 use Rattle.cqf_program_runs.specs.RefusedCalls.{act_text}
 use Rattle.cqf_program_runs.proofs.Lines.{refused_told}
@@ -21,5 +21,5 @@ returns c =
     c.in_ok-line.ensures.ok
     ∙ refused_told number c.as_str-call.result.now seat refused
     ∙ ap (λ (call : List ℕ). line call (codes "refused " ++ refused)) (c.as_str-call.ensures.value ∙ c.in_ok-text.ensures)
-    ∙ ap (λ (reply : Reply). line (act_text (act_in (map asked_of c.args.requests.now) c.args.script.now c.args.logged.now.what)) (reply_text reply))
+    ∙ ap (λ (reply : Reply). line (act_text (act_in (map asked_paced c.args.requests.now) c.args.script.now c.args.logged.now.what)) (reply_text reply))
     (sym c.in-Refused.is)

@@ -1,7 +1,7 @@
 use Rattle.std.proofs.Common.{◌≡◌, ◌∙◌, ◌++◌, List, ℕ, ap, codes, map, subst, sym}
 use Rattle.cqf_model.specs.Domain.{Domain}
 use Rattle.cqf_model.specs.History.{Asked}
-use Rattle.cqf_admission.specs.Asking.{asked_of}
+use Rattle.cqf_admission.specs.Asking.{asked_paced}
 use Rattle.cqf_admission.specs.Ledger.{recorded_in}
 use Rattle.cqf_admission.specs.Running.{AreThere}
 use Rattle.cqf_program_press.specs.Press.{Puts}
@@ -20,7 +20,7 @@ pub returns : goal.returns
 returns g c book parts =
     let a = c.args.log.now.administration in
     let history : List ℕ = history_text a.entries in
-    let same : history_text (map (recorded_in (map asked_of c.requests.result.now) c.script.result.now) c.entries.result.now) ≡ history =
+    let same : history_text (map (recorded_in (map asked_paced c.requests.result.now) c.script.result.now) c.entries.result.now) ≡ history =
     (λ i. history_text (map (recorded_in (c.requests.ensures i) (c.script.ensures i)) c.entries.result.now)) ∙ ap history_text c.entries.ensures.entries in
     Puts-then history (line_of (codes "%%") ++ text_of_book a.domain book) (Puts-as _ history same c.put_log.ensures)
     (Puts-then (line_of (codes "%%")) (text_of_book a.domain book) c.put_parting.ensures

@@ -1,6 +1,6 @@
 use Rattle.std.proofs.Common.{◌∙◌, [], ap, length, map, subst, sym}
 use Rattle.std.proofs.lemmas.List.{length-map}
-use Rattle.cqf_admission.specs.Tables.{AreOfEachCycle}
+use Rattle.cqf_admission_trees.specs.Turns.{AreOfGoodPaces}
 use Rattle.cqf_program_placing.specs.Placing.{outcome_value}
 use Rattle.cqf_program_placing.specs.Settled.{settled_value}
 use Rattle.cqf_program_sketch.proofs.TriedLemmas.{length-placed}
@@ -16,6 +16,7 @@ candidate_of-requires-clause-each c =
     ∙ length-placed placed.domain [] (map settled_value c.args.streams.now) placed.outcomes placed.entries c.requires
     ∙ length-map c.args.streams.now settled_value
 
--- its rows are of streams of each cycle
-pub candidate_of-requires-clause-paced : goal.candidate_of-requires-clause-paced
-candidate_of-requires-clause-paced c = subst AreOfEachCycle (sym c.as_slice.ensures.value) c.in_ok-domain.ensures.paced
+-- its rows have good paces
+pub candidate_of-requires-clause-good : goal.candidate_of-requires-clause-good
+candidate_of-requires-clause-good c =
+    subst AreOfGoodPaces (sym c.as_slice.ensures.value) c.in_ok-domain.ensures.good

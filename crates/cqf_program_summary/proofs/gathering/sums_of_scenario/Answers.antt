@@ -1,5 +1,5 @@
 use Rattle.std.proofs.Common.{◌≡◌, ◌∙◌, [], map, subst, sym}
-use Rattle.cqf_admission.specs.Asking.{asked_of}
+use Rattle.cqf_admission.specs.Asking.{asked_paced}
 use Rattle.cqf_program_runs.specs.Deadlines.{Due, deadline_in}
 use Rattle.cqf_program_runs.specs.Ending.{Over, over_by}
 use Rattle.cqf_program_runs.specs.Following.{IsFollowed}
@@ -23,7 +23,7 @@ pub gathered-requires-clause-fresh : goal.gathered-requires-clause-fresh
 gathered-requires-clause-fresh c =
     let due : Due = record { requests = c.as_slice-requests.result.now; deadlines = c.as_slice.result.now } in
     subst (SummaryWithin 0) (sym c.in_ok-sums.ensures)
-    (none_within c.args.planned.now.given.domain (told_streams (map asked_of c.as_slice-requests.result.now)) (deadline_in due))
+    (none_within c.args.planned.now.given.domain (told_streams (map asked_paced c.as_slice-requests.result.now)) (deadline_in due))
 
 pub returns : goal.returns
 returns c =
@@ -31,9 +31,9 @@ returns c =
     let d = planned.given.domain in
     let requests = planned.given.requests.items in
     let due : Due = record { requests = requests; deadlines = planned.deadlines.items } in
-    let first : c.in_ok-sums.sums ≡ summary_by d (told_streams (map asked_of requests)) (deadline_in due) [] [] =
+    let first : c.in_ok-sums.sums ≡ summary_by d (told_streams (map asked_paced requests)) (deadline_in due) [] [] =
     c.in_ok-sums.ensures
-    ∙ (λ i. summary_by d (told_streams (map asked_of (c.as_slice-requests.ensures.value i)))
+    ∙ (λ i. summary_by d (told_streams (map asked_paced (c.as_slice-requests.ensures.value i)))
     (deadline_in (record { requests = c.as_slice-requests.ensures.value i; deadlines = c.as_slice.ensures.value i })) [] []) in
     let noted = c.in_ok-noted.ensures in
     let same = c.over.ensures noted.whole in
@@ -41,4 +41,4 @@ returns c =
     let over : IsSummaryOver (over_by planned c.args.cycles c.in_ok-noted.noted noted.whole) c.in_ok-sums.sums c.gathered.result =
     subst (λ (o : Over). IsSummaryOver o c.in_ok-sums.sums c.gathered.result) same (c.gathered.ensures noted.whole followed) in
     IsSummaryOf-noted c.args.cycles planned c.in_ok-noted.noted c.in_ok-noted.under_way c.gathered.result noted
-    (over (map asked_of requests) (deadline_in due) first)
+    (over (map asked_paced requests) (deadline_in due) first)

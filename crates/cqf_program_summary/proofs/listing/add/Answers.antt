@@ -1,30 +1,14 @@
-use Rattle.std.proofs.Common.{◌≡◌, ◌≢◌, ◌∙◌, ◌+◌, ◌<◌, ℕ, All, AllPairs, List, ap, arith, length, subst, sym}
-use Rattle.cqf_model.specs.declared.topology.Hop.{Hop}
-use Rattle.cqf_model.specs.Table.{links_in, links_of}
-use Rattle.cqf_admission_trees.specs.Sums.{part_on}
-use Rattle.cqf_program_summary.specs.Listing.{cost_in}
+use Rattle.std.proofs.Common.{ℕ, subst, sym}
+use Rattle.cqf_admission.specs.Rows.{IsCountable}
 use Rattle.cqf_program_summary.proofs.Listed.{room_bounded}
 use Rattle.cqf_program_summary.proofs.listing.add.Goals as goal
 
-pub add_on-requires-clause-inside : goal.add_on-requires-clause-inside
-add_on-requires-clause-inside c =
-    let inside : All (λ (l : ℕ). l < length c.args.costs.now.items) (links_of c.args.row.now) =
-    subst (λ (n : ℕ). All (λ (l : ℕ). l < n) (links_of c.args.row.now)) (sym c.requires.all) c.requires.countable.inside in
-    subst (λ (hops : List Hop). All (λ (l : ℕ). l < length c.args.costs.now.items) (links_in hops)) (sym c.as_slice.ensures.value) inside
+pub add_cost-requires-clause-countable : goal.add_cost-requires-clause-countable
+add_cost-requires-clause-countable c = subst (λ (n : ℕ). IsCountable n c.args.row.now) (sym c.requires.all) c.requires.summable.countable
 
-pub add_on-requires-clause-apart : goal.add_on-requires-clause-apart
-add_on-requires-clause-apart c =
-    subst (λ (hops : List Hop). AllPairs (λ (a b : ℕ). a ≢ b) (links_in hops)) (sym c.as_slice.ensures.value) c.requires.countable.apart
+pub add_cost-requires-clause-good : goal.add_cost-requires-clause-good
+add_cost-requires-clause-good c = c.requires.summable.paced
 
-pub add_on-requires-clause-room : goal.add_on-requires-clause-room
-add_on-requires-clause-room c = λ l low.
-    room_bounded c.args.costs.now.items (links_in c.as_slice.result.now) c.cost.result.0 l (omega (arith, c.cost.ensures, c.requires.countable.octets))
-    (c.requires.bounded l (omega (arith, low, c.requires.all)))
-
-pub returns : goal.returns
-returns c = record {
-  all = c.add_on.ensures.as_many ∙ c.requires.all;
-  each = λ l low.
-      c.add_on.ensures.each l (omega (arith, low, c.requires.all))
-      ∙ ap (λ (more : ℕ). cost_in c.args.costs.now.items l + more) (λ i. part_on (links_in (c.as_slice.ensures.value i)) (c.cost.ensures i) l);
-}
+pub add_cost-requires-clause-room : goal.add_cost-requires-clause-room
+add_cost-requires-clause-room c =
+    room_bounded c.args.costs.now c.args.row.now c.requires.all c.requires.bounded c.requires.summable.countable.octets

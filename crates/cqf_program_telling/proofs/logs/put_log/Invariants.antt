@@ -1,5 +1,5 @@
 use Rattle.std.proofs.Common.{map, take}
-use Rattle.cqf_admission.specs.Asking.{asked_of}
+use Rattle.cqf_admission.specs.Asking.{asked_paced}
 use Rattle.cqf_admission.specs.Ledger.{recorded_in}
 use Rattle.cqf_program_press.specs.Press.{Puts}
 use Rattle.cqf_report.specs.HistoryText.{history_text}
@@ -7,4 +7,4 @@ use Rattle.cqf_program_telling.proofs.logs.put_log.Given as goal
 
 abbrev pub invariant-loop-logged : goal.invariant-loop-logged
 invariant-loop-logged g l =
-    Puts g.W.Write.contents l.initial.press l.press (history_text (map (recorded_in (map asked_of l.requests) l.script) (take l.logged-index l.log)))
+    Puts g.W.Write.contents l.initial.press l.press (history_text (map (recorded_in (map asked_paced l.requests) l.script) (take l.logged-index l.log)))

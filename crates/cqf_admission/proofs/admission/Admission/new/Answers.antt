@@ -10,6 +10,6 @@ pub invariant_of-result : goal.invariant_of-result
 invariant_of-result c =
     let d = c.in_ok-try_copy.field-0 in (
       subst (λ (history : List Entry). IsStateOf d (map recorded_of history) c.in_ok-new.field-0) (sym c.new.ensures.items)
-          (c.in_ok-new.ensures d (ap (λ (x : Domain). length x.links) c.in_ok-try_copy.ensures ∙ sym c.links.ensures ∙ sym c.from.ensures)),
+          (c.in_ok-new.ensures d (ap (λ (x : Domain). length x.links) c.in_ok-try_copy.ensures ∙ sym c.links.ensures)),
       subst (λ (history : List Entry). AreTablesOf d (map recorded_of history) c.in_ok-new-2.field-0) (sym c.new.ensures.items) (c.in_ok-new-2.ensures d),
     )

@@ -1,6 +1,6 @@
 -- A Seal's table has what is held, and its entry is the next one.
 use Rattle.std.proofs.Common.{◌≡◌, ◌∙◌, ◌<◌, ◌+◌, ◌≢◌, List, ap, arith, map, refl, subst, sym}
-use Rattle.std.specs.Prelude.{AllPairs, Contains, Ok}
+use Rattle.std.specs.Prelude.{AllPairs, Ok}
 use Rattle.cqf_model.specs.declared.history.Reply.TheVariants.{Sealed}
 use Rattle.cqf_model.specs.declared.topology.Row.{Row}
 use Rattle.cqf_model.specs.Domain.{Domain}
@@ -10,9 +10,11 @@ use Rattle.cqf_admission.proofs.TableLemmas.{trees_go_along_links}
 use Rattle.cqf_admission.specs.declared.entries.Call.TheVariants.{Seal}
 use Rattle.cqf_admission.specs.Admission.{Administration, Closes, LetsGo, recorded_of}
 use Rattle.cqf_admission.specs.State.{IsStateOf, LeavesSealed, of_entries}
+use Rattle.cqf_admission_trees.specs.Turns.{AreOfGoodPaces}
 use Rattle.cqf_admission.specs.Tables.{AreTrees}
 use Rattle.cqf_admission.specs.Tabling.{AreTablesOf}
 use Rattle.cqf_admission.proofs.Entered.{entered_behind}
+use Rattle.cqf_admission.proofs.Paced.{good_held}
 use Rattle.cqf_admission.proofs.Tabled.{held_alike, tables_less}
 use Rattle.cqf_admission.proofs.admission.Admission.seal.Goals as goal
 
@@ -31,12 +33,11 @@ new-requires-clause-order c =
       names = subst (AllPairs (λ (a b : Row). a.name ≢ b.name)) (sym is) held.names;
     }
 
-pub new-requires-clause-paced : goal.new-requires-clause-paced
-new-requires-clause-paced c =
+pub new-requires-clause-good : goal.new-requires-clause-good
+new-requires-clause-good c =
     let entries = map recorded_of c.self.inside.history.items in
-    λ row among.
-    c.self.invariant.0.0.running.paced row
-    (subst (λ (rows : List Row). Contains rows row) (c.in_ok-listed.ensures.rows c.self.inside.domain entries c.self.invariant.0 c.self.invariant.1) among)
+    subst AreOfGoodPaces (sym (c.in_ok-listed.ensures.rows c.self.inside.domain entries c.self.invariant.0 c.self.invariant.1))
+    (good_held c.self.inside.domain entries c.self.invariant.0.0.running.legal (seals entries))
 
 -- a Seal that enters the history
 module _ (c : goal.After-new) where

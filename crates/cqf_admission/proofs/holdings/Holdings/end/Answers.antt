@@ -18,9 +18,9 @@ invariant_of-self c =
     let is : stand ≡ get_or rows number stand = sym (mapped_there standing_of stands number old stand low c.index_mut.ensures.value) in
     let ended : IsEnded (get_or rows number stand).row (arc_value c.args.row) =
     subst (λ (h : Stands). IsEnded (get_or h.rows number stand).row (arc_value c.args.row)) (sym c.self.view_is) (c.requires.ended stand) in
-    subst (λ (rs : List Standing). HaveFigures rs (held_under c.self.inside.by_name) c.self.inside.held.items c.self.inside.sums.items)
+    subst (λ (rs : List Standing). HaveFigures rs (held_under c.self.inside.by_name) c.self.inside.held.items c.self.inside.sums)
     (sym (map_set standing_of stands number (record old { row = c.args.row })))
-    (figures_ended rows (held_under c.self.inside.by_name) c.self.inside.held.items c.self.inside.sums.items c.self.invariant number stand inside is
+    (figures_ended rows (held_under c.self.inside.by_name) c.self.inside.held.items c.self.inside.sums c.self.invariant number stand inside is
     (arc_value c.args.row) (subst (λ (x : Standing). IsEnded x.row (arc_value c.args.row)) (sym is) ended))
 
 pub returns-clause-rows : goal.returns-clause-rows

@@ -1,4 +1,4 @@
-use Rattle.std.proofs.Common.{◌≡◌, ◌≢◌, ◌<◌, ◌≤◌, ◌∙◌, ℕ, All, List, None, Option, arith, ap, false, get_or, length, map, set, subst, subst₂, sym, true}
+use Rattle.std.proofs.Common.{◌≡◌, ◌≢◌, ◌<◌, ◌≤◌, ◌∙◌, ◌+◌, ◌%◌, ℕ, All, List, None, Option, arith, ap, false, get_or, length, map, set, subst, subst₂, sym, true}
 use Rattle.std.specs.Arc.{arc_value}
 use Rattle.std.specs.Prelude.{AllPairs, Contains}
 use Rattle.std.specs.BTreeMap.{UpdatesBy}
@@ -7,11 +7,12 @@ use Rattle.std.specs.Ordering.{nat_cmp}
 use Rattle.std.proofs.lemmas.List.{length-map}
 use Rattle.cqf_units.specs.Timing.{cost_of}
 use Rattle.cqf_model.specs.declared.topology.Hop.{Hop}
+use Rattle.cqf_model.specs.declared.topology.Pace.{Pace}
 use Rattle.cqf_model.specs.declared.topology.Row.{Row}
-use Rattle.cqf_model.specs.Limits.{most_reserved}
-use Rattle.cqf_model.specs.Table.{links_in, links_of}
-use Rattle.cqf_admission_trees.specs.Sums.{AreLessOn, HaveOn}
-use Rattle.cqf_admission.specs.Rows.{IsCountable}
+use Rattle.cqf_model.specs.Limits.{most_every, most_reserved}
+use Rattle.cqf_model.specs.Table.{links_in}
+use Rattle.cqf_admission_trees.specs.Turns.{AreLessIn, HasIn, Turned}
+use Rattle.cqf_admission.specs.Rows.{IsSummable}
 use Rattle.cqf_admission.specs.Holdings.{HaveFigures, IsHeldAt, Standing, Stands, held_under, released, standing_of}
 use Rattle.cqf_admission.specs.declared.holdings.Stand.{Stand}
 use Rattle.cqf_admission.proofs.Figures.{figures_less, goes_within, others_stay, own_along}
@@ -20,7 +21,7 @@ use Rattle.cqf_admission.proofs.Lists.{map_set, mapped_there, read_same}
 use Rattle.cqf_admission.proofs.holdings.Holdings.let_go.Goals as goal
 
 -- what is known of a stream that is held
-module _ (stands : List Stand) (under : List ℕ → Option ℕ) (held sums : List ℕ) (h : HaveFigures (map standing_of stands) under held sums) (number : ℕ)
+module _ (stands : List Stand) (under : List ℕ → Option ℕ) (held : List ℕ) (sums : Turned) (h : HaveFigures (map standing_of stands) under held sums) (number : ℕ)
     (at : IsHeldAt (map standing_of stands) number) (old : Stand) (is : old ≡ get_or stands number old) where
   low : number < length stands
   low = omega (arith, at.inside, length-map stands standing_of)
@@ -31,16 +32,16 @@ module _ (stands : List Stand) (under : List ℕ → Option ℕ) (held sums : Li
   is_held : old.held ≡ true
   is_held = ap (λ (x : Standing). x.held) there ∙ at.held (standing_of old)
 
-  countable : IsCountable (length sums) (arc_value old.row)
-  countable = own_along (map standing_of stands) under held sums h number (standing_of old) at.inside there
+  summable : IsSummable sums.links (arc_value old.row)
+  summable = own_along (map standing_of stands) under held sums h number (standing_of old) at.inside there
 
-  within : HaveOn sums (links_of (arc_value old.row)) (cost_of (arc_value old.row).octets)
+  within : HasIn sums (arc_value old.row).tree.items (arc_value old.row).pace (cost_of (arc_value old.row).octets)
   within = goes_within (map standing_of stands) under held sums h number (standing_of old) at.inside there is_held
 
   -- the figures without it
-  without_it : (left : Stand) (next : List ℕ → Option ℕ) (numbers less : List ℕ) → left ≡ old → next (arc_value old.row).name ≡ None →
+  without_it : (left : Stand) (next : List ℕ → Option ℕ) (numbers : List ℕ) (less : Turned) → left ≡ old → next (arc_value old.row).name ≡ None →
       ((name : List ℕ) → name ≢ (arc_value old.row).name → next name ≡ under name) → numbers ≡ without number held →
-      AreLessOn sums (links_of (arc_value old.row)) (cost_of (arc_value old.row).octets) less →
+      AreLessIn sums (arc_value old.row).tree.items (arc_value old.row).pace (cost_of (arc_value old.row).octets) less →
       HaveFigures (map standing_of (set stands number (record left { held = false }))) next numbers less
   without_it left next numbers less same own others listed by =
       subst (λ (rs : List Standing). HaveFigures rs next numbers less)
@@ -48,42 +49,52 @@ module _ (stands : List Stand) (under : List ℕ → Option ℕ) (held sums : Li
       ∙ map_set standing_of stands number (record old { held = false })))
       (figures_less (map standing_of stands) under held sums h number (standing_of old) at.inside there is_held next own others numbers less listed by)
 
-pub cost-requires : goal.cost-requires
-cost-requires c =
+pub cost-cost-requires : goal.cost-cost-requires
+cost-cost-requires c =
     let at : IsHeldAt (map standing_of c.self.inside.rows.items) c.args.number = subst (λ (h : Stands). IsHeldAt h.rows c.args.number) (sym c.self.view_is)
     (record { inside = c.requires.inside; held = c.requires.held }) in
-    let own = countable c.self.inside.rows.items (held_under c.self.inside.by_name) c.self.inside.held.items c.self.inside.sums.items c.self.invariant
+    let own = summable c.self.inside.rows.items (held_under c.self.inside.by_name) c.self.inside.held.items c.self.inside.sums c.self.invariant
     c.args.number at c.index.result.now c.index.ensures in
-    let few : c.deref-2.result.now.octets ≤ most_reserved = subst (λ (r : Row). r.octets ≤ most_reserved) (sym c.deref-2.ensures) own.octets in
+    let few : c.deref.result.now.octets ≤ most_reserved = subst (λ (r : Row). r.octets ≤ most_reserved) (sym c.deref.ensures) own.countable.octets in
     omega (arith, few)
 
-pub take_on-requires-clause-inside : goal.take_on-requires-clause-inside
-take_on-requires-clause-inside c =
+pub take-requires-clause-inside : goal.take-requires-clause-inside
+take-requires-clause-inside c =
     let at : IsHeldAt (map standing_of c.self.inside.rows.items) c.args.number = subst (λ (h : Stands). IsHeldAt h.rows c.args.number) (sym c.self.view_is)
     (record { inside = c.requires.inside; held = c.requires.held }) in
-    let own = countable c.self.inside.rows.items (held_under c.self.inside.by_name) c.self.inside.held.items c.self.inside.sums.items c.self.invariant
+    let own = summable c.self.inside.rows.items (held_under c.self.inside.by_name) c.self.inside.held.items c.self.inside.sums c.self.invariant
     c.args.number at c.index.result.now c.index.ensures in
-    let hops : c.as_slice.result.now ≡ (arc_value c.index.result.now.row).tree.items = c.as_slice.ensures.value ∙ ap (λ (r : Row). r.tree.items) c.deref.ensures in
-    subst (λ (tree : List Hop). All (λ (l : ℕ). l < length c.self.inside.sums.items) (links_in tree)) (sym hops) own.inside
+    let hops : c.as_slice.result.now ≡ (arc_value c.index.result.now.row).tree.items = c.as_slice.ensures.value ∙ ap (λ (r : Row). r.tree.items) c.deref-2.ensures in
+    subst (λ (tree : List Hop). All (λ (l : ℕ). l < c.self.inside.sums.links) (links_in tree)) (sym hops) own.countable.inside
 
-pub take_on-requires-clause-apart : goal.take_on-requires-clause-apart
-take_on-requires-clause-apart c =
+pub take-requires-clause-apart : goal.take-requires-clause-apart
+take-requires-clause-apart c =
     let at : IsHeldAt (map standing_of c.self.inside.rows.items) c.args.number = subst (λ (h : Stands). IsHeldAt h.rows c.args.number) (sym c.self.view_is)
     (record { inside = c.requires.inside; held = c.requires.held }) in
-    let own = countable c.self.inside.rows.items (held_under c.self.inside.by_name) c.self.inside.held.items c.self.inside.sums.items c.self.invariant
+    let own = summable c.self.inside.rows.items (held_under c.self.inside.by_name) c.self.inside.held.items c.self.inside.sums c.self.invariant
     c.args.number at c.index.result.now c.index.ensures in
-    let hops : c.as_slice.result.now ≡ (arc_value c.index.result.now.row).tree.items = c.as_slice.ensures.value ∙ ap (λ (r : Row). r.tree.items) c.deref.ensures in
-    subst (λ (tree : List Hop). AllPairs (λ (a b : ℕ). a ≢ b) (links_in tree)) (sym hops) own.apart
+    let hops : c.as_slice.result.now ≡ (arc_value c.index.result.now.row).tree.items = c.as_slice.ensures.value ∙ ap (λ (r : Row). r.tree.items) c.deref-2.ensures in
+    subst (λ (tree : List Hop). AllPairs (λ (a b : ℕ). a ≢ b) (links_in tree)) (sym hops) own.countable.apart
 
-pub take_on-requires-clause-held : goal.take_on-requires-clause-held
-take_on-requires-clause-held c =
+pub take-requires-clause-good : goal.take-requires-clause-good
+take-requires-clause-good c =
     let at : IsHeldAt (map standing_of c.self.inside.rows.items) c.args.number = subst (λ (h : Stands). IsHeldAt h.rows c.args.number) (sym c.self.view_is)
     (record { inside = c.requires.inside; held = c.requires.held }) in
-    let hops : c.as_slice.result.now ≡ (arc_value c.index.result.now.row).tree.items = c.as_slice.ensures.value ∙ ap (λ (r : Row). r.tree.items) c.deref.ensures in
-    let costs : c.cost.result.0 ≡ cost_of (arc_value c.index.result.now.row).octets = c.cost.ensures ∙ ap (λ (r : Row). cost_of r.octets) c.deref-2.ensures in
-    subst₂ (λ (tree : List Hop) (n : ℕ). HaveOn c.self.inside.sums.items (links_in tree) n) (sym hops) (sym costs)
-    (within c.self.inside.rows.items (held_under c.self.inside.by_name) c.self.inside.held.items c.self.inside.sums.items c.self.invariant c.args.number at
-    c.index.result.now c.index.ensures)
+    let own = summable c.self.inside.rows.items (held_under c.self.inside.by_name) c.self.inside.held.items c.self.inside.sums c.self.invariant
+    c.args.number at c.index.result.now c.index.ensures in
+    subst (λ (r : Row). most_every % (r.pace.pause + 1) ≡ 0) (sym c.deref-3.ensures) own.paced.divides
+
+pub take-requires-clause-held : goal.take-requires-clause-held
+take-requires-clause-held c =
+    let at : IsHeldAt (map standing_of c.self.inside.rows.items) c.args.number = subst (λ (h : Stands). IsHeldAt h.rows c.args.number) (sym c.self.view_is)
+    (record { inside = c.requires.inside; held = c.requires.held }) in
+    let hops : c.as_slice.result.now ≡ (arc_value c.index.result.now.row).tree.items = c.as_slice.ensures.value ∙ ap (λ (r : Row). r.tree.items) c.deref-2.ensures in
+    let costs : c.cost-cost.result.0 ≡ cost_of (arc_value c.index.result.now.row).octets = c.cost-cost.ensures ∙ ap (λ (r : Row). cost_of r.octets) c.deref.ensures in
+    let paced : c.deref-3.result.now.pace ≡ (arc_value c.index.result.now.row).pace = ap (λ (r : Row). r.pace) c.deref-3.ensures in
+    subst (λ (pace : Pace). HasIn c.self.inside.sums c.as_slice.result.now pace c.cost-cost.result.0) (sym paced)
+    (subst₂ (λ (tree : List Hop) (n : ℕ). HasIn c.self.inside.sums tree (arc_value c.index.result.now.row).pace n) (sym hops) (sym costs)
+    (within c.self.inside.rows.items (held_under c.self.inside.by_name) c.self.inside.held.items c.self.inside.sums c.self.invariant c.args.number at
+    c.index.result.now c.index.ensures))
 
 pub take_out-requires-clause-order : goal.take_out-requires-clause-order
 take_out-requires-clause-order c =
@@ -102,16 +113,18 @@ invariant_of-self c =
     let at : IsHeldAt (map standing_of stands) c.args.number = subst (λ (h : Stands). IsHeldAt h.rows c.args.number) (sym c.self.view_is)
     (record { inside = c.requires.inside; held = c.requires.held }) in
     let low : c.args.number < length stands = omega (arith, at.inside, length-map stands standing_of) in
-    let hops : c.as_slice.result.now ≡ (arc_value old.row).tree.items = c.as_slice.ensures.value ∙ ap (λ (r : Row). r.tree.items) c.deref.ensures in
-    let costs : c.cost.result.0 ≡ cost_of (arc_value old.row).octets = c.cost.ensures ∙ ap (λ (r : Row). cost_of r.octets) c.deref-2.ensures in
+    let hops : c.as_slice.result.now ≡ (arc_value old.row).tree.items = c.as_slice.ensures.value ∙ ap (λ (r : Row). r.tree.items) c.deref-2.ensures in
+    let costs : c.cost-cost.result.0 ≡ cost_of (arc_value old.row).octets = c.cost-cost.ensures ∙ ap (λ (r : Row). cost_of r.octets) c.deref.ensures in
     let by : UpdatesBy (slice_cmp nat_cmp) (slice_cmp nat_cmp (arc_value old.row).name) c.self.inside.by_name c.remove.new.self None =
-    subst (λ (r : Row). UpdatesBy (slice_cmp nat_cmp) (slice_cmp nat_cmp r.name) c.self.inside.by_name c.remove.new.self None) c.deref-3.ensures
+    subst (λ (r : Row). UpdatesBy (slice_cmp nat_cmp) (slice_cmp nat_cmp r.name) c.self.inside.by_name c.remove.new.self None) c.deref-4.ensures
     c.remove.ensures.updates in
-    without_it stands (held_under c.self.inside.by_name) c.self.inside.held.items c.self.inside.sums.items c.self.invariant c.args.number at old c.index.ensures
-    c.index_mut.result.now (held_under c.remove.new.self) c.take_out.new.held.items c.take_on.new.sums.items
+    let paced : c.deref-3.result.now.pace ≡ (arc_value old.row).pace = ap (λ (r : Row). r.pace) c.deref-3.ensures in
+    without_it stands (held_under c.self.inside.by_name) c.self.inside.held.items c.self.inside.sums c.self.invariant c.args.number at old c.index.ensures
+    c.index_mut.result.now (held_under c.remove.new.self) c.take_out.new.held.items c.take.new.self
     (read_same stands c.args.number c.index_mut.result.now old low c.index_mut.ensures.value c.index.ensures) by.1
     (others_stay c.self.inside.by_name c.remove.new.self (arc_value old.row).name None by) c.take_out.ensures
-    (subst₂ (λ (tree : List Hop) (n : ℕ). AreLessOn c.self.inside.sums.items (links_in tree) n c.take_on.new.sums.items) hops costs c.take_on.ensures)
+    (subst (λ (pace : Pace). AreLessIn c.self.inside.sums (arc_value old.row).tree.items pace (cost_of (arc_value old.row).octets) c.take.new.self) paced
+    (subst₂ (λ (tree : List Hop) (n : ℕ). AreLessIn c.self.inside.sums tree c.deref-3.result.now.pace n c.take.new.self) hops costs c.take.ensures))
 
 pub returns-clause-rows : goal.returns-clause-rows
 returns-clause-rows c = λ d.

@@ -9,7 +9,7 @@ use Rattle.cqf_admission.proofs.holdings.Holdings.new.Goals as goal
 
 pub invariant_of-result : goal.invariant_of-result
 invariant_of-result c =
-    rw c.new.ensures.items
-    (figures_none (held_under c.new-2.result) c.new-3.result.items c.in_ok-sums.sums.items c.args.links
-    (λ name. ap (λ (entries : List (List ℕ × ℕ)). lookup (is_at (slice_cmp nat_cmp name)) entries) c.new-2.ensures.empty) c.new-3.ensures.items
+    rw c.new-2.ensures.items
+    (figures_none (held_under c.new-3.result) c.new-4.result.items c.in_ok-sums.sums c.args.links
+    (λ name. ap (λ (entries : List (List ℕ × ℕ)). lookup (is_at (slice_cmp nat_cmp name)) entries) c.new-3.ensures.empty) c.new-4.ensures.items
     c.in_ok-sums.ensures)

@@ -1,4 +1,4 @@
-use Rattle.std.proofs.Common.{◌≡◌, ◌≢◌, ◌+◌, ◌<◌, ◌≤◌, ◌^◌, ◌++◌, ◌∷◌, [], All, arith, ap, refl, sym, subst, subst₂, true, ℕ, length, map, List, Some, ◌∙◌}
+use Rattle.std.proofs.Common.{◌≡◌, ◌≢◌, ◌+◌, ◌<◌, ◌≤◌, ◌^◌, ◌%◌, ◌++◌, ◌∷◌, [], All, arith, ap, refl, sym, subst, subst₂, true, ℕ, length, map, List, Some, ◌∙◌}
 use Rattle.std.specs.Prelude.{AllPairs}
 use Rattle.std.specs.BTreeMap.{UpdatesBy}
 use Rattle.std.specs.Cmp.Lexicographic.{slice_cmp}
@@ -6,48 +6,54 @@ use Rattle.std.specs.Ordering.{nat_cmp}
 use Rattle.std.proofs.lemmas.List.{length-map, map-append}
 use Rattle.cqf_units.specs.Timing.{cost_of}
 use Rattle.cqf_model.specs.declared.topology.Hop.{Hop}
+use Rattle.cqf_model.specs.declared.topology.Pace.{Pace}
 use Rattle.cqf_model.specs.declared.topology.Row.{Row}
-use Rattle.cqf_model.specs.Limits.{most_reserved}
-use Rattle.cqf_model.specs.Table.{links_in, links_of}
-use Rattle.cqf_admission_trees.specs.Sums.{AreMoreOn, HaveRoomOn}
-use Rattle.cqf_admission.specs.Rows.{IsCountable, cost_by_link}
+use Rattle.cqf_model.specs.Limits.{most_every, most_reserved}
+use Rattle.cqf_model.specs.Table.{cost_on, links_in}
+use Rattle.cqf_admission_trees.specs.Turns.{AreMoreIn, HasRoomFor}
+use Rattle.cqf_admission.specs.Rows.{IsSummable}
 use Rattle.cqf_admission.specs.Holdings.{IsFree, Standing, Stands, held_by, held_cost, held_under, standing_of}
 use Rattle.cqf_admission.specs.declared.holdings.Stand.{Stand}
-use Rattle.cqf_admission.proofs.Figures.{figures_more, figures_same, have_room, others_stay}
+use Rattle.cqf_admission.proofs.Figures.{figures_more, figures_same, has_room, others_stay}
 use Rattle.cqf_admission.proofs.holdings.Holdings.push.Goals as goal
 
-pub cost-requires : goal.cost-requires
-cost-requires c =
-    let is : c.deref-2.result.now ≡ c.args.row = c.deref-2.ensures ∙ c.in_ok-row.ensures.ok in
-    let few : c.deref-2.result.now.octets ≤ most_reserved = subst (λ (r : Row). r.octets ≤ most_reserved) (sym is) c.requires.countable.octets in
+pub cost-cost-requires : goal.cost-cost-requires
+cost-cost-requires c =
+    let is : c.deref.result.now ≡ c.args.row = c.deref.ensures ∙ c.in_ok-row.ensures.ok in
+    let few : c.deref.result.now.octets ≤ most_reserved = subst (λ (r : Row). r.octets ≤ most_reserved) (sym is) c.requires.summable.countable.octets in
     omega (arith, few)
 
-pub add_on-requires-clause-inside : goal.add_on-requires-clause-inside
-add_on-requires-clause-inside c =
-    let own = subst (λ (h : Stands). IsCountable h.links c.args.row) (sym c.self.view_is) c.requires.countable in
-    let hops : c.as_slice.result.now ≡ c.args.row.tree.items = c.as_slice.ensures.value ∙ ap (λ (r : Row). r.tree.items) (c.deref.ensures ∙ c.in_ok-row.ensures.ok) in
-    subst (λ (tree : List Hop). All (λ (l : ℕ). l < length c.self.inside.sums.items) (links_in tree)) (sym hops) own.inside
+pub add-requires-clause-inside : goal.add-requires-clause-inside
+add-requires-clause-inside c =
+    let own = (subst (λ (h : Stands). IsSummable h.links c.args.row) (sym c.self.view_is) c.requires.summable).countable in
+    let hops : c.as_slice.result.now ≡ c.args.row.tree.items = c.as_slice.ensures.value ∙ ap (λ (r : Row). r.tree.items) (c.deref-2.ensures ∙ c.in_ok-row.ensures.ok) in
+    subst (λ (tree : List Hop). All (λ (l : ℕ). l < c.self.inside.sums.links) (links_in tree)) (sym hops) own.inside
 
-pub add_on-requires-clause-apart : goal.add_on-requires-clause-apart
-add_on-requires-clause-apart c =
-    let hops : c.as_slice.result.now ≡ c.args.row.tree.items = c.as_slice.ensures.value ∙ ap (λ (r : Row). r.tree.items) (c.deref.ensures ∙ c.in_ok-row.ensures.ok) in
-    subst (λ (tree : List Hop). AllPairs (λ (a b : ℕ). a ≢ b) (links_in tree)) (sym hops) c.requires.countable.apart
+pub add-requires-clause-apart : goal.add-requires-clause-apart
+add-requires-clause-apart c =
+    let hops : c.as_slice.result.now ≡ c.args.row.tree.items = c.as_slice.ensures.value ∙ ap (λ (r : Row). r.tree.items) (c.deref-2.ensures ∙ c.in_ok-row.ensures.ok) in
+    subst (λ (tree : List Hop). AllPairs (λ (a b : ℕ). a ≢ b) (links_in tree)) (sym hops) c.requires.summable.countable.apart
 
-pub add_on-requires-clause-room : goal.add_on-requires-clause-room
-add_on-requires-clause-room c =
+pub add-requires-clause-good : goal.add-requires-clause-good
+add-requires-clause-good c =
+    subst (λ (r : Row). most_every % (r.pace.pause + 1) ≡ 0) (sym (c.deref-3.ensures ∙ c.in_ok-row.ensures.ok)) c.requires.summable.paced.divides
+
+pub add-requires-clause-room : goal.add-requires-clause-room
+add-requires-clause-room c =
     let row = c.args.row in
-    let hops : c.as_slice.result.now ≡ row.tree.items = c.as_slice.ensures.value ∙ ap (λ (r : Row). r.tree.items) (c.deref.ensures ∙ c.in_ok-row.ensures.ok) in
-    let costs : c.cost.result.0 ≡ cost_of row.octets = c.cost.ensures ∙ ap (λ (r : Row). cost_of r.octets) (c.deref-2.ensures ∙ c.in_ok-row.ensures.ok) in
-    subst₂ (λ (tree : List Hop) (n : ℕ). HaveRoomOn c.self.inside.sums.items (links_in tree) n) (sym hops) (sym costs)
-    (have_room (map standing_of c.self.inside.rows.items) (held_under c.self.inside.by_name) c.self.inside.held.items c.self.inside.sums.items c.self.invariant
-    (links_of row) (cost_of row.octets)
-    (subst (λ (h : Stands). (l : ℕ) → l < h.links → held_cost h.rows l + cost_by_link row l < 2 ^ 64) (sym c.self.view_is) c.requires.fits))
+    let hops : c.as_slice.result.now ≡ row.tree.items = c.as_slice.ensures.value ∙ ap (λ (r : Row). r.tree.items) (c.deref-2.ensures ∙ c.in_ok-row.ensures.ok) in
+    let costs : c.cost-cost.result.0 ≡ cost_of row.octets = c.cost-cost.ensures ∙ ap (λ (r : Row). cost_of r.octets) (c.deref.ensures ∙ c.in_ok-row.ensures.ok) in
+    let paced : c.deref-3.result.now.pace ≡ row.pace = ap (λ (r : Row). r.pace) (c.deref-3.ensures ∙ c.in_ok-row.ensures.ok) in
+    subst (λ (pace : Pace). HasRoomFor c.self.inside.sums c.as_slice.result.now pace c.cost-cost.result.0) (sym paced)
+    (subst₂ (λ (tree : List Hop) (n : ℕ). HasRoomFor c.self.inside.sums tree row.pace n) (sym hops) (sym costs)
+    (has_room (map standing_of c.self.inside.rows.items) (held_under c.self.inside.by_name) c.self.inside.held.items c.self.inside.sums c.self.invariant row
+    (subst (λ (h : Stands). (l cycle : ℕ) → l < h.links → held_cost h.rows l cycle + cost_on row l cycle < 2 ^ 64) (sym c.self.view_is) c.requires.fits)))
 
 pub invariant_of-self : goal.invariant_of-self
 invariant_of-self c =
     let rows : List Standing = map standing_of c.self.inside.rows.items in
-    figures_same rows rows c.self.inside.by_name c.insert.new.self c.self.inside.held.items c.self.inside.held.items c.self.inside.sums.items
-    c.self.inside.sums.items c.self.invariant refl c.in_err-insert.ensures.err refl refl
+    figures_same rows rows c.self.inside.by_name c.insert.new.self c.self.inside.held.items c.self.inside.held.items c.self.inside.sums
+    c.self.inside.sums c.self.invariant refl c.in_err-insert.ensures.err refl refl
 
 pub invariant_of-self-2 : goal.invariant_of-self-2
 invariant_of-self-2 c =
@@ -62,19 +68,21 @@ invariant_of-self-2 c =
     ∙ ap (λ (r : Row). rows ++ held_by r ∷ []) c.in_ok-row.ensures.ok in
     let few : length rows + 1 < 2 ^ 32 = omega (arith, c.requires.few, ap (λ (h : Stands). length h.rows) c.self.view_is) in
     let free : IsFree rows row.name = subst (λ (h : Stands). IsFree h.rows row.name) (sym c.self.view_is) c.requires.free in
-    let own : IsCountable (length c.self.inside.sums.items) row = subst (λ (h : Stands). IsCountable h.links row) (sym c.self.view_is) c.requires.countable in
+    let own : IsSummable c.self.inside.sums.links row = subst (λ (h : Stands). IsSummable h.links row) (sym c.self.view_is) c.requires.summable in
     let count : c.len-number.result ≡ length rows = omega (arith, c.len-number.ensures, length-map stands standing_of) in
     let by : UpdatesBy (slice_cmp nat_cmp) (slice_cmp nat_cmp row.name) c.self.inside.by_name c.insert.new.self (Some (length rows)) =
     subst₂ (λ (name : List ℕ) (n : ℕ). UpdatesBy (slice_cmp nat_cmp) (slice_cmp nat_cmp name) c.self.inside.by_name c.insert.new.self (Some n))
     c.copied-name.ensures count c.in_ok-insert.ensures.updates in
     let listed : c.push.new.self.items ≡ held ++ length rows ∷ [] =
     (rw c.unwrap.ensures at c.push.ensures.items) ∙ ap (λ (n : ℕ). held ++ n ∷ []) count in
-    let hops : c.as_slice.result.now ≡ row.tree.items = c.as_slice.ensures.value ∙ ap (λ (r : Row). r.tree.items) (c.deref.ensures ∙ c.in_ok-row.ensures.ok) in
-    let costs : c.cost.result.0 ≡ cost_of row.octets = c.cost.ensures ∙ ap (λ (r : Row). cost_of r.octets) (c.deref-2.ensures ∙ c.in_ok-row.ensures.ok) in
-    figures_more rows (held_under c.self.inside.by_name) held c.self.inside.sums.items c.self.invariant stand (map standing_of c.push-2.new.self.items) refl free few
+    let hops : c.as_slice.result.now ≡ row.tree.items = c.as_slice.ensures.value ∙ ap (λ (r : Row). r.tree.items) (c.deref-2.ensures ∙ c.in_ok-row.ensures.ok) in
+    let costs : c.cost-cost.result.0 ≡ cost_of row.octets = c.cost-cost.ensures ∙ ap (λ (r : Row). cost_of r.octets) (c.deref.ensures ∙ c.in_ok-row.ensures.ok) in
+    let paced : c.deref-3.result.now.pace ≡ row.pace = ap (λ (r : Row). r.pace) (c.deref-3.ensures ∙ c.in_ok-row.ensures.ok) in
+    figures_more rows (held_under c.self.inside.by_name) held c.self.inside.sums c.self.invariant stand (map standing_of c.push-2.new.self.items) refl free few
     grown (held_under c.insert.new.self) by.1 (others_stay c.self.inside.by_name c.insert.new.self row.name (Some (length rows)) by) c.push.new.self.items
-    c.add_on.new.sums.items listed own
-    (subst₂ (λ (tree : List Hop) (n : ℕ). AreMoreOn c.self.inside.sums.items (links_in tree) n c.add_on.new.sums.items) hops costs c.add_on.ensures)
+    c.add.new.self listed own
+    (subst (λ (pace : Pace). AreMoreIn c.self.inside.sums row.tree.items pace (cost_of row.octets) c.add.new.self) paced
+    (subst₂ (λ (tree : List Hop) (n : ℕ). AreMoreIn c.self.inside.sums tree c.deref-3.result.now.pace n c.add.new.self) hops costs c.add.ensures))
 
 pub returns-clause-rows : goal.returns-clause-rows
 returns-clause-rows c =

@@ -1,16 +1,19 @@
 -- A request is answered by its form and the state, and its entry is the next one.
 use Rattle.std.proofs.Common.{◌≡◌, ◌∙◌, ◌-◌, ◌<◌, ℕ, List, Result, ap, arith, get_or, length, map, set, subst, subst₂, sym}
+use Rattle.std.specs.Prelude.{Err}
 use Rattle.std.proofs.lemmas.List.{get_or_default, length-map}
+use Rattle.std.proofs.lemmas.Result.{err_from_is_err_and}
 use Rattle.cqf_model.specs.declared.history.Receipt.{Receipt}
 use Rattle.cqf_model.specs.declared.history.Refused.{Refused}
 use Rattle.cqf_model.specs.Domain.{Domain}
 use Rattle.cqf_model.specs.History.{Admits, Asked, Recorded}
+use Rattle.cqf_model.specs.Limits.{most_calls}
 use Rattle.cqf_laws_history.specs.StateLaws.{with_entry}
-use Rattle.cqf_topology.specs.declared.streams.Request.{Request}
+use Rattle.cqf_topology.specs.declared.paced.PacedRequest.{PacedRequest}
 use Rattle.cqf_admission_requests.specs.Orders.{request_at}
 use Rattle.cqf_admission_requests.specs.declared.orders.What.TheVariants.{Admit}
-use Rattle.cqf_admission.specs.Admission.{Answers, HoldsOneMore}
-use Rattle.cqf_admission.specs.Asking.{asked_of}
+use Rattle.cqf_admission.specs.Admission.{Answers, HoldsOneMore, calls}
+use Rattle.cqf_admission.specs.Asking.{asked_paced}
 use Rattle.cqf_admission.specs.declared.forms.Form.{Form}
 use Rattle.cqf_admission.specs.declared.ledger.Ledger.TheInside.{Inside}
 use Rattle.cqf_admission.specs.declared.logs.Logged.{Logged}
@@ -20,34 +23,35 @@ use Rattle.cqf_admission.specs.Running.{AreForms, AreThere}
 use Rattle.cqf_admission.specs.State.{Figures, IsStateOf, Leaves, entries_with, of_entries}
 use Rattle.cqf_admission.proofs.Entered.{Entered, entered_with, few_calls, form_refused, good_form, stays_state}
 use Rattle.cqf_admission.proofs.Logging.{asked_at, form_at, forms_set, logged_behind, put_there, there_behind}
+use Rattle.cqf_admission.proofs.RunLemmas.{answers_memory}
 use Rattle.cqf_admission.proofs.ledger.Ledger.admit.Goals as goal
 use Rattle.cqf_admission.proofs.ledger.Ledger.admit.Goals.{in-Bad, in-Good+in_ok-answer-in-Good}
 
 -- the request at the place, whose form is among those that are known
-module _ (d : Domain) (rs : List Request) (forms : List Form) (place : ℕ) (read : Request) (there : place < length (map asked_of rs))
+module _ (d : Domain) (rs : List PacedRequest) (forms : List Form) (place : ℕ) (read : PacedRequest) (there : place < length (map asked_paced rs))
     (known : AreForms d rs forms) where
   low : place < length rs
-  low = omega (arith, there, length-map rs asked_of)
+  low = omega (arith, there, length-map rs asked_paced)
 
-  abbrev request : Request
+  abbrev request : PacedRequest
   request = get_or rs place read
 
   is_there : request ≡ get_or rs place request
   is_there = get_or_default rs place read request low
 
-  is_asked : request_at (map asked_of rs) place ≡ asked_of request
+  is_asked : request_at (map asked_paced rs) place ≡ asked_paced request
   is_asked = asked_at rs place request low is_there
 
-  found : (form : Form) → form ≡ get_or forms place form → IsFormOf d (asked_of request) form
+  found : (form : Form) → form ≡ get_or forms place form → IsFormOf d (asked_paced request) form
   found form at = form_at d rs forms place request form known low is_there at
 
   -- and with its form seen these are known
-  seen : (form : Form) → IsFormOf d (asked_of request) form → AreForms d rs (set forms place form)
+  seen : (form : Form) → IsFormOf d (asked_paced request) form → AreForms d rs (set forms place form)
   seen form of = forms_set d rs forms place request form known low is_there of
 
-  again : (form found : Form) → IsFormOf d (asked_of request) form → found ≡ get_or (set forms place form) place found → IsFormOf d (asked_of request) found
+  again : (form found : Form) → IsFormOf d (asked_paced request) form → found ≡ get_or (set forms place form) place found → IsFormOf d (asked_paced request) found
   again form found of at =
-      subst (IsFormOf d (asked_of request)) (sym (put_there forms place form found (omega (arith, low, known.as_many)) at)) of
+      subst (IsFormOf d (asked_paced request)) (sym (put_there forms place form found (omega (arith, low, known.as_many)) at)) of
 
 pub see-requires : goal.see-requires
 see-requires c =
@@ -59,7 +63,7 @@ see-requires c =
 pub invariant_of-self-in_err-see : goal.invariant_of-self-in_err-see
 invariant_of-self-in_err-see c =
     let i = c.self.inside in
-    let asked = map asked_of i.requests.now in (
+    let asked = map asked_paced i.requests.now in (
       subst (λ (log : List Logged). IsStateOf i.domain.now (map (recorded_in asked i.script.now) log) i.state) (sym c.reserve.ensures.items) c.self.invariant.0,
       seen i.domain.now i.requests.now i.forms.items c.args.place c.index-self-place.result
           (subst (λ (k : Kept). c.args.place < length k.requests) (sym c.self.view_is) c.requires) c.self.invariant.1 c.see.new.form c.see.ensures.form,
@@ -70,20 +74,20 @@ pub admit-requires-clause-request : goal.admit-requires-clause-request
 admit-requires-clause-request c =
     let i = c.self.inside in
     let request = get_or i.requests.now c.args.place c.index-self-place.result in
-    let of : IsFormOf i.domain.now (asked_of request) c.index.result.now =
+    let of : IsFormOf i.domain.now (asked_paced request) c.index.result.now =
     again i.domain.now i.requests.now i.forms.items c.args.place c.index-self-place.result
     (subst (λ (k : Kept). c.args.place < length k.requests) (sym c.self.view_is) c.requires) c.self.invariant.1 c.see.new.form c.index.result.now
     c.see.ensures.form c.index.ensures in
     record {
-      asked = asked_of request;
-      is = good_form i.domain.now request c.in-Good.row c.of_row.result (subst (IsFormOf i.domain.now (asked_of request)) c.in-Good.is of)
-          c.of_row.ensures.name c.of_row.ensures.octets c.of_row.ensures.tree;
+      asked = asked_paced request;
+      is = good_form i.domain.now (asked_paced request) c.in-Good.row c.of_row.result (subst (IsFormOf i.domain.now (asked_paced request)) c.in-Good.is of)
+          c.of_row.ensures.name c.of_row.ensures.octets c.of_row.ensures.pace c.of_row.ensures.tree;
     }
 
 pub invariant_of-self-in_err-answer-in-Good : goal.invariant_of-self-in_err-answer-in-Good
 invariant_of-self-in_err-answer-in-Good c =
     let i = c.self.inside in
-    let asked = map asked_of i.requests.now in (
+    let asked = map asked_paced i.requests.now in (
       subst (λ (log : List Logged). IsStateOf i.domain.now (map (recorded_in asked i.script.now) log) c.admit.new.self) (sym c.reserve.ensures.items)
           (stays_state i.domain.now (map (recorded_in asked i.script.now) i.log.items) i.state c.admit.new.self c.self.invariant.0
           c.in_err-answer-in-Good.ensures.same),
@@ -92,10 +96,31 @@ invariant_of-self-in_err-answer-in-Good c =
       subst (AreThere asked i.script.now) (sym c.reserve.ensures.items) c.self.invariant.2,
     )
 
+pub returns-in_err-answer-in-Good-clause-answers : goal.returns-in_err-answer-in-Good-clause-answers
+returns-in_err-answer-in-Good-clause-answers c =
+    let i = c.self.inside in
+    let asked = map asked_paced i.requests.now in
+    let entries = map (recorded_in asked i.script.now) i.log.items in
+    let few : length entries - i.state.sealed < 100000 =
+    omega (
+      arith,
+      few_calls c.is_full.result c.len.result i.state.sealed c.if-is_full.false c.is_full.ensures,
+      c.len.ensures,
+      length-map i.log.items (recorded_in asked i.script.now),
+    ) in
+    let p = err_from_is_err_and c.from_residual-in_err-answer-in-Good.result c.from_residual-in_err-answer-in-Good.ensures.1 in
+    answers_memory c.args.self.now.administration
+    (of_entries i.domain.now (map (recorded_in asked i.script.now) c.reserve.new.self.items)) c.args.seat
+    (Admits (request_at c.args.self.now.requests c.args.place)) c.from_residual-in_err-answer-in-Good.result (p.1 ∙ ap Err p.2)
+    (subst (λ (k : Kept). calls k.administration.entries < most_calls) c.self.view_is
+    (subst (λ (sealed : ℕ). length entries - sealed < most_calls) c.self.invariant.0.0.running.counted few))
+    (ap (λ (log : List Logged). of_entries i.domain.now (map (recorded_in asked i.script.now) log)) c.reserve.ensures.items
+    ∙ ap (λ (k : Kept). k.administration) c.self.view_is)
+
 -- what a ledger has beside its state and its log
 record Beside : Type 0 where
   domain : Domain
-  requests : List Request
+  requests : List PacedRequest
   script : List ℕ
   forms : List Form
 
@@ -108,7 +133,7 @@ module _ (c : goal.After-enter) where
   d = c.self.inside.domain.now
 
   abbrev requests : List Asked
-  requests = map asked_of c.self.inside.requests.now
+  requests = map asked_paced c.self.inside.requests.now
 
   abbrev script : List ℕ
   script = c.self.inside.script.now
@@ -117,7 +142,7 @@ module _ (c : goal.After-enter) where
   entries = map (recorded_in requests script) c.self.inside.log.items
 
   abbrev asked : Asked
-  asked = asked_of (get_or c.self.inside.requests.now c.args.place c.index-self-place.result)
+  asked = asked_paced (get_or c.self.inside.requests.now c.args.place c.index-self-place.result)
 
   abbrev forms_then : List Form
   forms_then = set c.self.inside.forms.items c.args.place c.see.new.form
@@ -156,8 +181,8 @@ module _ (c : goal.After-enter) where
     | in-Good+in_ok-answer-in-Good w ↦
         subst₂ Left (sym (ap (λ (i : Inside). i.state) w.self-inside-is)) (sym w.answer-is)
         (w.in_ok-answer-in-Good.ensures.admits entries asked c.args.seat c.self.invariant.0
-        (good_form d (get_or c.self.inside.requests.now c.args.place c.index-self-place.result) w.in-Good.row w.of_row.result
-        (subst (IsFormOf d asked) w.in-Good.is form) w.of_row.ensures.name w.of_row.ensures.octets w.of_row.ensures.tree) few)
+        (good_form d (asked_paced (get_or c.self.inside.requests.now c.args.place c.index-self-place.result)) w.in-Good.row w.of_row.result
+        (subst (IsFormOf d asked) w.in-Good.is form) w.of_row.ensures.name w.of_row.ensures.octets w.of_row.ensures.pace w.of_row.ensures.tree) few)
   ]
 
   alike : beside c.match-index.self-inside ≡ record { domain = d; requests = c.self.inside.requests.now; script = script; forms = forms_then }
@@ -194,8 +219,8 @@ module _ (c : goal.After-enter) where
 pub invariant_of-self-2 : goal.invariant_of-self-2
 invariant_of-self-2 c =
     let items = c.enter.new.log.items in
-    subst (λ (b : Beside). IsStateOf b.domain (map (recorded_in (map asked_of b.requests) b.script) items) c.match-index.self-inside.state
-    × AreForms b.domain b.requests b.forms × AreThere (map asked_of b.requests) b.script items) (sym (alike c)) (
+    subst (λ (b : Beside). IsStateOf b.domain (map (recorded_in (map asked_paced b.requests) b.script) items) c.match-index.self-inside.state
+    × AreForms b.domain b.requests b.forms × AreThere (map asked_paced b.requests) b.script items) (sym (alike c)) (
       (entered c).of,
       seen (d c) c.self.inside.requests.now c.self.inside.forms.items c.args.place c.index-self-place.result (there c) c.self.invariant.1 c.see.new.form
           c.see.ensures.form,
@@ -207,9 +232,9 @@ pub returns-clause-answers : goal.returns-clause-answers
 returns-clause-answers c =
     let items = c.enter.new.log.items in
     subst (λ (k : Kept). Answers k.administration (of_entries c.match-index.self-inside.domain.now
-    (map (recorded_in (map asked_of c.match-index.self-inside.requests.now) c.match-index.self-inside.script.now) items)) c.args.seat
+    (map (recorded_in (map asked_paced c.match-index.self-inside.requests.now) c.match-index.self-inside.script.now) items)) c.args.seat
     (Admits (request_at k.requests c.args.place)) c.match-index.answer) c.self.view_is
-    (subst (λ (b : Beside). Answers (of_entries (d c) (entries c)) (of_entries b.domain (map (recorded_in (map asked_of b.requests) b.script) items))
+    (subst (λ (b : Beside). Answers (of_entries (d c) (entries c)) (of_entries b.domain (map (recorded_in (map asked_paced b.requests) b.script) items))
     c.args.seat (Admits (request_at (requests c) c.args.place)) c.match-index.answer) (sym (alike c))
     (subst (λ (a : Asked). Answers (of_entries (d c) (entries c)) (of_entries (d c) (map (recorded_in (requests c) (script c)) items)) c.args.seat (Admits a)
     c.match-index.answer) (sym (asked_is c)) (entered c).answers))
@@ -218,9 +243,9 @@ pub returns-clause-held : goal.returns-clause-held
 returns-clause-held c =
     let items = c.enter.new.log.items in
     subst (λ (k : Kept). HoldsOneMore k.administration (of_entries c.match-index.self-inside.domain.now
-    (map (recorded_in (map asked_of c.match-index.self-inside.requests.now) c.match-index.self-inside.script.now) items))
+    (map (recorded_in (map asked_paced c.match-index.self-inside.requests.now) c.match-index.self-inside.script.now) items))
     (request_at k.requests c.args.place) c.match-index.answer) c.self.view_is
-    (subst (λ (b : Beside). HoldsOneMore (of_entries (d c) (entries c)) (of_entries b.domain (map (recorded_in (map asked_of b.requests) b.script) items))
+    (subst (λ (b : Beside). HoldsOneMore (of_entries (d c) (entries c)) (of_entries b.domain (map (recorded_in (map asked_paced b.requests) b.script) items))
     (request_at (requests c) c.args.place) c.match-index.answer) (sym (alike c))
     (subst (λ (a : Asked). HoldsOneMore (of_entries (d c) (entries c)) (of_entries (d c) (map (recorded_in (requests c) (script c)) items)) a
     c.match-index.answer) (sym (asked_is c)) (held c)))

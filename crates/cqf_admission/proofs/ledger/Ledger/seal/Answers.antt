@@ -2,7 +2,7 @@ use Rattle.std.proofs.Common.{List, map, subst, sym}
 use Rattle.cqf_model.specs.declared.history.Reply.TheVariants.{Sealed}
 use Rattle.cqf_model.specs.History.{Recorded}
 use Rattle.cqf_admission_requests.specs.declared.orders.What.TheVariants.{Seal}
-use Rattle.cqf_admission.specs.Asking.{asked_of}
+use Rattle.cqf_admission.specs.Asking.{asked_paced}
 use Rattle.cqf_admission.specs.declared.logs.Logged.{Logged}
 use Rattle.cqf_admission.specs.Ledger.{recorded_in}
 use Rattle.cqf_admission.specs.State.{IsStateOf}
@@ -12,7 +12,7 @@ use Rattle.cqf_admission.proofs.ledger.Ledger.seal.Goals as goal
 pub invariant_of-self-2 : goal.invariant_of-self-2
 invariant_of-self-2 c =
     let i = c.self.inside in
-    let asked = map asked_of i.requests.now in
+    let asked = map asked_paced i.requests.now in
     let entries = map (recorded_in asked i.script.now) i.log.items in
     let e : Logged = record { seat = c.args.seat; what = Seal; reply = Sealed } in (
       subst (λ (es : List Recorded). IsStateOf i.domain.now es c.seal.new.self)

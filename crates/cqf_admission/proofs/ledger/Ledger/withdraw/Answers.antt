@@ -5,7 +5,7 @@ use Rattle.cqf_laws_history.specs.StateLaws.{with_entry}
 use Rattle.cqf_admission_requests.specs.Orders.{StandsIn, word_at}
 use Rattle.cqf_admission_requests.specs.declared.orders.What.TheVariants.{Withdraw}
 use Rattle.cqf_admission.specs.Admission.{Answers}
-use Rattle.cqf_admission.specs.Asking.{asked_of}
+use Rattle.cqf_admission.specs.Asking.{asked_paced}
 use Rattle.cqf_admission.specs.declared.logs.Logged.{Logged}
 use Rattle.cqf_admission.specs.Ledger.{Kept, recorded_in}
 use Rattle.cqf_admission.specs.State.{entries_with, of_entries}
@@ -14,12 +14,12 @@ use Rattle.cqf_admission.proofs.Logging.{logged_behind, there_behind}
 use Rattle.cqf_admission.proofs.ledger.Ledger.withdraw.Goals as goal
 
 -- the call as it is logged
-logged : (c : goal.After-enter) → (let i = c.self.inside in let asked = map asked_of i.requests.now in let entries = map (recorded_in asked i.script.now) i.log.items in
+logged : (c : goal.After-enter) → (let i = c.self.inside in let asked = map asked_paced i.requests.now in let entries = map (recorded_in asked i.script.now) i.log.items in
     Entered i.domain.now entries (map (recorded_in asked i.script.now) c.enter.new.log.items) c.withdraw.new.self c.args.seat
     (Withdraws (word_at i.script.now c.args.from c.args.octets)) c.in_ok-answer.answer)
 logged c =
     let i = c.self.inside in
-    let asked = map asked_of i.requests.now in
+    let asked = map asked_paced i.requests.now in
     let entries = map (recorded_in asked i.script.now) i.log.items in
     let after = map (recorded_in asked i.script.now) c.enter.new.log.items in
     let answer = c.in_ok-answer.answer in
@@ -42,7 +42,7 @@ logged c =
 pub invariant_of-self-2 : goal.invariant_of-self-2
 invariant_of-self-2 c =
     let i = c.self.inside in
-    let asked = map asked_of i.requests.now in
+    let asked = map asked_paced i.requests.now in
     let e : Logged = record { seat = c.args.seat; what = Withdraw c.args.from c.args.octets; reply = c.reply_of.result } in (
       (logged c).of,
       c.self.invariant.1,
@@ -53,6 +53,6 @@ invariant_of-self-2 c =
 pub returns-clause-answers : goal.returns-clause-answers
 returns-clause-answers c =
     let i = c.self.inside in
-    let after = map (recorded_in (map asked_of i.requests.now) i.script.now) c.enter.new.log.items in
+    let after = map (recorded_in (map asked_paced i.requests.now) i.script.now) c.enter.new.log.items in
     subst (λ (k : Kept). Answers k.administration (of_entries i.domain.now after) c.args.seat (Withdraws (word_at k.script c.args.from c.args.octets))
     c.in_ok-answer.answer) c.self.view_is (logged c).answers

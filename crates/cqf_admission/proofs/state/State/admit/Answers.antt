@@ -2,12 +2,13 @@ use Rattle.std.proofs.Common.{◌≡◌, ◌∙◌, ◌+◌, ◌<◌, ◌^◌, �
 use Rattle.cqf_units.specs.declared.reservations.Cycle.{Cycle}
 use Rattle.cqf_model.specs.declared.history.Receipt.{Receipt}
 use Rattle.cqf_model.specs.declared.topology.Row.{Row}
+use Rattle.cqf_model.specs.Table.{cost_on}
 use Rattle.cqf_admission.specs.Holdings.{IsFree, Standing, held_by, held_cost}
-use Rattle.cqf_admission.specs.Rows.{IsCountable, cost_by_link}
+use Rattle.cqf_admission.specs.Rows.{IsSummable}
 use Rattle.cqf_admission.specs.State.{AdmitsForm, Figures, SomeHistory}
 use Rattle.cqf_admission.specs.Weighing.{row_by}
 use Rattle.cqf_admission.proofs.StateCalls.{admits_granted, admits_refused}
-use Rattle.cqf_admission.proofs.Weighed.{inside, is_new, within}
+use Rattle.cqf_admission.proofs.Weighed.{apart, good, inside, is_new, within}
 use Rattle.cqf_admission.proofs.state.State.admit.Goals as goal
 
 pub refusal_of-requires-clause-inside : goal.refusal_of-requires-clause-inside
@@ -18,7 +19,13 @@ refusal_of-requires-clause-within c =
     let i = c.self.inside in
     let before : Figures = record { stands = i.holdings.rows; room = i.holdings.room; links = i.holdings.links; slots = i.slots; sealed = i.sealed } in
     let h = subst (SomeHistory c.args.domain.now) (sym c.self.view_is) c.requires.history in
-    λ l low. within c.args.domain.now h.entries before h.is c.state_follows_history.ensures.held l
+    λ l cycle low. within c.args.domain.now h.entries before h.is c.state_follows_history.ensures.held l cycle
+
+pub refusal_of-requires-clause-apart : goal.refusal_of-requires-clause-apart
+refusal_of-requires-clause-apart c = apart c.args.domain.now c.requires.request.asked c.args.form c.requires.request.is
+
+pub refusal_of-requires-clause-good : goal.refusal_of-requires-clause-good
+refusal_of-requires-clause-good c = good c.args.domain.now c.requires.request.asked c.args.form c.requires.request.is
 
 pub returns-in-Some-clause-admits : goal.returns-in-Some-clause-admits
 returns-in-Some-clause-admits c =
@@ -47,15 +54,15 @@ push-requires-clause-free c =
     subst (λ (rows : List Standing). IsFree rows c.in_ok-row.row.name) (sym c.reserve.ensures.rows)
     (subst (IsFree i.holdings.rows) (sym (ap (λ (row : Row). row.name) c.in_ok-row.ensures)) new.free)
 
-pub push-requires-clause-countable : goal.push-requires-clause-countable
-push-requires-clause-countable c =
+pub push-requires-clause-summable : goal.push-requires-clause-summable
+push-requires-clause-summable c =
     let i = c.self.inside in
     let before : Figures = record { stands = i.holdings.rows; room = i.holdings.room; links = i.holdings.links; slots = i.slots; sealed = i.sealed } in
     let h = subst (SomeHistory c.args.domain.now) (sym c.self.view_is) c.requires.history in
     let new = is_new c.args.domain.now h.entries before h.is c.requires.request.asked c.args.form c.requires.request.is c.state_follows_history.ensures.held
     c.know.ensures.accepted (sym c.refusal_of.ensures ∙ c.in_default.is) in
-    subst (λ (links : ℕ). IsCountable links c.in_ok-row.row) (sym (c.reserve.ensures.links ∙ h.is.1))
-    (subst (IsCountable (length c.args.domain.now.links)) (sym c.in_ok-row.ensures) (new.countable c.len-no.result (record { 0 = i.sealed })))
+    subst (λ (links : ℕ). IsSummable links c.in_ok-row.row) (sym (c.reserve.ensures.links ∙ h.is.1))
+    (subst (IsSummable (length c.args.domain.now.links)) (sym c.in_ok-row.ensures) (new.summable c.len-no.result (record { 0 = i.sealed })))
 
 pub push-requires-clause-fits : goal.push-requires-clause-fits
 push-requires-clause-fits c =
@@ -64,10 +71,10 @@ push-requires-clause-fits c =
     let h = subst (SomeHistory c.args.domain.now) (sym c.self.view_is) c.requires.history in
     let new = is_new c.args.domain.now h.entries before h.is c.requires.request.asked c.args.form c.requires.request.is c.state_follows_history.ensures.held
     c.know.ensures.accepted (sym c.refusal_of.ensures ∙ c.in_default.is) in
-    λ l low.
-    subst (λ (rows : List Standing). held_cost rows l + cost_by_link c.in_ok-row.row l < 2 ^ 64) (sym c.reserve.ensures.rows)
-    (subst (λ (row : Row). held_cost i.holdings.rows l + cost_by_link row l < 2 ^ 64) (sym c.in_ok-row.ensures)
-    (new.fits l c.len-no.result (record { 0 = i.sealed })))
+    λ l cycle low.
+    subst (λ (rows : List Standing). held_cost rows l cycle + cost_on c.in_ok-row.row l cycle < 2 ^ 64) (sym c.reserve.ensures.rows)
+    (subst (λ (row : Row). held_cost i.holdings.rows l cycle + cost_on row l cycle < 2 ^ 64) (sym c.in_ok-row.ensures)
+    (new.fits l cycle c.len-no.result (record { 0 = i.sealed })))
 
 pub returns-clause-admits : goal.returns-clause-admits
 returns-clause-admits c =

@@ -1,11 +1,12 @@
-use Rattle.std.proofs.Common.{◌≡◌, ◌∙◌, List, ap, arith, subst, sym}
+use Rattle.std.proofs.Common.{◌≡◌, ◌≤◌, ◌∙◌, ℕ, List, ap, subst, sym}
 use Rattle.std.specs.Option.{option_map_or}
 use Rattle.cqf_units.specs.Timing.{budget_of, nanos_of_octet}
 use Rattle.cqf_model.specs.declared.topology.Link.{Link}
 use Rattle.cqf_model.specs.Domain.{budget}
-use Rattle.cqf_admission.specs.Holdings.{Standing, held_cost}
+use Rattle.cqf_admission.specs.Holdings.{Standing, held_most}
 use Rattle.cqf_admission.specs.State.{Figures, SomeHistory}
-use Rattle.cqf_admission.proofs.Told.{costs}
+use Rattle.cqf_admission.proofs.Left.{all_within, fits_in, none_over}
+use Rattle.cqf_admission.proofs.Told.{costs_most}
 use Rattle.cqf_admission.proofs.Weighed.{within}
 use Rattle.cqf_admission.proofs.state.State.taken_of.Goals as goal
 
@@ -18,11 +19,13 @@ prove-unreachable-requires c =
     let most : c.budget-most.result.0 ≡ budget d c.args.link =
     c.budget-most.ensures
     ∙ (λ k. budget_of (c.cycle_time.ensures.value k) (c.guard.ensures k) (option_map_or (λ (link : Link). nanos_of_octet link.rate) (sym c.link-rate.ensures k) 0)) in
-    omega (arith, c.if-prove.true, within d h.entries before h.is c.state_follows_history.ensures.held c.args.link, most, c.cost_on-taken.ensures)
+    let fits = fits_in c.most_of-taken.result c.budget-most.result.0 (held_most i.holdings.rows c.args.link) (budget d c.args.link) c.most_of-taken.ensures most
+    (all_within i.holdings.rows c.args.link (budget d c.args.link) (within d h.entries before h.is c.state_follows_history.ensures.held c.args.link)) in
+    none_over c.most_of-taken.result c.from.result (subst (λ (n : ℕ). c.most_of-taken.result ≤ n) (sym c.from.ensures) fits) c.if-prove.true
 
 pub returns-clause-held : goal.returns-clause-held
 returns-clause-held c entries r =
-    c.cost_on-taken.ensures
-    ∙ ap (λ (f : Figures). held_cost f.stands c.args.link) c.self.view_is
-    ∙ ap (λ (rows : List Standing). held_cost rows c.args.link) r.0.are_streams
-    ∙ costs c.args.domain.now entries c.args.link
+    c.most_of-taken.ensures
+    ∙ ap (λ (f : Figures). held_most f.stands c.args.link) c.self.view_is
+    ∙ ap (λ (rows : List Standing). held_most rows c.args.link) r.0.are_streams
+    ∙ costs_most c.args.domain.now entries c.args.link

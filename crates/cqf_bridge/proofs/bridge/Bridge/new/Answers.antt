@@ -1,6 +1,6 @@
 use Rattle.std.proofs.Common.{◌∙◌, List, Contains, subst}
 use Rattle.cqf_lists.proofs.Members.{contains_none}
-use Rattle.cqf_bridge_gates.specs.declared.gates.KeptGate.{KeptGate}
+use Rattle.cqf_bridge_gates.specs.declared.cycle_gate.KeptGate.{KeptGate}
 use Rattle.cqf_bridge.proofs.Bridges.{bridge_begins}
 use Rattle.cqf_bridge.proofs.bridge.Bridge.new.Goals as goal
 

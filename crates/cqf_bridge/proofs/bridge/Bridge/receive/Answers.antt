@@ -1,12 +1,12 @@
 use Rattle.std.proofs.Common.{◌+◌, ◌∙◌, refl, subst, sym, true}
 use Rattle.cqf_bridge.specs.BridgeState.{BridgeState}
 use Rattle.cqf_bridge.specs.Receiving.{CanReceive, Handed, IsReceiveFault, IsRunOfBridge, ReceivesCycle}
-use Rattle.cqf_bridge.proofs.Receives.{bridge_received, cycle_received, early_to_receive, next_to_receive, ready_to_receive, stop_is_fault}
+use Rattle.cqf_bridge.proofs.Receives.{bridge_received, cycle_received, early_to_receive, gates_before, next_to_receive, stop_is_fault, waits_for_cycle}
 use Rattle.cqf_bridge.proofs.bridge.Bridge.receive.Goals as goal
 
-pub receive_frames-received-requires-clause-ready :
-    goal.receive_frames-received-requires-clause-ready
-receive_frames-received-requires-clause-ready c =
+pub receive_frames-received-requires-clause-waiting :
+    goal.receive_frames-received-requires-clause-waiting
+receive_frames-received-requires-clause-waiting c =
     let i = c.self.inside in
     let b : BridgeState = record {
       domain = i.domain;
@@ -20,7 +20,25 @@ receive_frames-received-requires-clause-ready c =
     } in
     let next = next_to_receive b c.args.cycle.0 c.args.table.now.cycle c.self.invariant.bridge c.if-cycle-self.false c.if-self-2.false
     (sym c.cycle.ensures ∙ c.if-cycle.false) in
-    ready_to_receive b i.gates c.self.invariant c.if-self.false c.args.cycle.0 c.args.table.now.cycle next
+    waits_for_cycle b i.gates c.self.invariant c.if-self.false c.args.cycle.0 c.args.table.now.cycle next
+
+pub receive_frames-received-requires-clause-before :
+    goal.receive_frames-received-requires-clause-before
+receive_frames-received-requires-clause-before c =
+    let i = c.self.inside in
+    let b : BridgeState = record {
+      domain = i.domain;
+      number = i.number;
+      sent = i.sent;
+      received = i.received;
+      spent = i.spent;
+      ports =
+          i.ports.items;
+      background = i.background.items;
+    } in
+    let next = next_to_receive b c.args.cycle.0 c.args.table.now.cycle c.self.invariant.bridge c.if-cycle-self.false c.if-self-2.false
+    (sym c.cycle.ensures ∙ c.if-cycle.false) in
+    gates_before b i.gates c.self.invariant c.if-self.false c.args.cycle.0 c.args.table.now.cycle next
 
 pub invariant_of-self : goal.invariant_of-self
 invariant_of-self c =

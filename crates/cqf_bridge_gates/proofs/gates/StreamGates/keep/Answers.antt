@@ -1,6 +1,6 @@
 use Rattle.std.proofs.Common.{◌≡◌, ◌==◌, ◌++◌, ◌∷◌, [], ◌∙◌, ℕ, List, position, drop, length, map, nat_eq, arith, ap, sym}
 use Rattle.indexmap.specs.IndexSet.{insert_key}
-use Rattle.cqf_bridge_gates.specs.declared.gates.KeptGate.{KeptGate}
+use Rattle.cqf_bridge_gates.specs.declared.cycle_gate.KeptGate.{KeptGate}
 use Rattle.cqf_bridge_gates.specs.declared.gates.TheConstants.{FEW}
 use Rattle.cqf_bridge_gates.specs.declared.gates.StreamGates.TheInside.{Inside}
 use Rattle.cqf_bridge_gates.proofs.GatePlaces.{among_few, behind_few}

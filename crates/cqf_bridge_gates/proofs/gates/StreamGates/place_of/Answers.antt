@@ -1,5 +1,5 @@
 use Rattle.std.proofs.Common.{◌==◌, ◌∙◌, List, Some, None, position, take, arith, ap}
-use Rattle.cqf_bridge_gates.specs.declared.gates.KeptGate.{KeptGate}
+use Rattle.cqf_bridge_gates.specs.declared.cycle_gate.KeptGate.{KeptGate}
 use Rattle.cqf_bridge_gates.specs.declared.gates.TheConstants.{FEW}
 use Rattle.cqf_bridge_gates.proofs.GatePlaces.{place_behind}
 use Rattle.cqf_bridge_gates.proofs.gates.StreamGates.place_of.Goals as goal

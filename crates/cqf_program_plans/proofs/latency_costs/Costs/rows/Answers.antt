@@ -1,7 +1,10 @@
-use Rattle.std.proofs.Common.{subst}
-use Rattle.cqf_admission.specs.Tables.{AreOfEachCycle}
-use Rattle.cqf_program_plans.specs.LatencyOutput.{DomainTable}
+use Rattle.std.proofs.Common.{length, subst}
+use Rattle.cqf_admission_trees.specs.Turns.{AreOfGoodPaces}
+use Rattle.cqf_program_plans.specs.LatencyOutput.{AreCountable, DomainTable}
 use Rattle.cqf_program_plans.proofs.latency_costs.Costs.rows.Goals as goal
 
-pub returns-clause-paced : goal.returns-clause-paced
-returns-clause-paced c = subst (λ (t : DomainTable). AreOfEachCycle t.rows) c.self.view_is c.self.invariant.paced
+pub returns-clause-countable : goal.returns-clause-countable
+returns-clause-countable c = subst (λ (t : DomainTable). AreCountable (length t.domain.links) t.rows) c.self.view_is c.self.invariant.countable
+
+pub returns-clause-good : goal.returns-clause-good
+returns-clause-good c = subst (λ (t : DomainTable). AreOfGoodPaces t.rows) c.self.view_is c.self.invariant.good

@@ -1,5 +1,5 @@
 use Rattle.std.proofs.Common.{◌∙◌, ℕ, ap, subst, sym}
-use Rattle.cqf_admission.specs.Asking.{asked_of}
+use Rattle.cqf_admission.specs.Asking.{asked_paced}
 use Rattle.cqf_admission.specs.Judging.{row_by}
 use Rattle.cqf_model.specs.declared.topology.Row.{Row}
 use Rattle.cqf_program_plans.specs.Listing.{IsListed}
@@ -7,6 +7,6 @@ use Rattle.cqf_program_plans.proofs.load_listing.Listing.look_over.Goals as goal
 
 pub returns-in_ok-row-in-Ok : goal.returns-in_ok-row-in-Ok
 returns-in_ok-row-in-Ok c =
-    subst (λ (row : Row). IsListed c.args.domain.now c.args.self.now (asked_of c.args.request.now) row)
+    subst (λ (row : Row). IsListed c.args.domain.now c.args.self.now (asked_paced c.args.request.now) row)
     (sym (c.in_ok-row-in-Ok.ensures ∙ ap (λ (n : ℕ). row_by c.in-Ok.judged c.args.request.now.octets n (record { 0 = 0 })) c.len.ensures))
     c.in-Ok.ensures

@@ -1,0 +1,21 @@
+-- The gate that is written for a stream at a bridge (profile).
+use Rattle.std.specs.Prelude.{ℕ, List, Option, find}
+use Rattle.std.specs.Option.{option_and_then}
+use Rattle.cqf_model.specs.declared.gates.StreamEntry.{StreamEntry}
+use Rattle.cqf_model.specs.declared.topology.Hop.{Hop}
+use Rattle.cqf_model.specs.declared.topology.Row.{Row}
+use Rattle.cqf_model.specs.Domain.{Domain, leaves}
+use Rattle.cqf_model.specs.Table.{depth_behind}
+use Rattle.cqf_gates.specs.ReservedSpans.{reserved_spans}
+
+-- the first hop by which a stream leaves a bridge. It comes there by the link before that hop, or where there is none from its
+-- talker
+abbrev pub first_hop : Domain → ℕ → Row → Option Hop
+first_hop d bridge row = find (λ (hop : Hop). leaves d hop.link bridge) row.tree.items
+
+abbrev pub way_to : Domain → ℕ → Row → Option ℕ
+way_to d bridge row = option_and_then (λ (hop : Hop). hop.from) (first_hop d bridge row)
+
+-- its gate there, by spans: that of frames that came that way
+abbrev pub gate_at : Domain → Row → ℕ → List StreamEntry
+gate_at d row bridge = reserved_spans d.cycle_time row.octets row.pace (depth_behind row (way_to d bridge row))

@@ -1,0 +1,157 @@
+-- Lists of spans, each of a number of cycles: which entry is in force in a cycle.
+use Rattle.std.proofs.Common.{◌≡◌, ℕ, ◌+◌, ◌-◌, ◌*◌, ◌<◌, ◌≤◌, suc, List, [], ◌∷◌, ◌++◌, length, Bool, false, if◌then◌else◌, Some, inl, inr}
+use Rattle.std.proofs.Common.{refl, ap, sym, ◌∙◌, arith, nat_lt, lt-ltb, le-ltb, ◌==◌, eq-eqb}
+use Rattle.std.specs.Prelude.{slice_get}
+use Rattle.std.proofs.lemmas.Bool.{cases_lt, cond-false, cond-true, ne_eqb}
+use Rattle.std.proofs.lemmas.Bool.Decides.{eqb_tells}
+use Rattle.std.proofs.lemmas.List.Sums.{sum_by-append, sum_by-cons}
+use Rattle.std.proofs.lemmas.Nat.{mul-le}
+use Rattle.cqf_lists.proofs.Places.{slice_get_behind}
+use Rattle.cqf_model.specs.declared.gates.StreamEntry.{StreamEntry}
+use Rattle.cqf_model.specs.StreamGate.{gate_round, place_in}
+use Rattle.cqf_gates.specs.ReservedSpans.{closed_for}
+
+-- a round of some entries and of others behind them
+pub round_behind : (front back : List StreamEntry) → gate_round (front ++ back) ≡ gate_round front + gate_round back
+round_behind front back = sum_by-append (λ (entry : StreamEntry). entry.interval) front back
+
+pub round_first : (e : StreamEntry) (back : List StreamEntry) → gate_round (e ∷ back) ≡ e.interval + gate_round back
+round_first e back = sum_by-cons (λ (entry : StreamEntry). entry.interval) e back
+
+-- the first entry is in force up to its end
+place_first : (e : StreamEntry) (back : List StreamEntry) (offset : ℕ) → offset < e.interval → place_in (e ∷ back) offset ≡ 0
+place_first e back offset inside = cond-true (nat_lt offset e.interval) 0 (suc (place_in back (offset - e.interval))) (lt-ltb offset e.interval inside)
+
+-- and then one of the others
+place_later : (e : StreamEntry) (back : List StreamEntry) (offset : ℕ) → e.interval ≤ offset →
+    place_in (e ∷ back) offset ≡ suc (place_in back (offset - e.interval))
+place_later e back offset later = cond-false (nat_lt offset e.interval) 0 (suc (place_in back (offset - e.interval))) (le-ltb offset e.interval later)
+
+-- within the entries in front one of them is in force
+pub place_front : (front back : List StreamEntry) (offset : ℕ) → offset < gate_round front → place_in (front ++ back) offset < length front
+place_front [] back offset inside = absurd (omega (arith, inside))
+place_front (e ∷ front) back offset inside =
+    let whole = round_first e front in
+    elim (cases_lt offset e.interval) [
+      | inl first ↦ omega (arith, place_first e (front ++ back) offset first)
+      | inr later ↦
+          let rest = place_front front back (offset - e.interval) (omega (arith, inside, whole, later)) in
+          omega (arith, place_later e (front ++ back) offset later, rest)
+    ]
+
+-- behind these it is one of the others, so long after their beginning
+pub place_behind : (front back : List StreamEntry) (offset rest : ℕ) → offset ≡ gate_round front + rest →
+    place_in (front ++ back) offset ≡ length front + place_in back rest
+place_behind [] back offset rest is =
+    let same : offset ≡ rest = omega (arith, is) in
+    let there : place_in back offset ≡ place_in back rest = ap (place_in back) same in
+    omega (arith, there)
+place_behind (e ∷ front) back offset rest is =
+    let whole = round_first e front in
+    let later : e.interval ≤ offset = omega (arith, is, whole) in
+    let there = place_behind front back (offset - e.interval) rest (omega (arith, is, whole)) in
+    omega (arith, place_later e (front ++ back) offset later, there)
+
+-- an entry stands behind a number of cycles, and is as long as a cycle
+pub record StandsAt (entries : List StreamEntry) (n : ℕ) (e : StreamEntry) (cell : ℕ) : Type 0 where
+  pub front : List StreamEntry
+  pub back : List StreamEntry
+  pub parted : entries ≡ front ++ (e ∷ back)
+  pub before : gate_round front ≡ cell * n
+  pub long : e.interval ≡ n
+
+-- in the cycle behind these it is in force
+module _ (n : ℕ) (e : StreamEntry) (front back : List StreamEntry) (q : ℕ) (before : gate_round front ≡ q * n) (long : e.interval ≡ n) where
+  -- at its beginning and up to its end
+  place_now : (rem : ℕ) → rem < n → place_in (front ++ (e ∷ back)) (q * n + rem) ≡ length front
+  place_now rem inside =
+      let behind = place_behind front (e ∷ back) (q * n + rem) rem (omega (arith, before)) in
+      omega (arith, behind, place_first e back rem (omega (arith, inside, long)))
+
+  -- and in no other cycle
+  place_only : (cell rem : ℕ) → rem < n → place_in (front ++ (e ∷ back)) (cell * n + rem) ≡ length front → cell ≡ q
+  place_only cell rem inside at =
+      elim (cases_lt cell q) [
+        | inl sooner ↦
+            let most : suc cell * n ≤ q * n = mul-le (suc cell) n q n sooner (omega arith) in
+            let short : cell * n + rem < gate_round front = omega (arith, most, before, inside) in
+            absurd (omega (arith, place_front front (e ∷ back) (cell * n + rem) short, at))
+        | inr late ↦
+            elim (cases_lt q cell) [
+              | inl later ↦
+                  let least : suc q * n ≤ cell * n = mul-le (suc q) n cell n later (omega arith) in
+                  let rest : ℕ = cell * n + rem - q * n in
+                  let long_after : e.interval ≤ rest = omega (arith, least, long) in
+                  let behind = place_behind front (e ∷ back) (cell * n + rem) rest (omega (arith, least, before)) in
+                  absurd (omega (arith, behind, place_later e back rest long_after, at))
+              | inr same ↦ omega (arith, late, same)
+            ]
+      ]
+
+-- the entry is in force in just that cycle of a round
+pub stands_place : (entries : List StreamEntry) (n : ℕ) (e : StreamEntry) (q : ℕ) (at : StandsAt entries n e q) (cell rem : ℕ) → rem < n →
+    (place_in entries (cell * n + rem) == length at.front) ≡ (cell == q)
+stands_place entries n e q at cell rem inside =
+    let here = at.front ++ (e ∷ at.back) in
+    ap (λ (xs : List StreamEntry). place_in xs (cell * n + rem) == length at.front) at.parted
+    ∙ elim (eqb_tells cell q) [
+      | inl met ↦
+          let same : cell * n + rem ≡ q * n + rem = ap (λ z. z * n + rem) met.1 in
+          eq-eqb (place_in here (cell * n + rem)) (length at.front) (ap (place_in here) same ∙ place_now n e at.front at.back q at.before at.long rem inside) ∙ sym met.0
+      | inr other ↦
+          ne_eqb (place_in here (cell * n + rem)) (length at.front)
+          (λ same. other.1 (place_only n e at.front at.back q at.before at.long cell rem inside same)) ∙ sym other.0
+    ]
+
+-- there it is found
+pub stands_found : (entries : List StreamEntry) (n : ℕ) (e : StreamEntry) (q : ℕ) (at : StandsAt entries n e q) (rem : ℕ) → rem < n →
+    (place_in entries (q * n + rem) ≡ length at.front) × (slice_get entries (place_in entries (q * n + rem)) ≡ Some e)
+stands_found entries n e q at rem inside =
+    let place = ap (λ (xs : List StreamEntry). place_in xs (q * n + rem)) at.parted ∙ place_now n e at.front at.back q at.before at.long rem inside in (
+      place,
+      ap (λ (xs : List StreamEntry). slice_get xs (place_in entries (q * n + rem))) at.parted
+          ∙ slice_get_behind at.front e at.back (place_in entries (q * n + rem)) place,
+    )
+
+-- so long after the beginning of a round nothing passes
+pub record IsClosed (entries : List StreamEntry) (offset : ℕ) : Type 0 where
+  pub entry : StreamEntry
+  pub in_force : slice_get entries (place_in entries offset) ≡ Some entry
+  pub shut : entry.octet_max ≡ Some 0
+
+-- a closed span takes its cycles
+pub round_closed : (n cycles : ℕ) → gate_round (closed_for n cycles) ≡ cycles * n
+round_closed n cycles =
+    elim (eqb_tells cycles 0) [
+      | inl none ↦
+          ap (λ (b : Bool). gate_round (span b)) none.0 ∙ omega (arith, ap (λ z. z * n) none.1)
+      | inr some ↦ ap (λ (b : Bool). gate_round (span b)) some.0 ∙ round_first shut [] ∙ omega arith
+    ]
+  where
+    shut : StreamEntry
+    shut = record { ipv = 6; interval = cycles * n; octet_max = Some 0 }
+
+    span : Bool → List StreamEntry
+    span b = if b then [] else shut ∷ []
+
+-- and is in force in these
+pub closed_within : (entries front back : List StreamEntry) (n first cycles cell rem : ℕ) → entries ≡ front ++ (closed_for n cycles ++ back) →
+    gate_round front ≡ first * n → first ≤ cell → cell < first + cycles → rem < n → IsClosed entries (cell * n + rem)
+closed_within entries front back n first cycles cell rem parted before begun inside small =
+    let shut : StreamEntry = record { ipv = 6; interval = cycles * n; octet_max = Some 0 } in
+    let some : (cycles == 0) ≡ false = ne_eqb cycles 0 (λ none. absurd (omega (arith, none, begun, inside))) in
+    let spans : closed_for n cycles ≡ shut ∷ [] = ap (λ (b : Bool). if b then [] else shut ∷ []) some in
+    let here : entries ≡ front ++ (shut ∷ back) = parted ∙ ap (λ (xs : List StreamEntry). front ++ (xs ++ back)) spans in
+    let rest : ℕ = cell * n + rem - first * n in
+    let least : first * n ≤ cell * n = mul-le first n cell n begun (omega arith) in
+    let most : suc cell * n ≤ (first + cycles) * n = mul-le (suc cell) n (first + cycles) n inside (omega arith) in
+    let behind = place_behind front (shut ∷ back) (cell * n + rem) rest (omega (arith, least, before)) in
+    let within : rest < cycles * n = omega (arith, least, most, small) in
+    let place : place_in entries (cell * n + rem) ≡ length front =
+    ap (λ (xs : List StreamEntry). place_in xs (cell * n + rem)) here ∙ omega (arith, behind, place_first shut back rest within) in
+    record {
+      entry = shut;
+      in_force = ap (λ (xs : List StreamEntry). slice_get xs (place_in entries (cell * n + rem))) here
+          ∙ slice_get_behind front shut back (place_in entries (cell * n + rem)) place;
+      shut = refl;
+    }

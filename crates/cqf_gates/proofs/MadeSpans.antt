@@ -1,0 +1,119 @@
+-- The spans of a reservation make a list.
+use Rattle.std.proofs.Common.{◌≡◌, ℕ, ◌+◌, ◌-◌, ◌*◌, ◌%◌, ◌<◌, ◌≤◌, List, [], ◌∷◌, ◌++◌, length, Bool, true, false, ◌||◌, if◌then◌else◌, not, ◌&&◌}
+use Rattle.std.proofs.Common.{Some, Ok, refl, ap, ap₂, sym, ◌∙◌, arith, ◌==◌, inl, inr, subst, nat_lt, mod-lt, append_assoc, length-append}
+use Rattle.std.specs.List.{list_any}
+use Rattle.std.proofs.lemmas.Bool.Decides.{eqb_tells, nat_tests}
+use Rattle.std.proofs.lemmas.Bool.{ne_eqb, le-ltb}
+use Rattle.std.proofs.lemmas.List.Folds.{list_any-append}
+use Rattle.std.proofs.lemmas.Nat.{mul-le}
+use Rattle.cqf_model.specs.declared.gates.StreamEntry.{StreamEntry}
+use Rattle.cqf_model.specs.declared.topology.Pace.{Pace}
+use Rattle.cqf_gates.specs.ReservedSpans.{closed_for, first_turn, open_in, reserved_spans, second_turn, spans_from}
+use Rattle.cqf_gates.specs.StreamGate.{is_bad_ipv, stream_list_of}
+
+-- an entry is in force for no time
+abbrev is_zero : StreamEntry → Bool
+is_zero entry = entry.interval == 0
+
+-- entries of which none is a fault
+record AreGood (entries : List StreamEntry) : Type 0 where
+  pub lasting : list_any is_zero entries ≡ false
+  pub valued : list_any is_bad_ipv entries ≡ false
+
+none_good : AreGood []
+none_good = record { lasting = refl; valued = refl }
+
+good_behind : (front back : List StreamEntry) → AreGood front → AreGood back → AreGood (front ++ back)
+good_behind front back one two = record {
+  lasting = list_any-append is_zero front back ∙ ap₂ (λ (a b : Bool). a || b) one.lasting two.lasting;
+  valued = list_any-append is_bad_ipv front back ∙ ap₂ (λ (a b : Bool). a || b) one.valued two.valued;
+}
+
+good_one : (e : StreamEntry) → is_zero e ≡ false → is_bad_ipv e ≡ false → AreGood (e ∷ [])
+good_one e some valued = record { lasting = ap (λ (b : Bool). b || false) some; valued = ap (λ (b : Bool). b || false) valued }
+
+-- a closed span
+good_closed : (n cycles : ℕ) → 0 < n → AreGood (closed_for n cycles)
+good_closed n cycles some =
+    let shut : StreamEntry = record { ipv = 6; interval = cycles * n; octet_max = Some 0 } in
+    let spans : Bool → List StreamEntry = λ b. if b then [] else shut ∷ [] in
+    elim (eqb_tells cycles 0) [
+      | inl none ↦ subst (λ (b : Bool). AreGood (spans b)) (sym none.0) none_good
+      | inr more ↦
+          let least : 1 * n ≤ cycles * n = mul-le 1 n cycles n (omega (arith, more.1)) (omega arith) in
+          subst (λ (b : Bool). AreGood (spans b)) (sym more.0) (good_one shut (ne_eqb (cycles * n) 0 (λ none. absurd (omega (arith, none, least, some)))) refl)
+    ]
+
+-- an open one
+good_open : (n reserved cycle : ℕ) → 0 < n → AreGood (open_in n reserved cycle ∷ [])
+good_open n reserved cycle some =
+    good_one (open_in n reserved cycle) (ne_eqb n 0 (λ none. absurd (omega (arith, none, some)))) (class (cycle % 2) (mod-lt cycle (omega arith)))
+  where
+    -- each class is 6 or 7
+    class : (x : ℕ) → x < 2 → (not (6 + x == 6) && not (6 + x == 7)) ≡ false
+    class x small = grind (arith, nat_tests, small)
+
+-- and those of a second period
+good_second : (n reserved : ℕ) (pace : Pace) (turn : ℕ) → 0 < n → AreGood (second_turn n reserved pace turn)
+good_second n reserved pace turn some = by ((pace.pause + 1) % 2 == 0)
+  where
+    by : (b : Bool) → AreGood (if b then [] else closed_for n pace.pause ++ open_in n reserved (turn + (pace.pause + 1)) ∷ [])
+    by true = none_good
+    by false =
+        good_behind (closed_for n pace.pause) (open_in n reserved (turn + (pace.pause + 1)) ∷ []) (good_closed n pace.pause some)
+        (good_open n reserved (turn + (pace.pause + 1)) some)
+
+-- of one span at most where it is closed, and of two in a second period
+few_closed : (n cycles : ℕ) → length (closed_for n cycles) ≤ 1
+few_closed n cycles = by (cycles == 0)
+  where
+    shut : StreamEntry
+    shut = record { ipv = 6; interval = cycles * n; octet_max = Some 0 }
+
+    by : (b : Bool) → length (if b then [] else shut ∷ []) ≤ 1
+    by true = omega arith
+    by false = omega arith
+
+few_second : (n reserved : ℕ) (pace : Pace) (turn : ℕ) → length (second_turn n reserved pace turn) ≤ 2
+few_second n reserved pace turn = by ((pace.pause + 1) % 2 == 0)
+  where
+    by : (b : Bool) → length (if b then [] else closed_for n pace.pause ++ open_in n reserved (turn + (pace.pause + 1)) ∷ []) ≤ 2
+    by true = omega arith
+    by false = omega (arith, few_closed n pace.pause, length-append (closed_for n pace.pause) (open_in n reserved (turn + (pace.pause + 1)) ∷ []))
+
+-- good entries, one to sixteen, make a list
+good_made : (entries : List StreamEntry) → AreGood entries → 0 < length entries → length entries ≤ 16 → stream_list_of entries ≡ Ok entries
+good_made entries good some few =
+    let not_none : (length entries == 0) ≡ false = ne_eqb (length entries) 0 (λ none. absurd (omega (arith, none, some))) in
+    let not_many : nat_lt 16 (length entries) ≡ false = le-ltb 16 (length entries) few in
+    rw (not_none, not_many, good.lasting, good.valued)
+
+-- so do a reservation's
+pub spans_made : (n reserved : ℕ) (pace : Pace) (depth : ℕ) → 0 < n → stream_list_of (reserved_spans n reserved pace depth) ≡ Ok (reserved_spans n reserved pace depth)
+spans_made n reserved pace depth some =
+    let turn = first_turn pace depth in
+    let front = closed_for n turn in
+    let own = open_in n reserved turn in
+    let more = second_turn n reserved pace turn in
+    let back = closed_for n (pace.pause - turn) in
+    let rest = good_behind (own ∷ []) (more ++ back) (good_open n reserved turn some)
+    (good_behind more back (good_second n reserved pace turn some) (good_closed n (pace.pause - turn) some)) in
+    let parts = length-append front (own ∷ (more ++ back)) in
+    let behind = length-append more back in
+    good_made (reserved_spans n reserved pace depth) (good_behind front (own ∷ (more ++ back)) (good_closed n turn some) rest)
+    (omega (arith, parts))
+    (omega (arith, parts, behind, few_closed n turn, few_second n reserved pace turn, few_closed n (pace.pause - turn)))
+
+-- put one behind the other they are the reservation's, in the words of the calls that read the pace
+pub put_together : (n reserved : ℕ) (pace : Pace) (depth pause phase deep : ℕ) (none closed own again all : List StreamEntry) → pause ≡ pace.pause →
+    phase ≡ pace.phase → deep ≡ depth → none ≡ [] → closed ≡ none ++ closed_for n ((phase + deep) % (pause + 1)) →
+    own ≡ closed ++ open_in n reserved ((phase + deep) % (pause + 1)) ∷ [] → again ≡ own ++ second_turn n reserved pace ((phase + deep) % (pause + 1)) →
+    all ≡ again ++ closed_for n (pause - (phase + deep) % (pause + 1)) → all ≡ reserved_spans n reserved pace depth
+put_together n reserved pace depth pause phase deep none closed own again all is_pause is_phase is_deep e f g h k =
+    let turn = (phase + deep) % (pause + 1) in
+    let m = second_turn n reserved pace turn in
+    let is_turn : turn ≡ first_turn pace depth =
+    ap (λ z. (z + deep) % (pause + 1)) is_phase ∙ ap (λ z. (pace.phase + z) % (pause + 1)) is_deep ∙ ap (λ z. (pace.phase + depth) % (z + 1)) is_pause in
+    k ∙ ap (λ z. again ++ closed_for n (z - turn)) is_pause
+    ∙ ap (λ xs. xs ++ closed_for n (pace.pause - turn)) (h ∙ ap (λ xs. xs ++ m) (g ∙ ap (λ xs. xs ++ open_in n reserved turn ∷ []) (f ∙ ap (λ xs. xs ++ closed_for n turn) e)))
+    ∙ (simp append_assoc) ∙ ap (spans_from n reserved pace) is_turn

@@ -1,0 +1,54 @@
+//! In which cycles a stream's frames are on their way, and what it reserves there.
+ghost use Rattle.std.specs.Prelude.{◌≡◌, ◌==◌, find, option_copied};
+ghost use Rattle.cqf_model.specs.declared.topology.Hop.{Hop as AHop};
+ghost use Rattle.cqf_model.specs.Paces.{is_turn};
+ghost use Rattle.cqf_model.specs.Table.{depth_behind, reserved_in};
+
+use crate::{Hop, Pace, Row};
+
+/// Whether a stream's frames are so deep on their way in the cycle: offered in the cycles of its phase, they are on a link as many
+/// cycles later as the link is deep (profile).
+fn is_turn(pace: Pace, depth: u8, cycle: u64) -> bool
+    ensures { result ≡ is_turn pace depth cycle }
+{
+    let every = u64::from(pace.pause) + 1;
+    (u64::from(pace.phase) + u64::from(depth)) % every == cycle % every
+}
+
+/// Where the hop by this link stands in a row's tree.
+fn hop_by(row: &Row, link: u16) -> Option<&Hop>
+    ensures { option_copied result ≡ find (λ (hop : AHop). hop.link == link) row.now.tree.items }
+{
+    row.tree.as_slice().iter().find(|hop| hop.link == link)
+}
+
+impl Row {
+    /// How deep a frame is on its way: not at all at the edge, where `way` is none, and behind a link as deep as the link.
+    pub fn depth_behind(&self, way: Option<u16>) -> u8
+        ensures { result ≡ depth_behind self.now way }
+    {
+        let Some(link) = way else {
+            return 0;
+        };
+        match hop_by(self, link) {
+            Some(hop) => hop.depth,
+            None => 0,
+        }
+    }
+
+    /// What the stream reserves in a cycle for frames that came by a link, or at the edge, where `way` is none, in octets: in the cycles
+    /// that aren't its own there, nothing (profile).
+    pub fn reserved_behind(&self, way: Option<u16>, cycle: u64) -> u32
+        ensures { result ≡ reserved_in self.now (depth_behind self.now way) cycle }
+    {
+        // a stream that is offered in each cycle reserves in each, however deep its frames are
+        if self.pace.pause == 0 {
+            return self.octets;
+        }
+        if is_turn(self.pace, self.depth_behind(way), cycle) {
+            self.octets
+        } else {
+            0
+        }
+    }
+}

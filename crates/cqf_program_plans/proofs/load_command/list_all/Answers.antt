@@ -1,0 +1,17 @@
+use Rattle.std.proofs.Common.{◌+◌, ◌∷◌, ◌∙◌, List, ap, drop, map, sym}
+use Rattle.std.proofs.lemmas.List.{drop_more}
+use Rattle.cqf_topology.specs.declared.paced.PacedRequest.{PacedRequest}
+use Rattle.cqf_admission.specs.Asking.{asked_paced}
+use Rattle.cqf_program_plans.specs.LoadOutput.{listed_from}
+use Rattle.cqf_program_plans.proofs.load_command.list_all.Goals as goal
+
+pub loop-request-preserved : goal.loop-request-preserved
+loop-request-preserved c =
+    let d = c.args.domain.now in
+    let requests = c.args.requests.now in
+    let i = c.loop-request.request-index in
+    let here = drop_more requests i c.request-item.result c.loop-request-test.true
+    ∙ ap (λ (request : PacedRequest). request ∷ drop (i + 1) requests) (sym c.request-item.is) in
+    c.loop-request.invariant
+    ∙ ap (λ (rest : List PacedRequest). listed_from d c.loop-request.listing (map asked_paced rest)) here
+    ∙ c.in_ok-listing.ensures.ok (map asked_paced (drop (i + 1) requests))

@@ -1,0 +1,18 @@
+//! What a row's stream costs, in sums by link and cycle.
+ghost use Rattle.cqf_admission.specs.Rows.{IsCountable};
+ghost use Rattle.cqf_admission_trees.specs.Turns.{AreMoreIn, HasRoomFor, IsOfGoodPace};
+ghost use Rattle.cqf_units.specs.Timing.{cost_of};
+
+use cqf_admission_trees::Sums;
+use cqf_model::Row;
+use cqf_units::{Octets, cost};
+
+/// Adds what a row's stream costs to the sums of its links in the cycles in which its frames go by them.
+pub fn add_cost(sums: &mut Sums, row: &Row)
+    requires countable { IsCountable sums.old.links row.now }
+    requires good { IsOfGoodPace row.now }
+    requires room { HasRoomFor sums.old row.now.tree.items row.now.pace (cost_of row.now.octets) }
+    ensures { AreMoreIn sums.old row.now.tree.items row.now.pace (cost_of row.now.octets) sums.new }
+{
+    sums.add(row.tree.as_slice(), row.pace, cost(Octets(row.octets)).0);
+}

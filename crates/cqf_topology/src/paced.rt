@@ -1,0 +1,148 @@
+//! Requests for streams, with the cycles in which their frames are offered.
+ghost use Rattle.std.specs.Prelude.{◌≡◌, map, ok_or, IfOk};
+ghost use Rattle.toml.specs.Data.{as_table};
+ghost use Rattle.toml.specs.View.{items_view, view, table_view};
+ghost use Rattle.cqf_lists.specs.Results.{and_then};
+ghost use Rattle.cqf_topology_fields.specs.Fields.{Gives, tables_of_key, tables_from};
+ghost use Rattle.cqf_topology.specs.PacedText.{in_each_cycle, paced_from, paced_of_text, paced_text};
+ghost use Rattle.cqf_topology.specs.StreamsText.{request_text};
+
+use crate::streams::{KEYS, Request, STREAM_KEYS, branches_of, copied_paths};
+use crate::{Key, StreamsFault};
+use cqf_topology_fields::{are_all_tables, array_at, number_at, number_or, read_document, text_at};
+use cqf_units::Memory;
+use std::alloc::Global;
+use toml::{Table, Value};
+
+/// A request for a stream that is offered in some cycles, as a text has it. Whether it can be met is for admission to say.
+#[derive(Debug, Drop)]
+pub struct PacedRequest {
+    /// What the stream is to be called.
+    pub name: String,
+    /// The reservation, in octets in each cycle of its own.
+    pub octets: u32,
+    /// It is offered in one of so many cycles (IEEE Std 802.1Q-2018, 46.2.3.5: Interval; here in cycles).
+    pub every: u32,
+    /// The first of these cycles (46.2.3.5: EarliestTransmitOffset; here in cycles).
+    pub phase: u32,
+    /// The branches of its tree, one a listener: each the names of its bridges, in order, and then of the listener's
+    /// station.
+    pub paths: Vec<Vec<String>>,
+}
+
+impl PacedRequest {
+    /// A request for a stream that is offered in each cycle, unless memory runs out.
+    pub fn in_each_cycle(alloc: Global, request: &Request) -> Result<PacedRequest, Memory>
+        ensures { IfOk result (λ copy. paced_text copy ≡ in_each_cycle (request_text request.now)) }
+    {
+        let Request {
+            name,
+            octets,
+            paths,
+        } = request.try_copy(alloc)?;
+        Ok(PacedRequest {
+            name,
+            octets,
+            every: 1,
+            phase: 0,
+            paths,
+        })
+    }
+
+    /// The request that this one is where its stream is offered in each cycle.
+    pub fn into_request(self) -> Request
+        requires every { self.every ≡ 1 }
+        requires phase { self.phase ≡ 0 }
+        ensures { in_each_cycle (request_text result) ≡ paced_text self }
+    {
+        Request {
+            name: self.name,
+            octets: self.octets,
+            paths: self.paths,
+        }
+    }
+
+    /// The same request again, unless memory runs out.
+    pub fn try_copy(&self, alloc: Global) -> Result<PacedRequest, Memory>
+        ensures { IfOk result (λ copy. paced_text copy ≡ paced_text self.now) }
+    {
+        Ok(PacedRequest {
+            name: String::from_str(alloc, self.name.as_str())?,
+            octets: self.octets,
+            every: self.every,
+            phase: self.phase,
+            paths: copied_paths(alloc, self.paths.as_slice())?,
+        })
+    }
+}
+
+/// The request of a stream's table.
+///
+/// # Errors
+/// `BadValue` of the first key, in reading order, at which something else stands than must, or nothing; `Memory` where a growth is
+/// refused.
+pub fn read_paced(alloc: Global, table: &Table) -> Result<PacedRequest, StreamsFault>
+    ensures { Gives StreamsFault.Memory paced_text result (paced_from (table_view table.now)) }
+{
+    let name = text_at(alloc, table, Key::Name)?;
+    let octets = number_at(table, Key::Octets, 0, u32::MAX)?;
+    let every = number_or(table, Key::Every, 1)?;
+    let phase = number_or(table, Key::Phase, 0)?;
+    let paths = branches_of(alloc, table)?;
+    Ok(PacedRequest {
+        name,
+        octets,
+        every,
+        phase,
+        paths,
+    })
+}
+
+/// A stream, as an element of the array of streams.
+fn paced_in(alloc: Global, value: &Value) -> Result<PacedRequest, StreamsFault>
+    ensures { Gives StreamsFault.Memory paced_text result (and_then (ok_or (as_table (view value.now)) (StreamsFault.BadValue Key.Streams)) paced_from) }
+{
+    match value.as_table() {
+        Some(table) => read_paced(alloc, table),
+        None => Err(StreamsFault::BadValue(Key::Streams)),
+    }
+}
+
+/// The elements of the array of streams.
+fn all_paced_in(alloc: Global, values: &[Value]) -> Result<Vec<PacedRequest>, StreamsFault>
+    ensures { Gives StreamsFault.Memory (λ requests. map paced_text requests.items) result
+        (tables_from Key.Streams paced_from (items_view values.now)) }
+{
+    let mut requests = Vec::new(alloc);
+    for value in values {
+        let request = paced_in(alloc, value)?;
+        requests.push(request)?;
+    }
+    Ok(requests)
+}
+
+/// The streams of a document.
+fn all_paced(alloc: Global, table: &Table) -> Result<Vec<PacedRequest>, StreamsFault>
+    ensures { Gives StreamsFault.Memory (λ requests. map paced_text requests.items) result (tables_of_key Key.Streams paced_from (table_view table.now)) }
+{
+    let values = array_at(table, Key::Streams)?;
+    if !are_all_tables(values) {
+        return Err(StreamsFault::BadValue(Key::Streams));
+    }
+    all_paced_in(alloc, values)
+}
+
+/// The requests of a streams text, in its order, with the cycles in which they are offered.
+///
+/// The text is that of [`crate::read_streams`], where a table may have `every` and `phase` too, integers from 0 to 4,294,967,295 (profile):
+/// the stream is offered in one of `every` cycles, 1 where nothing stands there, of which `phase` is the first, else 0. They are read
+/// behind `octets`.
+///
+/// # Errors
+/// As of [`crate::read_streams`]; and `BadValue` of `every` or `phase` where another value stands there.
+pub fn read_paced_streams(alloc: Global, text: &[u8]) -> Result<Vec<PacedRequest>, StreamsFault>
+    ensures { Gives StreamsFault.Memory (λ requests. map paced_text requests.items) result (paced_of_text text.now) }
+{
+    let table = read_document(alloc, text, &KEYS, Key::Streams, &STREAM_KEYS)?;
+    all_paced(alloc, &table)
+}
