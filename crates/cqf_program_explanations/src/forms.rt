@@ -109,6 +109,7 @@ fn form_of_stream(key: &str) -> Option<(Form, &'static str)> {
         )),
         "every" => Some((Form::Number(0, 4_294_967_295), EVERY_FORM)),
         "phase" => Some((Form::Number(0, 4_294_967_295), PHASE_FORM)),
+        "in-step" => Some((Form::Boolean, "in-step is true or false")),
         "path" => Some((Form::Path, PATH_FORM)),
         "paths" => Some((Form::Paths, PATHS_FORM)),
         "deadline" => Some((

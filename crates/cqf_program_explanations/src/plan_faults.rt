@@ -6,7 +6,7 @@ use crate::network::Network;
 use crate::places::Grouped;
 use crate::plant::{Item, Kind};
 use crate::refusal::Refusal;
-use crate::sketch::{listeners_of, longest_frame, talkers_link, time_on};
+use crate::sketch::{is_in_step, listeners_of, longest_frame, talkers_link, time_on};
 use crate::stream_faults::{form_fault_of, tell_form_faults};
 use crate::told::Told;
 use crate::words::{question, shortened};
@@ -210,6 +210,11 @@ fn tell_short(
     let (link, left) = value.split_once(' ').unwrap_or((value, ""));
     let left = Grouped(number_in(Some(left)));
     let (place, label) = (item.place(), item.label(given.alloc)?);
+    if is_in_step(item) {
+        return told.tell(format!(in given.alloc;
+            "{place}: {label} has no phase in which each of its links has room; in the best {link} has {left} octets a cycle left"
+        )?);
+    }
     told.tell(format!(in given.alloc;
         "{place}: {label} needs more octets a cycle than the {left} that {link} of its path has left"
     )?)

@@ -68,6 +68,13 @@ pub(crate) fn talkers_link<'n, 'p>(
         .find(|link| talker_of(network, link) == Some(station))
 }
 
+/// Whether a stream's talker is in step with the network.
+pub(crate) fn is_in_step(item: &Item<'_>) -> bool {
+    item.get("in-step")
+        .and_then(Value::as_bool)
+        .unwrap_or(false)
+}
+
 /// How many octets a stream's frame may have.
 pub(crate) fn longest_frame(item: &Item<'_>) -> u64 {
     let size = item.number("size");

@@ -5,7 +5,7 @@ use crate::given::Given;
 use crate::outline::{Element, KeyLine, Outline};
 use crate::places::Place;
 use crate::plant::{Found, Item, Kind, PlantFile};
-use crate::sketch::reads_sketch;
+use crate::sketch::{is_in_step, reads_sketch};
 use crate::told::Told;
 use crate::words::{nearest, shown};
 use cqf_program_files::{LINK, STREAM, TOP};
@@ -353,6 +353,8 @@ fn bad_form<'p>(item: &Item<'p>, key: &str) -> Option<(Found<'p>, &'static str)>
         Some((found, "give path or paths, not both"))
     } else if matches!(key, "from" | "to") && has_path {
         Some((found, "give a path, or from and to, not both"))
+    } else if matches!(key, "every" | "phase") && is_in_step(item) {
+        Some((found, "give every and phase, or in-step, not both"))
     } else if fits(form, found.value) {
         None
     } else {

@@ -13,8 +13,8 @@ link_keys = codes "from" ∷ codes "to" ∷ codes "rate" ∷ codes "delay" ∷ c
 
 abbrev pub stream_keys : List (List ℕ)
 stream_keys =
-    codes "name" ∷ codes "octets" ∷ codes "every" ∷ codes "phase" ∷ codes "path" ∷ codes "paths" ∷ codes "deadline" ∷ codes "from" ∷ codes "to"
-    ∷ codes "interval" ∷ codes "frames" ∷ codes "size" ∷ codes "jitter" ∷ codes "offset" ∷ []
+    codes "name" ∷ codes "octets" ∷ codes "every" ∷ codes "phase" ∷ codes "in-step" ∷ codes "path" ∷ codes "paths" ∷ codes "deadline"
+    ∷ codes "from" ∷ codes "to" ∷ codes "interval" ∷ codes "frames" ∷ codes "size" ∷ codes "jitter" ∷ codes "offset" ∷ []
 
 -- the user's own keys begin so, and are passed over
 abbrev pub is_own : List ℕ → Bool

@@ -15,9 +15,9 @@ pub const TOP: [&str; 6] = ["cycle", "guard", "bridges", "stations", "links", "s
 pub const LINK: [&str; 5] = ["from", "to", "rate", "delay", "duplex"];
 
 /// Those of a stream (profile).
-pub const STREAM: [&str; 14] = [
-    "name", "octets", "every", "phase", "path", "paths", "deadline", "from", "to", "interval",
-    "frames", "size", "jitter", "offset",
+pub const STREAM: [&str; 15] = [
+    "name", "octets", "every", "phase", "in-step", "path", "paths", "deadline", "from", "to",
+    "interval", "frames", "size", "jitter", "offset",
 ];
 
 /// How a key begins that is the user's own, which no command reads (profile).

@@ -1,6 +1,6 @@
 -- What a settled stream has from its sketch, and that the sketch's deadline is kept.
 use Rattle.std.proofs.Common.{◌≡◌, ◌∙◌, ◌+◌, ◌++◌, ℕ, zero, suc, ◌∷◌, [], List, Option, Some, None, Result, Ok, Err, refl, sym, ap, subst, subst₂, length}
-use Rattle.std.specs.Prelude.{not, slice_get}
+use Rattle.std.specs.Prelude.{not, option_map, slice_get}
 use Rattle.std.proofs.lemmas.Option.{same_Some}
 use Rattle.cqf_lists.specs.Results.{and_then, refuse}
 use Rattle.cqf_lists.proofs.Members.{contains_at, contains_none}
@@ -9,13 +9,14 @@ use Rattle.cqf_model.specs.declared.history.Refused.TheVariants as refused
 use Rattle.cqf_model.specs.Domain.{Domain}
 use Rattle.cqf_topology.specs.DomainText.{if_so}
 use Rattle.cqf_sketch.specs.SketchDomain.{SketchDomain}
-use Rattle.cqf_traffic.specs.TrafficText.{TrafficText}
+use Rattle.cqf_laws_traffic.specs.Traffic.{Traffic}
+use Rattle.cqf_traffic.specs.TrafficText.{TrafficText, promise_of}
 use Rattle.cqf_sketch_streams.specs.StreamsText.{StreamText}
 use Rattle.cqf_program_plans.proofs.CompileLemmas.{same_ok}
 use Rattle.cqf_program_placing.specs.declared.faults.PlanFault.{PlanFault}
 use Rattle.cqf_program_placing.specs.declared.faults.PlanFault.TheVariants as fault
 use Rattle.cqf_program_placing.specs.declared.settled.Unsettled.TheVariants as unsettled
-use Rattle.cqf_program_placing.specs.Settled.{SettledStream, SettledWay, are_reservable, deadline_behind, deadline_of_stream, longest_of, open_domain}
+use Rattle.cqf_program_placing.specs.Settled.{SettledStream, SettledWay, are_reservable, deadline_behind, deadline_of_stream, is_paced, longest_of, open_domain}
 use Rattle.cqf_program_placing.specs.Settled.{or_unsettled, refusal_behind, settled_behind, settled_next, settled_stream, settled_way, taken_on}
 use Rattle.cqf_program_placing.specs.Settled.{talker_of_stream, with_deadline}
 use Rattle.cqf_program_laws.specs.PlanLaws.{DeadlinesOfSketchesAreKept, SettledStreamsAreOfSketches}
@@ -42,23 +43,27 @@ module _ (sketch : SketchDomain) (d : Domain) where
   abbrev behind_way : List (List ℕ) → StreamText → SettledWay → Result SettledStream PlanFault
   behind_way before stream way =
       refuse (refusal_behind d before stream.name) fault.Refused
-      (with_deadline stream.name stream.octets way stream.traffic (deadline_of_stream sketch d stream))
+      (with_deadline stream.name stream.octets stream.pacing way stream.traffic (deadline_of_stream sketch d stream))
 
   -- with what is left of its deadline
   abbrev with_left : StreamText → SettledWay → Option ℕ → Result SettledStream PlanFault
   with_left stream way left =
-      Ok (record { name = stream.name; octets = stream.octets; way = way; deadline = left; traffic = stream.traffic })
+      Ok (record { name = stream.name; octets = stream.octets; pacing = stream.pacing; way = way; deadline = left; traffic = stream.traffic })
 
   is_settled : (before : List (List ℕ)) (stream : StreamText) (settled : SettledStream) → settled_stream sketch d before stream ≡ Ok settled →
       IsSettled stream settled
   is_settled before stream settled h =
-      let a = not_refused (if_so (not (are_reservable stream.octets))) (λ _. fault.Refused refused.BadOctets)
-      (and_then (settled_way sketch d stream.way) (behind_way before stream)) settled h in
+      let paced : Result SettledStream PlanFault =
+      refuse (if_so (not (is_paced stream.pacing))) (λ _. fault.Refused refused.BadPace) (and_then (settled_way sketch d stream.way) (behind_way before stream))
+      in
+      let octets = not_refused (if_so (not (are_reservable stream.octets))) (λ _. fault.Refused refused.BadOctets) paced settled h in
+      let a = not_refused (if_so (not (is_paced stream.pacing))) (λ _. fault.Refused refused.BadPace)
+      (and_then (settled_way sketch d stream.way) (behind_way before stream)) settled octets in
       let b = stepped (settled_way sketch d stream.way) (behind_way before stream) settled a in
       let c = not_refused (refusal_behind d before stream.name) fault.Refused
-      (with_deadline stream.name stream.octets b.0 stream.traffic (deadline_of_stream sketch d stream)) settled b.2 in
+      (with_deadline stream.name stream.octets stream.pacing b.0 stream.traffic (deadline_of_stream sketch d stream)) settled b.2 in
       let e = stepped (deadline_of_stream sketch d stream) (with_left stream b.0) settled c in
-      let made : SettledStream = record { name = stream.name; octets = stream.octets; way = b.0; deadline = e.0; traffic = stream.traffic } in
+      let made : SettledStream = record { name = stream.name; octets = stream.octets; pacing = stream.pacing; way = b.0; deadline = e.0; traffic = stream.traffic } in
       subst (IsSettled stream) (same_ok made settled e.2) (record { name = refl; traffic = refl; deadline = e.1 })
 
   next_settled : (before : List (List ℕ)) (stream : StreamText) (settled : SettledStream) → settled_next sketch d before stream ≡ Ok settled →
@@ -91,11 +96,18 @@ settled_streams_are_of_sketches sketch streams all place stream settled h is at 
     let own = each_settled sketch (open_domain sketch) [] streams all place stream settled h is at in
     record { name = own.name; traffic = own.traffic; deadline = own.deadline }
 
+-- how long a stream's frames may be is part of what its talker promises
+longest_promised : (octets : Option ℕ) (traffic : Option TrafficText) (t : TrafficText) → option_map promise_of traffic ≡ Some (promise_of t) →
+    longest_of octets traffic ≡ t.size
+longest_promised octets None t h = absurd (cc)
+longest_promised octets (Some own) t h = ap (λ (p : Traffic). p.size) (same_Some (promise_of own) (promise_of t) h)
+
 pub deadlines_of_sketches_are_kept : DeadlinesOfSketchesAreKept
 deadlines_of_sketches_are_kept sketch stream settled run flows cycles book flow t x row sent of deadline traffic keeps promised came =
     let talker = talker_of_stream sketch (open_domain sketch) stream.way in
-    let has : stream.traffic ≡ Some t = sym of.traffic ∙ sym traffic ∙ promised.has in
-    let left = subst (λ (o : Option TrafficText). deadline_behind (taken_on talker (longest_of stream.octets o)) stream.deadline ≡ Ok settled.deadline)
-    has of.deadline in
+    let same : option_map promise_of stream.traffic ≡ Some (promise_of t) =
+    ap (option_map promise_of) (sym of.traffic) ∙ sym traffic ∙ ap (option_map promise_of) promised.has in
+    let left = subst (λ (n : ℕ). deadline_behind (taken_on talker n) stream.deadline ≡ Ok settled.deadline)
+    (longest_promised stream.octets stream.traffic t same) of.deadline in
     keeps.from_talker flow t x row talker stream.deadline sent promised
     (subst (λ (o : Option ℕ). deadline_behind (taken_on talker t.size) stream.deadline ≡ Ok o) (sym deadline) left) came

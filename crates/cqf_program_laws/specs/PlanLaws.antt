@@ -1,5 +1,5 @@
 -- A plan that was told keeps its word: of a stream whose talker keeps its own, no frame is lost and none is late (profile).
-use Rattle.std.specs.Prelude.{ℕ, ◌≡◌, ◌⊎◌, ◌+◌, ◌<◌, ◌≤◌, List, [], All, Contains, false, true, map, Option, Some, Ok, slice_get}
+use Rattle.std.specs.Prelude.{ℕ, ◌≡◌, ◌⊎◌, ◌+◌, ◌<◌, ◌≤◌, List, [], All, Contains, false, map, Option, Some, Ok, option_map, slice_get, true}
 use Rattle.std.specs.Option.{ForSome}
 use Rattle.cqf_model.specs.declared.frames.Background.{Background}
 use Rattle.cqf_model.specs.declared.frames.Offer.{Offer}
@@ -137,12 +137,12 @@ SettledStreamsAreOfSketches =
     (sketch : SketchDomain) (streams : List StreamText) (all : List SettledStream) (place : ℕ) (stream : StreamText) (settled : SettledStream) →
     settled_of sketch streams ≡ Ok all → slice_get streams place ≡ Some stream → slice_get all place ≡ Some settled → IsOfSketch sketch stream settled
 
--- so where a stream of a plan that keeps its word has its traffic and its deadline from a settled one, each frame that is promised to come
--- does so within the sketch's deadline, from the instant at which the talker begins to send it
+-- so where a stream of a plan that keeps its word has what its talker promises and its deadline from a settled one, each frame that is
+-- promised to come does so within the sketch's deadline, from the instant at which the talker begins to send it
 abbrev pub DeadlinesOfSketchesAreKept : Type 0
 DeadlinesOfSketchesAreKept =
     (sketch : SketchDomain) (stream : StreamText) (settled : SettledStream) (run : Run) (flows : List FlowText) (cycles : ℕ) (book : Contents)
     (flow : FlowText) (t : TrafficText) (x : Offered) (row : Row) (sent : ℕ) → IsOfSketch sketch stream settled → flow.0.1 ≡ settled.deadline →
-    flow.1 ≡ settled.traffic → PlanKeepsItsWord run flows cycles book → IsPromised run flows flow t x row →
+    option_map promise_of flow.1 ≡ option_map promise_of settled.traffic → PlanKeepsItsWord run flows cycles book → IsPromised run flows flow t x row →
     x.offer.at.0 ≡ sent + taken_on (talker_of_stream sketch (open_domain sketch) stream.way) x.offer.octets →
     ComesAsPromised run flows flow cycles book x row sent stream.deadline

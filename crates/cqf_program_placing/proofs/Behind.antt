@@ -11,7 +11,10 @@ use Rattle.cqf_model.specs.Domain.{Domain}
 use Rattle.cqf_model.specs.History.{Admits, Asked, Branch, IsLegalHistory, Recorded, admit_reply, held_in, next_number, refusal_of, reply_to, seals}
 use Rattle.cqf_program_plans.specs.CompileOutput.{with_asked}
 use Rattle.cqf_program_placing.specs.declared.faults.PlanFault.{PlanFault}
-use Rattle.cqf_program_placing.specs.Placing.{IsAnswered, IsPlacedBy, IsPlacing, PlacedOr, reserved_on}
+use Rattle.cqf_admission.specs.Asking.{asked_with}
+use Rattle.cqf_program_placing.specs.declared.turns.Turns.{Turns}
+use Rattle.cqf_program_placing.specs.Placing.{IsAnswered, IsPlacedBy, IsPlacing, PlacedOr, reserved_on, turns_on}
+use Rattle.cqf_program_placing.specs.Turns.{every_in}
 use Rattle.cqf_program_placing.specs.Settled.{SettledStream}
 
 -- behind streams of these names: a legal history without Seals, with a call and a held stream at most for each, which has one of their names
@@ -106,12 +109,12 @@ module _ (goes_on : HistoryGoesOn) (counted : SealsAreCounted) (grants : Granted
       unchanged same = subst (IsBehind d (names ++ stream.name ∷ [])) (sym same)
           (same_rows d names stream.name entries entries behind behind.legal behind.no_seal (omega arith) refl)
 
-      by_routed : (octets : ℕ) (routed : Result (List Branch) PlanFault) → IsAnswered d entries stream.name octets routed become after →
+      by_routed : (octets : ℕ) (turns : Turns) (routed : Result (List Branch) PlanFault) → IsAnswered d entries stream.name octets turns routed become after →
           IsBehind d (names ++ stream.name ∷ []) after
-      by_routed octets (Err found) is = unchanged is.1
-      by_routed octets (Ok paths) is =
-          asked_behind names entries after (record { name = stream.name; octets = octets; every = 1; phase = 0; paths = paths }) behind few is.1
+      by_routed octets turns (Err found) is = unchanged is.1
+      by_routed octets turns (Ok paths) is =
+          asked_behind names entries after (asked_with stream.name octets (every_in turns) is.phase paths) behind few is.entered
 
       by_reserved : (reserved : Result ℕ PlanFault) → IsPlacedBy d entries stream reserved become after → IsBehind d (names ++ stream.name ∷ []) after
       by_reserved (Err found) is = unchanged is.1
-      by_reserved (Ok octets) is = by_routed octets is.routed is.is_answered
+      by_reserved (Ok octets) is = by_routed octets (turns_on d.cycle_time stream) is.routed is.is_answered

@@ -20,6 +20,7 @@ use Rattle.cqf_lists.proofs.Places.{slice_get-take}
 use Rattle.cqf_model.specs.declared.topology.Hop.{Hop}
 use Rattle.cqf_model.specs.declared.topology.Node.{Node}
 use Rattle.cqf_model.specs.declared.topology.Node.TheVariants.{Bridge, Station}
+use Rattle.cqf_model.specs.declared.topology.Pace.{Pace}
 use Rattle.cqf_model.specs.declared.topology.Row.{Row}
 use Rattle.cqf_model.specs.Domain.{Domain, budget, is_text, node_named}
 use Rattle.cqf_model.specs.History.{Branch, are_apart, broken_place, first_place, hop_to, hops_along, is_broken_at, is_loop_at, is_stray, left_on}
@@ -38,8 +39,10 @@ use Rattle.cqf_report.specs.Books.{name_of_node}
 use Rattle.cqf_program_plans.specs.EndNames.{name_of_end}
 use Rattle.cqf_admission.specs.Costs.{left_beside}
 use Rattle.cqf_admission.proofs.CostLemmas.{beside_is_most}
-use Rattle.cqf_program_placing.specs.Placing.{lefts_on, names_along}
-use Rattle.cqf_program_placing.specs.Room.{HaveRoom}
+use Rattle.cqf_program_placing.specs.Placing.{names_along}
+use Rattle.cqf_program_placing.specs.Room.{HasRoomIn, HaveRoom}
+use Rattle.cqf_program_placing.specs.Turns.{left_emptiest, lefts_on}
+use Rattle.cqf_program_placing.proofs.Emptiest.{emptiest_of_each}
 use Rattle.cqf_program_placing.proofs.RouteLemmas.{left_there, lefts_many}
 use Rattle.cqf_program_placing.proofs.WayNames.{branch_from, known_there, link_there, named_end, simple_there, whole_there}
 
@@ -154,15 +157,14 @@ tree_link d paths l c =
     }
 
 -- where each link of it has left what a stream costs, none is short
-pub none_short : (d : Domain) (rows : List Row) (cost : ℕ) (paths : List Branch) →
-    ((l : ℕ) → Contains (links_in (tree_of d paths)) l → cost ≤ left_on d rows (tree_of d paths) each_cycle l) →
-    short_link d rows cost each_cycle (tree_of d paths) ≡ None
-none_short d rows cost paths enough = by (short_link d rows cost each_cycle (tree_of d paths)) refl
+pub none_short : (d : Domain) (rows : List Row) (cost : ℕ) (pace : Pace) (paths : List Branch) → HasRoomIn d rows cost (tree_of d paths) pace →
+    short_link d rows cost pace (tree_of d paths) ≡ None
+none_short d rows cost pace paths enough = by (short_link d rows cost pace (tree_of d paths)) refl
   where
     left : ℕ → ℕ
-    left = left_on d rows (tree_of d paths) each_cycle
+    left = left_on d rows (tree_of d paths) pace
 
-    by : (o : Option ℕ) → short_link d rows cost each_cycle (tree_of d paths) ≡ o → o ≡ None
+    by : (o : Option ℕ) → short_link d rows cost pace (tree_of d paths) ≡ o → o ≡ None
     by None e = refl
     by (Some l) e =
         let found = find_member (λ k. nat_lt (left k) cost) (links_in (tree_of d paths)) l e in
@@ -176,14 +178,16 @@ left_of_tree d rows paths l among =
     (beside_is_most rows (tree_of d paths) l (member_any (λ k. k == l) (links_in (tree_of d paths)) l among (eq-eqb l l refl)))
 
 -- a link with room has it left
-has_left : (d : Domain) (rows : List Row) (cost l : ℕ) → has_room (lefts_on d rows) cost l ≡ true → cost ≤ left_beside d rows l
-has_left d rows cost l h = by (slice_get (lefts_on d rows) l) refl h
+has_left : (d : Domain) (rows : List Row) (every cost l : ℕ) → has_room (lefts_on d rows every) cost l ≡ true → cost ≤ left_emptiest d rows every l
+has_left d rows every cost l h = by (slice_get (lefts_on d rows every) l) refl h
   where
-    by : (o : Option ℕ) → slice_get (lefts_on d rows) l ≡ o → option_map_or (λ octets. nat_le cost octets) o false ≡ true → cost ≤ left_beside d rows l
+    by : (o : Option ℕ) → slice_get (lefts_on d rows every) l ≡ o → option_map_or (λ octets. nat_le cost octets) o false ≡ true →
+        cost ≤ left_emptiest d rows every l
     by None at e = absurd cc
     by (Some octets) at e =
-        let inside : l < length d.links = omega (arith, slice_get_within (lefts_on d rows) l octets at, lefts_many d rows) in
-        let same : octets ≡ left_beside d rows l = sym (get_or_from_slice_get (lefts_on d rows) l octets 0 at) ∙ left_there d rows l inside in
+        let inside : l < length d.links = omega (arith, slice_get_within (lefts_on d rows every) l octets at, lefts_many d rows every) in
+        let same : octets ≡ left_emptiest d rows every l =
+        sym (get_or_from_slice_get (lefts_on d rows every) l octets 0 at) ∙ left_there d rows every l inside in
         omega (arith, leb-true cost octets e, same)
 
 -- each link of a way with room has it
@@ -249,11 +253,11 @@ module _ (d : Domain) (good : IsDomain d) where
 
   -- ---- the branches of first ways
 
-  module _ (rows : List Row) (cost bridge : ℕ) (inside : bridge < length d.bridges) (stations : List ℕ) (ways : List (List ℕ))
-      (first : HaveRoom d rows cost bridge stations ways) where
+  module _ (rows : List Row) (every cost bridge : ℕ) (inside : bridge < length d.bridges) (stations : List ℕ) (ways : List (List ℕ))
+      (first : HaveRoom d rows every cost bridge stations ways) where
     -- each leads to its station
     pub way_there : (k : ℕ) (way : List ℕ) → slice_get ways k ≡ Some way →
-        IsFirstWay d.links (has_room (lefts_on d rows) cost) (Bridge bridge) (Station (get_or stations k 0)) way
+        IsFirstWay d.links (has_room (lefts_on d rows every) cost) (Bridge bridge) (Station (get_or stations k 0)) way
     way_there k way at =
         let low : k < length stations = omega (arith, slice_get_within ways k way at, first.one_each) in
         first.each k (get_or stations k 0) way (slice_get-get_or stations k 0 low) at
@@ -298,7 +302,7 @@ module _ (d : Domain) (good : IsDomain d) where
               let within : place ≤ length (names_along d bridge way) = omega (arith, below, ap (λ (b : Branch). length b) same) in
               subst (λ (b : Branch). is_loop_at d b place ≡ false) same
               (simple_there d good bridge inside way to place w.is_way.leads
-              (no_loop d.links (has_room (lefts_on d rows) cost) (Bridge bridge) to way w) within));
+              (no_loop d.links (has_room (lefts_on d rows every) cost) (Bridge bridge) to way w) within));
           together = none_stray paths (λ i j xs ys before at_i at_j.
               let (way, is, same) = branch_at i xs at_i in
               let (other, is_other, same_other) = branch_at j ys at_j in
@@ -309,18 +313,20 @@ module _ (d : Domain) (good : IsDomain d) where
               let t = get_or stations j 0 in
               (λ k. make_a_tree (sym same k) (sym same_other k))
               ∙ make_one (Bridge bridge) (Station s) (Station t) way other one.is_way.leads two.is_way.leads
-              (parts d.links (has_room (lefts_on d rows) cost) (Bridge bridge) s t way other (apart i j 0 before low) one two));
+              (parts d.links (has_room (lefts_on d rows every) cost) (Bridge bridge) s t way other (apart i j 0 before low) one two));
           few = few_hops d paths room;
         }
 
-    -- and each link of that tree has left what the stream costs
-    pub first_enough : short_link d rows cost each_cycle (tree_of d (map (names_along d bridge) ways)) ≡ None
-    first_enough = none_short d rows cost (map (names_along d bridge) ways) (λ l c.
+    -- and, where it is offered in each cycle, each link of that tree has left what the stream costs
+    pub first_enough : every ≡ 1 → HasRoomIn d rows cost (tree_of d (map (names_along d bridge) ways)) each_cycle
+    first_enough each l c =
         let stands = tree_link d (map (names_along d bridge) ways) l c in
         let (k, way, at, same) = way_of stands.branch stands.among in
         let w = way_there k way at in
         let here : slice_get way stands.place ≡ Some l =
         sym (link_there d good (Bridge bridge) (Station (get_or stations k 0)) way stands.place inside w.is_way.leads)
         ∙ ap (λ (b : Branch). link_at d b stands.place) same ∙ stands.stands in
-        let enough : cost ≤ left_beside d rows l = has_left d rows cost l (room_there (has_room (lefts_on d rows) cost) way stands.place l w.is_way.roomy here) in
-        omega (arith, enough, left_of_tree d rows (map (names_along d bridge) ways) l c))
+        let enough : cost ≤ left_emptiest d rows every l =
+        has_left d rows every cost l (room_there (has_room (lefts_on d rows every) cost) way stands.place l w.is_way.roomy here) in
+        let beside : left_emptiest d rows every l ≡ left_beside d rows l = ap (λ n. left_emptiest d rows n l) each ∙ emptiest_of_each d rows l in
+        omega (arith, enough, beside, left_of_tree d rows (map (names_along d bridge) ways) l c)

@@ -1,6 +1,9 @@
 pub mod LedLemmas
 pub mod SettledLemmas
 pub mod RouteLemmas
+pub mod Stepping
+pub mod Emptiest
+pub mod Fullest
 pub mod AskLemmas
 pub mod PlaceLemmas
 pub mod WayNames

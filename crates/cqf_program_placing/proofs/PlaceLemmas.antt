@@ -1,13 +1,17 @@
 -- Streams placed one after the other.
-use Rattle.std.proofs.Common.{◌≡◌, ◌∙◌, ◌+◌, ◌-◌, ◌*◌, ◌<◌, ◌≤◌, ◌^◌, ℕ, All, Bool, true, false, List, [], ◌∷◌, ◌++◌, Option, Some, None, Result, Ok, Err, length, cond, get_or, map, nat_le, nat_lt, take, length-append, ap, arith, refl, subst, sym, div-le_self}
+use Rattle.std.proofs.Common.{◌≡◌, ◌∙◌, ◌+◌, ◌-◌, ◌*◌, ◌<◌, ◌≤◌, ◌^◌, ℕ, All, Bool, true, false, List, [], ◌∷◌, ◌++◌, Option, Some, None, Result, Ok, Err, length, cond, get_or, map, nat_le, nat_lt, take, length-append, ap, arith, refl, subst, subst₂, sym, div-le_self}
 use Rattle.std.proofs.Math.Nat.{mul-le-mul_right}
-use Rattle.std.proofs.lemmas.Bool.{and_parts, leb-true}
+use Rattle.std.proofs.lemmas.Nat.{le-div}
+use Rattle.std.specs.Prelude.{IfOk}
+use Rattle.std.proofs.lemmas.Bool.{and_parts, leb-true, ltb-false}
 use Rattle.std.proofs.lemmas.Bool.Decides.{nat_tests}
 use Rattle.std.proofs.lemmas.List.{get_or-map, length-map, map_more, map_push, take_all}
 use Rattle.cqf_model.specs.Domain.{Domain}
+use Rattle.cqf_admission.specs.Asking.{asked_with}
 use Rattle.cqf_model.specs.History.{Admits, Asked, Branch, IsLegalHistory, Recorded, held_in, next_number, refusal_of, reply_to, seals}
 use Rattle.cqf_model.specs.declared.topology.Row.{Row}
 use Rattle.cqf_units.specs.Timing.{cost_of}
+use Rattle.cqf_model.specs.Limits.{most_reserved}
 use Rattle.cqf_admission.specs.Admission.{Administration, held_of}
 use Rattle.cqf_laws_history.specs.StateLaws.{AreHeld, HeldAreSound, SealsAreCounted}
 use Rattle.cqf_program_plans.specs.CompileOutput.{with_asked}
@@ -17,9 +21,11 @@ use Rattle.cqf_laws_traffic.specs.Traffic.{intervals_in, needed}
 use Rattle.cqf_traffic.specs.TrafficText.{IsTrafficText, TrafficText, promise_of}
 use Rattle.cqf_program_placing.specs.declared.faults.PlanFault.{PlanFault}
 use Rattle.cqf_program_placing.specs.declared.faults.PlanFault.TheVariants as fault
-use Rattle.cqf_program_placing.specs.Placing.{ArePlacedFrom, IsAnswered, IsPlacedBy, IsPlacing, IsRouted, IsRoutedAndAnswered, PlacedOr, Unplaced, answered, if_enough, outcome_value}
-use Rattle.cqf_program_placing.specs.Placing.{reserved_by, reserved_on}
+use Rattle.cqf_program_placing.specs.Placing.{ArePlacedFrom, IsAnswered, IsAskedFor, IsPlacedBy, IsPlacing, IsRouted, IsRoutedAndAnswered, PlacedOr, Unplaced, answered, if_enough, outcome_value}
+use Rattle.cqf_program_placing.specs.Placing.{reserved_by, reserved_on, turns_on}
 use Rattle.cqf_program_placing.specs.Settled.{IsPlaceable, SettledStream, are_reservable, settled_value}
+use Rattle.cqf_program_placing.specs.declared.turns.Turns.{Turns}
+use Rattle.cqf_program_placing.specs.Turns.{IsPhaseAlong, every_in}
 
 -- one stream more is placed behind the others
 pub placed_more : (d : Domain) (start entries after : List Recorded) (streams : List SettledStream) (stream : SettledStream) (outcomes : List PlacedOr)
@@ -64,6 +70,40 @@ needed_few cycle_time t short inside =
     let octets : intervals * t.frames * t.size ≤ 2010000000000 * t.size = mul-le-mul_right t.size (omega (arith, frames, inside.frames.most)) in
     omega (arith, octets, inside.size.most)
 
+-- some frame of 64 octets comes in a cycle, or more
+pub needed_least : (cycle_time : ℕ) (t : TrafficText) → 1 ≤ cycle_time → IsTrafficText t → 64 ≤ needed cycle_time (promise_of t)
+needed_least cycle_time t some inside =
+    let intervals : ℕ = intervals_in cycle_time (promise_of t) in
+    let one : 1 ≤ intervals =
+    le-div 1 (cycle_time + t.jitter + t.interval - 1) t.interval (omega (arith, inside.interval.least)) (omega (arith, some, inside.interval.least)) in
+    let frames : 1 * t.frames ≤ intervals * t.frames = mul-le-mul_right t.frames one in
+    let each : 1 ≤ intervals * t.frames = omega (arith, frames, inside.frames.least) in
+    let octets : 1 * t.size ≤ intervals * t.frames * t.size = mul-le-mul_right t.size each in
+    omega (arith, octets, inside.size.least)
+
+-- and what is reserved is no less than what is needed
+if_enough_enough : (octets : Option ℕ) (needs reserved : ℕ) → if_enough octets needs ≡ Ok reserved → needs ≤ reserved
+if_enough_enough None needs reserved h = let same : needs ≡ reserved = cc in omega arith
+if_enough_enough (Some octets) needs reserved h = by (nat_lt octets needs) refl h
+  where
+    by : (less : Bool) → nat_lt octets needs ≡ less → cond less (Err (fault.TooLittle needs)) (Ok octets) ≡ Ok reserved → needs ≤ reserved
+    by true is taken = absurd cc
+    by false is taken = let same : octets ≡ reserved = cc in omega (arith, ltb-false octets needs is)
+
+pub reserved_enough : (octets : Option ℕ) (needs reserved : ℕ) → reserved_by octets (Some needs) ≡ Ok reserved → needs ≤ reserved
+reserved_enough octets needs reserved h = by (nat_lt most_reserved needs) h
+  where
+    by : (more : Bool) → cond more (Err (fault.TooMuch needs)) (if_enough octets needs) ≡ Ok reserved → needs ≤ reserved
+    by true taken = absurd cc
+    by false taken = if_enough_enough octets needs reserved taken
+
+-- so something is
+pub reserved_some : (octets : Option ℕ) (t : TrafficText) (cycle_time : ℕ) (found : Result ℕ PlanFault) → 1 ≤ cycle_time → IsTrafficText t →
+    found ≡ reserved_by octets (Some (needed cycle_time (promise_of t))) → IfOk found (λ reserved. 1 ≤ reserved)
+reserved_some octets t cycle_time (Err e) some inside is = tt
+reserved_some octets t cycle_time (Ok reserved) some inside is =
+    omega (arith, needed_least cycle_time t some inside, reserved_enough octets (needed cycle_time (promise_of t)) reserved (sym is))
+
 -- placing a stream closes no cycle, and makes one call at most
 record AreFew (entries after : List Recorded) : Type 0 where
   no_seal : seals after ≡ 0
@@ -83,13 +123,14 @@ few_placed : (d : Domain) (entries : List Recorded) (stream : SettledStream) (be
     IsPlacing d entries stream become after → AreFew entries after
 few_placed d entries stream become after counted none placed = by_reserved (reserved_on d.cycle_time stream) placed
   where
-    by_routed : (octets : ℕ) (routed : Result (List Branch) PlanFault) → IsAnswered d entries stream.name octets routed become after → AreFew entries after
-    by_routed octets (Err found) is = few_same entries after none is.1
-    by_routed octets (Ok paths) is = few_asked d entries after (record { name = stream.name; octets = octets; every = 1; phase = 0; paths = paths }) counted none is.1
+    by_routed : (octets : ℕ) (turns : Turns) (routed : Result (List Branch) PlanFault) → IsAnswered d entries stream.name octets turns routed become after →
+        AreFew entries after
+    by_routed octets turns (Err found) is = few_same entries after none is.1
+    by_routed octets turns (Ok paths) is = few_asked d entries after (asked_with stream.name octets (every_in turns) is.phase paths) counted none is.entered
 
     by_reserved : (reserved : Result ℕ PlanFault) → IsPlacedBy d entries stream reserved become after → AreFew entries after
     by_reserved (Err found) is = few_same entries after none is.1
-    by_reserved (Ok octets) is = by_routed octets is.routed is.is_answered
+    by_reserved (Ok octets) is = by_routed octets (turns_on d.cycle_time stream) is.routed is.is_answered
 
 -- the streams so far are placed, and no call but theirs was made
 pub record ArePlacedSoFar (d : Domain) (streams : List Settled) (k : ℕ) (a : Administration) (outcomes : List Outcome) : Type 0 where
@@ -128,37 +169,44 @@ unreserved d entries stream found is =
     let P : Result ℕ PlanFault → Type 0 = λ reserved. IsPlacedBy d entries stream reserved (Unplaced found) entries in subst P is (refl, refl)
 
 -- what becomes of one with this reservation becomes of it
-pub reserved_so : (d : Domain) (entries : List Recorded) (stream : SettledStream) (octets : ℕ) (become : PlacedOr) (after : List Recorded) →
-    Ok octets ≡ reserved_on d.cycle_time stream → IsRoutedAndAnswered d entries stream octets become after → IsPlacing d entries stream become after
-reserved_so d entries stream octets become after is placed =
-    let P : Result ℕ PlanFault → Type 0 = λ reserved. IsPlacedBy d entries stream reserved become after in subst P is placed
+pub reserved_so : (d : Domain) (entries : List Recorded) (stream : SettledStream) (octets : ℕ) (turns : Turns) (become : PlacedOr) (after : List Recorded) →
+    Ok octets ≡ reserved_on d.cycle_time stream → turns ≡ turns_on d.cycle_time stream → IsRoutedAndAnswered d entries stream octets turns become after →
+    IsPlacing d entries stream become after
+reserved_so d entries stream octets turns become after is same placed =
+    let P : Result ℕ PlanFault → Type 0 = λ reserved. IsPlacedBy d entries stream reserved become after in
+    subst P is (subst (λ (t : Turns). IsRoutedAndAnswered d entries stream octets t become after) same placed)
 
 -- a stream without branches isn't placed
-pub unrouted_so : (d : Domain) (entries : List Recorded) (stream : SettledStream) (octets cost : ℕ) (found : PlanFault) → cost ≡ cost_of octets →
-    IsRouted d (held_in d entries (seals entries)) cost stream.way (Err found) → IsRoutedAndAnswered d entries stream octets (Unplaced found) entries
-unrouted_so d entries stream octets cost found is routed = record {
+pub unrouted_so : (d : Domain) (entries : List Recorded) (stream : SettledStream) (octets every cost : ℕ) (turns : Turns) (found : PlanFault) →
+    every ≡ every_in turns → cost ≡ cost_of octets → IsRouted d (held_in d entries (seals entries)) every cost stream.way (Err found) →
+    IsRoutedAndAnswered d entries stream octets turns (Unplaced found) entries
+unrouted_so d entries stream octets every cost turns found each is routed = record {
   routed = Err found;
-  is_routed = subst (λ (c : ℕ). IsRouted d (held_in d entries (seals entries)) c stream.way (Err found)) is routed;
+  is_routed = subst₂ (λ (e c : ℕ). IsRouted d (held_in d entries (seals entries)) e c stream.way (Err found)) each is routed;
   is_answered = (refl, refl);
 }
 
--- a request for a stream with these branches
-abbrev request_by : List ℕ → ℕ → List Branch → Asked
-request_by name octets paths = record { name = name; octets = octets; every = 1; phase = 0; paths = paths }
-
 -- one with branches is asked for
-pub routed_so : (d : Domain) (entries : List Recorded) (stream : SettledStream) (octets cost : ℕ) (name : List ℕ) (paths : List Branch) (become : PlacedOr)
-    (after : List Recorded) → cost ≡ cost_of octets → IsRouted d (held_in d entries (seals entries)) cost stream.way (Ok paths) → name ≡ stream.name →
-    become ≡ answered d (request_by name octets paths) (refusal_of d (held_in d entries (seals entries)) (request_by name octets paths)) →
-    after ≡ with_asked d entries (request_by name octets paths) → IsRoutedAndAnswered d entries stream octets become after
-routed_so d entries stream octets cost name paths become after is routed named answer entered = record {
-  routed = Ok paths;
-  is_routed = subst (λ (c : ℕ). IsRouted d (held_in d entries (seals entries)) c stream.way (Ok paths)) is routed;
-  is_answered = (
-    answer ∙ ap (λ (n : List ℕ). answered d (request_by n octets paths) (refusal_of d (held_in d entries (seals entries)) (request_by n octets paths))) named,
-    entered ∙ ap (λ (n : List ℕ). with_asked d entries (request_by n octets paths)) named,
-  );
-}
+pub routed_so : (d : Domain) (entries : List Recorded) (stream : SettledStream) (octets every phase cost : ℕ) (turns : Turns) (name : List ℕ)
+    (paths : List Branch) (become : PlacedOr) (after : List Recorded) → every ≡ every_in turns → cost ≡ cost_of octets →
+    IsRouted d (held_in d entries (seals entries)) every cost stream.way (Ok paths) →
+    IsPhaseAlong d (held_in d entries (seals entries)) cost paths turns phase → name ≡ stream.name →
+    become ≡ answered d (asked_with name octets every phase paths) (refusal_of d (held_in d entries (seals entries)) (asked_with name octets every phase paths)) →
+    after ≡ with_asked d entries (asked_with name octets every phase paths) → IsRoutedAndAnswered d entries stream octets turns become after
+routed_so d entries stream octets every phase cost turns name paths become after each is routed chosen named answer entered =
+    let asked : asked_with name octets every phase paths ≡ asked_with stream.name octets (every_in turns) phase paths =
+    (λ i. asked_with (named i) octets (each i) phase paths) in
+    let so : IsAskedFor d entries stream.name octets turns paths become after = record {
+      phase = phase;
+      is_phase = subst (λ (c : ℕ). IsPhaseAlong d (held_in d entries (seals entries)) c paths turns phase) is chosen;
+      answer = answer ∙ ap (λ (a : Asked). answered d a (refusal_of d (held_in d entries (seals entries)) a)) asked;
+      entered = entered ∙ ap (with_asked d entries) asked;
+    } in
+    record {
+      routed = Ok paths;
+      is_routed = subst₂ (λ (e c : ℕ). IsRouted d (held_in d entries (seals entries)) e c stream.way (Ok paths)) each is routed;
+      is_answered = so;
+    }
 
 -- a stream of a slice can be placed as all can
 pub placeable_there : (d : Domain) (streams : List Settled) (k : ℕ) (stream : Settled) → k < length streams → stream ≡ get_or streams k stream →

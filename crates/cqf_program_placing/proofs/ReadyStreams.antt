@@ -1,18 +1,16 @@
 -- What settled streams have that were read of a sketch's text.
-use Rattle.std.proofs.Common.{◌≡◌, ◌≢◌, ◌∙◌, ◌+◌, ◌-◌, ◌*◌, ◌<◌, ◌≤◌, ℕ, suc, Bool, true, false, ◌&&◌, ◌||◌, List, [], ◌∷◌, Option, Some, None, Ok, Err}
+use Rattle.std.proofs.Common.{◌≡◌, ◌≢◌, ◌∙◌, ◌+◌, ◌-◌, ◌<◌, ◌≤◌, ℕ, suc, Bool, true, false, ◌&&◌, ◌||◌, List, [], ◌∷◌, Option, Some, None, Ok, Err}
 use Rattle.std.proofs.Common.{AllPairs, Contains, IfSome, cond, length, ok_or, option_map, position, refl, ap, subst, sym, inl, inr, arith}
 use Rattle.std.specs.Prelude.{is_none, nat_le, nat_lt}
 use Rattle.std.specs.List.{flat_map}
 use Rattle.std.proofs.lemmas.Bool.{and_parts, leb-true}
-use Rattle.std.proofs.lemmas.Nat.{le-div}
-use Rattle.std.proofs.Math.Nat.{mul-le-mul_right}
 use Rattle.cqf_lists.specs.Lists.{least, or_else}
 use Rattle.cqf_lists.proofs.Least.{or_else_none}
 use Rattle.cqf_lists.proofs.Members.{contains_cases, contains_here, contains_later, contains_none}
 use Rattle.cqf_lists.proofs.Pairs.{pairs_cons, pairs_head, pairs_none, pairs_tail}
 use Rattle.cqf_units.specs.Name.{is_name}
 use Rattle.cqf_laws_history.proofs.Granted.{refused_at_none}
-use Rattle.cqf_laws_traffic.specs.Traffic.{intervals_in, needed}
+use Rattle.cqf_laws_traffic.specs.Traffic.{needed}
 use Rattle.cqf_model.specs.declared.history.Refused.TheVariants as refused
 use Rattle.cqf_model.specs.declared.topology.Node.{Node}
 use Rattle.cqf_model.specs.declared.topology.Node.TheVariants.{Bridge, Station}
@@ -28,9 +26,10 @@ use Rattle.cqf_sketch_streams.specs.StreamsText.{StreamText, WantedText, Along a
 use Rattle.cqf_admission_trees.specs.Branches.{tree_refusal}
 use Rattle.cqf_program_placing.specs.declared.faults.PlanFault.TheVariants as fault
 use Rattle.cqf_program_placing.specs.Placing.{if_enough, reserved_by, reserved_on}
-use Rattle.cqf_program_placing.specs.Settled.{Along, Between, SettledStream, SettledWay, are_reservable, entrance_at, first_apart, settled_next, settled_way}
+use Rattle.cqf_program_placing.specs.Settled.{Along, Between, SettledStream, SettledWay, are_reservable, entrance_at, first_apart, is_paced, settled_next, settled_way}
 use Rattle.cqf_program_placing.specs.Settled.{station_by_name, stations_by_name}
 use Rattle.cqf_program_placing.proofs.FirstBranches.{AreBranches, HasRoomForWays, few_hops}
+use Rattle.cqf_program_placing.proofs.PlaceLemmas.{needed_least}
 use Rattle.cqf_program_placing.proofs.SettledLemmas.{and_first-Ok, entrance_there, settled_by, station_named_by}
 
 -- some listeners, all different
@@ -59,22 +58,12 @@ IsGoodWay d (Between bridge stations) = IsToStations d bridge stations
 pub record IsReady (d : Domain) (stream : SettledStream) : Type 0 where
   pub named : is_name stream.name ≡ true
   pub reservable : are_reservable stream.octets ≡ true
+  pub paced : is_paced stream.pacing ≡ true
   pub reserves : stream.octets ≡ None → stream.traffic ≡ None → ⊥
   pub traffic : IfSome stream.traffic IsTrafficText
   pub good_way : IsGoodWay d stream.way
 
 -- ---- its reservation
-
--- some frame of 64 octets comes in a cycle, or more
-needed_least : (cycle_time : ℕ) (t : TrafficText) → 1 ≤ cycle_time → IsTrafficText t → 64 ≤ needed cycle_time (promise_of t)
-needed_least cycle_time t some inside =
-    let intervals : ℕ = intervals_in cycle_time (promise_of t) in
-    let one : 1 ≤ intervals =
-    le-div 1 (cycle_time + t.jitter + t.interval - 1) t.interval (omega (arith, inside.interval.least)) (omega (arith, some, inside.interval.least)) in
-    let frames : 1 * t.frames ≤ intervals * t.frames = mul-le-mul_right t.frames one in
-    let each : 1 ≤ intervals * t.frames = omega (arith, frames, inside.frames.least) in
-    let octets : 1 * t.size ≤ intervals * t.frames * t.size = mul-le-mul_right t.size each in
-    omega (arith, octets, inside.size.least)
 
 -- octets that may be reserved are no fewer than the fewest
 least_octets : (octets : ℕ) → are_reservable (Some octets) ≡ true → 64 ≤ octets
@@ -231,6 +220,7 @@ module _ (sketch : SketchDomain) (cycle other : ℕ) where
       record {
         named = subst (λ (n : List ℕ). is_name n ≡ true) so.name_is so.named;
         reservable = so.reservable;
+        paced = so.paced;
         reserves = λ none_asked none_needed. read.reserves (so.octets_are ∙ none_asked) (so.traffic_is ∙ none_needed);
         traffic = subst (λ (t : Option TrafficText). IfSome t IsTrafficText) so.traffic_is read.traffic;
         good_way = way_ready text.way one.way talkers room read.listeners so.way_is;

@@ -1,13 +1,14 @@
 -- Streams are placed where there is room.
-use Rattle.std.proofs.Common.{◌≡◌, ◌∙◌, ◌<◌, ◌≤◌, ◌++◌, ℕ, suc, true, false, ◌&&◌, List, [], ◌∷◌, Some, None, Result, Ok, Err}
-use Rattle.std.proofs.Common.{All, Contains, ext_get_or, get_or, length, map, not, option_map, ap, arith, inl, inr, refl, subst, sym}
+use Rattle.std.proofs.Common.{◌≡◌, ◌∙◌, ◌+◌, ◌-◌, ◌*◌, ◌<◌, ◌≤◌, ◌++◌, ℕ, suc, true, false, ◌&&◌, List, [], ◌∷◌, Option, Some, None, Result, Ok, Err}
+use Rattle.std.proofs.Common.{All, Contains, ext_get_or, get_or, length, map, not, option_map, ap, arith, inl, inr, mul-le-mul_right, refl, subst, subst₂, sym}
 use Rattle.std.specs.Prelude.{nat_le}
 use Rattle.std.specs.List.{list_any}
+use Rattle.std.proofs.Math.Nat.{le_of_mul-le-mul_right}
 use Rattle.std.proofs.lemmas.Bool.{both_ways, false_from_ne_true, le-leb, lt-leb}
 use Rattle.std.proofs.lemmas.List.Elements.{All-contains}
 use Rattle.std.proofs.lemmas.Option.{slice_get-get_or, slice_get_within}
 use Rattle.cqf_lists.specs.Lists.{or_else}
-use Rattle.cqf_lists.proofs.Members.{any_member, contains_here, member_any}
+use Rattle.cqf_lists.proofs.Members.{any_member, contains_from_map, contains_here, contains_map, member_any}
 use Rattle.cqf_units.specs.Name.{is_name}
 use Rattle.cqf_units.specs.Timing.{cost_of}
 use Rattle.cqf_laws_traffic.specs.Traffic.{needed}
@@ -17,11 +18,16 @@ use Rattle.cqf_model.specs.declared.history.Refused.{Refused}
 use Rattle.cqf_model.specs.declared.history.Refused.TheVariants as refused
 use Rattle.cqf_model.specs.declared.topology.Node.TheVariants.{Bridge, Station}
 use Rattle.cqf_model.specs.declared.topology.Row.{Row}
-use Rattle.cqf_model.specs.Domain.{Domain, bridge_of, is_text}
-use Rattle.cqf_model.specs.History.{Asked, Branch, Recorded, held_in, is_pace, left_on, refusal_of, refused_at, refused_if, seals, short_link, tree_of}
+use Rattle.cqf_model.specs.declared.topology.Hop.{Hop}
+use Rattle.cqf_model.specs.declared.topology.Pace.{Pace}
+use Rattle.cqf_model.specs.Domain.{Domain, bridge_of, budget, is_text}
+use Rattle.cqf_model.specs.History.{Branch, Recorded, held_in, is_pace, left_on, refusal_of, refused_at, refused_if, seals, short_link, tree_of}
 use Rattle.cqf_model.specs.Limits.{streams_within}
 use Rattle.cqf_model.specs.Paces.{each_cycle}
 use Rattle.cqf_topology.specs.DomainText.{IsDomain, is_among}
+use Rattle.cqf_admission.specs.Asking.{asked_with}
+use Rattle.cqf_admission.specs.Costs.{left_in_turns, most_in_turns}
+use Rattle.cqf_admission_trees.specs.Branches.{tree_refusal}
 use Rattle.cqf_sketch.specs.SketchDomain.{IsSketch, SketchDomain, domain_at, open_cycle}
 use Rattle.cqf_sketch_streams.specs.StreamsText.{StreamText}
 use Rattle.cqf_report.specs.Books.{name_of_bridge}
@@ -30,17 +36,22 @@ use Rattle.cqf_ways.specs.Ways.{has_room}
 use Rattle.cqf_program_plans.specs.EndNames.{name_of_end}
 use Rattle.cqf_program_placing.specs.declared.faults.PlanFault.{PlanFault}
 use Rattle.cqf_program_placing.specs.declared.faults.PlanFault.TheVariants as fault
-use Rattle.cqf_program_placing.specs.Placing.{ArePlacedFrom, IsAnswered, IsPlacedBy, IsPlacing, IsRouted, Placed, PlacedOr, Unplaced, answered}
-use Rattle.cqf_program_placing.specs.Placing.{lefts_on, names_along, reserved_on}
-use Rattle.cqf_program_placing.specs.Room.{ArePlacedByRoomFrom, HasNoRoom, HaveRoom, IsPlacedAlong, IsPlacedBetween, IsPlacedByRoom, IsPlacedOnWay, IsPlacedWith}
+use Rattle.cqf_program_placing.specs.declared.turns.Turns.{Turns}
+use Rattle.cqf_program_placing.specs.declared.turns.Turns.TheVariants.{Given, Chosen}
+use Rattle.cqf_program_placing.specs.Placing.{ArePlacedFrom, IsAnswered, IsAskedFor, IsPlacedBy, IsPlacing, IsRouted, Placed, PlacedOr, Unplaced, answered}
+use Rattle.cqf_program_placing.specs.Placing.{names_along, reserved_on, turns_on}
+use Rattle.cqf_program_placing.specs.Turns.{AreGoodTurns, IsChosenBy, IsLeastFull, IsPhaseAlong, IsPhaseOnTree, MayBeFirst, every_in, lefts_on, pace_by, shares_with}
+use Rattle.cqf_program_placing.specs.Room.{ArePlacedByRoomFrom, HasNoRoom, HasRoomIn, HaveRoom, IsPlacedAlong, IsPlacedBetween, IsPlacedByRoom, IsPlacedOnWay, IsPlacedWith}
 use Rattle.cqf_program_placing.specs.Room.{PlacedWhereThereIsRoom}
 use Rattle.cqf_program_placing.specs.Settled.{Along, Between, SettledStream, SettledWay, settled_behind, settled_next}
 use Rattle.cqf_program_placing.proofs.Behind.{IsBehind, none_behind, one_behind}
 use Rattle.cqf_program_placing.proofs.FirstBranches.{AreBranches, HasRoomForWays, first_branches, first_enough, none_short, way_there}
+use Rattle.cqf_program_placing.proofs.Emptiest.{left_of_hop}
 use Rattle.cqf_program_placing.proofs.PlaceLemmas.{reserved_few}
 use Rattle.cqf_program_placing.proofs.ReadyStreams.{IsGoodWay, IsReadStream, IsReady, IsToStations, next_ready, reserved_least}
 use Rattle.cqf_program_placing.proofs.StreamsRead.{streams_read}
 use Rattle.cqf_program_placing.proofs.SettledLemmas.{and_first-Ok, next_stands}
+use Rattle.cqf_program_placing.proofs.Stepping.{is_good_pace, pace_is_good, turns_good}
 
 -- ---- what admission answers
 
@@ -52,25 +63,23 @@ pub record MayAsk (d : Domain) (rows : List Row) (name : List ℕ) (octets : ℕ
   pub name_free : list_any (λ (row : Row). is_text row.name name) rows ≡ false
   pub few : length rows < streams_within d.limits
 
-module _ (d : Domain) (rows : List Row) (name : List ℕ) (octets : ℕ) (paths : List Branch) (may : MayAsk d rows name octets) (branches : AreBranches d paths) where
-  -- the request
-  abbrev asked : Asked
-  asked = record { name = name; octets = octets; every = 1; phase = 0; paths = paths }
-
+module _ (d : Domain) (rows : List Row) (name : List ℕ) (octets every phase : ℕ) (paths : List Branch) (may : MayAsk d rows name octets)
+    (paced : is_pace every phase ≡ true) (branches : AreBranches d paths) where
   abbrev lacks_room : ℕ → Refused
-  lacks_room l = refused.BudgetShort l (left_on d rows (tree_of d paths) each_cycle l)
+  lacks_room l = refused.BudgetShort l (left_on d rows (tree_of d paths) (pace_by every phase) l)
 
-  -- where its branches are those of a tree it is refused for want of room, or for nothing
-  refused_for_room : refusal_of d rows asked ≡ refused_at lacks_room (short_link d rows (cost_of octets) each_cycle (tree_of d paths))
+  -- where its branches are those of a tree, and it has a pace, it is refused for want of room, or for nothing
+  refused_for_room : refusal_of d rows (asked_with name octets every phase paths)
+      ≡ refused_at lacks_room (short_link d rows (cost_of octets) (pace_by every phase) (tree_of d paths))
   refused_for_room =
       let named = may.named in
       let least_is : nat_le 64 octets ≡ true = le-leb 64 octets may.least_octets in
       let most_is : nat_le octets 60000 ≡ true = le-leb octets 60000 may.most_octets in
       let many : nat_le (streams_within d.limits) (length rows) ≡ false = lt-leb (streams_within d.limits) (length rows) may.few in
-      let short = refused_at lacks_room (short_link d rows (cost_of octets) each_cycle (tree_of d paths)) in
+      let short = refused_at lacks_room (short_link d rows (cost_of octets) (pace_by every phase) (tree_of d paths)) in
       (λ i. or_else (refused_if (not (named i)) refused.BadName)
       (or_else (refused_if (not (least_is i && most_is i)) refused.BadOctets)
-      (or_else (refused_if (not (is_pace 1 0)) refused.BadPace)
+      (or_else (refused_if (not (paced i)) refused.BadPace)
       (or_else (refused_at (λ place. refused.UnknownNode place) (branches.known i))
       (or_else (refused_at (λ place. refused.BrokenPath place) (branches.whole i))
       (or_else (refused_at (λ place. refused.LoopingPath place) (branches.simple i))
@@ -80,16 +89,87 @@ module _ (d : Domain) (rows : List Row) (name : List ℕ) (octets : ℕ) (paths 
       (or_else (refused_if (many i) refused.TooManyStreams) short))))))))))
 
   -- where no link lacks room it is granted
-  granted_so : (become : PlacedOr) → short_link d rows (cost_of octets) each_cycle (tree_of d paths) ≡ None →
-      become ≡ answered d (record { name = name; octets = octets; every = 1; phase = 0; paths = paths }) (refusal_of d rows (record { name = name; octets = octets; every = 1; phase = 0; paths = paths })) →
-      become ≡ Placed (record { name = name; octets = octets; every = 1; phase = 0; paths = paths })
-  granted_so become enough is = is ∙ ap (answered d asked) (refused_for_room ∙ ap (refused_at lacks_room) enough)
+  granted_so : (become : PlacedOr) → short_link d rows (cost_of octets) (pace_by every phase) (tree_of d paths) ≡ None →
+      become ≡ answered d (asked_with name octets every phase paths) (refusal_of d rows (asked_with name octets every phase paths)) →
+      become ≡ Placed (asked_with name octets every phase paths)
+  granted_so become enough is =
+      is ∙ ap (answered d (asked_with name octets every phase paths)) (refused_for_room ∙ ap (refused_at lacks_room) enough)
 
   -- and where one does, it is refused for the first
-  short_so : (become : PlacedOr) (l : ℕ) → short_link d rows (cost_of octets) each_cycle (tree_of d paths) ≡ Some l →
-      become ≡ answered d (record { name = name; octets = octets; every = 1; phase = 0; paths = paths }) (refusal_of d rows (record { name = name; octets = octets; every = 1; phase = 0; paths = paths })) →
-      become ≡ Unplaced (fault.Short (name_of_bridge d (bridge_of d l)) (name_of_end d l) (left_on d rows (tree_of d paths) each_cycle l))
-  short_so become l short is = is ∙ ap (answered d asked) (refused_for_room ∙ ap (refused_at lacks_room) short)
+  short_so : (become : PlacedOr) (l : ℕ) → short_link d rows (cost_of octets) (pace_by every phase) (tree_of d paths) ≡ Some l →
+      become ≡ answered d (asked_with name octets every phase paths) (refusal_of d rows (asked_with name octets every phase paths)) →
+      become ≡ Unplaced (fault.Short (name_of_bridge d (bridge_of d l)) (name_of_end d l) (left_on d rows (tree_of d paths) (pace_by every phase) l))
+  short_so become l short is =
+      is ∙ ap (answered d (asked_with name octets every phase paths)) (refused_for_room ∙ ap (refused_at lacks_room) short)
+
+-- ---- phases
+
+-- branches of a tree are refused for nothing
+tree_is_good : (d : Domain) (paths : List Branch) → AreBranches d paths → tree_refusal d paths ≡ None
+tree_is_good d paths branches =
+    (λ i. or_else (refused_at (λ place. refused.UnknownNode place) (branches.known i))
+    (or_else (refused_at (λ place. refused.BrokenPath place) (branches.whole i))
+    (or_else (refused_at (λ place. refused.LoopingPath place) (branches.simple i))
+    (or_else (refused_at (λ branch. refused.NotATree branch) (branches.together i))
+    (refused_if (branches.few i) refused.TooManyHops)))))
+
+-- so the phase is by that tree
+phase_on_tree : (d : Domain) (rows : List Row) (cost : ℕ) (paths : List Branch) (turns : Turns) (first : ℕ) → AreBranches d paths →
+    IsPhaseAlong d rows cost paths turns first → IsPhaseOnTree d rows cost paths turns first
+phase_on_tree d rows cost paths (Given every phase) first branches is = is
+phase_on_tree d rows cost paths (Chosen every) first branches is =
+    subst (λ (o : Option Refused). IsChosenBy d rows cost paths every o first) (tree_is_good d paths branches) is
+
+-- it is one that may be
+first_on_tree : (d : Domain) (rows : List Row) (cost : ℕ) (paths : List Branch) (turns : Turns) (first : ℕ) →
+    IsPhaseOnTree d rows cost paths turns first → MayBeFirst turns first
+first_on_tree d rows cost paths (Given every phase) first is = is
+first_on_tree d rows cost paths (Chosen every) first is = is.within
+
+-- and so it makes a pace
+paced_so : (turns : Turns) (first : ℕ) → AreGoodTurns turns → MayBeFirst turns first → is_pace (every_in turns) first ≡ true
+paced_so (Given every phase) first good is = ap (is_pace every) is ∙ good
+paced_so (Chosen every) first good is = is_good_pace every first good is
+
+-- by numbers: a link of which no greater share is held than of one that has room, has it
+fits : (budget left cost other there : ℕ) → 1 ≤ cost → left ≤ budget → there ≤ other → cost ≤ there →
+    (budget - left + cost) * other ≤ (other - there + cost) * budget → cost ≤ left
+fits budget left cost other there some within below room no_fuller =
+    let up : (other - there + cost) * budget ≤ other * budget = mul-le-mul_right budget (omega (arith, below, room)) in
+    let all : (budget - left + cost) * other ≤ budget * other = omega (arith, no_fuller, up) in
+    let held : budget - left + cost ≤ budget = le_of_mul-le-mul_right all (omega (arith, some, below, room)) in
+    omega (arith, held, within)
+
+-- what is left is within the budget
+left_within : (d : Domain) (rows : List Row) (pace : Pace) (hop : Hop) → left_in_turns d rows pace hop ≤ budget d hop.link
+left_within d rows pace hop = less (budget d hop.link) (most_in_turns rows pace hop)
+  where
+    less : (a b : ℕ) → a - b ≤ a
+    less a b = omega arith
+
+-- where in some phase each link of a tree has room, it has it in the one in which the fullest link is least full
+room_in_first : (d : Domain) (rows : List Row) (cost every : ℕ) (paths : List Branch) (first other : ℕ) → 1 ≤ cost →
+    IsLeastFull (shares_with d rows cost every) (tree_of d paths) every first → other < every →
+    HasRoomIn d rows cost (tree_of d paths) (pace_by every other) → HasRoomIn d rows cost (tree_of d paths) (pace_by every first)
+room_in_first d rows cost every paths first other some least low room l c =
+    let tree : List Hop = tree_of d paths in
+    let (hop, among, same) = contains_from_map (λ (h : Hop). h.link) tree l c in
+    let (there, there_among, no_fuller) = least.least other low hop among in
+    let there_room : cost ≤ left_in_turns d rows (pace_by every other) there =
+    subst (λ n. cost ≤ n) (left_of_hop d rows paths (pace_by every other) there there_among)
+    (room there.link (contains_map (λ (h : Hop). h.link) tree there there_among)) in
+    let here : cost ≤ left_in_turns d rows (pace_by every first) hop =
+    fits (budget d hop.link) (left_in_turns d rows (pace_by every first) hop) cost (budget d there.link) (left_in_turns d rows (pace_by every other) there) some
+    (left_within d rows (pace_by every first) hop) (left_within d rows (pace_by every other) there) there_room no_fuller in
+    subst (λ k. cost ≤ left_on d rows tree (pace_by every first) k) same
+    (subst (λ n. cost ≤ n) (sym (left_of_hop d rows paths (pace_by every first) hop among)) here)
+
+room_so : (d : Domain) (rows : List Row) (cost : ℕ) (paths : List Branch) (turns : Turns) (first other : ℕ) → 1 ≤ cost →
+    IsPhaseOnTree d rows cost paths turns first → MayBeFirst turns other → HasRoomIn d rows cost (tree_of d paths) (pace_by (every_in turns) other) →
+    HasRoomIn d rows cost (tree_of d paths) (pace_by (every_in turns) first)
+room_so d rows cost paths (Given every phase) first other some is may room =
+    subst (λ n. HasRoomIn d rows cost (tree_of d paths) (pace_by every n)) (may ∙ sym is) room
+room_so d rows cost paths (Chosen every) first other some is may room = room_in_first d rows cost every paths first other some is may room
 
 -- ---- one stream
 
@@ -100,68 +180,94 @@ module _ (one_way : FirstWayIsOne) (no_loop : FirstWaysHaveNoLoop) (parts : Firs
   rows = held_in d entries (seals entries)
 
   -- first ways are the same
-  same_ways : (cost bridge : ℕ) (stations : List ℕ) (ways others : List (List ℕ)) → bridge < length d.bridges → HaveRoom d rows cost bridge stations ways →
-      HaveRoom d rows cost bridge stations others → ways ≡ others
-  same_ways cost bridge stations ways others inside first also =
+  same_ways : (every cost bridge : ℕ) (stations : List ℕ) (ways others : List (List ℕ)) → bridge < length d.bridges →
+      HaveRoom d rows every cost bridge stations ways → HaveRoom d rows every cost bridge stations others → ways ≡ others
+  same_ways every cost bridge stations ways others inside first also =
       ext_get_or [] ways others (first.one_each ∙ sym also.one_each) (λ k low.
       let there : k < length others = omega (arith, low, first.one_each, also.one_each) in
       let way = get_or ways k [] in
       let other = get_or others k [] in
-      one_way d.links (has_room (lefts_on d rows) cost) (Bridge bridge) (Station (get_or stations k 0)) way other
-      (way_there d good rows cost bridge inside stations ways first k way (slice_get-get_or ways k [] low))
-      (way_there d good rows cost bridge inside stations others also k other (slice_get-get_or others k [] there)))
+      one_way d.links (has_room (lefts_on d rows every) cost) (Bridge bridge) (Station (get_or stations k 0)) way other
+      (way_there d good rows every cost bridge inside stations ways first k way (slice_get-get_or ways k [] low))
+      (way_there d good rows every cost bridge inside stations others also k other (slice_get-get_or others k [] there)))
 
   -- where there are ways to all, there is no first without
-  not_both : (cost bridge : ℕ) (stations : List ℕ) (ways : List (List ℕ)) (place : ℕ) → HaveRoom d rows cost bridge stations ways →
-      HasNoRoom d rows cost bridge stations place → ⊥
-  not_both cost bridge stations ways place first without =
+  not_both : (every cost bridge : ℕ) (stations : List ℕ) (ways : List (List ℕ)) (place : ℕ) → HaveRoom d rows every cost bridge stations ways →
+      HasNoRoom d rows every cost bridge stations place → ⊥
+  not_both every cost bridge stations ways place first without =
       let low : place < length ways = omega (arith, slice_get_within stations place without.station without.stands, first.one_each) in
       let way = get_or ways place [] in
       without.none way (first.each place without.station way without.stands (slice_get-get_or ways place [] low)).is_way
 
-  -- a stream between a bridge and stations
-  between_so : (name : List ℕ) (octets bridge : ℕ) (stations : List ℕ) (routed : Result (List Branch) PlanFault) (become : PlacedOr) (after : List Recorded) →
-      MayAsk d rows name octets → IsToStations d bridge stations → IsRouted d rows (cost_of octets) (Between bridge stations) routed →
-      IsAnswered d entries name octets routed become after → IsPlacedBetween d rows name octets bridge stations become
-  between_so name octets bridge stations (Ok paths) become after may to found is =
+  -- a stream along the branches of a tree
+  along_so : (name : List ℕ) (octets : ℕ) (turns : Turns) (paths : List Branch) (become : PlacedOr) (after : List Recorded) →
+      MayAsk d rows name octets → AreGoodTurns turns → AreBranches d paths → IsAskedFor d entries name octets turns paths become after →
+      IsPlacedAlong d rows name octets turns paths become
+  along_so name octets turns paths become after may good_turns branches is =
       let cost : ℕ = cost_of octets in
-      let first : HaveRoom d rows cost bridge stations found.ways = found.first in
-      let branches : AreBranches d paths = subst (AreBranches d) (sym found.are)
-      (first_branches d good rows cost bridge to.inside stations found.ways first to.some to.apart room no_loop parts) in
-      let enough : short_link d rows cost each_cycle (tree_of d paths) ≡ None =
-      subst (λ (ps : List Branch). short_link d rows cost each_cycle (tree_of d ps) ≡ None) (sym found.are)
-      (first_enough d good rows cost bridge to.inside stations found.ways first) in
-      let is_placed = granted_so d rows name octets paths may branches become enough is.0 in
+      let some : 1 ≤ cost = omega (arith, may.least_octets) in
+      let on_tree = phase_on_tree d rows cost paths turns is.phase branches is.is_phase in
+      let paced = paced_so turns is.phase good_turns (first_on_tree d rows cost paths turns is.phase on_tree) in
       record {
-        placed = λ ways also.
+        phase = is.phase;
+        is_phase = on_tree;
+        placed = λ other may_be room. granted_so d rows name octets (every_in turns) is.phase paths may paced branches become
+            (none_short d rows cost (pace_by (every_in turns) is.phase) paths (room_so d rows cost paths turns is.phase other some on_tree may_be room)) is.answer;
+        unplaced = λ l short. short_so d rows name octets (every_in turns) is.phase paths may paced branches become l short is.answer;
+      }
+
+  -- where it is offered in each cycle, and each link of the tree has room, it is placed
+  each_so : (name : List ℕ) (octets : ℕ) (turns : Turns) (paths : List Branch) (become : PlacedOr) → AreGoodTurns turns → every_in turns ≡ 1 →
+      IsPlacedAlong d rows name octets turns paths become → HasRoomIn d rows (cost_of octets) (tree_of d paths) each_cycle →
+      become ≡ Placed (asked_with name octets 1 0 paths)
+  each_so name octets turns paths become good_turns each is room =
+      let may_be = first_on_tree d rows (cost_of octets) paths turns is.phase is.is_phase in
+      let below : is.phase < every_in turns = (pace_is_good (every_in turns) is.phase (paced_so turns is.phase good_turns may_be)).1 in
+      let none : is.phase ≡ 0 = omega (arith, below, each) in
+      let there : HasRoomIn d rows (cost_of octets) (tree_of d paths) (pace_by (every_in turns) is.phase) =
+      subst₂ (λ (e p : ℕ). HasRoomIn d rows (cost_of octets) (tree_of d paths) (pace_by e p)) (sym each) (sym none) room in
+      is.placed is.phase may_be there ∙ (λ i. Placed (asked_with name octets (each i) (none i) paths))
+
+  -- a stream between a bridge and stations
+  between_so : (name : List ℕ) (octets : ℕ) (turns : Turns) (bridge : ℕ) (stations : List ℕ) (routed : Result (List Branch) PlanFault) (become : PlacedOr)
+      (after : List Recorded) → MayAsk d rows name octets → AreGoodTurns turns → IsToStations d bridge stations →
+      IsRouted d rows (every_in turns) (cost_of octets) (Between bridge stations) routed → IsAnswered d entries name octets turns routed become after →
+      IsPlacedBetween d rows name octets turns bridge stations become
+  between_so name octets turns bridge stations (Ok paths) become after may good_turns to found is =
+      let cost : ℕ = cost_of octets in
+      let every : ℕ = every_in turns in
+      let first : HaveRoom d rows every cost bridge stations found.ways = found.first in
+      let branches : AreBranches d paths = subst (AreBranches d) (sym found.are)
+      (first_branches d good rows every cost bridge to.inside stations found.ways first to.some to.apart room no_loop parts) in
+      let along : IsPlacedAlong d rows name octets turns paths become = along_so name octets turns paths become after may good_turns branches is in
+      record {
+        placed = λ ways also. subst (λ (ps : List Branch). IsPlacedAlong d rows name octets turns ps become)
+            (found.are ∙ ap (map (names_along d bridge)) (same_ways every cost bridge stations found.ways ways to.inside first also)) along;
+        each_cycle = λ each ways also.
             let same : paths ≡ map (names_along d bridge) ways =
-            found.are ∙ ap (map (names_along d bridge)) (same_ways cost bridge stations found.ways ways to.inside first also) in
-            is_placed ∙ ap (λ (ps : List Branch). Placed (record { name = name; octets = octets; every = 1; phase = 0; paths = ps })) same;
-        unplaced = λ place without. absurd (not_both cost bridge stations found.ways place first without);
+            found.are ∙ ap (map (names_along d bridge)) (same_ways every cost bridge stations found.ways ways to.inside first also) in
+            let enough : HasRoomIn d rows cost (tree_of d paths) each_cycle = subst (λ (ps : List Branch). HasRoomIn d rows cost (tree_of d ps) each_cycle)
+            (sym found.are) (first_enough d good rows every cost bridge to.inside stations found.ways first each) in
+            each_so name octets turns paths become good_turns each along enough ∙ ap (λ (ps : List Branch). Placed (asked_with name octets 1 0 ps)) same;
+        unplaced = λ place without. absurd (not_both every cost bridge stations found.ways place first without);
         either = inl (found.ways, first);
       }
-  between_so name octets bridge stations (Err found) become after may to full is = record {
-    placed = λ ways first. absurd (not_both (cost_of octets) bridge stations ways full.place first full.without);
+  between_so name octets turns bridge stations (Err found) become after may good_turns to full is = record {
+    placed = λ ways first. absurd (not_both (every_in turns) (cost_of octets) bridge stations ways full.place first full.without);
+    each_cycle = λ each ways first. absurd (not_both (every_in turns) (cost_of octets) bridge stations ways full.place first full.without);
     unplaced = λ place without. (found, is.0, full);
     either = inr (full.place, full.without);
   }
 
-  -- one along given branches
-  along_so : (name : List ℕ) (octets : ℕ) (paths : List Branch) (routed : Result (List Branch) PlanFault) (become : PlacedOr) (after : List Recorded) →
-      MayAsk d rows name octets → AreBranches d paths → routed ≡ Ok paths → IsAnswered d entries name octets routed become after →
-      IsPlacedAlong d rows name octets paths become
-  along_so name octets paths routed become after may branches given is =
-      let answer = subst (λ (r : Result (List Branch) PlanFault). IsAnswered d entries name octets r become after) given is in
-      record {
-        placed = λ enough. granted_so d rows name octets paths may branches become (none_short d rows (cost_of octets) paths enough) answer.0;
-        unplaced = λ l short. short_so d rows name octets paths may branches become l short answer.0;
-      }
-
-  on_way_so : (name : List ℕ) (octets : ℕ) (way : SettledWay) (routed : Result (List Branch) PlanFault) (become : PlacedOr) (after : List Recorded) →
-      MayAsk d rows name octets → IsGoodWay d way → IsRouted d rows (cost_of octets) way routed → IsAnswered d entries name octets routed become after →
-      IsPlacedOnWay d rows name octets way become
-  on_way_so name octets (Along paths) routed become after may branches given is = along_so name octets paths routed become after may branches given is
-  on_way_so name octets (Between bridge stations) routed become after may to found is = between_so name octets bridge stations routed become after may to found is
+  on_way_so : (name : List ℕ) (octets : ℕ) (turns : Turns) (way : SettledWay) (routed : Result (List Branch) PlanFault) (become : PlacedOr)
+      (after : List Recorded) → MayAsk d rows name octets → AreGoodTurns turns → IsGoodWay d way →
+      IsRouted d rows (every_in turns) (cost_of octets) way routed → IsAnswered d entries name octets turns routed become after →
+      IsPlacedOnWay d rows name octets turns way become
+  on_way_so name octets turns (Along paths) routed become after may good_turns branches given is =
+      along_so name octets turns paths become after may good_turns branches
+      (subst (λ (r : Result (List Branch) PlanFault). IsAnswered d entries name octets turns r become after) given is)
+  on_way_so name octets turns (Between bridge stations) routed become after may good_turns to found is =
+      between_so name octets turns bridge stations routed become after may good_turns to found is
 
   -- a stream that is ready, under a name that isn't held, beside few rows
   pub placed_so : (stream : SettledStream) (become : PlacedOr) (after : List Recorded) → IsReady d stream →
@@ -184,7 +290,8 @@ module _ (one_way : FirstWayIsOne) (no_loop : FirstWaysHaveNoLoop) (parts : Firs
             name_free = free;
             few = few;
           } in
-          on_way_so stream.name octets stream.way is.routed become after may ready.good_way is.is_routed is.is_answered
+          on_way_so stream.name octets (turns_on d.cycle_time stream) stream.way is.routed become after may
+          (turns_good d.cycle_time stream.pacing stream.traffic ready.paced) ready.good_way is.is_routed is.is_answered
 
 -- ---- streams one after the other
 

@@ -1,5 +1,5 @@
 -- Ways of a domain as branches, and links that lack room.
-use Rattle.std.proofs.Common.{◌≡◌, ◌∙◌, ◌+◌, ◌-◌, ◌<◌, ◌++◌, ℕ, Bool, true, List, [], ◌∷◌, Option, Some, None, Contains, inl, inr, length, get_or, map, take, arith, ap, refl, subst, sym, append_assoc}
+use Rattle.std.proofs.Common.{◌≡◌, ◌∙◌, ◌+◌, ◌<◌, ◌++◌, ℕ, Bool, true, List, [], ◌∷◌, Option, Some, None, Contains, inl, inr, length, get_or, map, take, arith, ap, refl, subst, sym, append_assoc}
 use Rattle.std.specs.Prelude.{not, option_and_then, option_map, slice_get}
 use Rattle.std.specs.List.{list_all}
 use Rattle.std.specs.Option.{option_map_or}
@@ -15,7 +15,6 @@ use Rattle.cqf_model.specs.declared.topology.Row.{Row}
 use Rattle.cqf_model.specs.Domain.{Domain, IsAccepted, IsNode, bridge_of}
 use Rattle.cqf_model.specs.History.{Branch}
 use Rattle.cqf_model.proofs.Represented.{few_links, few_bridges}
-use Rattle.cqf_admission.specs.Costs.{left_beside}
 use Rattle.arrayvec.specs.ArrayVec.{ArrayVec}
 use Rattle.cqf_ways.specs.Listeners.{AreFirstWays, IsFirstWithout}
 use Rattle.cqf_ways.specs.WayLaws.{FullWaysHaveAShortLink, NothingHasRoomEverywhere}
@@ -25,9 +24,10 @@ use Rattle.cqf_report.specs.Books.{name_of_bridge, name_of_node}
 use Rattle.cqf_program_plans.specs.EndNames.{name_of_end}
 use Rattle.cqf_program_placing.specs.declared.faults.PlanFault.{PlanFault}
 use Rattle.cqf_program_placing.specs.declared.faults.PlanFault.TheVariants as fault
-use Rattle.cqf_program_placing.specs.Placing.{AreFound, IsFull, IsFullTo, lefts_on, names_along}
+use Rattle.cqf_program_placing.specs.Placing.{AreFound, IsFull, IsFullTo, names_along}
 use Rattle.cqf_program_placing.specs.Routes.{AreReached, IsReached}
 use Rattle.cqf_program_placing.specs.Settled.{Between, IsOnWay, is_led}
+use Rattle.cqf_program_placing.specs.Turns.{left_emptiest, lefts_on}
 use Rattle.cqf_program_placing.proofs.LedLemmas.{led_has_way}
 
 -- what is made of the elements so far, with that of one more
@@ -92,11 +92,11 @@ are_links d links same accepted = subst AreLinks (sym same) (record {
 })
 
 -- what a link has left stands at its place
-pub lefts_many : (d : Domain) (rows : List Row) → length (lefts_on d rows) ≡ length d.links
-lefts_many d rows = length-singles (left_beside d rows) (length d.links)
+pub lefts_many : (d : Domain) (rows : List Row) (every : ℕ) → length (lefts_on d rows every) ≡ length d.links
+lefts_many d rows every = length-singles (left_emptiest d rows every) (length d.links)
 
-pub left_there : (d : Domain) (rows : List Row) (l : ℕ) → l < length d.links → get_or (lefts_on d rows) l 0 ≡ left_beside d rows l
-left_there d rows l inside = get_or-singles (left_beside d rows) (length d.links) l 0 inside
+pub left_there : (d : Domain) (rows : List Row) (every l : ℕ) → l < length d.links → get_or (lefts_on d rows every) l 0 ≡ left_emptiest d rows every l
+left_there d rows every l inside = get_or-singles (left_emptiest d rows every) (length d.links) l 0 inside
 
 -- a way asks for nothing where each link has room
 all_pass : (way : List ℕ) → list_all (λ l. true) way ≡ true
@@ -147,11 +147,11 @@ must_lack d left cost bridge station way short none first all =
     let (link, lacks) = short d.links left cost (Bridge bridge) (Station station) way none first.is_way in absurd cc
 
 -- and the station is full
-pub full_found : (d : Domain) (rows : List Row) (left : List ℕ) (cost bridge station : ℕ) (way : List ℕ) (link : ℕ) (found : PlanFault) →
+pub full_found : (d : Domain) (rows : List Row) (every : ℕ) (left : List ℕ) (cost bridge station : ℕ) (way : List ℕ) (link : ℕ) (found : PlanFault) →
     IsFirstWay d.links (λ l. true) (Bridge bridge) (Station station) way → short_link left cost way ≡ Some link →
     found ≡ fault.Full (name_of_node d (Station station)) cost (name_of_bridge d (bridge_of d link)) (name_of_end d link) (get_or left link 0) →
-    left ≡ lefts_on d rows → IsFullTo d rows cost bridge station found
-full_found d rows left cost bridge station way link found first short is are =
+    left ≡ lefts_on d rows every → IsFullTo d rows every cost bridge station found
+full_found d rows every left cost bridge station way link found first short is are =
     let inside : link < length d.links = short_inside d.links left cost (Bridge bridge) (Station station) way link first.is_way.leads short in
     record {
       way = way;
@@ -159,14 +159,14 @@ full_found d rows left cost bridge station way link found first short is are =
       link = link;
       lacks = subst (λ (xs : List ℕ). short_link xs cost way ≡ Some link) are short;
       is = is ∙ ap (λ octets. fault.Full (name_of_node d (Station station)) cost (name_of_bridge d (bridge_of d link)) (name_of_end d link) octets)
-          (ap (λ xs. get_or xs link 0) are ∙ left_there d rows link inside);
+          (ap (λ xs. get_or xs link 0) are ∙ left_there d rows every link inside);
     }
 
 -- it is the first that is
-pub first_full : (d : Domain) (rows : List Row) (links : List Link) (left : List ℕ) (cost bridge : ℕ) (stations : List ℕ) (place station : ℕ) (found : PlanFault) →
+pub first_full : (d : Domain) (rows : List Row) (every : ℕ) (links : List Link) (left : List ℕ) (cost bridge : ℕ) (stations : List ℕ) (place station : ℕ) (found : PlanFault) →
     links ≡ d.links → IsFirstWithout links (has_room left cost) (Bridge bridge) stations place → slice_get stations place ≡ Some station →
-    left ≡ lefts_on d rows → IsFullTo d rows cost bridge station found → IsFull d rows cost bridge stations found
-first_full d rows links left cost bridge stations place station found are without stands lefts full = record {
+    left ≡ lefts_on d rows every → IsFullTo d rows every cost bridge station found → IsFull d rows every cost bridge stations found
+first_full d rows every links left cost bridge stations place station found are without stands lefts full = record {
   place = place;
   station = station;
   without = subst (λ (xs : List ℕ). IsFirstWithout d.links (has_room xs cost) (Bridge bridge) stations place) lefts
@@ -192,10 +192,10 @@ none_there d links left cost bridge stations place station are without stands =
     (subst (λ (s : ℕ). NoWay links (has_room left cost) (Bridge bridge) (Station s)) same without.none)
 
 -- the branches of the first ways are found
-pub ways_found : (d : Domain) (rows : List Row) (links : List Link) (left : List ℕ) (cost bridge : ℕ) (stations : List ℕ) (ways : List (ArrayVec ℕ))
+pub ways_found : (d : Domain) (rows : List Row) (every : ℕ) (links : List Link) (left : List ℕ) (cost bridge : ℕ) (stations : List ℕ) (ways : List (ArrayVec ℕ))
     (paths : List Branch) → links ≡ d.links → AreFirstWays links (has_room left cost) (Bridge bridge) stations (map (λ (way : ArrayVec ℕ). way.items) ways) →
-    paths ≡ map (λ (way : ArrayVec ℕ). names_along d bridge way.items) ways → left ≡ lefts_on d rows → AreFound d rows cost bridge stations paths
-ways_found d rows links left cost bridge stations ways paths are first paths_are lefts =
+    paths ≡ map (λ (way : ArrayVec ℕ). names_along d bridge way.items) ways → left ≡ lefts_on d rows every → AreFound d rows every cost bridge stations paths
+ways_found d rows every links left cost bridge stations ways paths are first paths_are lefts =
     let items = λ (way : ArrayVec ℕ). way.items in
     record {
       ways = map items ways;

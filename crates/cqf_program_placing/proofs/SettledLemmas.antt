@@ -32,7 +32,7 @@ use Rattle.cqf_program_placing.specs.declared.settled.Settled.{Settled}
 use Rattle.cqf_program_placing.specs.declared.settled.Unsettled.{Unsettled}
 use Rattle.cqf_program_placing.specs.declared.settled.Unsettled.TheVariants as unsettled
 use Rattle.cqf_program_placing.specs.Settled.{Along, Between, IsOnWay, IsPlaceable, SettledStream, SettledWay, are_reservable, deadline_behind}
-use Rattle.cqf_program_placing.specs.Settled.{deadline_of_stream, entrance_at, entrance_behind, first_apart, has_way, is_led, open_domain, or_unsettled}
+use Rattle.cqf_program_placing.specs.Settled.{deadline_of_stream, entrance_at, entrance_behind, first_apart, has_way, is_led, is_paced, open_domain, or_unsettled}
 use Rattle.cqf_program_placing.specs.Settled.{refusal_behind, settled_behind, settled_next, settled_of, settled_stream, settled_value, settled_way, station_at}
 use Rattle.cqf_program_placing.specs.Settled.{station_by_name, stations_by_name}
 
@@ -164,11 +164,13 @@ some_left taken (Some whole) left e deadline is = by (nat_lt taken whole) refl e
 pub record IsSettledBy (sketch : SketchDomain) (d : Domain) (before : List (List ℕ)) (stream : StreamText) (one : SettledStream) : Type 0 where
   pub named : is_name stream.name ≡ true
   pub reservable : are_reservable one.octets ≡ true
+  pub paced : is_paced one.pacing ≡ true
   pub way_is : settled_way sketch d stream.way ≡ Ok one.way
   pub stands : refusal_behind d before stream.name ≡ None
   pub deadline_is : deadline_of_stream sketch d stream ≡ Ok one.deadline
   pub name_is : stream.name ≡ one.name
   pub octets_are : stream.octets ≡ one.octets
+  pub pacing_is : stream.pacing ≡ one.pacing
   pub traffic_is : stream.traffic ≡ one.traffic
 
 pub settled_by : (sketch : SketchDomain) (d : Domain) (before : List (List ℕ)) (stream : StreamText) (one : SettledStream) →
@@ -178,20 +180,25 @@ settled_by sketch d before stream one e =
     (or_unsettled stream.name (settled_stream sketch d before stream)) one e in
     let e2 = or_unsettled-Ok stream.name (settled_stream sketch d before stream) one e1 in
     let (reservable, e3) = refuse-Ok (if_so (not (are_reservable stream.octets))) (λ _. fault.Refused refused.BadOctets) _ one e2 in
-    let (way, way_is, e4) = and_then-Ok (settled_way sketch d stream.way) _ one e3 in
+    let (paced, p3) = refuse-Ok (if_so (not (is_paced stream.pacing))) (λ _. fault.Refused refused.BadPace) _ one e3 in
+    let (way, way_is, e4) = and_then-Ok (settled_way sketch d stream.way) _ one p3 in
     let (stands, e5) = refuse-Ok (refusal_behind d before stream.name) fault.Refused _ one e4 in
     let (deadline, deadline_is, e6) = and_then-Ok (deadline_of_stream sketch d stream) _ one e5 in
-    let made : SettledStream = record { name = stream.name; octets = stream.octets; way = way; deadline = deadline; traffic = stream.traffic } in
+    let made : SettledStream =
+    record { name = stream.name; octets = stream.octets; pacing = stream.pacing; way = way; deadline = deadline; traffic = stream.traffic } in
     let same : made ≡ one = cc in
     record {
       named = not_not (is_name stream.name) (not_so (not (is_name stream.name)) unnamed);
       reservable = subst (λ (s : SettledStream). are_reservable s.octets ≡ true) same
           (not_not (are_reservable stream.octets) (not_so (not (are_reservable stream.octets)) reservable));
+      paced = subst (λ (s : SettledStream). is_paced s.pacing ≡ true) same
+          (not_not (is_paced stream.pacing) (not_so (not (is_paced stream.pacing)) paced));
       way_is = way_is ∙ ap (λ (s : SettledStream). Ok s.way) same;
       stands = stands;
       deadline_is = deadline_is ∙ ap (λ (s : SettledStream). Ok s.deadline) same;
       name_is = ap (λ (s : SettledStream). s.name) same;
       octets_are = ap (λ (s : SettledStream). s.octets) same;
+      pacing_is = ap (λ (s : SettledStream). s.pacing) same;
       traffic_is = ap (λ (s : SettledStream). s.traffic) same;
     }
 
@@ -232,6 +239,7 @@ next_is_placeable sketch d before stream one talkers same e =
       named = subst (λ (n : List ℕ). IsTrue (is_name n)) by_name.name_is by_name.named;
       on_way = on_way sketch d stream.way one.way talkers same by_name.way_is;
       reservable = by_name.reservable;
+      paced = by_name.paced;
       some_deadline = some_left _ stream.deadline one.deadline by_name.deadline_is;
     }
 

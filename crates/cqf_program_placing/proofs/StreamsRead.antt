@@ -26,7 +26,7 @@ use Rattle.cqf_traffic.specs.FlowsText.{or_streams, traffic_or}
 use Rattle.cqf_traffic.specs.TrafficText.{TrafficText, first_owed, has_traffic, numbers_from, traffic_from}
 use Rattle.cqf_plants.proofs.Ranges.{traffic_in_range}
 use Rattle.cqf_sketch_streams.specs.StreamsText.{Along, Between, StreamText, WantedText, along_from, between_from, first_end, first_lack, first_lack_of, first_lack_within}
-use Rattle.cqf_sketch_streams.specs.StreamsText.{has_path, if_listeners, listeners_by, listeners_of, octets_by, octets_from, owed_keys, sketch_streams_of_text, stream_from}
+use Rattle.cqf_sketch_streams.specs.StreamsText.{has_path, if_listeners, listeners_by, listeners_of, octets_by, octets_from, owed_keys, pacing_from, sketch_streams_of_text, stream_from}
 use Rattle.cqf_sketch_streams.specs.StreamsText.{streams_from, streams_in, streams_of_array, wanted_from}
 use Rattle.cqf_program_placing.proofs.ReadyStreams.{AreListeners, IsReadStream}
 use Rattle.cqf_program_placing.proofs.SettledLemmas.{and_first-Ok, found_none}
@@ -146,10 +146,11 @@ module _ (table : Members) where
   stream_read stream lack e =
       let (name, at_name, h1) = and_then-Ok (or_streams (read_at Name as_str table)) _ stream e in
       let (octets, at_octets, h2) = and_then-Ok (or_streams (octets_from table)) _ stream h1 in
-      let (way, at_way, h3) = and_then-Ok (or_streams (wanted_from table)) _ stream h2 in
+      let (pacing, at_pacing, p3) = and_then-Ok (pacing_from table) _ stream h2 in
+      let (way, at_way, h3) = and_then-Ok (or_streams (wanted_from table)) _ stream p3 in
       let (deadline, at_deadline, h4) = and_then-Ok (or_streams (deadline_from table)) _ stream h3 in
       let (traffic, at_traffic, h5) = and_then-Ok (traffic_or table) _ stream h4 in
-      let made : StreamText = record { name = name; octets = octets; way = way; deadline = deadline; traffic = traffic } in
+      let made : StreamText = record { name = name; octets = octets; pacing = pacing; way = way; deadline = deadline; traffic = traffic } in
       let same : made ≡ stream = cc in
       let read : traffic_from table ≡ Ok traffic = traffic-Ok (traffic_from table) traffic at_traffic in
       subst IsReadStream same (record {

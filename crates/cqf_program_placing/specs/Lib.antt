@@ -1,5 +1,6 @@
 pub mod Faults
 pub mod Settled
+pub mod Turns
 pub mod Placing
 pub mod Routes
 pub mod Room

@@ -1,6 +1,6 @@
 -- Settled streams, placed on a cycle time one after the other (profile).
-use Rattle.std.specs.Prelude.{ℕ, ◌≡◌, List, [], ◌∷◌, if◌then◌else◌, length, map, nat_lt, option_map, Option, Some, None, Result, Ok, Err, slice_get, true}
-use Rattle.cqf_lists.specs.Lists.{each_below}
+use Rattle.std.specs.Prelude.{ℕ, ◌≡◌, ◌<◌, ⊤, Bool, List, [], ◌∷◌, if◌then◌else◌, false, map, nat_lt, option_map, Option, Some, None, Result, Ok, Err, slice_get, true}
+use Rattle.std.specs.Option.{option_map_or}
 use Rattle.cqf_units.specs.Timing.{cost_of}
 use Rattle.cqf_model.specs.declared.history.Refused.{Refused}
 use Rattle.cqf_model.specs.declared.history.Refused.TheVariants as refused
@@ -8,23 +8,24 @@ use Rattle.cqf_model.specs.declared.topology.Node.TheVariants.{Bridge, Station}
 use Rattle.cqf_model.specs.declared.topology.Row.{Row}
 use Rattle.cqf_model.specs.Domain.{Domain, bridge_of}
 use Rattle.cqf_model.specs.History.{Asked, Branch, Recorded, held_in, refusal_of, seals}
-use Rattle.cqf_model.specs.Limits.{most_reserved}
+use Rattle.cqf_model.specs.Limits.{most_every, most_reserved}
 use Rattle.cqf_laws_traffic.specs.Traffic.{needed}
 use Rattle.cqf_ways.specs.Listeners.{AreFirstWays, IsFirstWithout}
 use Rattle.cqf_ways.specs.Ways.{IsFirstWay, has_room, short_link}
-use Rattle.cqf_admission.specs.Asking.{asked_paced}
+use Rattle.cqf_admission.specs.Asking.{asked_paced, asked_with}
 use Rattle.cqf_report.specs.Books.{name_of_bridge, name_of_node}
 use Rattle.cqf_traffic.specs.TrafficText.{TrafficText, promise_of}
-use Rattle.cqf_admission.specs.Costs.{left_beside}
 use Rattle.cqf_program_plans.specs.CompileOutput.{with_asked}
 use Rattle.cqf_program_plans.specs.EndNames.{name_of_end}
 use Rattle.cqf_program_placing.specs.declared.faults.PlanFault.{PlanFault}
 use Rattle.cqf_program_placing.specs.declared.faults.PlanFault.TheVariants as fault
 use Rattle.cqf_program_placing.specs.declared.outcomes.Outcome.{Outcome}
 use Rattle.cqf_program_placing.specs.declared.outcomes.Outcome.TheVariants as outcome
+use Rattle.cqf_program_placing.specs.declared.turns.Turns.{Turns}
 use Rattle.cqf_program_placing.specs.Settled.{SettledStream, SettledWay, Along, Between}
+use Rattle.cqf_program_placing.specs.Turns.{IsPhaseAlong, every_in, is_in_step, left_emptiest, lefts_on, turns_by}
 
--- what becomes of a stream: it is placed, with its octets and branches, or it isn't, for a fault
+-- what becomes of a stream: it is placed, with its octets, its cycles and its branches, or it isn't, for a fault
 pub data PlacedOr : Type 0 where
   Placed : Asked → PlacedOr
   Unplaced : PlanFault → PlacedOr
@@ -46,40 +47,46 @@ reserved_by None None = Ok 0
 abbrev pub reserved_on : ℕ → SettledStream → Result ℕ PlanFault
 reserved_on cycle_time stream = reserved_by stream.octets (option_map (λ (t : TrafficText). needed cycle_time (promise_of t)) stream.traffic)
 
--- what each link has left beside some rows, by number
-abbrev pub lefts_on : Domain → List Row → List ℕ
-lefts_on d rows = each_below (λ l. left_beside d rows l ∷ []) (length d.links)
+-- in which cycles it is offered
+abbrev pub turns_on : ℕ → SettledStream → Turns
+turns_on cycle_time stream = turns_by cycle_time stream.pacing stream.traffic
+
+-- whether these are chosen
+abbrev pub is_chosen_on : ℕ → SettledStream → Bool
+is_chosen_on cycle_time stream = option_map_or (is_in_step cycle_time stream.pacing) stream.traffic false
 
 -- a way from a bridge by the names of its nodes
 abbrev pub names_along : Domain → ℕ → List ℕ → Branch
 names_along d bridge way = name_of_bridge d bridge ∷ map (name_of_end d) way
 
--- there is no room for a stream on the way to a listener: of the first way there is, the first link that lacks it
-pub record IsFullTo (d : Domain) (rows : List Row) (cost bridge station : ℕ) (found : PlanFault) : Type 0 where
+-- there is no room on the way to a listener for a stream that is offered in one of so many cycles: of the first way there is, the first link
+-- that lacks it
+pub record IsFullTo (d : Domain) (rows : List Row) (every cost bridge station : ℕ) (found : PlanFault) : Type 0 where
   pub way : List ℕ
   pub is_first : IsFirstWay d.links (λ _. true) (Bridge bridge) (Station station) way
   pub link : ℕ
-  pub lacks : short_link (lefts_on d rows) cost way ≡ Some link
-  pub is : found ≡ fault.Full (name_of_node d (Station station)) cost (name_of_bridge d (bridge_of d link)) (name_of_end d link) (left_beside d rows link)
+  pub lacks : short_link (lefts_on d rows every) cost way ≡ Some link
+  pub is : found
+      ≡ fault.Full (name_of_node d (Station station)) cost (name_of_bridge d (bridge_of d link)) (name_of_end d link) (left_emptiest d rows every link)
 
 -- that listener is the first of its listeners to which no way has room
-pub record IsFull (d : Domain) (rows : List Row) (cost bridge : ℕ) (stations : List ℕ) (found : PlanFault) : Type 0 where
+pub record IsFull (d : Domain) (rows : List Row) (every cost bridge : ℕ) (stations : List ℕ) (found : PlanFault) : Type 0 where
   pub place : ℕ
   pub station : ℕ
-  pub without : IsFirstWithout d.links (has_room (lefts_on d rows) cost) (Bridge bridge) stations place
+  pub without : IsFirstWithout d.links (has_room (lefts_on d rows every) cost) (Bridge bridge) stations place
   pub stands : slice_get stations place ≡ Some station
-  pub is_full : IsFullTo d rows cost bridge station found
+  pub is_full : IsFullTo d rows every cost bridge station found
 
 -- the branches of a stream: those that are given; or those of the first ways with room to its listeners
-pub record AreFound (d : Domain) (rows : List Row) (cost bridge : ℕ) (stations : List ℕ) (paths : List Branch) : Type 0 where
+pub record AreFound (d : Domain) (rows : List Row) (every cost bridge : ℕ) (stations : List ℕ) (paths : List Branch) : Type 0 where
   pub ways : List (List ℕ)
-  pub first : AreFirstWays d.links (has_room (lefts_on d rows) cost) (Bridge bridge) stations ways
+  pub first : AreFirstWays d.links (has_room (lefts_on d rows every) cost) (Bridge bridge) stations ways
   pub are : paths ≡ map (names_along d bridge) ways
 
-abbrev pub IsRouted : Domain → List Row → ℕ → SettledWay → Result (List Branch) PlanFault → Type 0
-IsRouted d rows cost (Along given) routed = routed ≡ Ok given
-IsRouted d rows cost (Between bridge stations) (Ok paths) = AreFound d rows cost bridge stations paths
-IsRouted d rows cost (Between bridge stations) (Err found) = IsFull d rows cost bridge stations found
+abbrev pub IsRouted : Domain → List Row → ℕ → ℕ → SettledWay → Result (List Branch) PlanFault → Type 0
+IsRouted d rows every cost (Along given) routed = routed ≡ Ok given
+IsRouted d rows every cost (Between bridge stations) (Ok paths) = AreFound d rows every cost bridge stations paths
+IsRouted d rows every cost (Between bridge stations) (Err found) = IsFull d rows every cost bridge stations found
 
 -- what is told where admission refuses a stream
 abbrev pub fault_of_refusal : Domain → Refused → PlanFault
@@ -90,22 +97,30 @@ abbrev pub answered : Domain → Asked → Option Refused → PlacedOr
 answered d asked None = Placed asked
 answered d asked (Some refusal) = Unplaced (fault_of_refusal d refusal)
 
--- what becomes of a stream whose branches are found, or aren't, and the history behind it: it is asked for as any other
-abbrev pub IsAnswered : Domain → List Recorded → List ℕ → ℕ → Result (List Branch) PlanFault → PlacedOr → List Recorded → Type 0
-IsAnswered d entries name octets (Err found) become after = (become ≡ Unplaced found) × (after ≡ entries)
-IsAnswered d entries name octets (Ok paths) become after =
-    let asked : Asked = record { name = name; octets = octets; every = 1; phase = 0; paths = paths } in
-    (become ≡ answered d asked (refusal_of d (held_in d entries (seals entries)) asked)) × (after ≡ with_asked d entries asked)
+-- what becomes of a stream with these branches, and the history behind it: it is asked for as any other, in the phase that is given or chosen
+pub record IsAskedFor (d : Domain) (entries : List Recorded) (name : List ℕ) (octets : ℕ) (turns : Turns) (paths : List Branch) (become : PlacedOr)
+    (after : List Recorded) : Type 0 where
+  pub phase : ℕ
+  pub is_phase : IsPhaseAlong d (held_in d entries (seals entries)) (cost_of octets) paths turns phase
+  pub answer : let asked : Asked = asked_with name octets (every_in turns) phase paths in
+      become ≡ answered d asked (refusal_of d (held_in d entries (seals entries)) asked)
+  pub entered : after ≡ with_asked d entries (asked_with name octets (every_in turns) phase paths)
 
--- of one with this reservation
-pub record IsRoutedAndAnswered (d : Domain) (entries : List Recorded) (stream : SettledStream) (octets : ℕ) (become : PlacedOr) (after : List Recorded) : Type 0 where
+-- of one whose branches are found, or aren't
+abbrev pub IsAnswered : Domain → List Recorded → List ℕ → ℕ → Turns → Result (List Branch) PlanFault → PlacedOr → List Recorded → Type 0
+IsAnswered d entries name octets turns (Err found) become after = (become ≡ Unplaced found) × (after ≡ entries)
+IsAnswered d entries name octets turns (Ok paths) become after = IsAskedFor d entries name octets turns paths become after
+
+-- of one with this reservation in these cycles
+pub record IsRoutedAndAnswered (d : Domain) (entries : List Recorded) (stream : SettledStream) (octets : ℕ) (turns : Turns) (become : PlacedOr)
+    (after : List Recorded) : Type 0 where
   pub routed : Result (List Branch) PlanFault
-  pub is_routed : IsRouted d (held_in d entries (seals entries)) (cost_of octets) stream.way routed
-  pub is_answered : IsAnswered d entries stream.name octets routed become after
+  pub is_routed : IsRouted d (held_in d entries (seals entries)) (every_in turns) (cost_of octets) stream.way routed
+  pub is_answered : IsAnswered d entries stream.name octets turns routed become after
 
 abbrev pub IsPlacedBy : Domain → List Recorded → SettledStream → Result ℕ PlanFault → PlacedOr → List Recorded → Type 0
 IsPlacedBy d entries stream (Err found) become after = (become ≡ Unplaced found) × (after ≡ entries)
-IsPlacedBy d entries stream (Ok octets) become after = IsRoutedAndAnswered d entries stream octets become after
+IsPlacedBy d entries stream (Ok octets) become after = IsRoutedAndAnswered d entries stream octets (turns_on d.cycle_time stream) become after
 
 -- what becomes of a stream behind these entries, and the entries behind it
 abbrev pub IsPlacing : Domain → List Recorded → SettledStream → PlacedOr → List Recorded → Type 0
@@ -118,6 +133,11 @@ ArePlacedFrom d entries [] (become ∷ more) end = ⊥
 ArePlacedFrom d entries (stream ∷ streams) [] end = ⊥
 ArePlacedFrom d entries (stream ∷ streams) (become ∷ more) end =
     (after : List Recorded) × IsPlacing d entries stream become after × ArePlacedFrom d after streams more end
+
+-- a stream that is placed is offered from one of the first cycles on, up to where all paces repeat
+abbrev pub BeginsEarly : PlacedOr → Type 0
+BeginsEarly (Placed asked) = asked.phase < most_every
+BeginsEarly (Unplaced found) = ⊤
 
 -- a domain, what becomes of each of some streams there, and the history of their admissions
 pub record PlacedStreams : Type 0 where

@@ -1,12 +1,14 @@
 -- Streams are placed where there is room, in a planner's words.
 use Rattle.std.specs.Prelude.{ℕ, ◌≡◌, ◌≤◌, ◌⊎◌, List, [], ◌∷◌, Contains, Result, Ok, Err, Some, map}
 use Rattle.cqf_units.specs.Timing.{cost_of}
+use Rattle.cqf_model.specs.declared.topology.Hop.{Hop}
 use Rattle.cqf_model.specs.declared.topology.Node.TheVariants.{Bridge}
+use Rattle.cqf_model.specs.declared.topology.Pace.{Pace}
 use Rattle.cqf_model.specs.declared.topology.Row.{Row}
 use Rattle.cqf_model.specs.Domain.{Domain, bridge_of}
 use Rattle.cqf_model.specs.History.{Branch, Recorded, held_in, left_on, seals, short_link, tree_of}
-use Rattle.cqf_model.specs.Paces.{each_cycle}
 use Rattle.cqf_model.specs.Table.{links_in}
+use Rattle.cqf_admission.specs.Asking.{asked_with}
 use Rattle.cqf_report.specs.Books.{name_of_bridge}
 use Rattle.cqf_sketch.specs.SketchDomain.{IsOpenCycle, IsSketch, SketchDomain, domain_at}
 use Rattle.cqf_sketch_streams.specs.StreamsText.{StreamText, sketch_streams_of_text}
@@ -15,44 +17,57 @@ use Rattle.cqf_ways.specs.Ways.{has_room}
 use Rattle.cqf_program_plans.specs.EndNames.{name_of_end}
 use Rattle.cqf_program_placing.specs.declared.faults.PlanFault.{PlanFault}
 use Rattle.cqf_program_placing.specs.declared.faults.PlanFault.TheVariants as fault
-use Rattle.cqf_program_placing.specs.Placing.{ArePlaced, IsFull, IsPlacing, Placed, PlacedOr, PlacedStreams, Unplaced, lefts_on, names_along, reserved_on}
+use Rattle.cqf_program_placing.specs.declared.turns.Turns.{Turns}
+use Rattle.cqf_program_placing.specs.Placing.{ArePlaced, IsFull, IsPlacing, Placed, PlacedOr, PlacedStreams, Unplaced, names_along, reserved_on, turns_on}
 use Rattle.cqf_program_placing.specs.Settled.{Along, Between, SettledStream, SettledWay, settled_of}
+use Rattle.cqf_program_placing.specs.Turns.{IsPhaseOnTree, MayBeFirst, every_in, lefts_on, pace_by}
 
--- the first ways from a bridge to stations, beside some rows, on which each link has left what a stream costs
-abbrev pub HaveRoom : Domain → List Row → ℕ → ℕ → List ℕ → List (List ℕ) → Type 0
-HaveRoom d rows cost bridge stations ways = AreFirstWays d.links (has_room (lefts_on d rows) cost) (Bridge bridge) stations ways
+-- in the cycles of a pace each link of a tree has left what a stream costs
+abbrev pub HasRoomIn : Domain → List Row → ℕ → List Hop → Pace → Type 0
+HasRoomIn d rows cost tree pace = (l : ℕ) → Contains (links_in tree) l → cost ≤ left_on d rows tree pace l
+
+-- a stream along the branches of a tree is asked for in the phase that is given, or in the first in which the fullest link of the tree is
+-- least full. Where each link of the tree has left what it costs in the phase that is given, or in any that may be chosen, it is placed by
+-- them in that phase; and where a link has less left there it isn't, for the first such link in the tree's order
+pub record IsPlacedAlong (d : Domain) (rows : List Row) (name : List ℕ) (octets : ℕ) (turns : Turns) (paths : List Branch) (become : PlacedOr) : Type 0 where
+  pub phase : ℕ
+  pub is_phase : IsPhaseOnTree d rows (cost_of octets) paths turns phase
+  pub placed : (other : ℕ) → MayBeFirst turns other → HasRoomIn d rows (cost_of octets) (tree_of d paths) (pace_by (every_in turns) other) →
+      become ≡ Placed (asked_with name octets (every_in turns) phase paths)
+  pub unplaced : (l : ℕ) → short_link d rows (cost_of octets) (pace_by (every_in turns) phase) (tree_of d paths) ≡ Some l →
+      become ≡ Unplaced (fault.Short (name_of_bridge d (bridge_of d l)) (name_of_end d l) (left_on d rows (tree_of d paths) (pace_by (every_in turns) phase) l))
+
+-- the first ways from a bridge to stations, beside some rows, on which each link has left what a stream costs in the emptiest of so many cycles
+abbrev pub HaveRoom : Domain → List Row → ℕ → ℕ → ℕ → List ℕ → List (List ℕ) → Type 0
+HaveRoom d rows every cost bridge stations ways = AreFirstWays d.links (has_room (lefts_on d rows every) cost) (Bridge bridge) stations ways
 
 -- there is no such way to the station at a place, the first of them
-abbrev pub HasNoRoom : Domain → List Row → ℕ → ℕ → List ℕ → ℕ → Type 0
-HasNoRoom d rows cost bridge stations place = IsFirstWithout d.links (has_room (lefts_on d rows) cost) (Bridge bridge) stations place
+abbrev pub HasNoRoom : Domain → List Row → ℕ → ℕ → ℕ → List ℕ → ℕ → Type 0
+HasNoRoom d rows every cost bridge stations place = IsFirstWithout d.links (has_room (lefts_on d rows every) cost) (Bridge bridge) stations place
 
--- a stream between a bridge and stations: where there are ways with room it is placed by the first, with its name and its reservation;
--- where there is none to some station it isn't, for the first such; and one of the two is the case. So it is never refused for its
--- name, its octets, its branches or its tree, for its number among the streams, or for a link that lacks room
-pub record IsPlacedBetween (d : Domain) (rows : List Row) (name : List ℕ) (octets bridge : ℕ) (stations : List ℕ) (become : PlacedOr) : Type 0 where
-  pub placed : (ways : List (List ℕ)) → HaveRoom d rows (cost_of octets) bridge stations ways →
-      become ≡ Placed (record { name = name; octets = octets; every = 1; phase = 0; paths = map (names_along d bridge) ways })
-  pub unplaced : (place : ℕ) → HasNoRoom d rows (cost_of octets) bridge stations place →
-      (found : PlanFault) × (become ≡ Unplaced found) × IsFull d rows (cost_of octets) bridge stations found
-  pub either : ((ways : List (List ℕ)) × HaveRoom d rows (cost_of octets) bridge stations ways)
-      ⊎ ((place : ℕ) × HasNoRoom d rows (cost_of octets) bridge stations place)
+-- a stream between a bridge and stations: where there are ways with room it goes by the first, and what becomes of it is as above; one that
+-- is offered in each cycle is placed then. Where there is no way with room to some station it isn't, for the first such; and one of the two
+-- is the case. So it is never refused for its name, its octets, its cycles, its branches or its tree, for its number among the streams, or,
+-- where it is offered in each cycle, for a link that lacks room
+pub record IsPlacedBetween (d : Domain) (rows : List Row) (name : List ℕ) (octets : ℕ) (turns : Turns) (bridge : ℕ) (stations : List ℕ)
+    (become : PlacedOr) : Type 0 where
+  pub placed : (ways : List (List ℕ)) → HaveRoom d rows (every_in turns) (cost_of octets) bridge stations ways →
+      IsPlacedAlong d rows name octets turns (map (names_along d bridge) ways) become
+  pub each_cycle : every_in turns ≡ 1 → (ways : List (List ℕ)) → HaveRoom d rows (every_in turns) (cost_of octets) bridge stations ways →
+      become ≡ Placed (asked_with name octets 1 0 (map (names_along d bridge) ways))
+  pub unplaced : (place : ℕ) → HasNoRoom d rows (every_in turns) (cost_of octets) bridge stations place →
+      (found : PlanFault) × (become ≡ Unplaced found) × IsFull d rows (every_in turns) (cost_of octets) bridge stations found
+  pub either : ((ways : List (List ℕ)) × HaveRoom d rows (every_in turns) (cost_of octets) bridge stations ways)
+      ⊎ ((place : ℕ) × HasNoRoom d rows (every_in turns) (cost_of octets) bridge stations place)
 
--- one along given branches: where each link of their tree has left what it costs it is placed by them, and else it isn't, for the first
--- link, in the tree's order, that has less left
-pub record IsPlacedAlong (d : Domain) (rows : List Row) (name : List ℕ) (octets : ℕ) (paths : List Branch) (become : PlacedOr) : Type 0 where
-  pub placed : ((l : ℕ) → Contains (links_in (tree_of d paths)) l → cost_of octets ≤ left_on d rows (tree_of d paths) each_cycle l) →
-      become ≡ Placed (record { name = name; octets = octets; every = 1; phase = 0; paths = paths })
-  pub unplaced : (l : ℕ) → short_link d rows (cost_of octets) each_cycle (tree_of d paths) ≡ Some l →
-      become ≡ Unplaced (fault.Short (name_of_bridge d (bridge_of d l)) (name_of_end d l) (left_on d rows (tree_of d paths) each_cycle l))
-
-abbrev pub IsPlacedOnWay : Domain → List Row → List ℕ → ℕ → SettledWay → PlacedOr → Type 0
-IsPlacedOnWay d rows name octets (Along paths) become = IsPlacedAlong d rows name octets paths become
-IsPlacedOnWay d rows name octets (Between bridge stations) become = IsPlacedBetween d rows name octets bridge stations become
+abbrev pub IsPlacedOnWay : Domain → List Row → List ℕ → ℕ → Turns → SettledWay → PlacedOr → Type 0
+IsPlacedOnWay d rows name octets turns (Along paths) become = IsPlacedAlong d rows name octets turns paths become
+IsPlacedOnWay d rows name octets turns (Between bridge stations) become = IsPlacedBetween d rows name octets turns bridge stations become
 
 -- by its reservation: a stream that has none isn't placed, and this is told of it
 abbrev pub IsPlacedWith : Domain → List Row → SettledStream → Result ℕ PlanFault → PlacedOr → Type 0
 IsPlacedWith d rows stream (Err found) become = become ≡ Unplaced found
-IsPlacedWith d rows stream (Ok octets) become = IsPlacedOnWay d rows stream.name octets stream.way become
+IsPlacedWith d rows stream (Ok octets) become = IsPlacedOnWay d rows stream.name octets (turns_on d.cycle_time stream) stream.way become
 
 -- a stream is placed beside some rows where there is room
 abbrev pub IsPlacedByRoom : Domain → List Row → SettledStream → PlacedOr → Type 0

@@ -10,9 +10,9 @@ use Rattle.cqf_program_placing.specs.Placing.{IsRouted}
 use Rattle.cqf_program_placing.specs.Settled.{SettledWay}
 
 -- a stream beside these rows has none for this fault
-abbrev pub IsUnrouted : Domain → List Row → ℕ → SettledWay → Unrouted → Type 0
-IsUnrouted d rows cost way (unrouted.Fault found) = IsRouted d rows cost way (Err found)
-IsUnrouted d rows cost way unrouted.Memory = Unit {0}
+abbrev pub IsUnrouted : Domain → List Row → ℕ → ℕ → SettledWay → Unrouted → Type 0
+IsUnrouted d rows every cost way (unrouted.Fault found) = IsRouted d rows every cost way (Err found)
+IsUnrouted d rows every cost way unrouted.Memory = Unit {0}
 
 -- a station is the domain's, and a way leads to it from a bridge
 pub record IsReached (d : Domain) (bridge station : ℕ) : Type 0 where

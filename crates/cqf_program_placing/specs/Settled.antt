@@ -14,7 +14,7 @@ use Rattle.cqf_model.specs.declared.topology.Link.{Link}
 use Rattle.cqf_model.specs.declared.topology.Node.{Node}
 use Rattle.cqf_model.specs.declared.topology.Node.TheVariants.{Bridge, Station}
 use Rattle.cqf_model.specs.Domain.{Domain, node_named, same_node}
-use Rattle.cqf_model.specs.History.{Branch}
+use Rattle.cqf_model.specs.History.{Branch, is_pace}
 use Rattle.cqf_model.specs.Limits.{least_reserved, most_reserved, streams_within}
 use Rattle.cqf_topology_fields.specs.Fields.{and_first}
 use Rattle.cqf_topology.specs.DomainText.{if_so, is_among}
@@ -22,6 +22,8 @@ use Rattle.cqf_ways.specs.Ways.{led_to, most_links}
 use Rattle.cqf_sketch.specs.declared.domain.TalkerLink.{TalkerLink}
 use Rattle.cqf_sketch.specs.SketchDomain.{SketchDomain, domain_at, open_cycle}
 use Rattle.cqf_traffic.specs.TrafficText.{TrafficText}
+use Rattle.cqf_sketch_streams.specs.declared.pacing.Pacing.{Pacing}
+use Rattle.cqf_sketch_streams.specs.declared.pacing.Pacing.TheVariants.{Given, InStep}
 use Rattle.cqf_sketch_streams.specs.StreamsText.{StreamText, WantedText, Along as AlongText, Between as BetweenText}
 use Rattle.cqf_admission_trees.specs.Branches.{branches_of, tree_refusal}
 use Rattle.cqf_program_placing.specs.declared.entrances.Entrance.{Entrance}
@@ -38,10 +40,12 @@ pub data SettledWay : Type 0 where
   Along : List Branch → SettledWay
   Between : ℕ → List ℕ → SettledWay
 
--- a stream whose nodes are found: its octets a cycle where the sketch says them, and its deadline from its edge bridge on
+-- a stream whose nodes are found: its octets a cycle where the sketch says them, in which cycles it is offered where that is given, and its
+-- deadline from its edge bridge on
 pub record SettledStream : Type 0 where
   pub name : List ℕ
   pub octets : Option ℕ
+  pub pacing : Pacing
   pub way : SettledWay
   pub deadline : Option ℕ
   pub traffic : Option TrafficText
@@ -54,6 +58,7 @@ abbrev pub settled_value : Settled → SettledStream
 settled_value stream = record {
   name = stream.name;
   octets = stream.octets;
+  pacing = stream.pacing;
   way = way_value stream.way;
   deadline = stream.deadline;
   traffic = stream.traffic;
@@ -63,6 +68,11 @@ settled_value stream = record {
 abbrev pub are_reservable : Option ℕ → Bool
 are_reservable None = true
 are_reservable (Some octets) = nat_le least_reserved octets && nat_le octets most_reserved
+
+-- cycles in which a stream may be offered, where they are given
+abbrev pub is_paced : Pacing → Bool
+is_paced (Given every phase) = is_pace every phase
+is_paced InStep = true
 
 -- where a stream enters that comes from a node: at that bridge, or behind the talker's link of that station
 abbrev pub entrance_behind : TalkerLink → Entrance
@@ -147,17 +157,18 @@ refusal_behind d before name =
     else (if nat_le (streams_within d.limits) (length before) then Some refused.TooManyStreams else None)
 
 -- a stream whose way is settled, with its deadline
-abbrev pub with_deadline : List ℕ → Option ℕ → SettledWay → Option TrafficText → Result (Option ℕ) PlanFault → Result SettledStream PlanFault
-with_deadline name octets way traffic deadline =
-    and_then deadline (λ left. Ok (record { name = name; octets = octets; way = way; deadline = left; traffic = traffic }))
+abbrev pub with_deadline : List ℕ → Option ℕ → Pacing → SettledWay → Option TrafficText → Result (Option ℕ) PlanFault → Result SettledStream PlanFault
+with_deadline name octets pacing way traffic deadline =
+    and_then deadline (λ left. Ok (record { name = name; octets = octets; pacing = pacing; way = way; deadline = left; traffic = traffic }))
 
 -- a stream behind others of these names, or its first fault
 abbrev pub settled_stream : SketchDomain → Domain → List (List ℕ) → StreamText → Result SettledStream PlanFault
 settled_stream sketch d before stream =
     refuse (if_so (not (are_reservable stream.octets))) (λ _. fault.Refused refused.BadOctets) (
+    refuse (if_so (not (is_paced stream.pacing))) (λ _. fault.Refused refused.BadPace) (
     and_then (settled_way sketch d stream.way) (λ way.
     refuse (refusal_behind d before stream.name) fault.Refused (
-    with_deadline stream.name stream.octets way stream.traffic (deadline_of_stream sketch d stream))))
+    with_deadline stream.name stream.octets stream.pacing way stream.traffic (deadline_of_stream sketch d stream)))))
 
 -- a stream's fault, with its name
 abbrev pub or_unsettled : {A : Type 0} → List ℕ → Result A PlanFault → Result A Unsettled
@@ -190,9 +201,11 @@ IsOnWay d (Along paths) = ⊤
 IsOnWay d (Between bridge stations) = (bridge < length d.bridges)
     × All (λ station. (station < length d.stations) × IsTrue (is_led d.links most_links (Bridge bridge) (Station station))) stations
 
--- what a settled stream has: a name, a way, octets that it may reserve where it says them, and a deadline that isn't over
+-- what a settled stream has: a name, a way, octets that it may reserve and cycles that it may have where they are given, and a deadline
+-- that isn't over
 pub record IsPlaceable (d : Domain) (stream : SettledStream) : Type 0 where
   pub named : IsTrue (is_name stream.name)
   pub on_way : IsOnWay d stream.way
   pub reservable : IsTrue (are_reservable stream.octets)
+  pub paced : IsTrue (is_paced stream.pacing)
   pub some_deadline : ForSome stream.deadline (λ deadline. 1 ≤ deadline)

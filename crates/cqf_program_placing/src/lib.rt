@@ -2,12 +2,13 @@
 //!
 //! - [`settle`] looks the streams of a sketch over for what no cycle time changes, and gives them as [`Settled`], with each node by
 //!   number and deadlines from the edge bridge; or [`Unsettled`], the first fault.
-//! - [`place`] admits settled streams on a cycle time in their order, each with what its traffic needs of a cycle, and those that have
-//!   no branches by the first ways with room: a [`Placing`], with the [`Outcome`] of each stream.
+//! - [`place`] admits settled streams on a cycle time in their order, each with what its traffic needs of a cycle, those that have
+//!   no branches by the first ways with room, and those of talkers in step in the first phase in which the fullest of their links is least
+//!   full: a [`Placing`], with the [`Outcome`] of each stream.
 //! - A [`PlanFault`] is why a stream isn't settled, or isn't placed.
 //!
-//! `specs/` has both as definitions (`Settled`, `Placing`), the texts of faults (`Faults`), and the law that streams are placed where there is
-//! room (`Room`), which [`placed_where_there_is_room`] proves.
+//! `specs/` has both as definitions (`Settled`, `Placing`), in which cycles streams are offered (`Turns`), the texts of faults (`Faults`), and
+//! the law that streams are placed where there is room (`Room`), which [`placed_where_there_is_room`] proves.
 //!
 //! ```text
 //! with bridges a and b, stations s and t, links a>b, b>s at 1,000 Mb/s, and a talker's link t>a at 1,000 Mb/s with a delay of 500 ns
@@ -24,11 +25,14 @@ mod entrances;
 mod faults;
 mod laws;
 mod outcomes;
+mod phases;
 mod placing;
 mod reserving;
+mod rooms;
 mod routes;
 mod settled;
 mod settling;
+mod turns;
 mod way_settling;
 mod ways_there;
 

@@ -5,25 +5,28 @@ ghost use Rattle.cqf_admission.specs.Tables.{AreAlongLinks};
 ghost use Rattle.cqf_admission_trees.specs.Turns.{AreOfGoodPaces};
 ghost use Rattle.cqf_admission_trees.specs.Branches.{branches_of};
 ghost use Rattle.cqf_laws_history.specs.StateLaws.{AreHeld};
-ghost use Rattle.cqf_admission.specs.Costs.{left_beside};
 ghost use Rattle.cqf_model.specs.History.{held_in, seals};
 ghost use Rattle.cqf_model.specs.Limits.{most_calls, most_reserved, most_streams};
 ghost use Rattle.cqf_sketch.specs.SketchDomain.{IsOpenCycle, domain_at};
-ghost use Rattle.cqf_program_placing.specs.Placing.{ArePlaced, IsPlacing, IsRouted, IsRoutedAndAnswered, lefts_on, outcome_value};
+ghost use Rattle.cqf_program_placing.specs.Placing.{ArePlaced, IsPlacing, IsRouted, IsRoutedAndAnswered, outcome_value};
 ghost use Rattle.cqf_program_placing.specs.Routes.{IsUnrouted};
 ghost use Rattle.cqf_program_placing.specs.Settled.{IsOnWay, IsPlaceable, open_domain, settled_value, way_value};
+ghost use Rattle.cqf_program_placing.specs.Turns.{AreGoodTurns, CostsSome, IsGoodEvery};
 
 use crate::asking::ask;
 use crate::branches::copied_branches;
+use crate::phases::phase_along;
 use crate::reserving::reservation;
+use crate::rooms::lefts;
 use crate::routes::{Unrouted, branches_between};
+use crate::turns::{Turns, turns_on};
 use crate::{Outcome, Settled, Way};
 use cqf_admission::{Admission, SealFault, Table};
 use cqf_laws_history::state_follows_history;
 use cqf_model::{Link, Row};
 use cqf_sketch::SketchDomain;
 use cqf_topology::{Domain, PacedRequest};
-use cqf_units::{Memory, Octets, budget, cost};
+use cqf_units::{Memory, Octets, cost};
 use cqf_ways::Room;
 use std::alloc::{AllocError, Global};
 use std::marker::Model;
@@ -48,31 +51,8 @@ impl Model for Placing {
     ghost invariant = { λ p. seals p.admission.entries ≡ 0 };
 }
 
-/// What a link has left beside those that are placed, in octets a cycle.
-fn left_on(domain: &Domain, admission: &Admission, link: u16) -> u32
-    requires domain { admission.now.domain ≡ domain.now }
-    requires inside { link < length domain.now.links }
-    ensures { result ≡ left_beside domain.now (held_in domain.now admission.now.entries (seals admission.now.entries)) link }
-{
-    let rate = domain.link(link).rate;
-    let most = budget(domain.cycle_time(), domain.guard(), rate);
-    let held = admission.held_on(link);
-    most.0 - held.0
-}
-
-/// What each link has left beside those that are placed, in octets a cycle, by number.
-fn lefts(alloc: Global, domain: &Domain, admission: &Admission) -> Result<Vec<u32>, Memory>
-    requires { admission.now.domain ≡ domain.now }
-    ensures { IfOk result (λ left. left.items ≡ lefts_on domain.now (held_in domain.now admission.now.entries (seals admission.now.entries))) }
-{
-    let mut left = Vec::new(alloc);
-    for link in 0..domain.links() {
-        left.push(left_on(domain, admission, link))?;
-    }
-    Ok(left)
-}
-
-/// The branches of a stream of this cost: those that are given, or those of the first ways with room beside those that are placed.
+/// The branches of a stream of this cost that is offered in one of so many cycles: those that are given, or those of the first ways with
+/// room beside those that are placed.
 ///
 /// # Errors
 /// With the fault of the first listener to which no way has room; and with `Memory` where a growth is refused.
@@ -82,15 +62,17 @@ fn branches_by(
     links: &[Link],
     admission: &Admission,
     way: &Way,
+    every: u8,
     cost: u32,
 ) -> Result<Vec<Vec<String>>, Unrouted>
     requires domain { admission.now.domain ≡ domain.now }
     requires links { links.now ≡ domain.now.links }
     requires on_way { IsOnWay domain.now (way_value way.now) }
+    requires good { IsGoodEvery every }
     ensures ok { let entries = admission.now.entries in IfOk result (λ paths.
-        IsRouted domain.now (held_in domain.now entries (seals entries)) cost (way_value way.now) (Ok (branches_of paths.items))) }
+        IsRouted domain.now (held_in domain.now entries (seals entries)) every cost (way_value way.now) (Ok (branches_of paths.items))) }
     ensures err { let entries = admission.now.entries in IfErr result
-        (IsUnrouted domain.now (held_in domain.now entries (seals entries)) cost (way_value way.now)) }
+        (IsUnrouted domain.now (held_in domain.now entries (seals entries)) every cost (way_value way.now)) }
 {
     match way {
         Way::Along(paths) => {
@@ -98,7 +80,7 @@ fn branches_by(
             Ok(given)
         }
         Way::Between(bridge, stations) => {
-            let left = lefts(alloc, domain, admission)?;
+            let left = lefts(alloc, domain, admission, every)?;
             let room = Room {
                 links,
                 left: left.as_slice(),
@@ -109,7 +91,7 @@ fn branches_by(
     }
 }
 
-/// Places a stream with this reservation behind those that are placed.
+/// Places a stream with this reservation in these cycles behind those that are placed.
 fn place_with(
     alloc: Global,
     domain: &Domain,
@@ -117,30 +99,42 @@ fn place_with(
     admission: &mut Admission,
     stream: &Settled,
     octets: u32,
+    turns: Turns,
 ) -> Result<Outcome, Memory>
     requires domain { admission.old.domain ≡ domain.now }
     requires links { links.now ≡ domain.now.links }
     requires free { calls admission.old.entries < most_calls }
     requires on_way { IsOnWay domain.now (way_value stream.now.way) }
     requires few { octets ≤ most_reserved }
+    requires good { AreGoodTurns turns }
+    requires some { CostsSome turns octets }
     ensures domain { admission.new.domain ≡ domain.now }
     ensures placed { IfOk result (λ outcome.
-        IsRoutedAndAnswered domain.now admission.old.entries (settled_value stream.now) octets (outcome_value outcome) admission.new.entries) }
+        IsRoutedAndAnswered domain.now admission.old.entries (settled_value stream.now) octets turns (outcome_value outcome) admission.new.entries) }
 {
     let cost = cost(Octets(octets)).0;
-    let paths = match branches_by(alloc, domain, links, admission, &stream.way, cost) {
+    let paths = match branches_by(
+        alloc,
+        domain,
+        links,
+        admission,
+        &stream.way,
+        turns.every(),
+        cost,
+    ) {
         Ok(paths) => paths,
         Err(unrouted) => match unrouted {
             Unrouted::Fault(found) => return Ok(Outcome::Unplaced(found)),
             Unrouted::Memory => return Err(AllocError),
         },
     };
+    let phase = phase_along(domain, admission, cost, turns, paths.as_slice())?;
     let name = String::from_str(alloc, stream.name.as_str())?;
     let request = PacedRequest {
         name,
         octets,
-        every: 1,
-        phase: 0,
+        every: u32::from(turns.every()),
+        phase: u32::from(phase),
         paths,
     };
     let outcome = ask(domain, admission, request)?;
@@ -167,7 +161,8 @@ fn place_one(
         Ok(octets) => octets,
         Err(found) => return Ok(Outcome::Unplaced(found)),
     };
-    place_with(alloc, domain, links, admission, stream, octets)
+    let turns = turns_on(stream, domain.cycle_time());
+    place_with(alloc, domain, links, admission, stream, octets, turns)
 }
 
 /// Places streams on a domain, which has these links.
@@ -199,7 +194,9 @@ fn place_all(
 /// Places settled streams of a sketch on a cycle time that is open, in nanoseconds, one after the other (profile).
 ///
 /// A stream takes what its traffic needs of a cycle, or the octets that it asks for, where these are enough. One that has no branches
-/// takes the first ways with room to its listeners. It is then asked for as any other. One that isn't placed holds nothing.
+/// takes the first ways to its listeners on which each link has room in the emptiest of as many cycles as it is offered in one of. Where its
+/// talker is in step, it takes the first phase in which the fullest of its links is least full. It is then asked for as any other. One
+/// that isn't placed holds nothing.
 ///
 /// # Errors
 /// `Memory` where a growth is refused.

@@ -1,5 +1,5 @@
 //! What a stream reserves of a cycle.
-ghost use Rattle.std.specs.Prelude.{◌≡◌, ◌≤◌, ◌<◌, ◌^◌, IfOk, IsTrue, Some};
+ghost use Rattle.std.specs.Prelude.{◌≡◌, ◌≤◌, ◌<◌, ◌^◌, IfOk, IfSome, IsTrue, Some};
 ghost use Rattle.cqf_model.specs.Limits.{most_reserved};
 ghost use Rattle.cqf_program_placing.specs.Placing.{reserved_by, reserved_on};
 ghost use Rattle.cqf_program_placing.specs.Settled.{are_reservable, settled_value};
@@ -34,6 +34,7 @@ pub(crate) fn reservation(domain: &Domain, stream: &Settled) -> Result<u32, Plan
     requires { IsTrue (are_reservable stream.now.octets) }
     ensures value { result ≡ reserved_on domain.now.cycle_time (settled_value stream.now) }
     ensures few { IfOk result (λ octets. octets ≤ most_reserved) }
+    ensures some { IfOk result (λ octets. IfSome stream.now.traffic (λ _. 1 ≤ octets)) }
 {
     let Some(traffic) = stream.traffic else {
         return Ok(stream.octets.unwrap_or(0));

@@ -1,6 +1,7 @@
 //! Streams of a sketch whose nodes are found.
 
 use crate::PlanFault;
+use cqf_sketch_streams::Pacing;
 use cqf_traffic::Traffic;
 use cqf_units::{Memory, Name};
 use std::alloc::AllocFailed;
@@ -20,6 +21,8 @@ pub struct Settled {
     pub name: Name,
     /// The reservation, in octets a cycle, where the sketch says it. Where it doesn't, there is traffic.
     pub octets: Option<u32>,
+    /// Cycles that are given are such that a stream may have.
+    pub pacing: Pacing,
     pub way: Way,
     /// In nanoseconds, from its edge bridge on; 1 at least.
     pub deadline: Option<u32>,

@@ -1,18 +1,19 @@
 //! The streams of a sketch, looked over for what no cycle time changes.
 ghost use Rattle.std.specs.Prelude.{◌≡◌, ◌<◌, ◌≤◌, [], All, IfOk, length, map, string_bytes};
+ghost use Rattle.cqf_model.specs.History.{is_pace};
 ghost use Rattle.cqf_model.specs.Limits.{most_streams};
 ghost use Rattle.cqf_sketch_streams.specs.StreamsText.{stream_text, wanted_text};
 ghost use Rattle.cqf_topology_fields.specs.Fields.{Gives};
-ghost use Rattle.cqf_program_placing.specs.Settled.{are_reservable, or_unsettled, refusal_behind, settled_next, settled_stream, settled_value};
+ghost use Rattle.cqf_program_placing.specs.Settled.{are_reservable, is_paced, or_unsettled, refusal_behind, settled_next, settled_stream, settled_value};
 ghost use Rattle.cqf_program_placing.specs.Settled.{IsPlaceable, deadline_behind, open_domain, settled_behind, settled_of, way_value, with_deadline};
 
 use crate::deadlines::{deadline_behind, longest_of, taken_on};
 use crate::entrances::{OpenSketch, find_talker};
 use crate::way_settling::settle_way;
 use crate::{PlanFault, Settled, Unsettled, Way};
-use cqf_model::{LEAST_OCTETS, MOST_OCTETS, Refused};
+use cqf_model::{LEAST_OCTETS, MOST_EVERY, MOST_OCTETS, Refused};
 use cqf_sketch::SketchDomain;
-use cqf_sketch_streams::{Stream, Wanted};
+use cqf_sketch_streams::{Pacing, Stream, Wanted};
 use cqf_topology::{Domain, NameList};
 use cqf_traffic::Traffic;
 use cqf_units::{Memory, Name};
@@ -25,6 +26,26 @@ fn are_reservable(octets: Option<u32>) -> bool
     match octets {
         Some(octets) => LEAST_OCTETS <= octets && octets <= MOST_OCTETS,
         None => true,
+    }
+}
+
+/// Whether a stream may be offered in one of so many cycles, of which this is the first.
+fn is_pace(every: u32, phase: u32) -> bool
+    ensures { result ≡ is_pace every phase }
+{
+    if every == 0 || every > MOST_EVERY {
+        return false;
+    }
+    MOST_EVERY % every == 0 && phase < every
+}
+
+/// Whether the cycles of a stream, where they are given, are such that it may have.
+fn is_paced(pacing: Pacing) -> bool
+    ensures { result ≡ is_paced pacing }
+{
+    match pacing {
+        Pacing::Given { every, phase } => is_pace(every, phase),
+        Pacing::InStep => true,
     }
 }
 
@@ -48,10 +69,11 @@ fn unsettled(name: &Name, refused: Refused) -> Unsettled
     Unsettled::Stream(name.copied(), PlanFault::Refused(refused))
 }
 
-/// What a stream asks for: its octets a cycle, its deadline and its traffic, as its text has them.
+/// What a stream asks for: its octets a cycle, in which cycles it is offered, its deadline and its traffic, as its text has them.
 #[derive(Clone, Copy)]
 struct Terms {
     octets: Option<u32>,
+    pacing: Pacing,
     deadline: Option<u32>,
     traffic: Option<Traffic>,
 }
@@ -59,12 +81,13 @@ struct Terms {
 /// A stream whose way is settled, with its deadline, of which so much is over at its edge bridge.
 fn settle_deadline(name: &Name, terms: Terms, way: Way, taken: u64) -> Result<Settled, Unsettled>
     ensures { Gives Unsettled.Memory settled_value result
-        (or_unsettled name.now (with_deadline name.now terms.octets (way_value way) terms.traffic (deadline_behind taken terms.deadline))) }
+        (or_unsettled name.now (with_deadline name.now terms.octets terms.pacing (way_value way) terms.traffic (deadline_behind taken terms.deadline))) }
 {
     match deadline_behind(taken, terms.deadline) {
         Ok(deadline) => Ok(Settled {
             name: name.copied(),
             octets: terms.octets,
+            pacing: terms.pacing,
             way,
             deadline,
             traffic: terms.traffic,
@@ -84,10 +107,13 @@ fn settle_named(
 ) -> Result<Settled, Unsettled>
     requires { at.sketch.now.links ≡ at.plant.now.links }
     ensures { Gives Unsettled.Memory settled_value result (or_unsettled name.now (settled_stream at.entry.sketch.now at.entry.plant.now held.now.keys
-        (record { name = name.now; octets = terms.octets; way = wanted_text way; deadline = terms.deadline; traffic = terms.traffic }))) }
+        (record { name = name.now; octets = terms.octets; pacing = terms.pacing; way = wanted_text way; deadline = terms.deadline; traffic = terms.traffic }))) }
 {
     if !are_reservable(terms.octets) {
         return Err(unsettled(name, Refused::BadOctets));
+    }
+    if !is_paced(terms.pacing) {
+        return Err(unsettled(name, Refused::BadPace));
     }
     let taken = taken_on(
         find_talker(at, &way),
@@ -116,6 +142,7 @@ fn settle_next(
         Some(name) => {
             let terms = Terms {
                 octets: stream.octets,
+                pacing: stream.pacing,
                 deadline: stream.deadline,
                 traffic: stream.traffic,
             };
@@ -150,13 +177,14 @@ fn settle_all(
 ///
 /// # Errors
 /// The first fault, stream by stream: `BadName`, with the place, from 1, where a name hasn't the form of one; and then `Stream` with the
-/// name and the first of these. `BadOctets`, where it asks for fewer than 64 octets a cycle, or more than 60,000. Of a stream with given
-/// branches, why they are no tree of the plant, as [`find_tree`](cqf_admission_trees::find_tree) has it; of another `NoTalker`, where it
-/// comes from no bridge and from no station with a talker's link, `NoListener` of the first listener that is no station, and `NoWay` of the
-/// first to which no links lead from its edge bridge, at most 16 of them. `NameHeld`, where an earlier one has its name; `TooManyStreams`,
-/// where there are 1,024 before it. `TooSoon`, where nothing is left of its deadline when a frame is whole at its edge bridge: such a
-/// frame, as long as its traffic lets it be, or else as its octets and at most 1,522, and 8 octets of preamble before it, takes their time
-/// on the talker's link and that link's delay. `Memory` where a growth is refused.
+/// name and the first of these. `BadOctets`, where it asks for fewer than 64 octets a cycle, or more than 60,000. `BadPace`, where it is to
+/// be offered in one of a number of cycles that doesn't divide 80, or from a first cycle on that isn't below that number. Of a stream with
+/// given branches, why they are no tree of the plant, as [`find_tree`](cqf_admission_trees::find_tree) has it; of another `NoTalker`, where
+/// it comes from no bridge and from no station with a talker's link, `NoListener` of the first listener that is no station, and `NoWay` of
+/// the first to which no links lead from its edge bridge, at most 16 of them. `NameHeld`, where an earlier one has its name;
+/// `TooManyStreams`, where there are 1,024 before it. `TooSoon`, where nothing is left of its deadline when a frame is whole at its edge
+/// bridge: such a frame, as long as its traffic lets it be, or else as its octets and at most 1,522, and 8 octets of preamble before it,
+/// takes their time on the talker's link and that link's delay. `Memory` where a growth is refused.
 pub fn settle(
     alloc: Global,
     sketch: &SketchDomain,

@@ -1,18 +1,19 @@
 -- Streams that are all placed are all admitted, each with what its talker needs.
-use Rattle.std.proofs.Common.{◌≡◌, ◌∙◌, ◌≤◌, ◌+◌, ℕ, Bool, true, false, List, [], ◌∷◌, Option, Some, None, Result, Ok, Err, All, ap, arith, if◌then◌else◌, map, refl, subst, sym}
-use Rattle.std.specs.Prelude.{find, nat_lt, option_map}
-use Rattle.std.specs.Option.{ForSome}
-use Rattle.std.proofs.lemmas.Bool.{ltb-false}
+use Rattle.std.proofs.Common.{◌≡◌, ◌∙◌, ◌≤◌, ◌+◌, ◌*◌, ◌%◌, ℕ, zero, suc, Bool, true, false, List, [], ◌∷◌, Option, Some, None, Result, Ok, Err, All, ap, arith, if◌then◌else◌, map, refl, subst, subst₂, sym}
+use Rattle.std.specs.Prelude.{find, option_map, slice_get}
+use Rattle.std.specs.Option.{ForSome, option_map_or}
 use Rattle.std.proofs.lemmas.Option.{same_Some}
 use Rattle.std.proofs.lemmas.List.Elements.{All-cons, All-nil}
 use Rattle.cqf_lists.specs.Lists.{or_else}
 use Rattle.cqf_lists.specs.Results.{refuse}
 use Rattle.cqf_laws_history.specs.StateLaws.{SealsAreCounted}
-use Rattle.cqf_laws_traffic.specs.Traffic.{needed}
+use Rattle.cqf_laws_latency.specs.Streams.{AreGranted}
+use Rattle.cqf_laws_traffic.specs.Traffic.{Traffic, needed}
 use Rattle.cqf_model.specs.declared.history.Refused.{Refused}
 use Rattle.cqf_model.specs.Domain.{Domain}
 use Rattle.cqf_model.specs.History.{Admits, Asked, Branch, Recorded, held_in, refusal_of, reply_to, seals}
-use Rattle.cqf_model.specs.Limits.{most_reserved}
+use Rattle.cqf_units.specs.Timing.{cost_of}
+use Rattle.cqf_admission.specs.Asking.{asked_with}
 use Rattle.cqf_traffic.specs.FlowsText.{FlowText}
 use Rattle.cqf_traffic.specs.TrafficText.{TrafficText, promise_of}
 use Rattle.cqf_program_plans.specs.CompileOutput.{admitted_from, stream_line, with_asked}
@@ -20,41 +21,45 @@ use Rattle.cqf_program_plans.specs.declared.latency_latencies.Latency.{Latency}
 use Rattle.cqf_program_plans.specs.LatencyText.{is_not_sure}
 use Rattle.cqf_program_offers.specs.OffersOutput.{asked_in}
 use Rattle.cqf_program_placing.specs.declared.faults.PlanFault.{PlanFault}
-use Rattle.cqf_program_placing.specs.declared.faults.PlanFault.TheVariants as fault
-use Rattle.cqf_program_placing.specs.Placing.{ArePlacedFrom, IsAnswered, IsPlacedBy, PlacedOr, Placed, Unplaced, answered}
-use Rattle.cqf_program_placing.specs.Placing.{if_enough, reserved_by, reserved_on}
+use Rattle.cqf_sketch_streams.specs.declared.pacing.Pacing.{Pacing}
+use Rattle.cqf_program_placing.specs.Placing.{ArePlacedFrom, IsAnswered, IsAskedFor, IsPlacedBy, PlacedOr, Placed, Unplaced, answered}
+use Rattle.cqf_program_placing.specs.Placing.{reserved_by, reserved_on, turns_on}
 use Rattle.cqf_program_placing.specs.Settled.{SettledStream}
-use Rattle.cqf_program_sketch.specs.Judging.{first_late, first_unplaced, flow_of, flows_placed, late_fault}
-use Rattle.cqf_program_sketch.specs.PlanLaws.{ReservesEnough, wish_in, wished_of}
+use Rattle.cqf_program_placing.specs.Turns.{MayBeFirst, every_in, is_in_step}
+use Rattle.cqf_program_placing.proofs.PlaceLemmas.{reserved_enough}
+use Rattle.cqf_program_placing.proofs.Stepping.{may_be_first}
+use Rattle.cqf_program_sketch.specs.Judging.{first_late, first_unplaced, flow_of, flows_placed, late_fault, traffic_by}
+use Rattle.cqf_program_sketch.specs.PlanLaws.{AreTakenOver, IsTakenOver, ReservesEnough}
 
 -- a stream that is placed was refused for nothing
 answered_placed : (d : Domain) (asked here : Asked) (refusal : Option Refused) → Placed here ≡ answered d asked refusal → (refusal ≡ None) × (here ≡ asked)
 answered_placed d asked here None h = (refl, cc)
 answered_placed d asked here (Some refused) h = absurd (cc)
 
--- what is known of a stream that is placed: it is asked for under its name with its reservation, and granted
-record IsGranted (d : Domain) (entries : List Recorded) (stream : SettledStream) (asked : Asked) (after : List Recorded) : Type 0 where
-  named : asked.name ≡ stream.name
-  reserved : reserved_on d.cycle_time stream ≡ Ok asked.octets
-  granted : refusal_of d (held_in d entries (seals entries)) asked ≡ None
-  entered : after ≡ with_asked d entries asked
-  told : asked_in (flow_of stream asked) ≡ asked
+-- what is known of a stream that is placed: it is asked for under its name with its reservation in its cycles, and granted
+pub record IsGranted (d : Domain) (entries : List Recorded) (stream : SettledStream) (asked : Asked) (after : List Recorded) : Type 0 where
+  pub named : asked.name ≡ stream.name
+  pub reserved : reserved_on d.cycle_time stream ≡ Ok asked.octets
+  pub every : asked.every ≡ every_in (turns_on d.cycle_time stream)
+  pub phase : MayBeFirst (turns_on d.cycle_time stream) asked.phase
+  pub granted : refusal_of d (held_in d entries (seals entries)) asked ≡ None
+  pub entered : after ≡ with_asked d entries asked
 
 -- where its branches are found
 granted_routed : (d : Domain) (entries : List Recorded) (stream : SettledStream) (octets : ℕ) (paths : List Branch) (asked : Asked) (after : List Recorded) →
-    reserved_on d.cycle_time stream ≡ Ok octets →
-    Placed asked ≡ answered d (record { name = stream.name; octets = octets; every = 1; phase = 0; paths = paths })
-    (refusal_of d (held_in d entries (seals entries)) (record { name = stream.name; octets = octets; every = 1; phase = 0; paths = paths })) →
-    after ≡ with_asked d entries (record { name = stream.name; octets = octets; every = 1; phase = 0; paths = paths }) → IsGranted d entries stream asked after
-granted_routed d entries stream octets paths asked after reserves is after_is =
-    let there : Asked = record { name = stream.name; octets = octets; every = 1; phase = 0; paths = paths } in
-    let found = answered_placed d there asked (refusal_of d (held_in d entries (seals entries)) there) is in
+    reserved_on d.cycle_time stream ≡ Ok octets → IsAskedFor d entries stream.name octets (turns_on d.cycle_time stream) paths (Placed asked) after →
+    IsGranted d entries stream asked after
+granted_routed d entries stream octets paths asked after reserves is =
+    let there : Asked = asked_with stream.name octets (every_in (turns_on d.cycle_time stream)) is.phase paths in
+    let found = answered_placed d there asked (refusal_of d (held_in d entries (seals entries)) there) is.answer in
     record {
       named = ap (λ (a : Asked). a.name) found.1;
       reserved = reserves ∙ ap (λ (a : Asked). Ok a.octets) (sym found.1);
+      every = ap (λ (a : Asked). a.every) found.1;
+      phase = subst (λ (a : Asked). MayBeFirst (turns_on d.cycle_time stream) a.phase) (sym found.1)
+          (may_be_first d (held_in d entries (seals entries)) (cost_of octets) paths d.cycle_time stream.pacing stream.traffic is.phase is.is_phase);
       granted = ap (refusal_of d (held_in d entries (seals entries))) found.1 ∙ found.0;
-      entered = after_is ∙ ap (with_asked d entries) (sym found.1);
-      told = ap (λ (a : Asked). asked_in (flow_of stream a)) found.1 ∙ sym found.1;
+      entered = is.entered ∙ ap (with_asked d entries) (sym found.1);
     }
 
 -- what is placed isn't left out
@@ -63,33 +68,18 @@ never_placed asked found h = absurd (cc)
 
 -- by its branches, where they are found
 granted_answered : (d : Domain) (entries : List Recorded) (stream : SettledStream) (octets : ℕ) (routed : Result (List Branch) PlanFault) (asked : Asked)
-    (after : List Recorded) → reserved_on d.cycle_time stream ≡ Ok octets → IsAnswered d entries stream.name octets routed (Placed asked) after →
-    IsGranted d entries stream asked after
-granted_answered d entries stream octets (Ok paths) asked after reserves h = granted_routed d entries stream octets paths asked after reserves h.0 h.1
+    (after : List Recorded) → reserved_on d.cycle_time stream ≡ Ok octets →
+    IsAnswered d entries stream.name octets (turns_on d.cycle_time stream) routed (Placed asked) after → IsGranted d entries stream asked after
+granted_answered d entries stream octets (Ok paths) asked after reserves h = granted_routed d entries stream octets paths asked after reserves h
 granted_answered d entries stream octets (Err found) asked after reserves h = never_placed asked found h.0
 
 -- and by its reservation
-granted_by : (d : Domain) (entries : List Recorded) (stream : SettledStream) (reserves : Result ℕ PlanFault) (asked : Asked) (after : List Recorded) →
+pub granted_by : (d : Domain) (entries : List Recorded) (stream : SettledStream) (reserves : Result ℕ PlanFault) (asked : Asked) (after : List Recorded) →
     reserved_on d.cycle_time stream ≡ reserves → IsPlacedBy d entries stream reserves (Placed asked) after → IsGranted d entries stream asked after
 granted_by d entries stream (Ok octets) asked after same h = granted_answered d entries stream octets h.routed asked after same h.is_answered
 granted_by d entries stream (Err found) asked after same h = never_placed asked found h.0
 
 -- a reservation is no less than what is needed
-if_enough_enough : (octets : Option ℕ) (needs reserved : ℕ) → if_enough octets needs ≡ Ok reserved → needs ≤ reserved
-if_enough_enough None needs reserved h = let same : needs ≡ reserved = cc in omega arith
-if_enough_enough (Some octets) needs reserved h = by (nat_lt octets needs) refl h
-  where
-    by : (less : Bool) → nat_lt octets needs ≡ less → (if less then Err (fault.TooLittle needs) else Ok octets) ≡ Ok reserved → needs ≤ reserved
-    by true is taken = absurd (cc)
-    by false is taken = let same : octets ≡ reserved = cc in omega (arith, ltb-false octets needs is)
-
-reserved_enough : (octets : Option ℕ) (needs reserved : ℕ) → reserved_by octets (Some needs) ≡ Ok reserved → needs ≤ reserved
-reserved_enough octets needs reserved h = by (nat_lt most_reserved needs) h
-  where
-    by : (more : Bool) → (if more then Err (fault.TooMuch needs) else if_enough octets needs) ≡ Ok reserved → needs ≤ reserved
-    by true taken = absurd (cc)
-    by false taken = if_enough_enough octets needs reserved taken
-
 enough_for : (octets : Option ℕ) (traffic : Option TrafficText) (cycle_time reserved : ℕ) →
     reserved_by octets (option_map (λ (t : TrafficText). needed cycle_time (promise_of t)) traffic) ≡ Ok reserved →
     ForSome traffic (λ (t : TrafficText). needed cycle_time (promise_of t) ≤ reserved)
@@ -98,32 +88,104 @@ enough_for octets (Some traffic) cycle_time reserved h = λ t is.
     subst (λ (x : TrafficText). needed cycle_time (promise_of x) ≤ reserved) (same_Some traffic t is)
     (reserved_enough octets (needed cycle_time (promise_of traffic)) reserved h)
 
+-- ---- traffic as it is told
+
+-- when offers begin is no part of the promise
+same_promise : (cycle_time : ℕ) (pacing : Pacing) (phase : ℕ) (t : TrafficText) → promise_of (traffic_by cycle_time pacing phase t) ≡ promise_of t
+same_promise cycle_time pacing phase t = by (is_in_step cycle_time pacing t)
+  where
+    by : (b : Bool) → promise_of (if b then record t { offset = phase * cycle_time + t.offset % cycle_time } else t) ≡ promise_of t
+    by true = refl
+    by false = refl
+
+-- so what is enough for the one is for the other
+enough_told : (cycle_time : ℕ) (pacing : Pacing) (phase reserved : ℕ) (traffic : Option TrafficText) →
+    ForSome traffic (λ (t : TrafficText). needed cycle_time (promise_of t) ≤ reserved) →
+    ForSome (option_map (traffic_by cycle_time pacing phase) traffic) (λ (t : TrafficText). needed cycle_time (promise_of t) ≤ reserved)
+enough_told cycle_time pacing phase reserved None enough = λ t is. absurd (cc)
+enough_told cycle_time pacing phase reserved (Some traffic) enough = λ t is.
+    subst (λ (x : TrafficText). needed cycle_time (promise_of x) ≤ reserved) (same_Some (traffic_by cycle_time pacing phase traffic) t is)
+    (subst (λ (p : Traffic). needed cycle_time p ≤ reserved) (sym (same_promise cycle_time pacing phase traffic)) (enough traffic refl))
+
+-- what is told of it
+record IsTold (cycle_time : ℕ) (pacing : Pacing) (phase : ℕ) (traffic : Option TrafficText) : Type 0 where
+  promise : option_map promise_of (option_map (traffic_by cycle_time pacing phase) traffic) ≡ option_map promise_of traffic
+  whole : option_map_or (is_in_step cycle_time pacing) traffic false ≡ false → option_map (traffic_by cycle_time pacing phase) traffic ≡ traffic
+  chosen : option_map_or (is_in_step cycle_time pacing) traffic false ≡ true → option_map (traffic_by cycle_time pacing phase) traffic
+      ≡ option_map (λ (t : TrafficText). record t { offset = phase * cycle_time + t.offset % cycle_time }) traffic
+
+is_told : (cycle_time : ℕ) (pacing : Pacing) (phase : ℕ) (traffic : Option TrafficText) → IsTold cycle_time pacing phase traffic
+is_told cycle_time pacing phase None = record { promise = refl; whole = λ h. refl; chosen = λ h. absurd (cc) }
+is_told cycle_time pacing phase (Some t) =
+    let begun : Bool → TrafficText = λ b. if b then record t { offset = phase * cycle_time + t.offset % cycle_time } else t in
+    record {
+      promise = ap Some (same_promise cycle_time pacing phase t);
+      whole = λ h. ap (λ b. Some (begun b)) h;
+      chosen = λ h. ap (λ b. Some (begun b)) h;
+    }
+
+-- ---- all streams
+
 -- streams that are all placed, as a plant has them, behind some entries
 pub record AreAllGranted (d : Domain) (entries : List Recorded) (streams : List SettledStream) (flows : List FlowText) (end : List Recorded) : Type 0 where
-  pub each : map wish_in flows ≡ map wished_of streams
+  pub taken_over : AreTakenOver d.cycle_time streams flows
   pub admitted : (place : ℕ) → admitted_from d entries place (map asked_in flows) ≡ Ok end
+  pub granted : AreGranted d entries (map asked_in flows)
   pub enough : All (ReservesEnough d.cycle_time) flows
   pub no_seal : seals end ≡ seals entries
 
 -- none
+none_taken_over : (cycle_time : ℕ) → AreTakenOver cycle_time [] []
+none_taken_over cycle_time = record { as_many = refl; each = λ place stream flow is at. absurd (cc) }
+
 no_stream : (d : Domain) (entries end : List Recorded) → end ≡ entries → AreAllGranted d entries [] [] end
-no_stream d entries end same =
-    record { each = refl; admitted = λ place. ap Ok (sym same); enough = All-nil (ReservesEnough d.cycle_time); no_seal = ap seals same }
+no_stream d entries end same = record {
+  taken_over = none_taken_over d.cycle_time;
+  admitted = λ place. ap Ok (sym same);
+  granted = tt;
+  enough = All-nil (ReservesEnough d.cycle_time);
+  no_seal = ap seals same;
+}
+
+-- one
+one_taken_over : (d : Domain) (entries after : List Recorded) (stream : SettledStream) (asked : Asked) → IsGranted d entries stream asked after →
+    IsTakenOver d.cycle_time stream (flow_of d.cycle_time stream asked)
+one_taken_over d entries after stream asked granted =
+    let told = is_told d.cycle_time stream.pacing asked.phase stream.traffic in
+    record {
+      name = granted.named;
+      deadline = refl;
+      every = granted.every;
+      phase = granted.phase;
+      promise = told.promise;
+      whole = told.whole;
+      chosen = told.chosen;
+    }
+
+more_taken_over : (cycle_time : ℕ) (stream : SettledStream) (flow : FlowText) (streams : List SettledStream) (flows : List FlowText) →
+    IsTakenOver cycle_time stream flow → AreTakenOver cycle_time streams flows → AreTakenOver cycle_time (stream ∷ streams) (flow ∷ flows)
+more_taken_over cycle_time stream flow streams flows one rest = record { as_many = ap (λ n. suc n) rest.as_many; each = at }
+  where
+    at : (place : ℕ) (s : SettledStream) (f : FlowText) → slice_get (stream ∷ streams) place ≡ Some s → slice_get (flow ∷ flows) place ≡ Some f →
+        IsTakenOver cycle_time s f
+    at zero s f is there = subst₂ (λ (x : SettledStream) (y : FlowText). IsTakenOver cycle_time x y) (same_Some stream s is) (same_Some flow f there) one
+    at (suc place) s f is there = rest.each place s f is there
 
 -- one before others
 one_stream : (d : Domain) (entries after end : List Recorded) (stream : SettledStream) (streams : List SettledStream) (asked : Asked) (flows : List FlowText) →
     SealsAreCounted → IsGranted d entries stream asked after → AreAllGranted d after streams flows end →
-    AreAllGranted d entries (stream ∷ streams) (flow_of stream asked ∷ flows) end
+    AreAllGranted d entries (stream ∷ streams) (flow_of d.cycle_time stream asked ∷ flows) end
 one_stream d entries after end stream streams asked flows counted granted rest = record {
-  each = λ i. (granted.named i, stream.deadline, stream.traffic) ∷ rest.each i;
+  taken_over = more_taken_over d.cycle_time stream (flow_of d.cycle_time stream asked) streams flows (one_taken_over d entries after stream asked granted)
+      rest.taken_over;
   admitted = λ place.
-      ap (λ r. refuse r (stream_line place) (admitted_from d (with_asked d entries (asked_in (flow_of stream asked))) (place + 1) (map asked_in flows)))
-      (ap (refusal_of d (held_in d entries (seals entries))) granted.told ∙ granted.granted)
-      ∙ ap (λ (there : List Recorded). admitted_from d there (place + 1) (map asked_in flows))
-      (sym (granted.entered ∙ ap (with_asked d entries) (sym granted.told)))
+      ap (λ r. refuse r (stream_line place) (admitted_from d (with_asked d entries asked) (place + 1) (map asked_in flows))) granted.granted
+      ∙ ap (λ (there : List Recorded). admitted_from d there (place + 1) (map asked_in flows)) (sym granted.entered)
       ∙ rest.admitted (place + 1);
-  enough = All-cons (ReservesEnough d.cycle_time) (flow_of stream asked) flows
-      (enough_for stream.octets stream.traffic d.cycle_time asked.octets granted.reserved) rest.enough;
+  granted = (granted.granted, subst (λ (there : List Recorded). AreGranted d there (map asked_in flows)) granted.entered rest.granted);
+  enough = All-cons (ReservesEnough d.cycle_time) (flow_of d.cycle_time stream asked) flows
+      (enough_told d.cycle_time stream.pacing asked.phase asked.octets stream.traffic
+      (enough_for stream.octets stream.traffic d.cycle_time asked.octets granted.reserved)) rest.enough;
   no_seal = let one : seals (with_asked d entries asked) ≡ seals entries + 0 = counted entries 0 (Admits asked) (reply_to d entries (Admits asked)) in
       let there : seals after ≡ seals (with_asked d entries asked) = ap seals granted.entered in
       let behind : seals end ≡ seals after = rest.no_seal in
@@ -132,12 +194,13 @@ one_stream d entries after end stream streams asked flows counted granted rest =
 
 -- all of them
 pub all_granted : (d : Domain) (streams : List SettledStream) (entries end : List Recorded) (outcomes : List PlacedOr) → SealsAreCounted →
-    first_unplaced streams outcomes ≡ None → ArePlacedFrom d entries streams outcomes end → AreAllGranted d entries streams (flows_placed streams outcomes) end
+    first_unplaced streams outcomes ≡ None → ArePlacedFrom d entries streams outcomes end →
+    AreAllGranted d entries streams (flows_placed d.cycle_time streams outcomes) end
 all_granted d [] entries end [] counted none placed = no_stream d entries end placed
 all_granted d [] entries end (become ∷ more) counted none placed = absurd placed
 all_granted d (stream ∷ streams) entries end [] counted none placed = absurd placed
 all_granted d (stream ∷ streams) entries end (Placed asked ∷ more) counted none placed =
-    one_stream d entries placed.0 end stream streams asked (flows_placed streams more) counted
+    one_stream d entries placed.0 end stream streams asked (flows_placed d.cycle_time streams more) counted
     (granted_by d entries stream (reserved_on d.cycle_time stream) asked placed.0 refl placed.1)
     (all_granted d streams placed.0 end more counted none placed.2)
 all_granted d (stream ∷ streams) entries end (Unplaced found ∷ more) counted none placed = absurd (cc)

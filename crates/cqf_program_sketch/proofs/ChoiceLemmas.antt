@@ -1,19 +1,19 @@
 -- Candidates that are judged one after the other, and the best of those that aren't good.
 use Rattle.std.proofs.Common.{◌≡◌, ◌∙◌, ℕ, ◌+◌, ◌≤◌, ◌<◌, ◌++◌, ◌∷◌, [], List, Bool, true, false, Option, Some, None, ap, arith, drop, get_or, if◌then◌else◌, length, refl, subst, suc, sym, take}
-use Rattle.std.specs.Prelude.{IfSome, fold, nat_lt}
+use Rattle.std.specs.Prelude.{All, IfSome, fold, nat_lt}
 use Rattle.std.proofs.lemmas.List.{drop_more, length-map, take-append-drop, take_more}
 use Rattle.std.proofs.lemmas.List.Elements.{All-nil, All-push}
 use Rattle.std.proofs.lemmas.List.Sums.{fold-append}
 use Rattle.cqf_sketch.specs.SketchDomain.{SketchDomain}
-use Rattle.cqf_program_placing.specs.Placing.{outcome_value}
-use Rattle.cqf_program_placing.specs.Settled.{SettledStream}
+use Rattle.cqf_program_placing.specs.Placing.{BeginsEarly, PlacedOr, outcome_value}
+use Rattle.cqf_program_placing.specs.Settled.{IsPlaceable, SettledStream, open_domain}
 use Rattle.cqf_program_sketch.specs.declared.candidates.Candidate.{Candidate}
 use Rattle.cqf_program_sketch.specs.declared.choosing.Choice.TheVariants as choice
 use Rattle.cqf_program_sketch.specs.declared.trying.Tried.{Tried}
 use Rattle.cqf_program_sketch.specs.Choosing.{IsBad, best_of, better, line_of_best}
 use Rattle.cqf_program_sketch.specs.Judging.{AreJudgedBy, IsJudgedBy, flows_placed}
 use Rattle.cqf_program_sketch.specs.Trying.{AreBad, ComesOfAll, IsBadOn, IsGoodOn}
-use Rattle.cqf_program_sketch.proofs.TriedLemmas.{length-placed}
+use Rattle.cqf_program_sketch.proofs.TriedLemmas.{early_placed, length-placed}
 
 -- one more is judged
 judged_more : (sketch : SketchDomain) (streams : List SettledStream) (cycles : List ℕ) (told : List Candidate) (cycle_time : ℕ) (candidate : Candidate) →
@@ -94,13 +94,14 @@ module _ (sketch : SketchDomain) (streams : List SettledStream) (cycles : List �
       subst (λ (xs : List ℕ). AreBad sketch streams xs (Some after)) (sym cycles_more) (bad_more best candidate after so_far here is_better)
 
   -- the first that is good is planned
-  pub good_is_planned : (best : Option Candidate) (tried : Tried) → sketch.candidates ≡ cycles → AreBad sketch streams (take k cycles) best →
-      IsGoodOn sketch streams cycle_time tried → ComesOfAll sketch streams (choice.Planned tried)
-  good_is_planned best tried those so_far here =
+  pub good_is_planned : (best : Option Candidate) (tried : Tried) → All (IsPlaceable (open_domain sketch)) streams → sketch.candidates ≡ cycles →
+      AreBad sketch streams (take k cycles) best → IsGoodOn sketch streams cycle_time tried → ComesOfAll sketch streams (choice.Planned tried)
+  good_is_planned best tried placeable those so_far here =
       let there = here.tried_is in
       let by = there.tried_by in
-      let rest : drop k cycles ≡ cycle_time ∷ drop (k + 1) cycles = drop_more cycles k cycle_time low ∙ ap (λ x. x ∷ drop (k + 1) cycles) (sym is) in (
-        record {
+      let rest : drop k cycles ≡ cycle_time ∷ drop (k + 1) cycles = drop_more cycles k cycle_time low ∙ ap (λ x. x ∷ drop (k + 1) cycles) (sym is) in
+      record {
+        planned = record {
           before = take k cycles;
           cycle_time = cycle_time;
           behind = drop (k + 1) cycles;
@@ -113,12 +114,15 @@ module _ (sketch : SketchDomain) (streams : List SettledStream) (cycles : List �
           are_placed = there.are_placed;
           good = ap (λ (x : Candidate). x.fault) (sym by.candidate_is) ∙ here.good;
           domain_is = by.domain_is;
-          flows_are = ap (flows_placed streams) by.outcomes_are;
-        },
-        sym (length-map tried.outcomes.items outcome_value)
+          flows_are = (λ i. flows_placed (by.domain_is i).cycle_time streams (by.outcomes_are i));
+        };
+        each = sym (length-map tried.outcomes.items outcome_value)
             ∙ ap length by.outcomes_are
-            ∙ length-placed there.placed.domain [] streams there.placed.outcomes there.placed.entries there.are_placed.placed_are,
-      )
+            ∙ length-placed there.placed.domain [] streams there.placed.outcomes there.placed.entries there.are_placed.placed_are;
+        early = subst (λ (xs : List PlacedOr). All BeginsEarly xs) (sym by.outcomes_are)
+            (early_placed there.placed.domain (open_domain sketch) [] streams there.placed.outcomes there.placed.entries placeable
+            there.are_placed.placed_are);
+      }
 
 -- where none is good, nothing is planned
 pub none_is_planned : (sketch : SketchDomain) (streams : List SettledStream) (cycles : List ℕ) (best : Candidate) → sketch.candidates ≡ cycles →

@@ -1,5 +1,6 @@
 mod AllPlaced
 mod SoundPlans
+mod InTurns
 mod PlacedLemmas
 mod TriedLemmas
 mod TextLemmas

@@ -1,30 +1,35 @@
 -- Streams and what becomes of each, one after the other.
-use Rattle.std.proofs.Common.{◌≡◌, ◌∙◌, ℕ, ◌+◌, ◌≤◌, ◌<◌, ◌++◌, ◌∷◌, [], List, Option, Some, None, ap, append_assoc, arith, drop, get_or, length, map, refl, sym}
-use Rattle.std.proofs.lemmas.List.{drop_all, drop_more, map-append}
-use Rattle.cqf_traffic.specs.FlowsText.{FlowText}
+use Rattle.std.proofs.Common.{◌≡◌, ◌∙◌, ℕ, ◌+◌, ◌≤◌, ◌<◌, ◌++◌, ◌∷◌, [], All, List, Option, Some, None, ap, append_assoc, arith, drop, get_or, length, map, refl, subst, sym}
+use Rattle.std.proofs.lemmas.List.{drop_all, drop_more, get_or-map, length-map, map-append}
+use Rattle.cqf_model.specs.History.{Asked}
 use Rattle.cqf_program_placing.specs.declared.outcomes.Outcome.{Outcome}
 use Rattle.cqf_program_placing.specs.declared.settled.Settled.{Settled}
-use Rattle.cqf_program_placing.specs.Placing.{PlacedOr, Placed, Unplaced, outcome_value}
+use Rattle.cqf_program_placing.specs.Placing.{BeginsEarly, PlacedOr, Placed, Unplaced, outcome_value}
 use Rattle.cqf_program_placing.specs.Settled.{SettledStream, settled_value}
 use Rattle.cqf_program_sketch.specs.declared.candidates.CandidateFault.{CandidateFault}
-use Rattle.cqf_program_sketch.specs.Judging.{first_unplaced, flows_placed}
-use Rattle.cqf_program_sketch.specs.Steps.{flows_by}
+use Rattle.cqf_program_sketch.specs.Judging.{first_unplaced, those_placed}
+use Rattle.cqf_program_sketch.specs.Steps.{those_by}
 
 -- those that are placed, from a place on; and the first that isn't
-abbrev pub flows_from : List Settled → List Outcome → ℕ → List FlowText
-flows_from streams outcomes k = flows_placed (map settled_value (drop k streams)) (map outcome_value (drop k outcomes))
+abbrev pub those_from : List Settled → List Outcome → ℕ → List (SettledStream × Asked)
+those_from streams outcomes k = those_placed (map settled_value (drop k streams)) (map outcome_value (drop k outcomes))
 
 abbrev pub unplaced_from : List Settled → List Outcome → ℕ → Option CandidateFault
 unplaced_from streams outcomes k = first_unplaced (map settled_value (drop k streams)) (map outcome_value (drop k outcomes))
 
-abbrev pub deadlines_from : List FlowText → List (Option ℕ)
-deadlines_from flows = map (λ (flow : FlowText). flow.0.1) flows
-
 -- one and then the others
-flows_one : (stream : SettledStream) (streams : List SettledStream) (become : PlacedOr) (outcomes : List PlacedOr) →
-    flows_placed (stream ∷ streams) (become ∷ outcomes) ≡ flows_by stream become ++ flows_placed streams outcomes
-flows_one stream streams (Placed asked) outcomes = refl
-flows_one stream streams (Unplaced found) outcomes = refl
+those_one : (stream : SettledStream) (streams : List SettledStream) (become : PlacedOr) (outcomes : List PlacedOr) →
+    those_placed (stream ∷ streams) (become ∷ outcomes) ≡ those_by stream become ++ those_placed streams outcomes
+those_one stream streams (Placed asked) outcomes = refl
+those_one stream streams (Unplaced found) outcomes = refl
+
+-- one that is placed is offered early, where each is
+pub early_there : (outcomes : List Outcome) (k : ℕ) (outcome : Outcome) → k < length outcomes → outcome ≡ get_or outcomes k outcome →
+    All BeginsEarly (map outcome_value outcomes) → BeginsEarly (outcome_value outcome)
+early_there outcomes k outcome low is all =
+    let there : get_or (map outcome_value outcomes) k (outcome_value outcome) ≡ outcome_value outcome =
+    get_or-map outcome_value outcomes k outcome (outcome_value outcome) low ∙ ap outcome_value (sym is) in
+    subst BeginsEarly there (all k (outcome_value outcome) (omega (arith, low, length-map outcomes outcome_value)))
 
 module _ (streams : List Settled) (outcomes : List Outcome) (k : ℕ) (stream : Settled) (outcome : Outcome) (low : k < length streams)
     (same : length outcomes ≡ length streams) (stream_is : stream ≡ get_or streams k stream) (outcome_is : outcome ≡ get_or outcomes k outcome) where
@@ -37,30 +42,23 @@ module _ (streams : List Settled) (outcomes : List Outcome) (k : ℕ) (stream : 
       let there : k < length outcomes = omega arith in
       drop_more outcomes k outcome there ∙ ap (λ x. x ∷ drop (k + 1) outcomes) (sym outcome_is)
 
-  pub flows_next : flows_from streams outcomes k ≡ flows_by (settled_value stream) (outcome_value outcome) ++ flows_from streams outcomes (k + 1)
-  flows_next =
-      (λ i. flows_placed (map settled_value (streams_rest i)) (map outcome_value (outcomes_rest i)))
-      ∙ flows_one (settled_value stream) (map settled_value (drop (k + 1) streams)) (outcome_value outcome) (map outcome_value (drop (k + 1) outcomes))
+  those_next : those_from streams outcomes k ≡ those_by (settled_value stream) (outcome_value outcome) ++ those_from streams outcomes (k + 1)
+  those_next =
+      (λ i. those_placed (map settled_value (streams_rest i)) (map outcome_value (outcomes_rest i)))
+      ∙ those_one (settled_value stream) (map settled_value (drop (k + 1) streams)) (outcome_value outcome) (map outcome_value (drop (k + 1) outcomes))
 
-  -- one more is listed
-  pub flows_step : (whole done after : List FlowText) → whole ≡ done ++ flows_from streams outcomes k →
-      after ≡ done ++ flows_by (settled_value stream) (outcome_value outcome) → whole ≡ after ++ flows_from streams outcomes (k + 1)
-  flows_step whole done after so_far put =
-      so_far ∙ ap (λ x. done ++ x) flows_next
-      ∙ sym (append_assoc done (flows_by (settled_value stream) (outcome_value outcome)) (flows_from streams outcomes (k + 1)))
-      ∙ ap (λ x. x ++ flows_from streams outcomes (k + 1)) (sym put)
-
-  -- and its deadline
-  pub deadlines_step : (whole done after : List (Option ℕ)) → whole ≡ done ++ deadlines_from (flows_from streams outcomes k) →
-      after ≡ done ++ deadlines_from (flows_by (settled_value stream) (outcome_value outcome)) →
-      whole ≡ after ++ deadlines_from (flows_from streams outcomes (k + 1))
-  deadlines_step whole done after so_far put =
-      let one = flows_by (settled_value stream) (outcome_value outcome) in
-      let rest = flows_from streams outcomes (k + 1) in
-      so_far ∙ ap (λ x. done ++ deadlines_from x) flows_next
-      ∙ ap (λ x. done ++ x) (map-append (λ (flow : FlowText). flow.0.1) one rest)
-      ∙ sym (append_assoc done (deadlines_from one) (deadlines_from rest))
-      ∙ ap (λ x. x ++ deadlines_from rest) (sym put)
+  -- what is made of one more is listed
+  pub made_step : {X : Type 0} (value : (SettledStream × Asked) → X) (whole done after : List X) →
+      whole ≡ done ++ map value (those_from streams outcomes k) →
+      after ≡ done ++ map value (those_by (settled_value stream) (outcome_value outcome)) →
+      whole ≡ after ++ map value (those_from streams outcomes (k + 1))
+  made_step value whole done after so_far put =
+      let one = those_by (settled_value stream) (outcome_value outcome) in
+      let rest = those_from streams outcomes (k + 1) in
+      so_far ∙ ap (λ x. done ++ map value x) those_next
+      ∙ ap (λ x. done ++ x) (map-append value one rest)
+      ∙ sym (append_assoc done (map value one) (map value rest))
+      ∙ ap (λ x. x ++ map value rest) (sym put)
 
   -- the first that isn't placed is this one, or stands behind it
   unplaced_next : unplaced_from streams outcomes k
@@ -79,8 +77,10 @@ module _ (streams : List Settled) (outcomes : List Outcome) (k : ℕ) (stream : 
   unplaced_later h = unplaced_next ∙ h
 
 -- behind the last there is none
-pub flows_end : (streams : List Settled) (outcomes : List Outcome) (k : ℕ) → length streams ≤ k → flows_from streams outcomes k ≡ []
-flows_end streams outcomes k over = ap (λ (xs : List Settled). flows_placed (map settled_value xs) (map outcome_value (drop k outcomes))) (drop_all k streams over)
+pub made_end : {X : Type 0} (value : (SettledStream × Asked) → X) (streams : List Settled) (outcomes : List Outcome) (k : ℕ) → length streams ≤ k →
+    map value (those_from streams outcomes k) ≡ []
+made_end value streams outcomes k over =
+    ap (λ (xs : List Settled). map value (those_placed (map settled_value xs) (map outcome_value (drop k outcomes)))) (drop_all k streams over)
 
 pub unplaced_end : (streams : List Settled) (outcomes : List Outcome) (k : ℕ) → length streams ≤ k → unplaced_from streams outcomes k ≡ None
 unplaced_end streams outcomes k over =

@@ -1,10 +1,13 @@
 -- A plan of a sketch is a sound one.
-use Rattle.std.proofs.Common.{◌≡◌, ◌∙◌, ℕ, true, List, [], None, Ok, ap, map, subst, sym}
+use Rattle.std.proofs.Common.{◌≡◌, ◌∙◌, ℕ, true, List, [], Option, None, Ok, ap, map, subst, subst₂, sym}
+use Rattle.std.proofs.lemmas.Simd.{map-map}
 use Rattle.std.specs.Prelude.{option_map}
 use Rattle.cqf_lists.specs.Results.{and_then, refuse}
 use Rattle.cqf_laws_history.specs.StateLaws.{SealsAreCounted}
+use Rattle.cqf_laws_latency.specs.Streams.{AreGranted}
 use Rattle.cqf_model.specs.Domain.{Domain}
-use Rattle.cqf_model.specs.History.{Recorded, held_in}
+use Rattle.cqf_model.specs.History.{Asked, Recorded, held_in}
+use Rattle.cqf_sketch.specs.SketchDomain.{SketchDomain}
 use Rattle.cqf_traffic.specs.FlowsText.{FlowText}
 use Rattle.cqf_program_plans.specs.CompileOutput.{admitted_from}
 use Rattle.cqf_program_plans.specs.LatencyOutput.{latency_of_plan, unless_strict}
@@ -12,7 +15,8 @@ use Rattle.cqf_program_plans.specs.LatencyText.{first_not_sure, latencies_of, la
 use Rattle.cqf_program_offers.specs.OffersOutput.{asked_in}
 use Rattle.cqf_program_placing.specs.Placing.{PlacedStreams}
 use Rattle.cqf_program_placing.specs.Settled.{SettledStream}
-use Rattle.cqf_program_sketch.specs.Judging.{first_late, first_unplaced, flows_placed, latencies_placed}
+use Rattle.cqf_program_sketch.specs.Choosing.{IsPlanned}
+use Rattle.cqf_program_sketch.specs.Judging.{deadlines_placed, first_late, first_unplaced, flow_of, flows_placed, latencies_placed, those_placed}
 use Rattle.cqf_program_sketch.specs.PlanLaws.{IsSoundPlan, ToldPlanIsAdmitted, deadlines_of}
 use Rattle.cqf_program_sketch.proofs.AllPlaced.{AreAllGranted, all_granted, all_in_time, neither, none_late}
 
@@ -27,15 +31,21 @@ strict_ok d flows entries admitted in_time =
     (none_late (latencies_of d (held_in d entries 0) (deadlines_of flows)) in_time)
 
 -- streams that are all placed, without any that may be late, are a sound plan
-sound_of : (streams : List SettledStream) (placed : PlacedStreams) → AreAllGranted placed.domain [] streams (flows_placed streams placed.outcomes) placed.entries →
-    first_late (latencies_placed streams placed) ≡ None → IsSoundPlan streams placed.domain (flows_placed streams placed.outcomes)
+sound_of : (streams : List SettledStream) (placed : PlacedStreams) →
+    AreAllGranted placed.domain [] streams (flows_placed placed.domain.cycle_time streams placed.outcomes) placed.entries →
+    first_late (latencies_placed streams placed) ≡ None →
+    IsSoundPlan streams placed.domain (flows_placed placed.domain.cycle_time streams placed.outcomes)
 sound_of streams placed all in_time =
     let d = placed.domain in
-    let flows = flows_placed streams placed.outcomes in
+    let those = those_placed streams placed.outcomes in
+    let flows = flows_placed d.cycle_time streams placed.outcomes in
+    let same : deadlines_placed streams placed.outcomes ≡ deadlines_of flows =
+    sym (map-map (λ (flow : FlowText). flow.0.1) (λ (one : SettledStream × Asked). flow_of d.cycle_time one.0 one.1) those) in
     let there : first_late (latencies_of d (held_in d placed.entries 0) (deadlines_of flows)) ≡ None =
-    subst (λ (cycle : ℕ). first_late (latencies_of d (held_in d placed.entries cycle) (deadlines_of flows)) ≡ None) all.no_seal in_time in
+    subst₂ (λ (cycle : ℕ) (deadlines : List (Option ℕ)). first_late (latencies_of d (held_in d placed.entries cycle) deadlines) ≡ None) all.no_seal same
+    in_time in
     record {
-      each = all.each;
+      taken_over = all.taken_over;
       entries = placed.entries;
       admitted = all.admitted 1;
       enough = all.enough;
@@ -43,11 +53,25 @@ sound_of streams placed all in_time =
       strict = strict_ok d flows placed.entries (all.admitted 1) there;
     }
 
+-- the streams of a plan are all granted
+planned_granted : SealsAreCounted → (sketch : SketchDomain) (streams : List SettledStream) (d : Domain) (flows : List FlowText)
+    (plan : IsPlanned sketch streams d flows) →
+    AreAllGranted plan.placed.domain [] streams (flows_placed plan.placed.domain.cycle_time streams plan.placed.outcomes) plan.placed.entries
+planned_granted counted sketch streams d flows plan =
+    let placed = plan.placed in
+    let good = neither (first_unplaced streams placed.outcomes) (first_late (latencies_placed streams placed)) plan.good in
+    all_granted placed.domain streams [] placed.entries placed.outcomes counted good.0 plan.are_placed.placed_are
+
+pub plan_granted : SealsAreCounted → (sketch : SketchDomain) (streams : List SettledStream) (d : Domain) (flows : List FlowText) →
+    IsPlanned sketch streams d flows → AreGranted d [] (map asked_in flows)
+plan_granted counted sketch streams d flows plan =
+    subst₂ (λ (there : Domain) (those : List FlowText). AreGranted there [] (map asked_in those)) (sym plan.domain_is) (sym plan.flows_are)
+    (planned_granted counted sketch streams d flows plan).granted
+
 pub told_plan_is_admitted : SealsAreCounted → ToldPlanIsAdmitted
 told_plan_is_admitted counted sketch streams d flows plan =
     let placed = plan.placed in
     let good = neither (first_unplaced streams placed.outcomes) (first_late (latencies_placed streams placed)) plan.good in
-    let all : AreAllGranted placed.domain [] streams (flows_placed streams placed.outcomes) placed.entries =
-    all_granted placed.domain streams [] placed.entries placed.outcomes counted good.0 plan.are_placed.placed_are in
+    let all = planned_granted counted sketch streams d flows plan in
     subst (λ (there : Domain). IsSoundPlan streams there flows) (sym plan.domain_is)
     (subst (λ (those : List FlowText). IsSoundPlan streams placed.domain those) (sym plan.flows_are) (sound_of streams placed all good.1))

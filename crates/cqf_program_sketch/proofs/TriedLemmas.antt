@@ -1,9 +1,12 @@
 -- Streams that are placed, each with what becomes of it.
-use Rattle.std.proofs.Common.{◌≡◌, List, [], ◌∷◌, ap, length, refl, suc}
+use Rattle.std.proofs.Common.{◌≡◌, All, List, [], ◌∷◌, ap, length, refl, suc, true}
+use Rattle.std.proofs.lemmas.List.Elements.{All-cons, All-nil, All-tail, All-head}
 use Rattle.cqf_model.specs.Domain.{Domain}
 use Rattle.cqf_model.specs.History.{Recorded}
-use Rattle.cqf_program_placing.specs.Placing.{ArePlacedFrom, PlacedOr}
-use Rattle.cqf_program_placing.specs.Settled.{SettledStream}
+use Rattle.cqf_program_placing.specs.Placing.{ArePlacedFrom, BeginsEarly, IsPlacing, PlacedOr, Placed, Unplaced, reserved_on}
+use Rattle.cqf_program_placing.specs.Settled.{IsPlaceable, SettledStream, is_paced}
+use Rattle.cqf_program_placing.proofs.Stepping.{first_is_early}
+use Rattle.cqf_program_sketch.proofs.AllPlaced.{granted_by}
 
 -- something becomes of each
 pub length-placed : (d : Domain) (entries : List Recorded) (streams : List SettledStream) (outcomes : List PlacedOr) (end : List Recorded) →
@@ -12,3 +15,22 @@ length-placed d entries [] [] end h = refl
 length-placed d entries [] (become ∷ more) end h = absurd h
 length-placed d entries (stream ∷ streams) [] end h = absurd h
 length-placed d entries (stream ∷ streams) (become ∷ more) end h = ap (λ n. suc n) (length-placed d h.0 streams more end h.2)
+
+-- one that is placed is offered early
+one_early : (d : Domain) (entries after : List Recorded) (stream : SettledStream) (become : PlacedOr) → is_paced stream.pacing ≡ true →
+    IsPlacing d entries stream become after → BeginsEarly become
+one_early d entries after stream (Unplaced found) paced is = tt
+one_early d entries after stream (Placed asked) paced is =
+    let granted = granted_by d entries stream (reserved_on d.cycle_time stream) asked after refl is in
+    first_is_early d.cycle_time stream.pacing stream.traffic asked.phase paced granted.phase
+
+-- so is each
+pub early_placed : (d other : Domain) (entries : List Recorded) (streams : List SettledStream) (outcomes : List PlacedOr) (end : List Recorded) →
+    All (IsPlaceable other) streams → ArePlacedFrom d entries streams outcomes end → All BeginsEarly outcomes
+early_placed d other entries [] [] end placeable h = All-nil BeginsEarly
+early_placed d other entries [] (become ∷ more) end placeable h = absurd h
+early_placed d other entries (stream ∷ streams) [] end placeable h = absurd h
+early_placed d other entries (stream ∷ streams) (become ∷ more) end placeable h =
+    let first : IsPlaceable other stream = All-head (IsPlaceable other) stream streams placeable in
+    All-cons BeginsEarly become more (one_early d entries h.0 stream become first.paced h.1)
+    (early_placed d other h.0 streams more end (All-tail (IsPlaceable other) stream streams placeable) h.2)

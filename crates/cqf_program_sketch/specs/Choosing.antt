@@ -35,7 +35,7 @@ pub record IsPlanned (sketch : SketchDomain) (streams : List SettledStream) (d :
   pub are_placed : ArePlacedAt sketch streams cycle_time placed
   pub good : (candidate_of streams placed).fault ≡ None
   pub domain_is : d ≡ placed.domain
-  pub flows_are : flows ≡ flows_placed streams placed.outcomes
+  pub flows_are : flows ≡ flows_placed placed.domain.cycle_time streams placed.outcomes
 
 -- of two candidates the first, unless more streams are placed on the second; and of some
 abbrev pub better : Option Candidate → Candidate → Option Candidate

@@ -1,5 +1,5 @@
 -- What is told of a candidate for the cycle time (profile).
-use Rattle.std.specs.Prelude.{ℕ, ◌≡◌, ◌+◌, ◌*◌, ◌/◌, ◌≤◌, ◌<◌, List, [], ◌∷◌, count_by, find, fold, if◌then◌else◌, length, map, max, nat_lt, option_map, suc, zero}
+use Rattle.std.specs.Prelude.{ℕ, ◌≡◌, ◌+◌, ◌*◌, ◌/◌, ◌%◌, ◌≤◌, ◌<◌, List, [], ◌∷◌, count_by, find, fold, if◌then◌else◌, length, map, max, nat_lt, option_map, suc, zero}
 use Rattle.std.specs.Prelude.{Option, Some, None, unwrap_or}
 use Rattle.std.specs.List.{flat_map}
 use Rattle.cqf_lists.specs.Lists.{each_below, or_else}
@@ -9,27 +9,45 @@ use Rattle.cqf_model.specs.History.{Asked, held_in, seals}
 use Rattle.cqf_admission.specs.Costs.{most_cost}
 use Rattle.cqf_sketch.specs.SketchDomain.{SketchDomain, domain_at}
 use Rattle.cqf_traffic.specs.FlowsText.{FlowText}
+use Rattle.cqf_traffic.specs.TrafficText.{TrafficText}
+use Rattle.cqf_sketch_streams.specs.declared.pacing.Pacing.{Pacing}
 use Rattle.cqf_program_plans.specs.declared.latency_latencies.Latency.{Latency}
 use Rattle.cqf_program_plans.specs.LatencyText.{is_not_sure, latencies_of}
 use Rattle.cqf_program_placing.specs.declared.faults.PlanFault.TheVariants as fault
 use Rattle.cqf_program_placing.specs.Placing.{ArePlaced, PlacedOr, PlacedStreams, Placed, Unplaced}
 use Rattle.cqf_program_placing.specs.Settled.{SettledStream}
+use Rattle.cqf_program_placing.specs.Turns.{is_in_step}
 use Rattle.cqf_program_sketch.specs.declared.candidates.Candidate.{Candidate}
 use Rattle.cqf_program_sketch.specs.declared.candidates.CandidateFault.{CandidateFault}
 use Rattle.cqf_program_sketch.specs.declared.candidates.CandidateFault.TheVariants as shut
 use Rattle.cqf_program_sketch.specs.declared.candidates.Slack.{Slack}
 
--- a stream that is placed, as a plant has it: with its deadline and its traffic
-abbrev pub flow_of : SettledStream → Asked → FlowText
-flow_of stream asked =
-    ((record { name = asked.name; octets = asked.octets; every = asked.every; phase = asked.phase; paths = asked.paths }, stream.deadline), stream.traffic)
+-- traffic as a plant has it: where it was chosen in which cycles its stream is offered, offers begin in the first of these, as far behind the
+-- cycle's beginning as they would have begun behind that of another
+abbrev pub traffic_by : ℕ → Pacing → ℕ → TrafficText → TrafficText
+traffic_by cycle_time pacing phase t =
+    if is_in_step cycle_time pacing t then record t { offset = phase * cycle_time + t.offset % cycle_time } else t
 
--- those of some streams that are placed
-abbrev pub flows_placed : List SettledStream → List PlacedOr → List FlowText
-flows_placed [] outcomes = []
-flows_placed (stream ∷ streams) [] = []
-flows_placed (stream ∷ streams) (Placed asked ∷ outcomes) = flow_of stream asked ∷ flows_placed streams outcomes
-flows_placed (stream ∷ streams) (Unplaced found ∷ outcomes) = flows_placed streams outcomes
+abbrev pub traffic_told : ℕ → SettledStream → ℕ → Option TrafficText
+traffic_told cycle_time stream phase = option_map (traffic_by cycle_time stream.pacing phase) stream.traffic
+
+-- a stream that is placed, as a plant has it: with its deadline and its traffic
+abbrev pub flow_of : ℕ → SettledStream → Asked → FlowText
+flow_of cycle_time stream asked = (
+  (record { name = asked.name; octets = asked.octets; every = asked.every; phase = asked.phase; paths = asked.paths }, stream.deadline),
+  traffic_told cycle_time stream asked.phase,
+)
+
+-- those of some streams that are placed, each with what was asked for
+abbrev pub those_placed : List SettledStream → List PlacedOr → List (SettledStream × Asked)
+those_placed [] outcomes = []
+those_placed (stream ∷ streams) [] = []
+those_placed (stream ∷ streams) (Placed asked ∷ outcomes) = (stream, asked) ∷ those_placed streams outcomes
+those_placed (stream ∷ streams) (Unplaced found ∷ outcomes) = those_placed streams outcomes
+
+-- as a plant has them
+abbrev pub flows_placed : ℕ → List SettledStream → List PlacedOr → List FlowText
+flows_placed cycle_time streams outcomes = map (λ (one : SettledStream × Asked). flow_of cycle_time one.0 one.1) (those_placed streams outcomes)
 
 -- the first that isn't, and why
 abbrev pub first_unplaced : List SettledStream → List PlacedOr → Option CandidateFault
@@ -43,7 +61,7 @@ abbrev pub rows_placed : PlacedStreams → List Row
 rows_placed placed = held_in placed.domain placed.entries (seals placed.entries)
 
 abbrev pub deadlines_placed : List SettledStream → List PlacedOr → List (Option ℕ)
-deadlines_placed streams outcomes = map (λ (flow : FlowText). flow.0.1) (flows_placed streams outcomes)
+deadlines_placed streams outcomes = map (λ (one : SettledStream × Asked). one.0.deadline) (those_placed streams outcomes)
 
 abbrev pub latencies_placed : List SettledStream → PlacedStreams → List Latency
 latencies_placed streams placed = latencies_of placed.domain (rows_placed placed) (deadlines_placed streams placed.outcomes)
@@ -99,7 +117,7 @@ candidate_by cycle_time placed shares latencies unplaced = record {
 
 abbrev pub candidate_of : List SettledStream → PlacedStreams → Candidate
 candidate_of streams placed =
-    candidate_by placed.domain.cycle_time (length (flows_placed streams placed.outcomes)) (shares_of placed.domain (rows_placed placed))
+    candidate_by placed.domain.cycle_time (length (those_placed streams placed.outcomes)) (shares_of placed.domain (rows_placed placed))
     (latencies_placed streams placed) (first_unplaced streams placed.outcomes)
 
 -- what is told of one that isn't above the guard time: nothing is placed

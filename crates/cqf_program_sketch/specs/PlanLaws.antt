@@ -1,20 +1,24 @@
 -- What a told plan keeps (profile).
-use Rattle.std.specs.Prelude.{ℕ, ◌≡◌, ◌≤◌, List, [], All, IfSome, Option, Ok, false, map, true}
+use Rattle.std.specs.Prelude.{ℕ, ◌≡◌, ◌+◌, ◌*◌, ◌%◌, ◌≤◌, List, [], All, Contains, IfSome, Option, Some, Ok, false, length, map, option_map, slice_get, true}
 use Rattle.std.specs.Option.{ForSome}
-use Rattle.cqf_laws_traffic.specs.Traffic.{needed}
-use Rattle.cqf_model.specs.Domain.{Domain}
-use Rattle.cqf_model.specs.History.{Recorded, held_in}
+use Rattle.cqf_laws_traffic.specs.Traffic.{needed, offers_named}
+use Rattle.cqf_model.specs.declared.frames.Offer.{Offer}
+use Rattle.cqf_model.specs.Domain.{Domain, cycle_of}
+use Rattle.cqf_model.specs.History.{Recorded, held_in, pace_of}
+use Rattle.cqf_model.specs.Paces.{is_turn}
 use Rattle.cqf_sketch.specs.SketchDomain.{AreCandidates, IsOpenCycle, SketchDomain}
 use Rattle.cqf_traffic.specs.FlowsText.{FlowText}
 use Rattle.cqf_traffic.specs.TrafficText.{TrafficText, promise_of}
+use Rattle.cqf_traffic_offers.specs.Offering.{offers_before}
 use Rattle.cqf_program_plans.specs.CompileOutput.{admitted_from}
 use Rattle.cqf_program_plans.specs.declared.latency_latencies.Latency.{Latency}
 use Rattle.cqf_program_plans.specs.LatencyOutput.{latency_of_plan}
 use Rattle.cqf_program_plans.specs.LatencyText.{is_not_sure, latencies_of, latency_text}
-use Rattle.cqf_program_offers.specs.OffersOutput.{asked_in}
-use Rattle.cqf_program_placing.specs.Placing.{PlacedStreams}
+use Rattle.cqf_program_offers.specs.OffersOutput.{asked_in, sender_of}
+use Rattle.cqf_program_placing.specs.Placing.{PlacedStreams, is_chosen_on, turns_on}
 use Rattle.cqf_program_placing.specs.Room.{ArePlacedByRoom}
 use Rattle.cqf_program_placing.specs.Settled.{SettledStream}
+use Rattle.cqf_program_placing.specs.Turns.{MayBeFirst, every_in}
 use Rattle.cqf_program_sketch.specs.Choosing.{IsPlanned}
 use Rattle.cqf_program_sketch.specs.Judging.{ArePlacedAt}
 use Rattle.cqf_program_sketch.specs.PlanOutput.{Sketched, sketch_input}
@@ -23,12 +27,24 @@ use Rattle.cqf_program_sketch.specs.PlanOutput.{Sketched, sketch_input}
 abbrev pub deadlines_of : List FlowText → List (Option ℕ)
 deadlines_of flows = map (λ (flow : FlowText). flow.0.1) flows
 
--- what a plan takes over of a settled stream as it is: its name, its deadline and its traffic; and those of a plan's stream
-abbrev pub wished_of : SettledStream → List ℕ × Option ℕ × Option TrafficText
-wished_of stream = (stream.name, stream.deadline, stream.traffic)
+-- what a plan on a cycle time takes over of a settled stream: its name, its deadline, in which cycles it is offered, but for a phase that is to
+-- be chosen, and what its talker promises; all of its traffic where no phase is; and else its offers begin in the first of its cycles, as far
+-- behind the cycle's beginning as they would have begun behind that of another
+pub record IsTakenOver (cycle_time : ℕ) (stream : SettledStream) (flow : FlowText) : Type 0 where
+  pub name : flow.0.0.name ≡ stream.name
+  pub deadline : flow.0.1 ≡ stream.deadline
+  pub every : flow.0.0.every ≡ every_in (turns_on cycle_time stream)
+  pub phase : MayBeFirst (turns_on cycle_time stream) flow.0.0.phase
+  pub promise : option_map promise_of flow.1 ≡ option_map promise_of stream.traffic
+  pub whole : is_chosen_on cycle_time stream ≡ false → flow.1 ≡ stream.traffic
+  pub chosen : is_chosen_on cycle_time stream ≡ true →
+      flow.1 ≡ option_map (λ (t : TrafficText). record t { offset = flow.0.0.phase * cycle_time + t.offset % cycle_time }) stream.traffic
 
-abbrev pub wish_in : FlowText → List ℕ × Option ℕ × Option TrafficText
-wish_in flow = (flow.0.0.name, flow.0.1, flow.1)
+-- so it does of each of some, in their order
+pub record AreTakenOver (cycle_time : ℕ) (streams : List SettledStream) (flows : List FlowText) : Type 0 where
+  pub as_many : length flows ≡ length streams
+  pub each : (place : ℕ) (stream : SettledStream) (flow : FlowText) → slice_get streams place ≡ Some stream → slice_get flows place ≡ Some flow →
+      IsTakenOver cycle_time stream flow
 
 -- a stream reserves what its talker needs of a cycle
 abbrev pub ReservesEnough : ℕ → FlowText → Type 0
@@ -37,7 +53,7 @@ ReservesEnough cycle_time flow = ForSome flow.1 (λ (t : TrafficText). needed cy
 -- a plan of all of these streams, in their order: each is admitted before cycle 0, and reserves what its talker needs of a cycle; the
 -- frames of none may miss its deadline, and `latency --strict` says so
 pub record IsSoundPlan (streams : List SettledStream) (d : Domain) (flows : List FlowText) : Type 0 where
-  pub each : map wish_in flows ≡ map wished_of streams
+  pub taken_over : AreTakenOver d.cycle_time streams flows
   pub entries : List Recorded
   pub admitted : admitted_from d [] 1 (map asked_in flows) ≡ Ok entries
   pub enough : All (ReservesEnough d.cycle_time) flows
@@ -49,6 +65,15 @@ abbrev pub ToldPlanIsAdmitted : Type 0
 ToldPlanIsAdmitted =
     (sketch : SketchDomain) (streams : List SettledStream) (d : Domain) (flows : List FlowText) → IsPlanned sketch streams d flows →
     IsSoundPlan streams d flows
+
+-- what is offered of a plan's stream whose phase was chosen comes in the cycles in which the stream reserves, for every seed and without one
+abbrev pub ChosenStreamsComeInTurns : Type 0
+ChosenStreamsComeInTurns =
+    (sketch : SketchDomain) (streams : List SettledStream) (d : Domain) (flows : List FlowText) (place : ℕ) (stream : SettledStream) (flow : FlowText)
+    (until : ℕ) (seed : Option ℕ) (x : Offer) → IsPlanned sketch streams d flows → slice_get streams place ≡ Some stream →
+    slice_get flows place ≡ Some flow → is_chosen_on d.cycle_time stream ≡ true →
+    Contains (offers_named flow.0.0.name (offers_before until seed (map (sender_of d) flows))) x →
+    is_turn (pace_of (asked_in flow)) 0 (cycle_of d x.at.0) ≡ true
 
 -- the streams of an input that is a sketch are placed where there is room, on each cycle time that is open to it
 abbrev pub SketchesArePlacedByRoom : Type 0

@@ -1,6 +1,7 @@
 -- What the inner functions say of streams, and of a candidate's line.
-use Rattle.std.specs.Prelude.{ℕ, ◌≤◌, List, [], ◌∷◌, All, decimal, length}
+use Rattle.std.specs.Prelude.{ℕ, ◌≤◌, List, [], ◌∷◌, All, Option, decimal, length, map}
 use Rattle.std.specs.Option.{option_map_or}
+use Rattle.cqf_model.specs.History.{Asked}
 use Rattle.cqf_model.specs.Limits.{most_streams}
 use Rattle.cqf_sketch.specs.SketchDomain.{SketchDomain}
 use Rattle.cqf_traffic.specs.FlowsText.{FlowText}
@@ -18,10 +19,16 @@ pub record AreSettled (sketch : SketchDomain) (streams : List SettledStream) : T
   pub few : length streams ≤ most_streams
   pub placeable : All (IsPlaceable (open_domain sketch)) streams
 
--- a stream as a plant has it, where it is placed
-abbrev pub flows_by : SettledStream → PlacedOr → List FlowText
-flows_by stream (Placed asked) = flow_of stream asked ∷ []
-flows_by stream (Unplaced found) = []
+-- a stream with what was asked for, where it is placed; and as a plant has it, and its deadline
+abbrev pub those_by : SettledStream → PlacedOr → List (SettledStream × Asked)
+those_by stream (Placed asked) = (stream, asked) ∷ []
+those_by stream (Unplaced found) = []
+
+abbrev pub flows_by : ℕ → SettledStream → PlacedOr → List FlowText
+flows_by cycle_time stream become = map (λ (one : SettledStream × Asked). flow_of cycle_time one.0 one.1) (those_by stream become)
+
+abbrev pub deadlines_by : SettledStream → PlacedOr → List (Option ℕ)
+deadlines_by stream become = map (λ (one : SettledStream × Asked). one.0.deadline) (those_by stream become)
 
 -- the two halves of a candidate's fields: what is placed and held, and how tight deadlines are
 abbrev pub held_fields : ℕ → Candidate → Fields

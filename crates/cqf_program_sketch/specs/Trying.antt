@@ -1,7 +1,7 @@
 -- What the inner functions say of cycle times that are tried.
 use Rattle.std.specs.Prelude.{ℕ, ◌≡◌, ◌<◌, List, All, IfSome, Option, Some, None, length, map}
 use Rattle.cqf_sketch.specs.SketchDomain.{SketchDomain}
-use Rattle.cqf_program_placing.specs.Placing.{PlacedStreams, outcome_value}
+use Rattle.cqf_program_placing.specs.Placing.{BeginsEarly, PlacedStreams, outcome_value}
 use Rattle.cqf_program_placing.specs.Settled.{SettledStream}
 use Rattle.cqf_program_sketch.specs.declared.candidates.Candidate.{Candidate}
 use Rattle.cqf_program_sketch.specs.declared.choosing.Choice.{Choice}
@@ -46,9 +46,14 @@ pub record AreBad (sketch : SketchDomain) (streams : List SettledStream) (cycles
   pub best_is : best ≡ best_of told
   pub best_bad : IfSome best IsBad
 
+-- a cycle time on which streams were placed is planned
+pub record IsPlannedOn (sketch : SketchDomain) (streams : List SettledStream) (tried : Tried) : Type 0 where
+  pub planned : IsPlanned sketch streams tried.domain (flows_placed tried.domain.cycle_time streams (map outcome_value tried.outcomes.items))
+  pub each : length tried.outcomes.items ≡ length streams
+  pub early : All BeginsEarly (map outcome_value tried.outcomes.items)
+
 -- what comes of all
 abbrev pub ComesOfAll : SketchDomain → List SettledStream → Choice → Type 0
-ComesOfAll sketch streams (choice.Planned tried) =
-    IsPlanned sketch streams tried.domain (flows_placed streams (map outcome_value tried.outcomes.items)) × (length tried.outcomes.items ≡ length streams)
+ComesOfAll sketch streams (choice.Planned tried) = IsPlannedOn sketch streams tried
 ComesOfAll sketch streams (choice.Unplanned best) =
     IsUnplanned sketch streams (line_of_best (length sketch.candidates) (Some best)) × IsBad best

@@ -6,10 +6,9 @@ ghost use Rattle.cqf_lists.specs.Lists.{or_else};
 ghost use Rattle.cqf_program_placing.specs.Placing.{outcome_value};
 ghost use Rattle.cqf_program_placing.specs.Settled.{settled_value};
 ghost use Rattle.cqf_program_plans.specs.LatencyText.{is_not_sure, latencies_of};
-ghost use Rattle.cqf_traffic.specs.FlowsText.{FlowText};
-ghost use Rattle.cqf_program_sketch.specs.Judging.{candidate_by, deadlines_placed, first_late, first_unplaced, flows_placed};
+ghost use Rattle.cqf_program_sketch.specs.Judging.{candidate_by, deadlines_placed, first_late, first_unplaced, those_placed};
 ghost use Rattle.cqf_program_sketch.specs.Judging.{late_fault, shares_of};
-ghost use Rattle.cqf_program_sketch.specs.Steps.{flows_by};
+ghost use Rattle.cqf_program_sketch.specs.Steps.{deadlines_by};
 
 use crate::candidates::{Candidate, CandidateFault};
 use crate::shares::greatest_share;
@@ -28,7 +27,7 @@ fn put_deadline(
     outcome: &Outcome,
 ) -> Result<(), Memory>
     ensures { OnOk result (deadlines.new.items
-        ≡ deadlines.old.items ++ map (λ (flow : FlowText). flow.0.1) (flows_by (settled_value stream.now) (outcome_value outcome.now))) }
+        ≡ deadlines.old.items ++ deadlines_by (settled_value stream.now) (outcome_value outcome.now)) }
 {
     match outcome {
         Outcome::Placed(_) => deadlines.push(stream.deadline)?,
@@ -162,7 +161,7 @@ pub(crate) fn candidate_of(
     requires held { (next : ℕ) × AreHeld domain.now rows.now next 0 }
     requires good { AreOfGoodPaces rows.now }
     ensures { let those = map settled_value streams.now in let become = map outcome_value outcomes.now in IfOk result (λ candidate. candidate
-        ≡ candidate_by domain.now.cycle_time (length (flows_placed those become)) (shares_of domain.now rows.now)
+        ≡ candidate_by domain.now.cycle_time (length (those_placed those become)) (shares_of domain.now rows.now)
         (latencies_of domain.now rows.now (deadlines_placed those become)) (first_unplaced those become)) }
 {
     let deadlines = deadlines_placed(alloc, streams, outcomes)?;

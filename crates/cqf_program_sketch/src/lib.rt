@@ -19,6 +19,8 @@ mod table;
 mod trying;
 
 pub use candidates::{Candidate, CandidateFault, Slack};
-pub use laws::{sketches_are_placed_where_there_is_room, told_plan_is_admitted};
+pub use laws::{
+    chosen_streams_come_in_turns, sketches_are_placed_where_there_is_room, told_plan_is_admitted,
+};
 pub use plan_command::plan_output;
 pub use trying::judge;

@@ -1,11 +1,11 @@
 //! The command `plan`.
-ghost use Rattle.std.specs.Prelude.{◌≡◌, ◌≢◌, [], IfErr, IfOk, IfSome, Some, Ok, false, length, map, option_map, string_bytes};
+ghost use Rattle.std.specs.Prelude.{◌≡◌, ◌≢◌, [], All, IfErr, IfOk, IfSome, Some, Ok, false, length, map, option_map, string_bytes};
 ghost use Rattle.cqf_program_offers.specs.OffersOutput.{flows_line};
 ghost use Rattle.cqf_program_placing.specs.Settled.{settled_of, settled_value};
 ghost use Rattle.cqf_program_stop.specs.Stops.{EndsWith, IsRefused, or_line};
 ghost use Rattle.cqf_sketch.specs.SketchDomain.{AreCandidates, sketch_domain_of_text};
 ghost use Rattle.cqf_sketch_streams.specs.StreamsText.{sketch_streams_of_text, stream_text};
-ghost use Rattle.cqf_program_placing.specs.Placing.{outcome_value};
+ghost use Rattle.cqf_program_placing.specs.Placing.{BeginsEarly, outcome_value};
 ghost use Rattle.cqf_plants.specs.Plants.{IsToldPlant};
 ghost use Rattle.cqf_program_sketch.specs.Choosing.{IsBad, line_of_best};
 ghost use Rattle.cqf_program_sketch.specs.Judging.{flows_placed};
@@ -135,11 +135,13 @@ fn table_of(alloc: Global, sketch: &SketchDomain, streams: &[Settled]) -> Result
 
 /// The plant's text of a cycle time on which streams are placed.
 fn plant_of(alloc: Global, streams: &[Settled], tried: &Tried) -> Result<Vec<u8>, Memory>
-    requires { length tried.now.outcomes.items ≡ length streams.now }
+    requires each { length tried.now.outcomes.items ≡ length streams.now }
+    requires early { All BeginsEarly (map outcome_value tried.now.outcomes.items) }
     ensures { let become = map outcome_value tried.now.outcomes.items in IfOk result (λ text.
-        IsToldPlant tried.now.domain (flows_placed (map settled_value streams.now) become) text.items) }
+        IsToldPlant tried.now.domain (flows_placed tried.now.domain.cycle_time (map settled_value streams.now) become) text.items) }
 {
-    let flows = flows_placed(alloc, streams, tried.outcomes.as_slice())?;
+    let cycle_time = tried.domain.cycle_time();
+    let flows = flows_placed(alloc, streams, cycle_time, tried.outcomes.as_slice())?;
     let text = write_plant(alloc, &tried.domain, flows.as_slice())?;
     Ok(text.into_bytes())
 }

@@ -1,30 +1,52 @@
 //! A plan, as a plant has it, or the line that tells why there is none.
-ghost use Rattle.std.specs.Prelude.{◌≡◌, ◌++◌, IfOk, OnOk, Some, length, map, string_bytes};
+ghost use Rattle.std.specs.Prelude.{◌≡◌, ◌++◌, ◌<◌, ◌≤◌, All, IfOk, OnOk, Some, length, map, string_bytes};
 ghost use Rattle.cqf_admission.specs.Asking.{asked_paced};
-ghost use Rattle.cqf_program_placing.specs.Placing.{outcome_value};
+ghost use Rattle.cqf_model.specs.Limits.{longest_cycle, most_every};
+ghost use Rattle.cqf_program_placing.specs.Placing.{BeginsEarly, outcome_value};
 ghost use Rattle.cqf_program_placing.specs.Settled.{settled_value};
 ghost use Rattle.cqf_traffic.specs.FlowsText.{flow_text};
 ghost use Rattle.cqf_program_sketch.specs.Choosing.{IsBad, line_of_best};
-ghost use Rattle.cqf_program_sketch.specs.Judging.{flow_of, flows_placed};
+ghost use Rattle.cqf_program_sketch.specs.Judging.{flow_of, flows_placed, traffic_told};
 ghost use Rattle.cqf_program_sketch.specs.Steps.{flows_by};
 
 use crate::candidates::Candidate;
 use cqf_program_placing::{Outcome, Settled};
 use cqf_topology::{PacedRequest, Planned};
-use cqf_traffic::Flow;
-use cqf_units::Memory;
+use cqf_traffic::{Flow, Traffic};
+use cqf_units::{Memory, Nanos};
 use std::alloc::Global;
 
-/// A stream that is placed with a request, as a plant has it.
-fn flow_of(stream: &Settled, request: PacedRequest) -> Flow
-    ensures { flow_text result ≡ flow_of (settled_value stream.now) (asked_paced request) }
+/// The traffic of a stream that is placed on a cycle time in this phase, as a plant has it.
+fn traffic_told(stream: &Settled, cycle_time: Nanos, phase: u32) -> Option<Traffic>
+    requires some { 0 < cycle_time.0 }
+    requires short { cycle_time.0 ≤ longest_cycle }
+    requires early { phase < most_every }
+    ensures { result ≡ traffic_told cycle_time.0 (settled_value stream.now) phase }
 {
+    if !stream.is_chosen_on(cycle_time) {
+        return stream.traffic;
+    }
+    let Some(traffic) = stream.traffic else {
+        return None;
+    };
+    let begins = u64::from(phase) * cycle_time.0 + traffic.offset().0 % cycle_time.0;
+    Some(traffic.from_instant(Nanos(begins)))
+}
+
+/// A stream that is placed on a cycle time with a request, as a plant has it.
+fn flow_of(stream: &Settled, cycle_time: Nanos, request: PacedRequest) -> Flow
+    requires some { 0 < cycle_time.0 }
+    requires short { cycle_time.0 ≤ longest_cycle }
+    requires early { request.phase < most_every }
+    ensures { flow_text result ≡ flow_of cycle_time.0 (settled_value stream.now) (asked_paced request) }
+{
+    let traffic = traffic_told(stream, cycle_time, request.phase);
     Flow {
         planned: Planned {
             request,
             deadline: stream.deadline,
         },
-        traffic: stream.traffic,
+        traffic,
     }
 }
 
@@ -33,33 +55,42 @@ fn put_flow(
     alloc: Global,
     flows: &mut Vec<Flow>,
     stream: &Settled,
+    cycle_time: Nanos,
     outcome: &Outcome,
 ) -> Result<(), Memory>
+    requires some { 0 < cycle_time.0 }
+    requires short { cycle_time.0 ≤ longest_cycle }
+    requires early { BeginsEarly (outcome_value outcome.now) }
     ensures { OnOk result (map flow_text flows.new.items
-        ≡ map flow_text flows.old.items ++ flows_by (settled_value stream.now) (outcome_value outcome.now)) }
+        ≡ map flow_text flows.old.items ++ flows_by cycle_time.0 (settled_value stream.now) (outcome_value outcome.now)) }
 {
     match outcome {
         Outcome::Placed(request) => {
             let copy = request.try_copy(alloc)?;
-            flows.push(flow_of(stream, copy))?;
+            flows.push(flow_of(stream, cycle_time, copy))?;
         }
         Outcome::Unplaced(_) => {}
     }
     Ok(())
 }
 
-/// Those of some streams that are placed, as a plant has them.
+/// Those of some streams that are placed on a cycle time, as a plant has them.
 pub(crate) fn flows_placed(
     alloc: Global,
     streams: &[Settled],
+    cycle_time: Nanos,
     outcomes: &[Outcome],
 ) -> Result<Vec<Flow>, Memory>
-    requires { length outcomes.now ≡ length streams.now }
-    ensures { IfOk result (λ flows. map flow_text flows.items ≡ flows_placed (map settled_value streams.now) (map outcome_value outcomes.now)) }
+    requires some { 0 < cycle_time.0 }
+    requires short { cycle_time.0 ≤ longest_cycle }
+    requires each { length outcomes.now ≡ length streams.now }
+    requires early { All BeginsEarly (map outcome_value outcomes.now) }
+    ensures { IfOk result (λ flows. map flow_text flows.items
+        ≡ flows_placed cycle_time.0 (map settled_value streams.now) (map outcome_value outcomes.now)) }
 {
     let mut flows = Vec::new(alloc);
     for (place, stream) in streams.iter().enumerate() {
-        put_flow(alloc, &mut flows, stream, &outcomes[place])?;
+        put_flow(alloc, &mut flows, stream, cycle_time, &outcomes[place])?;
     }
     Ok(flows)
 }

@@ -217,7 +217,9 @@ FROM + STEP, .. up to TO, at most 1000. A link with duplex = true stands for
 two, there and back. One from a station is a talker's link. A stream may have
 from, a talker or its edge bridge, and to, its listeners, in place of octets and
 a path, and then has the traffic that it promises: frames of size octets in each
-interval, up to jitter late. Its deadline runs from the talker.
+interval, up to jitter late. Its deadline runs from the talker. Where that is in
+step with the network, with in-step = true, its frames get cycles of their own:
+one in as many as fit its interval, in which its links are least full.
 
 The output is a plant for the first candidate that has room for each stream and
 keeps each deadline. Streams are placed in order, each by the first way of

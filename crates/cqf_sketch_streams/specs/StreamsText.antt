@@ -1,14 +1,14 @@
 -- The streams of a sketch, or the first fault of their text (profile).
-use Rattle.std.specs.Prelude.{ℕ, List, [], ◌∷◌, ◌++◌, ◌&&◌, ◌||◌, Bool, if◌then◌else◌, find, is_none, is_some, length, map, nat_le, Option, Some, None, ok_or}
+use Rattle.std.specs.Prelude.{ℕ, List, [], ◌∷◌, ◌++◌, ◌&&◌, ◌||◌, Bool, true, false, codes, if◌then◌else◌, find, is_none, is_some, length, map, nat_le, Option, Some, None, ok_or}
 use Rattle.std.specs.Prelude.{option_and_then, option_map, Result, Ok, Err, string_bytes}
 use Rattle.std.specs.Option.{option_or}
-use Rattle.toml.specs.Data.{Data, Items, no_items, item, Members, as_array, as_str, as_table}
+use Rattle.toml.specs.Data.{Data, Items, no_items, item, Members, as_array, as_bool, as_str, as_table, get_member}
 use Rattle.cqf_lists.specs.Results.{and_then, refuse}
 use Rattle.cqf_topology_fields.specs.declared.keys.Key.{Key}
-use Rattle.cqf_topology_fields.specs.declared.keys.Key.TheVariants.{From, To, Streams, Name, Octets, Path, Paths}
+use Rattle.cqf_topology_fields.specs.declared.keys.Key.TheVariants.{From, To, Streams, Name, Octets, Every, Phase, Path, Paths}
 use Rattle.cqf_topology_fields.specs.declared.faults.TomlFault.{TomlFault}
 use Rattle.cqf_topology_fields.specs.declared.faults.TomlFault.TheVariants as toml_fault
-use Rattle.cqf_topology_fields.specs.Fields.{are_tables, each_from, first_absent, name_from, names_from, number_from, read_at, value_at, whole_document}
+use Rattle.cqf_topology_fields.specs.Fields.{are_tables, each_from, first_absent, name_from, names_from, number_from, number_or, read_at, value_at, whole_document}
 use Rattle.cqf_topology.specs.DomainText.{first_taken}
 use Rattle.cqf_topology.specs.PlannedText.{deadline_from}
 use Rattle.cqf_topology.specs.StreamsText.{branches_from, streams_keys}
@@ -16,6 +16,8 @@ use Rattle.cqf_traffic.specs.declared.faults.FlowsFault.{FlowsFault}
 use Rattle.cqf_traffic.specs.declared.faults.FlowsFault.TheVariants as flows_fault
 use Rattle.cqf_traffic.specs.FlowsText.{or_streams, traffic_or}
 use Rattle.cqf_traffic.specs.TrafficText.{TrafficText, first_owed, has_traffic}
+use Rattle.cqf_sketch_streams.specs.declared.pacing.Pacing.{Pacing}
+use Rattle.cqf_sketch_streams.specs.declared.pacing.Pacing.TheVariants.{Given, InStep}
 use Rattle.cqf_sketch_streams.specs.declared.wanted.Wanted.{Wanted}
 use Rattle.cqf_sketch_streams.specs.declared.wanted.Wanted.TheVariants as wanted
 use Rattle.cqf_sketch_streams.specs.declared.streams.Stream.{Stream}
@@ -25,10 +27,12 @@ pub data WantedText : Type 0 where
   Along : List (List (List ℕ)) → WantedText
   Between : List ℕ → List (List ℕ) → WantedText
 
--- a stream of a sketch: its name, its octets a cycle where the text says them, its way, its deadline and its traffic
+-- a stream of a sketch: its name, its octets a cycle where the text says them, in which cycles it is offered, its way, its deadline and
+-- its traffic
 pub record StreamText : Type 0 where
   pub name : List ℕ
   pub octets : Option ℕ
+  pub pacing : Pacing
   pub way : WantedText
   pub deadline : Option ℕ
   pub traffic : Option TrafficText
@@ -41,6 +45,7 @@ abbrev pub stream_text : Stream → StreamText
 stream_text stream = record {
   name = string_bytes stream.name;
   octets = stream.octets;
+  pacing = stream.pacing;
   way = wanted_text stream.way;
   deadline = stream.deadline;
   traffic = stream.traffic;
@@ -76,6 +81,31 @@ octets_by (Some d) table = and_then (read_at Octets (number_from 0 4294967295) t
 
 abbrev pub octets_from : Members → Result (Option ℕ) TomlFault
 octets_from table = octets_by (value_at Octets table) table
+
+-- whether a stream's talker is in step with the network, by what stands there
+abbrev pub in_step_by : Option Data → Result Bool FlowsFault
+in_step_by None = Ok false
+in_step_by (Some d) = ok_or (as_bool d) flows_fault.BadInStep
+
+abbrev pub in_step_at : Members → Result Bool FlowsFault
+in_step_at table = in_step_by (get_member (codes "in-step") table)
+
+-- the first key that stands there and says in which cycles it is offered
+abbrev pub first_given : Members → Option Key
+first_given table = find (λ key. is_some (value_at key table)) (Every ∷ Phase ∷ [])
+
+-- in which cycles it is offered: in one of so many, of which the first has this phase; or, where its talker is in step, in those that the
+-- plan says, and then no key may say it too
+abbrev pub pacing_by : ℕ → ℕ → Bool → Members → Result Pacing FlowsFault
+pacing_by every phase false table = Ok (Given every phase)
+pacing_by every phase true table = refuse (first_given table) (λ key. flows_fault.Streams (toml_fault.BadValue key)) (Ok InStep)
+
+abbrev pub pacing_from : Members → Result Pacing FlowsFault
+pacing_from table =
+    and_then (or_streams (number_or Every 1 table)) (λ every.
+    and_then (or_streams (number_or Phase 0 table)) (λ phase.
+    and_then (in_step_at table) (λ in_step.
+    pacing_by every phase in_step table)))
 
 -- the first end that stands there
 abbrev pub first_end : Members → Option Key
@@ -113,10 +143,11 @@ abbrev pub stream_from : Members → Result StreamText FlowsFault
 stream_from table =
     and_then (or_streams (read_at Name as_str table)) (λ name.
     and_then (or_streams (octets_from table)) (λ octets.
+    and_then (pacing_from table) (λ pacing.
     and_then (or_streams (wanted_from table)) (λ way.
     and_then (or_streams (deadline_from table)) (λ deadline.
     and_then (traffic_or table) (λ traffic.
-    Ok (record { name = name; octets = octets; way = way; deadline = deadline; traffic = traffic }))))))
+    Ok (record { name = name; octets = octets; pacing = pacing; way = way; deadline = deadline; traffic = traffic })))))))
 
 -- the elements of the array of streams, each a table
 abbrev pub streams_from : Items → Result (List StreamText) FlowsFault

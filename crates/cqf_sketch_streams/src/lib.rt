@@ -11,13 +11,16 @@
 //! size = 704
 //! ```
 //!
-//! is a stream from the talker mic to two listeners. With `path` beside `from` it is refused: `BadValue from`.
+//! is a stream from the talker mic to two listeners. With `path` beside `from` it is refused: `BadValue from`; and with `every` beside
+//! `in-step = true`, which says that its talker is in step with the network: `BadValue every`.
 #![tactic(auto)]
 
 mod lacks;
+mod pacing;
 mod streams;
 mod wanted;
 
 pub use cqf_traffic::{FlowsFault, Traffic, TrafficKey};
+pub use pacing::Pacing;
 pub use streams::{Stream, read_sketch_streams};
 pub use wanted::{MOST_LISTENERS, Wanted};

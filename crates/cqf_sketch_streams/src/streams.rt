@@ -8,6 +8,7 @@ ghost use Rattle.cqf_traffic.specs.FlowsText.{traffic_or};
 ghost use Rattle.cqf_sketch_streams.specs.StreamsText.{octets_from, sketch_streams_of_text, stream_from, stream_text, streams_from, streams_in};
 
 use crate::lacks::first_lack_of;
+use crate::pacing::{Pacing, read_pacing};
 use crate::wanted::{Wanted, read_wanted};
 use cqf_topology::{Key, StreamsFault, deadline_of};
 use cqf_topology_fields::{are_all_tables, array_at, number_at, read_document, text_at, value_at};
@@ -21,6 +22,7 @@ pub struct Stream {
     pub name: String,
     /// The reservation, in octets a cycle, where the text says it. Where it doesn't, there is traffic.
     pub octets: Option<u32>,
+    pub pacing: Pacing,
     pub way: Wanted,
     /// In nanoseconds: from the instant at which a talker's station begins to send a frame, or else from its edge bridge.
     pub deadline: Option<u32>,
@@ -56,12 +58,14 @@ fn read_stream(alloc: Global, table: &Table) -> Result<Stream, FlowsFault>
 {
     let name = text_at(alloc, table, Key::Name)?;
     let octets = read_octets(table)?;
+    let pacing = read_pacing(table)?;
     let way = read_wanted(alloc, table)?;
     let deadline = deadline_of(table)?;
     let traffic = read_traffic(table)?;
     Ok(Stream {
         name,
         octets,
+        pacing,
         way,
         deadline,
         traffic,
@@ -105,13 +109,14 @@ fn streams_of_table(alloc: Global, table: &Table) -> Result<Vec<Stream>, FlowsFa
 /// The streams of a sketch's text, in its order. Keys that mean nothing here are passed over.
 ///
 /// `streams` is an array of tables. Of each these keys are read, in this order (profile): `name`, a text; `octets`, an integer from
-/// 0 to 4,294,967,295, owed where no key of traffic stands; `path`, an array of texts, or `paths`, an array of such arrays; without
-/// these `from`, a name, and `to`, a name or an array of 1 to 64 names, all different; `deadline`, an integer from 1 to
+/// 0 to 4,294,967,295, owed where no key of traffic stands; `every` and `phase`, such integers, 1 and 0 where nothing stands there;
+/// `in-step`, a boolean; `path`, an array of texts, or `paths`, an array of such arrays; without these `from`, a name, and `to`, a name or an array of 1 to 64 names, all different; `deadline`, an integer from 1 to
 /// 4,294,967,295; and the keys of traffic ([`cqf_traffic::traffic_of`]).
 ///
 /// # Errors
 /// `NotToml` where the text isn't TOML; `Missing` of the first key that is owed and absent, stream by stream; `BadValue` of the first
-/// key with another value, stream by stream, and that is `paths` beside a good `path`, and `from` or `to` beside good branches;
+/// key with another value, stream by stream, and that is `every` or `phase` beside an `in-step` that is true, `paths` beside a good
+/// `path`, and `from` or `to` beside good branches;
 /// `Memory` where a growth is refused.
 pub fn read_sketch_streams(alloc: Global, text: &[u8]) -> Result<Vec<Stream>, FlowsFault>
     ensures { Gives (FlowsFault.Streams StreamsFault.Memory) (λ streams. map stream_text streams.items) result (sketch_streams_of_text text.now) }

@@ -19,6 +19,8 @@ pub enum FlowsFault {
     Missing(TrafficKey),
     /// The first key of a stream's traffic whose value has another form than it must have.
     BadValue(TrafficKey),
+    /// What stands at `in-step` of a sketch's stream is no boolean.
+    BadInStep,
 }
 
 impl fmt::Display for FlowsFault {
@@ -29,6 +31,7 @@ impl fmt::Display for FlowsFault {
             FlowsFault::Streams(fault) => write!(f, "{fault}"),
             FlowsFault::Missing(key) => write!(f, "Missing {key}"),
             FlowsFault::BadValue(key) => write!(f, "BadValue {key}"),
+            FlowsFault::BadInStep => f.write_str("BadValue in-step"),
         }
     }
 }

@@ -1,5 +1,5 @@
 //! A talker's promise, as its stream's table has it.
-ghost use Rattle.std.specs.Prelude.{◌≡◌, option_map};
+ghost use Rattle.std.specs.Prelude.{◌≡◌, ◌≤◌, option_map};
 ghost use Rattle.toml.specs.View.{table_view, view};
 ghost use Rattle.cqf_laws_traffic.specs.Traffic.{intervals_in, needed};
 ghost use Rattle.cqf_topology_fields.specs.Fields.{number_from};
@@ -76,6 +76,17 @@ impl Traffic {
         ensures range { IsTrafficText self }
     {
         Nanos(u64::from(self.offset))
+    }
+
+    /// The same promise of offers that begin at another instant, up to 1,000,000,000 ns.
+    pub fn from_instant(self, offset: Nanos) -> Traffic
+        requires { offset.0 ≤ most_of TrafficKey.Offset }
+        ensures { result ≡ record { interval = self.interval; frames = self.frames; size = self.size; jitter = self.jitter; offset = offset.0 } }
+    {
+        Traffic {
+            offset: offset.0 as u32,
+            ..self
+        }
     }
 
     /// Into how many intervals a cycle can reach, by the cycle time (profile).

@@ -1,6 +1,6 @@
 -- What streams offer keeps their talkers' word.
 use Rattle.std.proofs.Common.{◌≡◌, ◌∙◌, ℕ, zero, suc, ◌+◌, ◌-◌, ◌*◌, ◌/◌, ◌%◌, ◌^◌, ◌==◌, ◌&&◌, ◌<◌, ◌≤◌, ◌++◌, ◌∷◌, [], Bool, true, false, List, Option, Some, None}
-use Rattle.std.proofs.Common.{◌⊎◌, Contains, ap, append-nil, arith, bit_xor, eqb-true, filter, get_or, inl, inr, length, ltb-true, max, mul-le-mul_right, nat_lt, refl, slice_get, subst, sym}
+use Rattle.std.proofs.Common.{◌⊎◌, Contains, ap, append-nil, arith, bit_xor, div-add-mod', eqb-true, filter, get_or, inl, inr, length, ltb-true, max, mul-le-mul_right, nat_lt, refl, slice_get, subst, sym}
 use Rattle.std.specs.List.Sorted.{IsNonDecreasingBy}
 use Rattle.std.proofs.lemmas.Bool.{cases_Bool, cases_lt, cond-false, cond-true}
 use Rattle.std.proofs.lemmas.List.{length-append}
@@ -9,7 +9,7 @@ use Rattle.std.proofs.lemmas.List.Kept.{IsNonDecreasingBy-filter}
 use Rattle.std.proofs.lemmas.Nat.{or_lt}
 use Rattle.std.proofs.lemmas.Option.{slice_get-get_or, slice_get_within}
 use Rattle.std.proofs.Math.Bool.{and_comm}
-use Rattle.std.proofs.Math.Nat.{add-mul, div-le_self, le-max_left, le-max_right, max-le, mod-lt, suc-mul, zero-mul}
+use Rattle.std.proofs.Math.Nat.{add-mul, add-mul-mod_self_right, div-le_self, le-max_left, le-max_right, max-le, mod-lt, suc-mul, zero-mul}
 use Rattle.rand_pcg.specs.Lcg.{Lcg}
 use Rattle.rand_pcg.specs.Pcg.{pcg32}
 use Rattle.cqf_lists.specs.Lists.{each_below}
@@ -26,7 +26,7 @@ use Rattle.cqf_model.proofs.Texts.{is_text_itself, is_text_same}
 use Rattle.cqf_laws_traffic.specs.Traffic.{BlocksConform, Conforms, ConformsByBlocks, IsTraffic, SkippingConforms, offers_named}
 use Rattle.cqf_traffic.specs.TrafficText.{IsTrafficText, TrafficText, promise_of}
 use Rattle.cqf_traffic_offers.specs.declared.senders.Sender.{Sender}
-use Rattle.cqf_traffic_offers.specs.Conforming.{AreNamedApart, OffersConform}
+use Rattle.cqf_traffic_offers.specs.Conforming.{AreNamedApart, OffersComeInTurns, OffersConform}
 use Rattle.cqf_traffic_offers.specs.Offering.{block_before, block_of, blocks_before, frame_of, in_order, late_by, offers_before, on_grid, reached, sent_by}
 use Rattle.cqf_traffic_offers.specs.Offering.{sent_from, sent_with, words_behind, words_of}
 
@@ -283,3 +283,46 @@ offers_conform blocks skips until seed senders sender t apart among is ranges =
     let all : offers_named sender.name (offers_before until seed senders) ≡ sent_with until sender words (Some t) =
     named_in_order until sender.name (sent_from until seed 0 senders) ∙ ap (in_order until) (own.1 ∙ with) ∙ sent_in_order until sender t words ranges in
     subst (λ (xs : List Offer). Conforms (promise_of t) xs) (sym all) (sent_conforms until sender t words ranges blocks skips)
+
+-- ---- the cycles in which frames come
+
+-- where intervals are some times so many cycles long, and no frame is too late for its cycle, each comes in one of so many
+in_turn : (t : TrafficText) (cycle_time every block at : ℕ) → 0 < cycle_time → t.interval % (every * cycle_time) ≡ 0 →
+    t.offset % cycle_time + t.jitter < cycle_time → on_grid t block ≤ at → at ≤ on_grid t block + t.jitter →
+    at / cycle_time % every ≡ t.offset / cycle_time % every
+in_turn t cycle_time every block at some whole within from upto =
+    let first : ℕ = t.offset / cycle_time in
+    let times : ℕ = t.interval / (every * cycle_time) in
+    let begins : t.offset ≡ first * cycle_time + t.offset % cycle_time = sym (div-add-mod' t.offset cycle_time) in
+    let long : t.interval ≡ times * (every * cycle_time) = omega (arith, div-add-mod' t.interval (every * cycle_time), whole) in
+    let behind : block * t.interval ≡ block * times * every * cycle_time = omega (arith, ap (λ n. block * n) long) in
+    let grid : t.offset + block * t.interval ≡ (first + block * times * every) * cycle_time + t.offset % cycle_time = omega (arith, begins, behind) in
+    ap (λ cycle. cycle % every)
+    (cycle_is cycle_time (first + block * times * every) at (omega (arith, grid, from)) (omega (arith, grid, upto, within)))
+    ∙ add-mul-mod_self_right first (block * times) every
+
+-- so does each of a stream
+sent_in_turns : (until : ℕ) (sender : Sender) (words : Option Lcg) (t : TrafficText) (cycle_time every : ℕ) → 0 < cycle_time →
+    t.interval % (every * cycle_time) ≡ 0 → t.offset % cycle_time + t.jitter < cycle_time → (x : Offer) →
+    Contains (sent_with until sender words (Some t)) x → x.at.0 / cycle_time % every ≡ t.offset / cycle_time % every
+sent_in_turns until sender words t cycle_time every some whole within x c =
+    let at : ℕ → ℕ = λ block. reached t words (suc block) in
+    let block = contains_from_below (λ block. block_before until sender t (at block)) (blocks_before until t) x c in
+    let here = contains_if (nat_lt (at block.0) until) (block_of sender t (at block.0)) x block.2 in
+    let comes : at block.0 ≡ x.at.0 = ap (λ (y : Offer). y.at.0) (copied_once (frame_of sender t (at block.0)) x t.frames here) in
+    subst (λ n. n / cycle_time % every ≡ t.offset / cycle_time % every) comes
+    (in_turn t cycle_time every block.0 (at block.0) some whole within (on_late t words block.0) (reached_most t words block.0))
+
+-- and each of those that are offered of one by one
+pub offers_come_in_turns : OffersComeInTurns
+offers_come_in_turns until seed senders sender t cycle_time every apart among is some more whole within x c =
+    let place = place_of_member senders sender among in
+    let own = only_its_own until seed sender 0 senders place.0 apart place.1 in
+    let words = words_of seed own.0 in
+    let sent : List Offer = sent_with until sender words (Some t) in
+    let with : sent_by until seed own.0 sender ≡ sent = ap (λ traffic. sent_with until sender words traffic) is in
+    let all : offers_named sender.name (offers_before until seed senders) ≡ in_order until sent =
+    named_in_order until sender.name (sent_from until seed 0 senders) ∙ ap (in_order until) (own.1 ∙ with) in
+    let at = contains_from_below (λ at. filter (λ (y : Offer). y.at.0 == at) sent) until x (subst (λ (xs : List Offer). Contains xs x) all c) in
+    let there = (contains_from_filter (λ (y : Offer). y.at.0 == at.0) sent x at.2).0 in
+    sent_in_turns until sender words t cycle_time every some whole within x there

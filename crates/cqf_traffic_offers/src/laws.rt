@@ -1,5 +1,5 @@
 //! Laws about what streams offer.
-ghost use Rattle.cqf_traffic_offers.specs.Conforming.{OffersConform};
+ghost use Rattle.cqf_traffic_offers.specs.Conforming.{OffersComeInTurns, OffersConform};
 
 use cqf_laws_traffic::conforming_offers_fit_a_cycle;
 
@@ -9,3 +9,9 @@ pub fn offers_conform()
 {
     conforming_offers_fit_a_cycle();
 }
+
+/// What is offered of a stream comes in one of so many cycles alone, for every seed and without one, where its intervals are some times so
+/// many cycles long, and no frame is so late that it comes in a later cycle than it stands in on the grid (profile).
+pub fn offers_come_in_turns()
+    ensures { OffersComeInTurns }
+{}

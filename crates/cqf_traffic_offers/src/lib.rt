@@ -18,6 +18,6 @@ mod senders;
 mod talkers;
 
 pub use grid::are_few;
-pub use laws::offers_conform;
+pub use laws::{offers_come_in_turns, offers_conform};
 pub use making::offers_before;
 pub use senders::{Sender, Until};

@@ -10,7 +10,7 @@ pub branches_between-requires-clause-left : goal.branches_between-requires-claus
 branches_between-requires-clause-left c =
     let d = c.args.domain.now in
     let entries = c.args.admission.now.entries in
-    ap length (c.as_slice-in-Between.ensures.value ∙ c.in_ok-left-in-Between.ensures) ∙ lefts_many d (held_in d entries (seals entries))
+    ap length (c.as_slice-in-Between.ensures.value ∙ c.in_ok-left-in-Between.ensures) ∙ lefts_many d (held_in d entries (seals entries)) c.args.every
 
 pub branches_between-requires-clause-reached : goal.branches_between-requires-clause-reached
 branches_between-requires-clause-reached c =

@@ -14,7 +14,7 @@ returns-in-Planned c =
     let k = c.loop-cycle_time.cycle_time-index in
     let low = c.loop-cycle_time-test.true in
     good_is_planned c.args.sketch.now those cycles k (get_or cycles k 0) low (get_or_default cycles k 0 (get_or cycles k 0) low)
-    c.loop-cycle_time.best c.in-Planned.tried (sym c.candidates-cycle_time-items.ensures.value) c.loop-cycle_time.invariant
+    c.loop-cycle_time.best c.in-Planned.tried c.requires.placeable (sym c.candidates-cycle_time-items.ensures.value) c.loop-cycle_time.invariant
     (subst (ComesOf c.args.sketch.now those (get_or cycles k 0)) c.in-Planned.is c.in_ok-tried.ensures)
 
 -- one that isn't is kept where it is the best

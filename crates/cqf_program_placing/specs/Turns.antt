@@ -1,0 +1,141 @@
+-- In which cycles a stream is offered on a cycle time, and how full links are in these (profile).
+use Rattle.std.specs.Prelude.{ℕ, ◌≡◌, ◌+◌, ◌-◌, ◌*◌, ◌/◌, ◌%◌, ◌<◌, ◌≤◌, ◌==◌, ◌&&◌, ◌⊎◌, ⊤, Bool, true, false, Contains, List, [], ◌∷◌, Option, Some, None, fold}
+use Rattle.std.specs.Prelude.{if◌then◌else◌, length, max, nat_lt}
+use Rattle.cqf_lists.specs.Lists.{each_below}
+use Rattle.cqf_model.specs.declared.history.Refused.{Refused}
+use Rattle.cqf_model.specs.declared.topology.Hop.{Hop}
+use Rattle.cqf_model.specs.declared.topology.Pace.{Pace}
+use Rattle.cqf_model.specs.declared.topology.Row.{Row}
+use Rattle.cqf_model.specs.Domain.{Domain, budget}
+use Rattle.cqf_model.specs.History.{Branch, is_pace, tree_of}
+use Rattle.cqf_model.specs.Limits.{most_every}
+use Rattle.cqf_traffic.specs.TrafficText.{TrafficText}
+use Rattle.cqf_sketch_streams.specs.declared.pacing.Pacing.{Pacing}
+use Rattle.cqf_sketch_streams.specs.declared.pacing.Pacing.TheVariants as pacing
+use Rattle.cqf_admission.specs.Costs.{left_in_turns}
+use Rattle.cqf_admission_trees.specs.Branches.{tree_refusal}
+use Rattle.cqf_program_placing.specs.declared.phases.Share.{Share}
+use Rattle.cqf_program_placing.specs.declared.turns.Turns.{Turns}
+use Rattle.cqf_program_placing.specs.declared.turns.Turns.TheVariants.{Given, Chosen}
+
+-- all frames of an interval come within one cycle: intervals are whole cycles, and as far behind a cycle's beginning as the first frame may
+-- come, and the jitter later, it is that cycle still
+abbrev pub keeps_step : ℕ → TrafficText → Bool
+keeps_step cycle_time t = (t.interval % cycle_time == 0) && nat_lt (t.offset % cycle_time + t.jitter) cycle_time
+
+-- so the cycles of a talker that is in step are chosen where this is so, and else its stream is offered in each
+abbrev pub is_in_step : ℕ → Pacing → TrafficText → Bool
+is_in_step cycle_time (pacing.Given every phase) t = false
+is_in_step cycle_time pacing.InStep t = keeps_step cycle_time t
+
+-- the greatest common divisor of a number of cycles and those after which all paces repeat
+abbrev pub every_of : ℕ → ℕ
+every_of cycles =
+    fold max 0 (each_below (λ k. if (most_every % (k + 1) == 0) && (cycles % (k + 1) == 0) then (k + 1) ∷ [] else []) most_every)
+
+-- in which cycles a stream is offered: in one of so many, of which the first is given or to be chosen
+abbrev pub turns_in_step : ℕ → Option TrafficText → Turns
+turns_in_step cycle_time None = Given 1 0
+turns_in_step cycle_time (Some t) = if keeps_step cycle_time t then Chosen (every_of (t.interval / cycle_time)) else Given 1 0
+
+abbrev pub turns_by : ℕ → Pacing → Option TrafficText → Turns
+turns_by cycle_time (pacing.Given every phase) traffic = Given every phase
+turns_by cycle_time pacing.InStep traffic = turns_in_step cycle_time traffic
+
+-- of how many cycles it is one
+abbrev pub every_in : Turns → ℕ
+every_in (Given every phase) = every
+every_in (Chosen every) = every
+
+-- which cycle may be the first
+abbrev pub MayBeFirst : Turns → ℕ → Type 0
+MayBeFirst (Given every phase) first = first ≡ phase
+MayBeFirst (Chosen every) first = first < every
+
+-- the pace of one of so many cycles, of which this is the first
+abbrev pub pace_by : ℕ → ℕ → Pace
+pace_by every phase = record { pause = every - 1; phase = phase }
+
+-- ---- what links have left
+
+-- a link as a hop of no depth: a hop that is deeper has the same cycles, turned round
+abbrev pub hop_at : ℕ → Hop
+hop_at l = record { link = l; depth = 0; from = None }
+
+-- what a link has left beside some rows in the emptiest of so many cycles: the most that it has in the cycles of a phase
+abbrev pub left_emptiest : Domain → List Row → ℕ → ℕ → ℕ
+left_emptiest d rows every l = fold max 0 (each_below (λ phase. left_in_turns d rows (pace_by every phase) (hop_at l) ∷ []) every)
+
+-- by number
+abbrev pub lefts_on : Domain → List Row → ℕ → List ℕ
+lefts_on d rows every = each_below (λ l. left_emptiest d rows every l ∷ []) (length d.links)
+
+-- ---- how full they are
+
+-- what is held of a hop's link in the cycles of a pace, with what a stream costs, of the link's budget
+abbrev pub share_at : Domain → List Row → ℕ → Pace → Hop → Share
+share_at d rows cost pace hop = record { held = budget d hop.link - left_in_turns d rows pace hop + cost; budget = budget d hop.link }
+
+-- one share is no greater than another, or less
+abbrev pub IsNoFuller : Share → Share → Type 0
+IsNoFuller share other = share.held * other.budget ≤ other.held * share.budget
+
+abbrev pub IsLessFull : Share → Share → Type 0
+IsLessFull share other = share.held * other.budget < other.held * share.budget
+
+-- of the hops of a tree, each one's link is no fuller in some phase than some one's in another: so the fullest isn't
+abbrev pub IsNoWorse : (ℕ → Hop → Share) → List Hop → ℕ → ℕ → Type 0
+IsNoWorse shares tree phase other =
+    (hop : Hop) → Contains tree hop → (there : Hop) × Contains tree there × IsNoFuller (shares phase hop) (shares other there)
+
+-- and each is less full than some one: so the fullest is
+abbrev pub IsBetter : (ℕ → Hop → Share) → List Hop → ℕ → ℕ → Type 0
+IsBetter shares tree phase other =
+    (there : Hop) × Contains tree there × ((hop : Hop) → Contains tree hop → IsLessFull (shares phase hop) (shares other there))
+
+-- a phase of so many is the first in which the fullest link is least full
+pub record IsLeastFull (shares : ℕ → Hop → Share) (tree : List Hop) (every phase : ℕ) : Type 0 where
+  pub within : phase < every
+  pub least : (other : ℕ) → other < every → IsNoWorse shares tree phase other
+  pub first : (other : ℕ) → other < phase → IsBetter shares tree phase other
+
+-- with a stream beside some rows
+abbrev pub shares_with : Domain → List Row → ℕ → ℕ → ℕ → Hop → Share
+shares_with d rows cost every phase hop = share_at d rows cost (pace_by every phase) hop
+
+-- the phase of a stream along the branches of a tree: the one that is given, or the first in which the fullest link of the tree is least full
+abbrev pub IsPhaseOnTree : Domain → List Row → ℕ → List Branch → Turns → ℕ → Type 0
+IsPhaseOnTree d rows cost paths (Given every phase) first = first ≡ phase
+IsPhaseOnTree d rows cost paths (Chosen every) first = IsLeastFull (shares_with d rows cost every) (tree_of d paths) every first
+
+-- along any branches: for those that make no tree, and so are refused, nothing is chosen
+abbrev pub IsChosenBy : Domain → List Row → ℕ → List Branch → ℕ → Option Refused → ℕ → Type 0
+IsChosenBy d rows cost paths every None first = IsLeastFull (shares_with d rows cost every) (tree_of d paths) every first
+IsChosenBy d rows cost paths every (Some refusal) first = first ≡ 0
+
+abbrev pub IsPhaseAlong : Domain → List Row → ℕ → List Branch → Turns → ℕ → Type 0
+IsPhaseAlong d rows cost paths (Given every phase) first = first ≡ phase
+IsPhaseAlong d rows cost paths (Chosen every) first = IsChosenBy d rows cost paths every (tree_refusal d paths) first
+
+-- ---- what inner functions ask for
+
+-- a stream may be offered in one of so many cycles
+pub record IsGoodEvery (every : ℕ) : Type 0 where
+  pub some : 1 ≤ every
+  pub few : every ≤ most_every
+  pub divides : most_every % every ≡ 0
+
+abbrev pub AreGoodTurns : Turns → Type 0
+AreGoodTurns (Given every phase) = is_pace every phase ≡ true
+AreGoodTurns (Chosen every) = IsGoodEvery every
+
+-- what a stream costs whose first cycle is to be chosen
+abbrev pub CostsSome : Turns → ℕ → Type 0
+CostsSome (Given every phase) cost = ⊤
+CostsSome (Chosen every) cost = 1 ≤ cost
+
+-- the greatest share of the hops of a tree; of no hop nothing is held
+pub record IsFullest (shares : Hop → Share) (tree : List Hop) (fullest : Share) : Type 0 where
+  pub each : (hop : Hop) → Contains tree hop → IsNoFuller (shares hop) fullest
+  pub some : 0 < fullest.held + fullest.budget
+  pub of_hop : (fullest.held ≡ 0) ⊎ ((there : Hop) × Contains tree there × (fullest ≡ shares there))

@@ -1,0 +1,136 @@
+//! In which phase a stream makes the fullest of its links least full.
+ghost use Rattle.std.specs.Prelude.{◌≡◌, ◌*◌, ◌<◌, ◌≤◌, All, IfOk, length, nat_lt};
+ghost use Rattle.cqf_admission_trees.specs.Branches.{branches_of};
+ghost use Rattle.cqf_admission_trees.specs.Turns.{IsGoodPace};
+ghost use Rattle.cqf_model.specs.declared.topology.Hop.{Hop as AHop};
+ghost use Rattle.cqf_model.specs.History.{held_in, seals};
+ghost use Rattle.cqf_program_placing.specs.Turns.{AreGoodTurns, CostsSome, IsFullest, IsGoodEvery, IsLeastFull, IsPhaseAlong, share_at, shares_with};
+
+use crate::rooms::pace_by;
+use crate::turns::Turns;
+use cqf_admission::Admission;
+use cqf_admission_trees::{count_places, find_tree};
+use cqf_model::{Hop, Pace};
+use cqf_topology::Domain;
+use cqf_units::{Memory, budget};
+use std::alloc::AllocError;
+
+/// How much of a link's budget is held, in octets a cycle.
+#[derive(Clone, Copy, Debug)]
+pub(crate) struct Share {
+    held: u64,
+    budget: u32,
+}
+
+/// Whether a share is less than another.
+fn is_less_full(share: Share, other: Share) -> bool
+    ensures { result ≡ nat_lt (share.held * other.budget) (other.held * share.budget) }
+{
+    let ours = u128::from(share.held) * u128::from(other.budget);
+    let theirs = u128::from(other.held) * u128::from(share.budget);
+    ours < theirs
+}
+
+/// The share of a hop's link that is held in the cycles of a pace, with what a stream costs.
+fn share_at(domain: &Domain, admission: &Admission, cost: u32, pace: Pace, hop: &Hop) -> Share
+    requires domain { admission.now.domain ≡ domain.now }
+    requires inside { hop.now.link < length domain.now.links }
+    requires good { IsGoodPace pace }
+    ensures { result ≡ share_at domain.now (held_in domain.now admission.now.entries (seals admission.now.entries)) cost pace hop.now }
+{
+    let rate = domain.link(hop.link).rate;
+    let most = budget(domain.cycle_time(), domain.guard(), rate).0;
+    let left = admission.left_at(hop, pace).0;
+    Share {
+        held: u64::from(most - left) + u64::from(cost),
+        budget: most,
+    }
+}
+
+/// The share of the fullest link of a tree's hops.
+fn fullest(domain: &Domain, admission: &Admission, cost: u32, pace: Pace, tree: &[Hop]) -> Share
+    requires domain { admission.now.domain ≡ domain.now }
+    requires inside { All (λ (hop : AHop). hop.link < length domain.now.links) tree.now }
+    requires good { IsGoodPace pace }
+    requires some { 1 ≤ cost }
+    ensures { let d = domain.now in let entries = admission.now.entries in
+        IsFullest (share_at d (held_in d entries (seals entries)) cost pace) tree.now result }
+{
+    let mut most = Share { held: 0, budget: 1 };
+    for hop in tree {
+        let share = share_at(domain, admission, cost, pace, hop);
+        if is_less_full(most, share) {
+            most = share;
+        }
+    }
+    most
+}
+
+/// The first phase of so many in which the fullest link of a tree's hops is least full.
+fn least_full(domain: &Domain, admission: &Admission, cost: u32, every: u8, tree: &[Hop]) -> u8
+    requires domain { admission.now.domain ≡ domain.now }
+    requires inside { All (λ (hop : AHop). hop.link < length domain.now.links) tree.now }
+    requires good { IsGoodEvery every }
+    requires some { 1 ≤ cost }
+    ensures { let d = domain.now in let entries = admission.now.entries in
+        IsLeastFull (shares_with d (held_in d entries (seals entries)) cost every) tree.now every result }
+{
+    let mut first = 0;
+    let mut least = fullest(domain, admission, cost, pace_by(every, 0), tree);
+    for phase in 1..every {
+        let share = fullest(domain, admission, cost, pace_by(every, phase), tree);
+        if is_less_full(share, least) {
+            first = phase;
+            least = share;
+        }
+    }
+    first
+}
+
+/// The first phase of so many in which the fullest link of the tree of some branches is least full; of no tree it is 0.
+fn chosen_along(
+    domain: &Domain,
+    admission: &Admission,
+    cost: u32,
+    every: u8,
+    paths: &[Vec<String>],
+) -> Result<u8, Memory>
+    requires domain { admission.now.domain ≡ domain.now }
+    requires good { IsGoodEvery every }
+    requires some { 1 ≤ cost }
+    ensures { let d = domain.now in let entries = admission.now.entries in IfOk result
+        (IsPhaseAlong d (held_in d entries (seals entries)) cost (branches_of paths.now) (Turns.Chosen every)) }
+{
+    // as admission tells it
+    if count_places(paths).is_none() {
+        return Err(AllocError);
+    }
+    match find_tree(domain, paths) {
+        Ok(tree) => Ok(least_full(domain, admission, cost, every, tree.as_slice())),
+        Err(_) => Ok(0),
+    }
+}
+
+/// The phase of a stream along some branches: the one that is given, or else the first in which the fullest link of their tree is least full
+/// (profile).
+///
+/// # Errors
+/// Where a growth is refused.
+pub(crate) fn phase_along(
+    domain: &Domain,
+    admission: &Admission,
+    cost: u32,
+    turns: Turns,
+    paths: &[Vec<String>],
+) -> Result<u8, Memory>
+    requires domain { admission.now.domain ≡ domain.now }
+    requires good { AreGoodTurns turns }
+    requires some { CostsSome turns cost }
+    ensures { let d = domain.now in let entries = admission.now.entries in
+        IfOk result (IsPhaseAlong d (held_in d entries (seals entries)) cost (branches_of paths.now) turns) }
+{
+    match turns {
+        Turns::Given { phase, .. } => Ok(phase),
+        Turns::Chosen { every } => chosen_along(domain, admission, cost, every, paths),
+    }
+}

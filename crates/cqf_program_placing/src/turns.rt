@@ -1,0 +1,105 @@
+//! In which cycles a stream is offered on a cycle time.
+ghost use Rattle.std.specs.Prelude.{◌≡◌, ◌<◌, IsTrue};
+ghost use Rattle.cqf_program_placing.specs.Placing.{is_chosen_on, turns_on};
+ghost use Rattle.cqf_program_placing.specs.Settled.{is_paced, settled_value};
+ghost use Rattle.cqf_program_placing.specs.Turns.{AreGoodTurns, IsGoodEvery, every_in, every_of, keeps_step, turns_in_step};
+
+use crate::Settled;
+use cqf_model::MOST_EVERY;
+use cqf_sketch_streams::Pacing;
+use cqf_traffic::Traffic;
+use cqf_units::Nanos;
+
+/// In which cycles a stream is offered on a cycle time.
+#[derive(Clone, Copy, Debug)]
+pub(crate) enum Turns {
+    /// In one of so many, of which this is the first.
+    Given { every: u8, phase: u8 },
+    /// In one of so many, of which the first is to be chosen.
+    Chosen { every: u8 },
+}
+
+impl Turns {
+    /// Of how many cycles it is one.
+    pub(crate) fn every(self) -> u8
+        ensures { result ≡ every_in self }
+    {
+        match self {
+            Turns::Given { every, .. } | Turns::Chosen { every } => every,
+        }
+    }
+}
+
+/// Whether all frames of an interval come within one cycle.
+fn keeps_step(traffic: Traffic, cycle_time: Nanos) -> bool
+    requires { 0 < cycle_time.0 }
+    ensures { result ≡ keeps_step cycle_time.0 traffic }
+{
+    let is_whole = traffic.interval().0 % cycle_time.0 == 0;
+    let latest = traffic.offset().0 % cycle_time.0 + traffic.jitter().0;
+    is_whole && latest < cycle_time.0
+}
+
+/// The greatest common divisor of a number of cycles and 80.
+fn every_of(cycles: u64) -> u8
+    ensures value { result ≡ every_of cycles }
+    ensures good { IsGoodEvery result }
+{
+    let mut every = 0;
+    for place in 0..MOST_EVERY as u8 {
+        let other = place + 1;
+        if MOST_EVERY % u32::from(other) == 0 && cycles % u64::from(other) == 0 {
+            every = other;
+        }
+    }
+    every
+}
+
+/// In which cycles a stream is offered whose talker is in step.
+fn turns_in_step(traffic: Option<Traffic>, cycle_time: Nanos) -> Turns
+    requires { 0 < cycle_time.0 }
+    ensures value { result ≡ turns_in_step cycle_time.0 traffic }
+    ensures good { AreGoodTurns result }
+{
+    let Some(traffic) = traffic else {
+        return Turns::Given { every: 1, phase: 0 };
+    };
+    if !keeps_step(traffic, cycle_time) {
+        return Turns::Given { every: 1, phase: 0 };
+    }
+    Turns::Chosen {
+        every: every_of(traffic.interval().0 / cycle_time.0),
+    }
+}
+
+/// In which cycles a stream is offered on a cycle time: in those that are given; or, where its talker is in step and all its frames of an
+/// interval come within one cycle, in one of as many as an interval has in common with 80, of which the first is to be chosen; else in each
+/// (profile).
+pub(crate) fn turns_on(stream: &Settled, cycle_time: Nanos) -> Turns
+    requires some { 0 < cycle_time.0 }
+    requires paced { IsTrue (is_paced stream.now.pacing) }
+    ensures value { result ≡ turns_on cycle_time.0 (settled_value stream.now) }
+    ensures good { AreGoodTurns result }
+{
+    match stream.pacing {
+        Pacing::Given { every, phase } => Turns::Given {
+            every: every as u8,
+            phase: phase as u8,
+        },
+        Pacing::InStep => turns_in_step(stream.traffic, cycle_time),
+    }
+}
+
+impl Settled {
+    /// Whether it is chosen in which cycles the stream is offered on a cycle time: its talker is in step, and all its frames of an
+    /// interval come within one cycle (profile).
+    pub fn is_chosen_on(&self, cycle_time: Nanos) -> bool
+        requires { 0 < cycle_time.0 }
+        ensures { result ≡ is_chosen_on cycle_time.0 (settled_value self.now) }
+    {
+        match (self.pacing, self.traffic) {
+            (Pacing::InStep, Some(traffic)) => keeps_step(traffic, cycle_time),
+            _ => false,
+        }
+    }
+}

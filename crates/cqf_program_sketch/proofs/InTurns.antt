@@ -1,0 +1,167 @@
+-- What is offered of a plan's stream whose phase was chosen comes in the cycles in which the stream reserves.
+use Rattle.std.proofs.Common.{◌≡◌, ◌≢◌, ◌∙◌, ◌<◌, ◌≤◌, ◌+◌, ◌-◌, ◌*◌, ◌/◌, ◌%◌, ◌==◌, ◌&&◌, ℕ, zero, suc, Bool, true, false, List, [], ◌∷◌, Option, Some, None, AllPairs, Contains, ap, arith, div-add-mod', eq-eqb, eqb-true, fold, if◌then◌else◌, inl, inr, ltb-true, map, max, refl, slice_get, subst, sym}
+use Rattle.std.specs.Prelude.{nat_lt, option_map}
+use Rattle.std.specs.Option.{option_map_or}
+use Rattle.std.proofs.Math.Nat.{add-mul-mod_self_right, mod-lt, mod-mod, mul-mod_left}
+use Rattle.std.proofs.lemmas.Bool.{and_parts, cases_lt}
+use Rattle.std.proofs.lemmas.List.Sums.{fold-append}
+use Rattle.std.proofs.lemmas.Option.{get_or_from_slice_get, slice_get_within}
+use Rattle.cqf_lists.specs.Lists.{each_below}
+use Rattle.cqf_lists.proofs.Members.{contains_at, contains_map}
+use Rattle.cqf_lists.proofs.Pairs.{pairs_from_map, pairs_map}
+use Rattle.cqf_units.proofs.Cycles.{cycle_is}
+use Rattle.cqf_laws_history.specs.StateLaws.{SealsAreCounted}
+use Rattle.cqf_laws_latency.specs.Streams.{AdmittedHaveNames}
+use Rattle.cqf_laws_traffic.specs.Traffic.{offers_named}
+use Rattle.cqf_model.specs.declared.frames.Offer.{Offer}
+use Rattle.cqf_model.specs.Domain.{Domain, cycle_of}
+use Rattle.cqf_model.specs.History.{Asked, pace_of}
+use Rattle.cqf_model.specs.Limits.{most_every}
+use Rattle.cqf_model.specs.Paces.{is_turn}
+use Rattle.cqf_traffic.specs.FlowsText.{FlowText}
+use Rattle.cqf_traffic.specs.TrafficText.{TrafficText}
+use Rattle.cqf_traffic_offers.specs.declared.senders.Sender.{Sender}
+use Rattle.cqf_traffic_offers.specs.Conforming.{AreNamedApart, OffersComeInTurns}
+use Rattle.cqf_traffic_offers.specs.Offering.{offers_before}
+use Rattle.cqf_sketch_streams.specs.declared.pacing.Pacing.{Pacing}
+use Rattle.cqf_sketch_streams.specs.declared.pacing.Pacing.TheVariants as pacing
+use Rattle.cqf_program_offers.specs.OffersOutput.{asked_in, sender_of}
+use Rattle.cqf_program_placing.specs.Turns.{MayBeFirst, every_in, every_of, is_in_step, keeps_step, turns_by}
+use Rattle.cqf_program_placing.proofs.Stepping.{divisor_at}
+use Rattle.cqf_program_sketch.specs.PlanLaws.{ChosenStreamsComeInTurns}
+use Rattle.cqf_program_sketch.proofs.SoundPlans.{plan_granted, told_plan_is_admitted}
+
+-- ---- the greatest common divisor
+
+-- the greater of one that divides and the next that does divides too
+more_divides : (cycles k greatest : ℕ) → (1 ≤ greatest → cycles % greatest ≡ 0) → 1 ≤ fold max greatest (divisor_at cycles k) →
+    cycles % fold max greatest (divisor_at cycles k) ≡ 0
+more_divides cycles k greatest so_far = by ((most_every % (k + 1) == 0) && (cycles % (k + 1) == 0)) refl
+  where
+    by : (b : Bool) → ((most_every % (k + 1) == 0) && (cycles % (k + 1) == 0)) ≡ b → 1 ≤ fold max greatest (if b then (k + 1) ∷ [] else []) →
+        cycles % fold max greatest (if b then (k + 1) ∷ [] else []) ≡ 0
+    by true passes some = elim (cases_lt greatest (k + 1)) [
+      | inl less ↦
+          let same : max greatest (k + 1) ≡ k + 1 = omega (arith, less) in
+          let two = (and_parts (most_every % (k + 1) == 0) (cycles % (k + 1) == 0) passes).1 in
+          subst (λ n. cycles % n ≡ 0) (sym same) (eqb-true (cycles % (k + 1)) 0 two)
+      | inr more ↦
+          let same : max greatest (k + 1) ≡ greatest = omega (arith, more) in
+          subst (λ n. cycles % n ≡ 0) (sym same) (so_far (omega (arith, more)))
+    ]
+    by false fails some = so_far some
+
+-- so the greatest of the first so many does, where there is one
+divides_so_far : (cycles count : ℕ) → 1 ≤ fold max 0 (each_below (divisor_at cycles) count) → cycles % fold max 0 (each_below (divisor_at cycles) count) ≡ 0
+divides_so_far cycles zero some = absurd (omega (arith, some))
+divides_so_far cycles (suc k) some =
+    let greatest : ℕ = fold max 0 (each_below (divisor_at cycles) k) in
+    let next : fold max 0 (each_below (divisor_at cycles) (suc k)) ≡ fold max greatest (divisor_at cycles k) =
+    fold-append max 0 (each_below (divisor_at cycles) k) (divisor_at cycles k) in
+    subst (λ n. cycles % n ≡ 0) (sym next) (more_divides cycles k greatest (divides_so_far cycles k) (subst (λ n. 1 ≤ n) next some))
+
+-- and of all of them
+every_divides : (cycles : ℕ) → 1 ≤ every_of cycles → cycles % every_of cycles ≡ 0
+every_divides cycles some = divides_so_far cycles most_every some
+
+-- ---- numbers
+
+-- what is some cycles long, and these some times so many
+times_many : (interval cycle_time every : ℕ) → interval % cycle_time ≡ 0 → interval / cycle_time % every ≡ 0 → interval % (every * cycle_time) ≡ 0
+times_many interval cycle_time every one two =
+    let times : ℕ = interval / cycle_time / every in
+    let cycles : interval ≡ interval / cycle_time * cycle_time = omega (arith, div-add-mod' interval cycle_time, one) in
+    let all : interval / cycle_time ≡ times * every = omega (arith, div-add-mod' (interval / cycle_time) every, two) in
+    let long : interval ≡ times * (every * cycle_time) = omega (arith, cycles, ap (λ n. n * cycle_time) all) in
+    ap (λ n. n % (every * cycle_time)) long ∙ mul-mod_left times (every * cycle_time)
+
+-- an instant so far behind the beginning of a cycle
+behind_beginning : (phase cycle_time offset : ℕ) → (phase * cycle_time + offset % cycle_time) % cycle_time ≡ offset % cycle_time
+behind_beginning phase cycle_time offset =
+    let turned : phase * cycle_time + offset % cycle_time ≡ offset % cycle_time + phase * cycle_time = omega arith in
+    ap (λ n. n % cycle_time) turned ∙ add-mul-mod_self_right (offset % cycle_time) phase cycle_time ∙ mod-mod offset cycle_time
+
+in_its_cycle : (phase cycle_time offset : ℕ) → 0 < cycle_time → (phase * cycle_time + offset % cycle_time) / cycle_time ≡ phase
+in_its_cycle phase cycle_time offset some =
+    cycle_is cycle_time phase (phase * cycle_time + offset % cycle_time) (omega arith) (omega (arith, mod-lt offset some))
+
+-- one of so many cycles, from the first on
+turn_of : (every phase cycle : ℕ) → phase < every → cycle % every ≡ phase % every → is_turn (record { pause = every - 1; phase = phase }) 0 cycle ≡ true
+turn_of every phase cycle early comes =
+    let same : every - 1 + 1 ≡ every = omega (arith, early) in
+    let first : phase + 0 ≡ phase = omega arith in
+    subst (λ n. ((phase + 0) % n == cycle % n) ≡ true) (sym same)
+    (eq-eqb ((phase + 0) % every) (cycle % every) (ap (λ n. n % every) first ∙ sym comes))
+
+-- ---- streams
+
+-- no two streams that are granted have one name
+named_apart : (d : Domain) (flows : List FlowText) → AllPairs (λ (a b : Asked). a.name ≢ b.name) (map asked_in flows) → AreNamedApart (map (sender_of d) flows)
+named_apart d flows pairs i k a b before first second same =
+    let senders : List Sender = map (sender_of d) flows in
+    let apart : AllPairs (λ (x y : Sender). x.name ≢ y.name) senders =
+    pairs_map (λ (x y : Sender). x.name ≢ y.name) (sender_of d) flows (pairs_from_map (λ (x y : Asked). x.name ≢ y.name) asked_in flows pairs) in
+    apart i k a before (slice_get_within senders k b second)
+    (ap (λ (s : Sender). s.name) (get_or_from_slice_get senders i a a first) ∙ same
+    ∙ ap (λ (s : Sender). s.name) (sym (get_or_from_slice_get senders k b a second)))
+
+-- what is known of a stream whose phase is chosen
+record IsChosen (cycle_time : ℕ) (traffic : Option TrafficText) (every phase : ℕ) : Type 0 where
+  t : TrafficText
+  has : traffic ≡ Some t
+  keeps : keeps_step cycle_time t ≡ true
+  is_every : every ≡ every_of (t.interval / cycle_time)
+  early : phase < every_of (t.interval / cycle_time)
+
+-- of two the first is taken
+holds_of_first : {A : Type 0} (P : A → Type 0) (b : Bool) (x y : A) → b ≡ true → P (if b then x else y) → P x
+holds_of_first P b x y is = subst (λ (c : Bool). P (if c then x else y)) is
+
+is_chosen : (cycle_time : ℕ) (given : Pacing) (traffic : Option TrafficText) (every phase : ℕ) →
+    option_map_or (is_in_step cycle_time given) traffic false ≡ true → every ≡ every_in (turns_by cycle_time given traffic) →
+    MayBeFirst (turns_by cycle_time given traffic) phase → IsChosen cycle_time traffic every phase
+is_chosen cycle_time given None every phase chosen is may = absurd (cc)
+is_chosen cycle_time (pacing.Given many first) (Some t) every phase chosen is may = absurd (cc)
+is_chosen cycle_time pacing.InStep (Some t) every phase chosen is may =
+    record {
+      t = t;
+      has = refl;
+      keeps = chosen;
+      is_every = holds_of_first (λ turns. every ≡ every_in turns) (keeps_step cycle_time t) _ _ chosen is;
+      early = holds_of_first (λ turns. MayBeFirst turns phase) (keeps_step cycle_time t) _ _ chosen may;
+    }
+
+-- what is offered of it comes in its cycles
+comes_in_turn : (d : Domain) (flows : List FlowText) (flow : FlowText) (place until : ℕ) (seed : Option ℕ) (x : Offer) (t : TrafficText) →
+    OffersComeInTurns → AreNamedApart (map (sender_of d) flows) → slice_get flows place ≡ Some flow →
+    flow.1 ≡ Some (record t { offset = flow.0.0.phase * d.cycle_time + t.offset % d.cycle_time }) → 0 < d.cycle_time →
+    keeps_step d.cycle_time t ≡ true → flow.0.0.every ≡ every_of (t.interval / d.cycle_time) → flow.0.0.phase < every_of (t.interval / d.cycle_time) →
+    Contains (offers_named flow.0.0.name (offers_before until seed (map (sender_of d) flows))) x →
+    is_turn (pace_of (asked_in flow)) 0 (cycle_of d x.at.0) ≡ true
+comes_in_turn d flows flow place until seed x t come apart there has some keeps is early among =
+    let every : ℕ = every_of (t.interval / d.cycle_time) in
+    let phase : ℕ = flow.0.0.phase in
+    let told : TrafficText = record t { offset = phase * d.cycle_time + t.offset % d.cycle_time } in
+    let parts = and_parts (t.interval % d.cycle_time == 0) (nat_lt (t.offset % d.cycle_time + t.jitter) d.cycle_time) keeps in
+    let whole : t.interval % (every * d.cycle_time) ≡ 0 =
+    times_many t.interval d.cycle_time every (eqb-true (t.interval % d.cycle_time) 0 parts.0) (every_divides (t.interval / d.cycle_time) (omega (arith, early))) in
+    let within : told.offset % d.cycle_time + told.jitter < d.cycle_time =
+    subst (λ n. n + t.jitter < d.cycle_time) (sym (behind_beginning phase d.cycle_time t.offset))
+    (ltb-true (t.offset % d.cycle_time + t.jitter) d.cycle_time parts.1) in
+    let comes : x.at.0 / d.cycle_time % every ≡ told.offset / d.cycle_time % every =
+    come until seed (map (sender_of d) flows) (sender_of d flow) told d.cycle_time every apart
+    (contains_map (sender_of d) flows flow (contains_at flows place flow there)) has some (omega (arith, early)) whole within x among in
+    subst (λ n. is_turn (record { pause = n - 1; phase = phase }) 0 (x.at.0 / d.cycle_time) ≡ true) (sym is)
+    (turn_of every phase (x.at.0 / d.cycle_time) early (comes ∙ ap (λ n. n % every) (in_its_cycle phase d.cycle_time t.offset some)))
+
+pub chosen_streams_come_in_turns : SealsAreCounted → AdmittedHaveNames → OffersComeInTurns → ChosenStreamsComeInTurns
+chosen_streams_come_in_turns counted names come sketch streams d flows place stream flow until seed x plan here there chosen among =
+    let taken = (told_plan_is_admitted counted sketch streams d flows plan).taken_over.each place stream flow here there in
+    let of = is_chosen d.cycle_time stream.pacing stream.traffic flow.0.0.every flow.0.0.phase chosen taken.every taken.phase in
+    let told : flow.1 ≡ Some (record of.t { offset = flow.0.0.phase * d.cycle_time + of.t.offset % d.cycle_time }) =
+    taken.chosen chosen
+    ∙ ap (option_map (λ (t : TrafficText). record t { offset = flow.0.0.phase * d.cycle_time + t.offset % d.cycle_time })) of.has in
+    let same : d.cycle_time ≡ plan.cycle_time = ap (λ (there : Domain). there.cycle_time) (plan.domain_is ∙ plan.are_placed.domain) in
+    comes_in_turn d flows flow place until seed x of.t come
+    (named_apart d flows (names d (map asked_in flows) (plan_granted counted sketch streams d flows plan))) there told (omega (arith, same, plan.open_to))
+    of.keeps of.is_every of.early among
