@@ -2,6 +2,7 @@
 use Rattle.std.specs.Prelude.{ℕ, ◌≡◌, ◌≤◌, List, [], All, IfSome, Option, Ok, false, map, true}
 use Rattle.std.specs.Option.{ForSome}
 use Rattle.cqf_laws_traffic.specs.Traffic.{needed}
+use Rattle.cqf_model.specs.declared.limits.Limits.{Limits}
 use Rattle.cqf_model.specs.Domain.{Domain}
 use Rattle.cqf_model.specs.History.{Recorded, held_in}
 use Rattle.cqf_sketch.specs.SketchDomain.{AreCandidates, IsOpenCycle, SketchDomain}
@@ -13,7 +14,7 @@ use Rattle.cqf_program_plans.specs.LatencyOutput.{latency_of_plan}
 use Rattle.cqf_program_plans.specs.LatencyText.{is_not_sure, latencies_of, latency_text}
 use Rattle.cqf_program_offers.specs.OffersOutput.{asked_in}
 use Rattle.cqf_program_placing.specs.Placing.{PlacedStreams}
-use Rattle.cqf_program_placing.specs.Room.{ArePlacedByRoom}
+use Rattle.cqf_program_placing.specs.Room.{ArePlacedByRoom, MayBeWays}
 use Rattle.cqf_program_placing.specs.Settled.{SettledStream}
 use Rattle.cqf_program_sketch.specs.Choosing.{IsPlanned}
 use Rattle.cqf_program_sketch.specs.Judging.{ArePlacedAt}
@@ -50,9 +51,10 @@ ToldPlanIsAdmitted =
     (sketch : SketchDomain) (streams : List SettledStream) (d : Domain) (flows : List FlowText) → IsPlanned sketch streams d flows →
     IsSoundPlan streams d flows
 
--- the streams of an input that is a sketch are placed where there is room, on each cycle time that is open to it
+-- the streams of an input that is a sketch, whose branches may be ways, are placed where there is room, on each cycle time that is open to it
 abbrev pub SketchesArePlacedByRoom : Type 0
 SketchesArePlacedByRoom =
-    (given : Option (List ℕ)) (input : List ℕ) (sketched : Sketched) (cycle_time : ℕ) (placed : PlacedStreams) → IfSome given AreCandidates →
-    sketch_input given input ≡ Ok sketched → IsOpenCycle sketched.domain cycle_time →
+    (limits : Limits) (given : Option (List ℕ)) (input : List ℕ) (sketched : Sketched) (cycle_time : ℕ) (placed : PlacedStreams) → MayBeWays limits →
+    IfSome given AreCandidates →
+    sketch_input limits given input ≡ Ok sketched → IsOpenCycle sketched.domain cycle_time →
     ArePlacedAt sketched.domain sketched.streams cycle_time placed → ArePlacedByRoom sketched.streams placed
