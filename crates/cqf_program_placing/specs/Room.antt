@@ -34,17 +34,17 @@ abbrev pub MayBeWays : Limits → Type 0
 MayBeWays limits = most_links < nodes_within limits
 
 -- how many hops the tree of ways from a bridge has
-abbrev pub hops_along : Domain → ℕ → List (List ℕ) → ℕ
-hops_along d bridge ways = length (tree_of d (map (names_along d bridge) ways))
+abbrev pub hops_on_ways : Domain → ℕ → List (List ℕ) → ℕ
+hops_on_ways d bridge ways = length (tree_of d (map (names_along d bridge) ways))
 
 -- a stream between a bridge and stations: where there are ways with room it is placed by the first, with its name and its reservation, unless
 -- their tree has more hops than may be; where there is none to some station it isn't, for the first such; and one of the two is the case. So
 -- it is never refused for its name, its octets or its branches, for its number among the streams, or for a link that lacks room; and in the
 -- profile, where a tree may have as many hops as there are links, not for its hops
 pub record IsPlacedBetween (d : Domain) (rows : List Row) (name : List ℕ) (octets bridge : ℕ) (stations : List ℕ) (become : PlacedOr) : Type 0 where
-  pub placed : (ways : List (List ℕ)) → HaveRoom d rows (cost_of octets) bridge stations ways → hops_along d bridge ways ≤ hops_within d.limits →
+  pub placed : (ways : List (List ℕ)) → HaveRoom d rows (cost_of octets) bridge stations ways → hops_on_ways d bridge ways ≤ hops_within d.limits →
       become ≡ Placed (record { name = name; octets = octets; every = 1; phase = 0; paths = map (names_along d bridge) ways })
-  pub wide : (ways : List (List ℕ)) → HaveRoom d rows (cost_of octets) bridge stations ways → hops_within d.limits < hops_along d bridge ways →
+  pub wide : (ways : List (List ℕ)) → HaveRoom d rows (cost_of octets) bridge stations ways → hops_within d.limits < hops_on_ways d bridge ways →
       become ≡ Unplaced (fault.Refused refused.TooManyHops)
   pub unplaced : (place : ℕ) → HasNoRoom d rows (cost_of octets) bridge stations place →
       (found : PlanFault) × (become ≡ Unplaced found) × IsFull d rows (cost_of octets) bridge stations found
