@@ -267,15 +267,17 @@ fn tell_unplaced(
         "Late" => tell_late(given, told, item, unplaced.value),
         "TooManyStreams" => {
             let (place, label) = (item.place(), item.counted(given.alloc)?);
+            let most = Grouped(given.limits.streams_within() as u64);
             told.tell(format!(in given.alloc;
-                "{place}: {label}: at most 1,024 streams are held at once"
+                "{place}: {label}: at most {most} streams are held at once"
             )?)
         }
         _ => Ok(()),
     }
 }
 
-/// Tells why a sketch comes to no plant: of each stream that is wrong in this way whatever the cycle time is, or of the one that isn't placed.
+/// Tells why a sketch comes to no plant: of each stream that is wrong in this way whatever the cycle time is, or of the one that isn't
+/// placed.
 pub(crate) fn tell_plan(
     given: &Given<'_>,
     told: &mut Told,

@@ -56,9 +56,6 @@ enum Broken<'p> {
 /// After how many cycles each stream is offered again, as it was: each `every` divides them.
 pub(crate) const MOST_EVERY: u64 = 80;
 
-/// How many nodes a path has at most: 16 bridges and a station.
-const MOST_NODES: usize = 17;
-
 /// The texts of an array.
 fn texts_of<'p>(alloc: Global, value: &'p Value) -> Result<Vec<&'p str>, AllocError> {
     let mut texts = Vec::new(alloc);
@@ -135,10 +132,11 @@ fn broken_of<'p>(network: &Network<'_>, path: &[&'p str]) -> Option<Broken<'p>> 
     if !network.is_bridge(first) {
         return Some(Broken::BeginsAtStation(first));
     }
-    let within = path.get(..MOST_NODES).unwrap_or(path);
+    let most = network.limits.nodes_within();
+    let within = path.get(..most).unwrap_or(path);
     if let Some((from, to)) = first_gap(network, within) {
         Some(Broken::NoLink(from, to))
-    } else if path.len() > MOST_NODES {
+    } else if path.len() > most {
         Some(Broken::TooLong)
     } else if network.is_bridge(last) {
         Some(Broken::EndsAtBridge(last))
@@ -320,7 +318,11 @@ fn tell_unknown_nodes(
 }
 
 /// What is wrong with a path, in words.
-fn broken_words(alloc: Global, broken: Broken<'_>) -> Result<String, AllocError> {
+fn broken_words(
+    alloc: Global,
+    network: &Network<'_>,
+    broken: Broken<'_>,
+) -> Result<String, AllocError> {
     match broken {
         Broken::Empty => String::from_str(
             alloc,
@@ -333,7 +335,10 @@ fn broken_words(alloc: Global, broken: Broken<'_>) -> Result<String, AllocError>
         Broken::EndsAtBridge(name) => {
             format!(in alloc; "the path ends at the bridge {name}: a path ends at a station")
         }
-        Broken::TooLong => String::from_str(alloc, "the path has more than 16 bridges"),
+        Broken::TooLong => {
+            let most = network.limits.nodes_within().saturating_sub(1);
+            format!(in alloc; "the path has more than {most} bridges")
+        }
     }
 }
 
@@ -350,7 +355,7 @@ fn tell_broken_paths(
     }
     for path in &asked.paths {
         if let Some(broken) = broken_of(network, path.as_slice()) {
-            let words = broken_words(given.alloc, broken)?;
+            let words = broken_words(given.alloc, network, broken)?;
             told.tell(format!(in given.alloc; "{place}: {label}: {words}")?)?;
         }
     }

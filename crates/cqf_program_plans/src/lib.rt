@@ -80,6 +80,7 @@ mod tc_frame;
 mod tc_laws;
 mod tc_lists;
 mod tc_outputs;
+mod tc_rows;
 mod tc_told;
 mod tc_ways;
 mod tc_words;

@@ -2,6 +2,7 @@ use Rattle.std.proofs.Common.{Bool, List, ℕ, map, subst}
 use Rattle.std.proofs.lemmas.Result.{IfErr-weaker, IfOk-weaker}
 use Rattle.cqf_program_engine.specs.Edge.{reading}
 use Rattle.cqf_program_engine.specs.Run.{IsAsking, IsEnd, IsOutput}
+use Rattle.cqf_program_words.specs.Words.{limits_of}
 use Rattle.cqf_program_engine.proofs.RunLemmas.{HasRun-given, IsStopped-by_given, IsStopped-by_words, IsWithin-means}
 use Rattle.cqf_program_engine.proofs.runs.run_given.Goals as goal
 
@@ -19,7 +20,7 @@ returns-clause-ok g c = IfOk-weaker c.output_of.result _ _
       HasRun-given (map (λ word. word.now) c.args.words.now)
           (reading g.R.Read.remaining c.args.input.now c.read_input.new.input) told.0 c.in-Ok.job
           c.requires.given c.in_default.ensures.sound c.in_default.ensures.end c.in_default.ensures.short c.in-Ok.ensures.ok
-          (subst (λ (input : List ℕ). IsOutput c.in-Ok.job input told.0) c.bytes.ensures told.2),
+          (subst (λ (input : List ℕ). IsOutput (limits_of (map (λ word. word.now) c.args.words.now)) c.in-Ok.job input told.0) c.bytes.ensures told.2),
     ))
     c.output_of.ensures.ok
 
@@ -31,5 +32,5 @@ returns-clause-err g c = IfErr-weaker c.output_of.result _ _
     (λ stop h. IsStopped-by_given (map (λ word. word.now) c.args.words.now)
     (reading g.R.Read.remaining c.args.input.now c.read_input.new.input) c.in-Ok.job stop
     c.requires.given c.in_default.ensures.sound c.in_default.ensures.end c.in_default.ensures.short c.in-Ok.ensures.ok
-    (subst (λ (input : List ℕ). IsEnd c.in-Ok.job input stop) c.bytes.ensures h))
+    (subst (λ (input : List ℕ). IsEnd (limits_of (map (λ word. word.now) c.args.words.now)) c.in-Ok.job input stop) c.bytes.ensures h))
     c.output_of.ensures.err

@@ -8,6 +8,7 @@ invariant_of-result c =
     let d = c.args.domain in
     record {
       paced = c.requires;
+      by_bridge = c.in_ok-places.ensures;
       words = record {
         of_ports = c.in_ok-port_words.ensures.words
             ∙ ap tx_words

@@ -11,4 +11,8 @@ returns g c = Puts-then _ _ c.put.ensures
     (Puts-then _ _ c.put-7.ensures
     (Puts-then _ _ c.put-8.ensures
     (Puts-then _ _ c.put-9.ensures
-    c.put-10.ensures))))))))
+    (Puts-then _ _ c.put-10.ensures
+    (Puts-then _ _ c.put-11.ensures
+    (Puts-then _ _ c.put-12.ensures
+    (Puts-then _ _ c.put-13.ensures
+    c.put-14.ensures))))))))))))
