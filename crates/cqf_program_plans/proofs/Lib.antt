@@ -17,3 +17,4 @@ pub mod LookedOver
 pub mod Found
 mod CostsByTurn
 mod LatencyLines
+mod Rounds

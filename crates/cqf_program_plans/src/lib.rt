@@ -102,6 +102,6 @@ pub use port_command::port_output;
 pub use port_outputs::PortOutput;
 pub use row_costs::add_cost;
 pub use tc_command::tc_output;
-pub use tc_laws::{scripts_call_what_is_due, scripts_hold_the_lists};
+pub use tc_laws::{lists_begin_anew, scripts_call_what_is_due, scripts_hold_the_lists};
 pub use tc_outputs::TcOutput;
 pub use tc_words::{write_gate_words, write_tx_words};
