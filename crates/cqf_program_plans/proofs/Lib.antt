@@ -7,6 +7,9 @@ mod TcLines
 mod TcFunctions
 mod TcCallLemmas
 mod Streams
+mod NextKept
+mod LeavingRows
+mod NotedRows
 mod Listed
 mod Fits
 mod PlanFits

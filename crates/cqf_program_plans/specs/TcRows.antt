@@ -5,7 +5,7 @@ use Rattle.std.specs.Option.{option_map_or}
 use Rattle.std.specs.declared.vec.Vec.{Vec}
 use Rattle.cqf_lists.specs.Lists.{each_below}
 use Rattle.cqf_model.specs.declared.topology.Row.{Row}
-use Rattle.cqf_model.specs.Domain.{Domain}
+use Rattle.cqf_model.specs.Domain.{Domain, leaves}
 use Rattle.cqf_compile.specs.BridgeGates.{first_hop}
 
 -- whether a stream leaves a bridge
@@ -48,3 +48,9 @@ pub record IsNoted (before after : List (List ℕ)) (bridge place : ℕ) : Type 
   pub one_each : length after ≡ length before
   pub own : (none : List ℕ) → bridge < length before → slice_index_or after bridge none ≡ with_place place (slice_index_or before bridge none)
   pub others : (other : ℕ) (none : List ℕ) → other ≢ bridge → slice_index_or after other none ≡ slice_index_or before other none
+
+-- it is noted at the bridge that a link leaves
+pub record IsNotedBy (d : Domain) (link place : ℕ) (before after : List (List ℕ)) : Type 0 where
+  pub one_each : length after ≡ length before
+  pub each : (bridge : ℕ) (none : List ℕ) → bridge < length d.bridges →
+      slice_index_or after bridge none ≡ (if leaves d link bridge then with_place place (slice_index_or before bridge none) else slice_index_or before bridge none)

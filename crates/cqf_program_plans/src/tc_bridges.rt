@@ -426,7 +426,8 @@ fn put_streams<W: Sink>(
     ensures { Puts W.contents press.old press.new (flat_map (stream_gates domain.now bridge) rows.now) }
 {
     for place in places {
-        put_stream(press, domain, bridge, &rows[*place]);
+        let row = &rows[*place];
+        put_stream(press, domain, bridge, row);
     }
 }
 

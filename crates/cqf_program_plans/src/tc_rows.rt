@@ -1,7 +1,8 @@
 //! Which streams leave a bridge.
 ghost use Rattle.std.specs.Prelude.{◌≡◌, ◌<◌, ◌+◌, IfOk, List, OnOk, length};
 ghost use Rattle.cqf_model.specs.declared.topology.Row.{Row as ARow};
-ghost use Rattle.cqf_program_plans.specs.TcRows.{AreBelow, AreByBridge, IsNoted, places_in};
+ghost use Rattle.cqf_lists.specs.ByNumber.{AddsTo};
+ghost use Rattle.cqf_program_plans.specs.TcRows.{AreBelow, AreByBridge, IsNoted, IsNotedBy, is_last, places_in};
 
 use cqf_model::Row;
 use cqf_topology::Domain;
@@ -19,19 +20,54 @@ fn no_places(alloc: Global, domain: &Domain) -> Result<Vec<Vec<usize>>, Memory>
     Ok(lists)
 }
 
+/// Whether a place is the last of some.
+fn ends_in(places: &[usize], place: usize) -> bool
+    ensures { result ≡ is_last place places.now }
+{
+    match places.last() {
+        Some(last) => *last == place,
+        None => false,
+    }
+}
+
+/// Puts a place behind those at a bridge.
+fn put_place(lists: &mut Vec<Vec<usize>>, bridge: u16, place: usize) -> Result<(), Memory>
+    requires { bridge < length lists.old.items }
+    ensures { OnOk result (AddsTo (places_in lists.old.items) (places_in lists.new.items) bridge place) }
+{
+    lists[usize::from(bridge)].push(place)?;
+    Ok(())
+}
+
 /// Notes a place at a bridge, behind those that are noted there, unless it is the last of them.
 fn note(lists: &mut Vec<Vec<usize>>, bridge: u16, place: usize) -> Result<(), Memory>
     requires { bridge < length lists.old.items }
     ensures { OnOk result (IsNoted (places_in lists.old.items) (places_in lists.new.items) bridge place) }
 {
-    let list = &mut lists[usize::from(bridge)];
-    match list.last() {
-        Some(last) if *last == place => Ok(()),
-        _ => {
-            list.push(place)?;
-            Ok(())
-        }
+    if ends_in(lists[usize::from(bridge)].as_slice(), place) {
+        return Ok(());
     }
+    put_place(lists, bridge, place)?;
+    Ok(())
+}
+
+/// Notes a place at the bridge that a link leaves. A link that the domain lacks leaves none.
+fn note_link(
+    domain: &Domain,
+    lists: &mut Vec<Vec<usize>>,
+    link: u16,
+    place: usize,
+) -> Result<(), Memory>
+    requires { length lists.old.items ≡ length domain.now.bridges }
+    ensures { OnOk result (IsNotedBy domain.now link place (places_in lists.old.items) (places_in lists.new.items)) }
+{
+    if link < domain.links() {
+        // each link leaves a bridge of the domain: a fact
+        domain.know();
+        let from = domain.link(link).from;
+        note(lists, from, place)?;
+    }
+    Ok(())
 }
 
 /// Notes the row at a place, behind those before it, at each bridge that its stream leaves.
@@ -45,12 +81,10 @@ fn note_row(
     requires below { AreBelow domain.now rows.now place (places_in lists.old.items) }
     ensures { OnOk result (AreBelow domain.now rows.now (place + 1) (places_in lists.new.items)) }
 {
-    // each link leaves a bridge of the domain: a fact
-    domain.know();
-    for hop in rows[place].tree.as_slice() {
-        if hop.link < domain.links() {
-            note(lists, domain.link(hop.link).from, place)?;
-        }
+    let row = &rows[place];
+    let hops = row.tree.as_slice();
+    for hop in hops {
+        note_link(domain, lists, hop.link, place)?;
     }
     Ok(())
 }
