@@ -89,10 +89,9 @@ impl Bridge {
         requires { number < length plan.now.bridges }
         ensures { IfOk result (λ bridge. bridge ≡ new_bridge plan.now number) }
     {
-        let domain = plan.domain().try_copy(alloc)?;
-        let incoming = links_into(alloc, &domain, number)?;
+        let incoming = links_into(alloc, plan.domain(), number)?;
         Ok(Bridge {
-            domain,
+            domain: plan.domain().try_copy(alloc)?,
             number,
             incoming,
             sent: 0,

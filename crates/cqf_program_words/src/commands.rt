@@ -1,7 +1,7 @@
 //! The commands with their options, as `clap` has them.
 ghost use Rattle.std.specs.Prelude.{◌≡◌, ◌<◌, IfOk, codes, false, true};
 ghost use Rattle.clap.specs.declared.builder.command.Command.TheViews.{out-Command};
-ghost use Rattle.clap.specs.Words.{app_of, rule_of};
+ghost use Rattle.clap.specs.Words.{app_of, new_app, rule_of, with_rule};
 ghost use Rattle.cqf_program_words.specs.Words.{app_without_deliveries, app_without_domain, check_app, cqf_app};
 ghost use Rattle.cqf_program_words.specs.Words.{compile_app, deliveries_app, first_app, latency_app, line_app, load_app};
 ghost use Rattle.cqf_program_words.specs.Words.{named_app, port_app, report_app, run_app, default_rule, flag_rule, large_rule};
@@ -331,16 +331,25 @@ fn offers_command<'a>(alloc: Global) -> Result<Command<'a>, AllocError>
         .arg(large_flag(alloc))
 }
 
-/// `hops --cycles N [--stream NAME] [--frame F] [--large]`.
-fn hops_command<'a>(alloc: Global, is_large: bool) -> Result<Command<'a>, AllocError>
-    ensures app { IfOk result (λ command. app_of command ≡ hops_app is_large) }
+/// `hops --cycles N [--stream NAME]`, to which its other options are to be added.
+fn begun_hops_command<'a>(alloc: Global) -> Result<Command<'a>, AllocError>
+    ensures app { IfOk result (λ command. app_of command ≡
+        with_rule (with_rule (new_app (codes "hops")) (number_rule (codes "cycles") 1 most_cycles)) (free_rule (codes "stream"))) }
     ensures local { IfOk result (λ command. (out-Command command).has_globals ≡ false) }
 {
     Command::new(alloc, "hops")
         .about("the book of a run by frame: when each is on which link")
         .after_help(HOPS_INPUT)
         .arg(cycles_option(alloc))?
-        .arg(stream_option(alloc))?
+        .arg(stream_option(alloc))
+}
+
+/// `hops --cycles N [--stream NAME] [--frame F] [--large]`.
+fn hops_command<'a>(alloc: Global, is_large: bool) -> Result<Command<'a>, AllocError>
+    ensures app { IfOk result (λ command. app_of command ≡ hops_app is_large) }
+    ensures local { IfOk result (λ command. (out-Command command).has_globals ≡ false) }
+{
+    begun_hops_command(alloc)?
         .arg(frame_option(alloc, is_large))?
         .arg(large_flag(alloc))
 }

@@ -9,6 +9,7 @@ ghost use Rattle.cqf_program_words.specs.Words.{AreGiven, IsFlagGiven, IsFreeIn,
 ghost use Rattle.cqf_program_words.specs.declared.candidates.Candidates.{Candidates};
 ghost use Rattle.cqf_program_words.specs.Shown.{ShowsWords, are_printable};
 ghost use Rattle.cqf_program_words.specs.Words.{EndsWords, TellsNoCandidates, takes_domain};
+ghost use Rattle.std.specs.List.{list_any};
 ghost use Rattle.cqf_model.specs.Limits.{large, most_cycles};
 ghost use Rattle.cqf_program_words.specs.Words.{ask_for_large, is_large_word, limits_of};
 
@@ -381,11 +382,18 @@ fn is_large_word(word: &str) -> bool
     word == "--large"
 }
 
+/// The same of some words: whether one of them does.
+fn is_one_large(words: &[&str]) -> bool
+    ensures { result ≡ list_any (λ word. is_large_word word.now) words.now }
+{
+    words.iter().any(|word| is_large_word(word))
+}
+
 /// Whether the words ask for large plants: one of them is `--large`.
 pub fn ask_for_large(words: &[&str]) -> bool
     ensures { result ≡ ask_for_large (map (λ word. word.now) words.now) }
 {
-    words.iter().any(|word| is_large_word(word))
+    is_one_large(words)
 }
 
 /// The limits within which the plants of the words are read: those of large plants where the words ask for them, else those of the profile.
