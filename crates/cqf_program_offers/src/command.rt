@@ -41,9 +41,8 @@ fn text_of_senders(
 /// What senders offer, as a text.
 ///
 /// # Errors
-/// With status 1 and the line `cqf: offers: TooMany` where they have more frames together, late ones too, than
-/// the domain may be offered; and with status 3
-/// for want of memory.
+/// With status 1 and the line `cqf: offers: TooMany` where they have more frames together, late ones too, than the domain may be offered;
+/// and with status 3 for want of memory.
 pub fn offered_by(
     alloc: Global,
     domain: &Domain,
