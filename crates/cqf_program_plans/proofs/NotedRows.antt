@@ -1,5 +1,5 @@
 -- Places noted at bridges.
-use Rattle.std.proofs.Common.{ℕ, zero, suc, ◌≡◌, ◌≢◌, ◌∙◌, ◌<◌, ◌≤◌, ◌+◌, ◌-◌, ◌++◌, ◌==◌, ◌||◌, Bool, true, false, List, [], ◌∷◌, Some, Option}
+use Rattle.std.proofs.Common.{ℕ, zero, suc, ◌≡◌, ◌∙◌, ◌<◌, ◌≤◌, ◌+◌, ◌-◌, ◌++◌, ◌==◌, ◌||◌, Bool, true, false, List, [], ◌∷◌, Some, Option}
 use Rattle.std.proofs.Common.{add-one, ap, append-nil, arith, get_or, inl, inr, length, refl, subst, sym}
 use Rattle.std.specs.Prelude.{find, if◌then◌else◌, is_some, slice_get}
 use Rattle.std.specs.Global.{Global}
@@ -12,13 +12,12 @@ use Rattle.std.proofs.lemmas.List.{get_or-map, length-map}
 use Rattle.std.proofs.lemmas.List.Folds.{list_any-append}
 use Rattle.std.proofs.lemmas.Option.{slice_get_past}
 use Rattle.cqf_lists.specs.ByNumber.{AddsTo, AreListsBy, lists_of}
-use Rattle.cqf_lists.specs.Lists.{each_below}
 use Rattle.cqf_lists.proofs.Numbers.{kept_below}
 use Rattle.cqf_model.specs.declared.topology.Hop.{Hop}
 use Rattle.cqf_model.specs.declared.topology.Link.{Link}
 use Rattle.cqf_model.specs.declared.topology.Row.{Row}
 use Rattle.cqf_model.specs.Domain.{Domain, leaves}
-use Rattle.cqf_program_plans.specs.TcRows.{AreBelow, IsNoted, IsNotedBy, is_last, leaves_bridge, place_of_leaving, places_below, places_in, with_place}
+use Rattle.cqf_program_plans.specs.TcRows.{AreBelow, IsNoted, IsNotedBy, is_last, leaves_bridge, places_below, places_in, with_place}
 
 -- with no place noted
 abbrev pub no_place : ℕ → List ℕ
