@@ -15,7 +15,7 @@ use Rattle.cqf_program_press.specs.Edge.{Writing}
 use Rattle.cqf_program_press.specs.Kinds.{NoKind, SomeKind}
 use Rattle.cqf_program_engine.specs.Run.{first_line, input_of, version_line, words_of, AskForVersion, Ends}
 use Rattle.cqf_program_engine.specs.Run.{EndsByStatus, EndsFaulty, EndsInput, EndsRead, HandsOver, HasCause, HasFault}
-use Rattle.cqf_program_engine.specs.Run.{HasRun, HasWords, most_line, IsBehindWords, IsEnd, IsFailure, IsOutput}
+use Rattle.cqf_program_engine.specs.Run.{HasRun, HasWords, most_line, IsBehindWords, IsDone, IsEnd, IsFailure, IsOutput}
 use Rattle.cqf_program_engine.specs.Run.{IsFailedRun, IsMisuse, IsRefusedRun, TellsCandidates}
 use Rattle.cqf_program_engine.specs.Run.{IsRefusal, IsStopped, StopsWithAnswer, IsToldOutput, IsTooLong, IsWithin, most_bytes}
 use Rattle.cqf_program_engine.specs.Run.{FaultIsOfThreads, FaultIsOfThreadsOrOutput, TellsStop, TellsFaultAlone}
@@ -226,6 +226,26 @@ pub HasCause-by_end : (words : List (List ℕ)) (bytes : List ℕ) (job : Job) (
     → HasCause words bytes stop
 HasCause-by_end words bytes job stop short text means (inl h) = HasCause-by_refusal words bytes job stop short text means h
 HasCause-by_end words bytes job stop short text means (inr h) = HasCause-by_failure words bytes job stop short text means h
+
+-- a run of the words that the first line has is done: of these, of their limits and of what stands behind the line by their other names
+pub IsDone-by_line : (bytes rest output : List ℕ) (words : List (List ℕ)) (limits : Limits) (job : Job) → length bytes ≤ most_bytes [] → HasWords bytes
+    → words ≡ words_of [] bytes → limits ≡ limits_of (words_of [] bytes) → rest ≡ input_of [] bytes → Mean words job → IsOutput limits job rest output
+    → IsDone [] bytes output
+IsDone-by_line bytes rest output words limits job short text same within behind means h = record {
+  short = short;
+  text = λ _. text;
+  job = job;
+  means = subst (λ (those : List (List ℕ)). Mean those job) same means;
+  is_output = subst₂ (λ (set : Limits) (input : List ℕ). IsOutput set job input output) within behind h;
+}
+
+-- and one that ends without its output is stopped
+pub HasCause-by_line_end : (bytes rest : List ℕ) (words : List (List ℕ)) (limits : Limits) (job : Job) (stop : Stop) → length bytes ≤ most_bytes []
+    → HasWords bytes → words ≡ words_of [] bytes → limits ≡ limits_of (words_of [] bytes) → rest ≡ input_of [] bytes → Mean words job
+    → IsEnd limits job rest stop → HasCause [] bytes stop
+HasCause-by_line_end bytes rest words limits job stop short text same within behind means h =
+    HasCause-by_end [] bytes job stop short (λ _. text) (subst (λ (those : List (List ℕ)). Mean those job) same means)
+    (subst₂ (λ (set : Limits) (input : List ℕ). IsEnd set job input stop) within behind h)
 
 -- words that are given are the run's
 means_given : (words : List (List ℕ)) (bytes : List ℕ) (job : Job) → words ≢ [] → Mean words job → Mean (words_of words bytes) job
