@@ -1,6 +1,6 @@
 -- The cycles after which all lists of a script begin anew.
-use Rattle.std.proofs.Common.{◌≡◌, ◌∙◌, ◌+◌, ◌*◌, ◌%◌, ◌<◌, ◌≤◌, ◌==◌, ◌&&◌, ◌||◌, ℕ, Bool, true, false, zero, suc, List, ap, arith, cond, eqb-true, get_or, inl, inr, refl, subst, sym}
-use Rattle.std.specs.Prelude.{Contains, if◌then◌else◌, not}
+use Rattle.std.proofs.Common.{◌≡◌, ◌∙◌, ◌+◌, ◌%◌, ◌<◌, ◌≤◌, ◌==◌, ◌&&◌, ◌||◌, ℕ, Bool, true, false, zero, suc, List, ap, arith, eqb-true, inl, inr, refl, subst, sym}
+use Rattle.std.specs.Prelude.{Contains, not}
 use Rattle.std.specs.List.{list_any}
 use Rattle.std.proofs.lemmas.Bool.{and_parts, cases_Bool, cases_eq, cond-false, cond-true}
 use Rattle.std.proofs.lemmas.List.Folds.{list_any_at}
@@ -9,17 +9,16 @@ use Rattle.cqf_model.specs.declared.topology.Pace.{Pace}
 use Rattle.cqf_model.specs.declared.topology.Row.{Row}
 use Rattle.cqf_model.specs.Limits.{most_every}
 use Rattle.cqf_model.specs.StreamGate.{gate_cycles}
-use Rattle.cqf_admission_trees.specs.Turns.{AreOfGoodPaces}
 use Rattle.cqf_program_plans.specs.TcBridge.{pauses}
-use Rattle.cqf_program_plans.specs.TcLaws.{AllBeginAnew, ListsBeginAnew}
+use Rattle.cqf_program_plans.specs.TcLaws.{ListsBeginAnew}
 use Rattle.cqf_program_plans.specs.TcText.{rounds_in}
 
 -- the cycles of a gate whose stream pauses so long go into 80, unless those of its pace don't
-goes_into : ℕ → Bool
+abbrev goes_into : ℕ → Bool
 goes_into pause = not (most_every % (pause + 1) == 0) || (most_every % gate_cycles (record { pause = pause; phase = 0 }) == 0)
 
 -- so it is of all that pause less than so long
-all_below : ℕ → Bool
+abbrev all_below : ℕ → Bool
 all_below zero = true
 all_below (suc n) = goes_into n && all_below n
 
