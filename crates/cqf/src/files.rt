@@ -1,15 +1,18 @@
 //! The files that the words name.
 
-ghost use Rattle.std.specs.Prelude.{◌≤◌, OnOk, length};
+ghost use Rattle.std.specs.Prelude.{◌≤◌, ◌<◌, ◌^◌, OnOk, length};
 
 use crate::terminal::hint;
-use cqf_program_engine::{Heard, Texts, engine, tell};
+use cqf_model::Limits;
+use cqf_program_engine::{Heard, Texts, engine, most_bytes, tell};
 use cqf_program_explanations::{Source, explanation};
 use cqf_program_files::{Front, cycles_of, front_of, renumbered};
 use cqf_program_made::made_input;
 use cqf_program_press::{Told, write_out};
 use cqf_program_stop::{FAULT, REFUSED, Stop};
-use cqf_program_words::{Job, Operands, STANDARD, check_files, read_words, stop_of_file};
+use cqf_program_words::{
+    Job, Operands, STANDARD, check_files, limits_of, read_words, stop_of_file,
+};
 use std::alloc::{AllocError, Global};
 use std::fs::File;
 use std::io::{ErrorKind, Write};
@@ -20,26 +23,34 @@ use std::thread::Threads;
 /// Room for each line that the engine tells of a fault, had before it runs.
 const ROOM: usize = 65_536;
 
-/// What a run with files is given: its words, the job that they mean, and the files' texts.
+/// What a run with files is given: its words, the job that they mean, the limits within which plants are read, and the files' texts.
 #[derive(Clone, Copy)]
 struct Given<'g> {
     alloc: Global,
+    limits: Limits,
     job: &'g Job,
     operands: &'g Operands<'g>,
     texts: &'g [&'g [u8]],
 }
 
 /// Reads the file of a name, as one text more. `Err` with status 4 where it can't be opened or read.
-fn read_file(rt: &HostRuntime, alloc: Global, name: &str, texts: &mut Texts) -> Result<(), Stop>
-    requires { length texts.old.bytes ≤ 67108864 }
-    ensures { OnOk result (length texts.new.bytes ≤ 67108864) }
+fn read_file(
+    rt: &HostRuntime,
+    alloc: Global,
+    most: usize,
+    name: &str,
+    texts: &mut Texts,
+) -> Result<(), Stop>
+    requires small { most < 2 ^ 63 }
+    requires few { length texts.old.bytes ≤ most }
+    ensures { OnOk result (length texts.new.bytes ≤ most) }
 {
     let mut file = match File::open(rt, name) {
         Ok(file) => file,
         Err(error) if error.kind() == ErrorKind::OutOfMemory => return Err(Stop::memory(alloc)),
         Err(_) => return Err(stop_of_file(alloc, name)),
     };
-    match texts.read(alloc, &mut file) {
+    match texts.read(alloc, most, &mut file) {
         Ok(()) => Ok(()),
         Err(stop) if stop.status == FAULT => Err(stop_of_file(alloc, name)),
         Err(stop) => Err(stop),
@@ -47,25 +58,33 @@ fn read_file(rt: &HostRuntime, alloc: Global, name: &str, texts: &mut Texts) -> 
 }
 
 /// Reads standard input, as one text more.
-fn read_standard(rt: &HostRuntime, alloc: Global, texts: &mut Texts) -> Result<(), Stop>
-    requires { length texts.old.bytes ≤ 67108864 }
-    ensures { OnOk result (length texts.new.bytes ≤ 67108864) }
+fn read_standard(
+    rt: &HostRuntime,
+    alloc: Global,
+    most: usize,
+    texts: &mut Texts,
+) -> Result<(), Stop>
+    requires small { most < 2 ^ 63 }
+    requires few { length texts.old.bytes ≤ most }
+    ensures { OnOk result (length texts.new.bytes ≤ most) }
 {
     let mut faults = Told::new(rt.stderr());
     let mut input = rt.stdin();
     hint(&input, &mut faults);
-    texts.read(alloc, &mut input)
+    texts.read(alloc, most, &mut input)
 }
 
-/// Reads the files, in their order. `Err` with status 1 where all their texts come to more than the program reads, and with status 4 at the
+/// Reads the files, in their order. `Err` with status 1 where all their texts come to more than so many bytes, and with status 4 at the
 /// first file that can't be read.
-fn read_files(rt: &HostRuntime, alloc: Global, names: &[&str]) -> Result<Texts, Stop> {
+fn read_files(rt: &HostRuntime, alloc: Global, most: usize, names: &[&str]) -> Result<Texts, Stop>
+    requires { most < 2 ^ 63 }
+{
     let mut texts = Texts::new(alloc);
     for name in names {
         if *name == STANDARD {
-            read_standard(rt, alloc, &mut texts)?;
+            read_standard(rt, alloc, most, &mut texts)?;
         } else {
-            read_file(rt, alloc, name, &mut texts)?;
+            read_file(rt, alloc, most, name, &mut texts)?;
         }
     }
     Ok(texts)
@@ -102,7 +121,14 @@ fn explain(rt: &HostRuntime, given: &Given<'_>, line: &[u8]) {
         return;
     };
     let cycles = cycles_of(given.job);
-    if let Ok(text) = explanation(given.alloc, command, cycles, sources.as_slice(), line) {
+    if let Ok(text) = explanation(
+        given.alloc,
+        command,
+        cycles,
+        given.limits,
+        sources.as_slice(),
+        line,
+    ) {
         write_out(&mut Told::new(rt.stderr()), text.as_slice());
     }
 }
@@ -181,7 +207,8 @@ pub(crate) fn run_files(
     if let Err(stop) = check_files(alloc, names) {
         return end(rt, &stop);
     }
-    let read = match read_files(rt, alloc, names) {
+    let words = operands.words();
+    let read = match read_files(rt, alloc, most_bytes(words), names) {
         Ok(read) => read,
         Err(stop) => return end(rt, &stop),
     };
@@ -191,6 +218,7 @@ pub(crate) fn run_files(
             threads,
             &Given {
                 alloc,
+                limits: limits_of(words),
                 job: &job,
                 operands,
                 texts: texts.as_slice(),
@@ -241,7 +269,7 @@ fn run_made(
     given: &Given<'_>,
     front: Front,
 ) -> ExitCode {
-    match made_input(given.alloc, given.job, front.input.as_slice()) {
+    match made_input(given.alloc, given.limits, given.job, front.input.as_slice()) {
         Ok(None) => run_front(rt, threads, given, &front),
         Ok(Some(input)) => {
             let Front { numbers, .. } = front;

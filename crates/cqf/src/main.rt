@@ -20,10 +20,13 @@
 //! - `cqf plan [--table] [--cycle WORD]` reads a sketch of a domain and its streams, and writes a plant, or a table of the candidates for
 //!   its cycle time.
 //!
-//! Behind the words may stand files, `-` for standard input among them. The input is then what their texts come to, one behind the
-//! other with a line `%%` between them; where the command takes a domain, a first file without such a line stands twice, as the domain and as
-//! its streams, and several first files whose names end with `.toml` are one plant. Where a run isn't given its calls or its offers, these are
-//! made: all streams are admitted before cycle 0, and those with traffic offer what their talkers promise. Behind the line of a refusal stands what explains it.
+//! With `--large` a command that reads a plant takes a larger one, with more rows of tables and more bytes.
+//!
+//! Behind the words may stand files, `-` for standard input among them. The input is then what their texts come to, one behind the other
+//! with a line `%%` between them; where the command takes a domain, a first file without such a line stands twice, as the domain and as
+//! its streams, and several first files whose names end with `.toml` are one plant. Where a run isn't given its calls or its offers,
+//! these are made: all streams are admitted before cycle 0, and those with traffic offer what their talkers promise. Behind the line of a
+//! refusal stands what explains it.
 //!
 //! Without a word after the program's name the words stand in the first line of the input:
 //!

@@ -1,6 +1,6 @@
 -- Sums by link, one link more.
 use Rattle.std.proofs.Common.{◌≡◌, ◌≢◌, ℕ, ◌+◌, ◌<◌, ◌^◌, ◌∙◌, ◌==◌, ◌||◌, Bool, true, List, length, get_or, set, take, ap, arith, refl, subst, subst₂, sym, false, inl, inr}
-use Rattle.std.specs.Prelude.{None, All, AllPairs, if◌then◌else◌, slice_index_or}
+use Rattle.std.specs.Prelude.{None, All, AllPairs, if◌then◌else◌}
 use Rattle.std.specs.List.{list_any}
 use Rattle.std.proofs.lemmas.Bool.{cases_eq, eq-eqb, ne_eqb}
 use Rattle.std.proofs.lemmas.List.{get_or-map, length-map, get_or-set_other, get_or-set_same, get_or-take, get_or_default, length-set, length-take-le}

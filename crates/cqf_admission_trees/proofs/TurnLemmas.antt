@@ -1,5 +1,5 @@
 -- A stream's turns among 80 cycles, and the sums of a link in these.
-use Rattle.std.proofs.Common.{◌≡◌, ◌≢◌, ℕ, ◌+◌, ◌-◌, ◌*◌, ◌%◌, ◌<◌, ◌≤◌, ◌^◌, ◌∙◌, ◌==◌, ◌||◌, ◌&&◌, Bool, true, false, zero, suc, List, [], ◌∷◌, ◌++◌, length, get_or, set, take, drop, fold, max}
+use Rattle.std.proofs.Common.{◌≡◌, ◌≢◌, ℕ, ◌+◌, ◌-◌, ◌*◌, ◌%◌, ◌<◌, ◌≤◌, ◌^◌, ◌∙◌, ◌==◌, ◌||◌, ◌&&◌, Bool, true, false, zero, suc, List, [], ◌∷◌, ◌++◌, length, get_or, set, take, drop, fold, map, max, replicate}
 use Rattle.std.proofs.Common.{ap, ap₂, arith, refl, subst, sym, inl, inr, eq-eqb, eqb-true, mod-lt, append-nil, add-zero}
 use Rattle.std.specs.Prelude.{All, AllPairs, Contains, nat_lt, if◌then◌else◌, slice_index_or}
 use Rattle.std.proofs.Math.Nat.{add-mod_right, mod-add-mod, mod-eq-sub-mod, mod-eq_of_lt, mod-mod, mod-mod_of_dvd, mod-one}
@@ -16,7 +16,7 @@ use Rattle.cqf_model.specs.History.{Asked, is_pace, pace_of}
 use Rattle.cqf_model.specs.Limits.{most_every}
 use Rattle.cqf_model.specs.Paces.{is_turn}
 use Rattle.cqf_model.specs.Table.{links_in, uses}
-use Rattle.cqf_admission_trees.specs.Turns.{AreLessWhere, AreMoreWhere, HasIn, HasRoomFor, IsGoodPace, Turned, most_at, most_of, most_where, part_in, sum_on, turns_at}
+use Rattle.cqf_admission_trees.specs.Turns.{AreKept, AreLessWhere, AreMoreWhere, HasIn, HasRoomFor, IsGoodPace, Turned, most_at, most_of, most_where, part_in, sum_on, turns_at}
 
 -- that of a request that isn't refused repeats so
 pub asked_is_good : (asked : Asked) → is_pace asked.every asked.phase ≡ true → IsGoodPace (pace_of asked)
@@ -388,6 +388,159 @@ turn_of_link turned l c below =
     ∙ get_or-drop (l * most_every) turned.sums c 0
     ∙ ap (λ z. get_or turned.sums (l * most_every + z) 0) (sym (mod-eq_of_lt below))
 
+-- the numbers of a list, one by one
+each_number : (xs : List ℕ) (n : ℕ) → n ≤ length xs → each_below (λ k. get_or xs k 0 ∷ []) n ≡ take n xs
+each_number xs zero few = refl
+each_number xs (suc n) few =
+    ap (λ (ys : List ℕ). ys ++ get_or xs n 0 ∷ []) (each_number xs n (omega (arith, few))) ∙ sym (take_more xs n 0 (omega (arith, few)))
+    ∙ ap (λ (k : ℕ). take k xs) next
+  where
+    -- one more is the next
+    next : n + 1 ≡ suc n
+    next = omega arith
+
+-- the greatest of all sums of a link
+pub most_of_link : (turned : Turned) (l : ℕ) → length (turns_at turned l) ≡ most_every → fold max 0 (turns_at turned l) ≡ most_of turned l
+most_of_link turned l long =
+    ap (fold max 0)
+    (sym (take_all most_every (turns_at turned l) (omega (arith, long)))
+    ∙ sym (each_number (turns_at turned l) most_every (omega (arith, long)))
+    ∙ same_below (λ k. get_or (turns_at turned l) k 0 ∷ []) (λ cycle. sum_on turned l cycle ∷ []) most_every
+    (λ c below. ap (λ (n : ℕ). n ∷ []) (turn_of_link turned l c below)))
+
+-- the sums of one link were written
+module _ (now : Turned) (here : ℕ) (low : here < now.links) (whole : length now.sums ≡ now.links * most_every) (ys : List ℕ) (long : length ys ≡ most_every) where
+  abbrev from : ℕ
+  from = here * most_every
+
+  -- they stand among the others
+  fits : from + most_every ≤ length now.sums
+  fits = omega (arith, low, whole)
+
+  abbrev pub wrote : List ℕ
+  wrote = take from now.sums ++ (ys ++ drop most_every (drop from now.sums))
+
+  abbrev pub rewritten : Turned
+  rewritten = record { links = now.links; sums = wrote }
+
+  pub wrote_length : length wrote ≡ now.links * most_every
+  wrote_length = written_length now.sums ys from most_every fits long ∙ whole
+
+  -- they are what was written
+  pub sum_here : (c : ℕ) → c < most_every → sum_on rewritten here c ≡ get_or ys c 0
+  sum_here c below = ap (λ z. get_or wrote (from + z) 0) (mod-eq_of_lt below) ∙ inside_written now.sums ys from most_every fits long c below
+
+  -- and those of another as they were
+  pub sum_there : (l cycle : ℕ) → here ≢ l → sum_on rewritten l cycle ≡ sum_on now l cycle
+  sum_there l cycle other =
+      let c = cycle % most_every in
+      let below : c < most_every = mod-lt cycle (omega arith) in
+      elim (cases_lt l here) [
+        | inl less ↦ before_written now.sums ys from most_every fits long (l * most_every + c) (omega (arith, less, below))
+        | inr more ↦ behind_written now.sums ys from most_every fits long (l * most_every + c) (omega (arith, more, other, below))
+      ]
+
+  -- so is the greatest
+  pub kept_on : (greatest : List ℕ) (most : ℕ) → AreKept now greatest → most ≡ fold max 0 ys → AreKept rewritten (set greatest here most)
+  kept_on greatest most kept is = record {
+    whole = wrote_length;
+    as_many = length-set greatest here most ∙ kept.as_many;
+    each = λ l within. elim (cases_eq here l) [
+      | inl same ↦ subst (λ k. get_or (set greatest here most) k 0 ≡ most_of rewritten k) same of_here
+      | inr other ↦
+          let off : l ≢ here = omega (arith, other) in
+          get_or-set_other greatest here l most 0 off ∙ kept.each l within
+          ∙ ap (fold max 0) (same_below (λ cycle. sum_on now l cycle ∷ []) (λ cycle. sum_on rewritten l cycle ∷ []) most_every
+          (λ cycle below. ap (λ (n : ℕ). n ∷ []) (sym (sum_there l cycle other))))
+    ];
+  } where
+    of_here : get_or (set greatest here most) here 0 ≡ most_of rewritten here
+    of_here =
+        get_or-set_same greatest here most 0 (omega (arith, low, kept.as_many))
+        ∙ is
+        ∙ ap (fold max 0) (sym (take_all most_every ys (omega (arith, long)))
+        ∙ sym (each_number ys most_every (omega (arith, long)))
+        ∙ same_below (λ k. get_or ys k 0 ∷ []) (λ cycle. sum_on rewritten here cycle ∷ []) most_every
+        (λ c below. ap (λ (n : ℕ). n ∷ []) (sym (sum_here c below))))
+
+-- what is kept as the greatest of a link's sums is that
+pub greatest_is : (turned : Turned) (greatest : List ℕ) → AreKept turned greatest → (place l default : ℕ) → l < turned.links → place ≡ l →
+    get_or greatest place default ≡ most_of turned l
+greatest_is turned greatest kept place l default low is =
+    ap (λ k. get_or greatest k default) is ∙ get_or_default greatest l default 0 (omega (arith, low, kept.as_many)) ∙ kept.each l low
+
+pub most_kept : (turned : Turned) (greatest : List ℕ) → AreKept turned greatest → (place l default : ℕ) → l < turned.links → place ≡ l →
+    get_or greatest place default ≡ fold max 0 (turns_at turned l)
+most_kept turned greatest kept place l default low is =
+    greatest_is turned greatest kept place l default low is ∙ sym (most_of_link turned l (turns_long turned l low kept.whole))
+
+-- nothing stands anywhere in so many nothings
+pub none_of_each : (n : ℕ) (xs : List ℕ) → xs ≡ replicate {A = ℕ} n 0 → (k : ℕ) → get_or xs k 0 ≡ 0
+none_of_each n xs are k = ap (λ (ys : List ℕ). get_or ys k 0) are ∙ nothing n k
+  where
+    nothing : (m k : ℕ) → get_or (replicate {A = ℕ} m 0) k 0 ≡ 0
+    nothing zero k = refl
+    nothing (suc m) zero = refl
+    nothing (suc m) (suc k) = nothing m k
+
+-- of sums of nothing the greatest are nothing
+pub kept_none : (turned : Turned) (greatest : List ℕ) → length turned.sums ≡ turned.links * most_every → length greatest ≡ turned.links →
+    ((k : ℕ) → get_or turned.sums k 0 ≡ 0) → ((k : ℕ) → get_or greatest k 0 ≡ 0) → AreKept turned greatest
+kept_none turned greatest whole as_many none no_greatest = record {
+  whole = whole;
+  as_many = as_many;
+  each = λ l within. no_greatest l ∙ sym (idle_below (λ cycle. sum_on turned l cycle ∷ []) most_every 0 (λ k m. idle m (sum_on turned l k) (none (l * most_every + k % most_every))));
+} where
+  -- nothing is no more
+  idle : (m n : ℕ) → n ≡ 0 → max m n ≡ m
+  idle m n e = omega (arith, e)
+
+-- the greatest of so many is one of them, and moves with them
+module _ (n : ℕ) where
+  pub most_more : (xs : List ℕ) (most : ℕ) → fold max (most + n) (map (λ x. x + n) xs) ≡ fold max most xs + n
+  most_more [] most = refl
+  most_more (x ∷ xs) most = ap (λ m. fold max m (map (λ y. y + n) xs)) (step most x) ∙ most_more xs (max most x)
+    where
+      step : (a b : ℕ) → max (a + n) (b + n) ≡ max a b + n
+      step a b = omega arith
+
+  pub most_less : (xs : List ℕ) (most : ℕ) → fold max (most - n) (map (λ x. x - n) xs) ≡ fold max most xs - n
+  most_less [] most = refl
+  most_less (x ∷ xs) most = ap (λ m. fold max m (map (λ y. y - n) xs)) (step most x) ∙ most_less xs (max most x)
+    where
+      step : (a b : ℕ) → max (a - n) (b - n) ≡ max a b - n
+      step a b = omega arith
+
+  -- from nothing on, where there are some
+  pub more_of_all : (xs : List ℕ) → 0 < length xs → fold max 0 (map (λ x. x + n) xs) ≡ fold max 0 xs + n
+  more_of_all [] some = absurd (omega (arith, some))
+  more_of_all (x ∷ xs) some = ap (λ m. fold max m (map (λ y. y + n) xs)) (first (x + n)) ∙ most_more xs x ∙ ap (λ m. fold max m xs + n) (sym (first x))
+    where
+      first : (a : ℕ) → max 0 a ≡ a
+      first a = omega arith
+
+  pub less_of_all : (xs : List ℕ) → fold max 0 (map (λ x. x - n) xs) ≡ fold max 0 xs - n
+  less_of_all xs = ap (λ m. fold max m (map (λ y. y - n) xs)) nothing ∙ most_less xs 0
+    where
+      nothing : 0 ≡ 0 - n
+      nothing = omega arith
+
+  -- it is no more than any that is above each
+  pub most_within : (xs : List ℕ) (most : ℕ) → most + n < 2 ^ 64 → ((k : ℕ) → k < length xs → get_or xs k 0 + n < 2 ^ 64) → fold max most xs + n < 2 ^ 64
+  most_within [] most low each = low
+  most_within (x ∷ xs) most low each =
+      let here : x + n < 2 ^ 64 = each 0 (omega arith) in
+      most_within xs (max most x) (omega (arith, low, here)) (λ k below. each (suc k) (omega (arith, below)))
+
+  -- and no less than each
+  pub most_holds : (xs : List ℕ) (most : ℕ) → n ≤ most → n ≤ fold max most xs
+  most_holds [] most e = e
+  most_holds (x ∷ xs) most e = most_holds xs (max most x) (omega (arith, e))
+
+  pub most_of_some_holds : (xs : List ℕ) → 0 < length xs → ((k : ℕ) → k < length xs → n ≤ get_or xs k 0) → n ≤ fold max 0 xs
+  most_of_some_holds [] some each = absurd (omega (arith, some))
+  most_of_some_holds (x ∷ xs) some each = let here : n ≤ x = each 0 (omega arith) in most_holds xs (max 0 x) (omega (arith, here))
+
 -- sums to which a number came from hops, or from which it went
 pub record AreFor (op : ℕ → ℕ → ℕ) (before : Turned) (hops : List Hop) (pace : Pace) (number : ℕ) (after : Turned) : Type 0 where
   pub links : after.links ≡ before.links
@@ -408,66 +561,56 @@ module _ (op : ℕ → ℕ → ℕ) (nothing : (x : ℕ) → op x 0 ≡ x) (tree
   abbrev this : Hop
   this = get_or tree i none
 
-  abbrev from : ℕ
-  from = this.link * most_every
-
-  -- the sums of its link stand among the others
-  fits : from + most_every ≤ length now.sums
-  fits = omega (arith, low, whole, so_far.links)
-
-  -- and are as they were
+  -- the sums of its link are as they were
   as_before : (c : ℕ) → sum_on now this.link c ≡ sum_on before this.link c
   as_before c =
       so_far.each this.link c low
       ∙ ap (λ (b : Bool). op (sum_on before this.link c) (if b then number else 0)) (not_before tree i none inside apart pace c)
       ∙ nothing (sum_on before this.link c)
 
+  within : this.link < now.links
+  within = omega (arith, low, so_far.links)
+
   -- one hop more
-  for_next : (ys : List ℕ) → length ys ≡ most_every →
+  for_next : (ys : List ℕ) (long : length ys ≡ most_every) →
       ((c : ℕ) → c < most_every → get_or ys c 0 ≡ op (get_or (turns_at now this.link) c 0) (if is_turn pace this.depth c then number else 0)) →
-      AreFor op before (take (i + 1) tree) pace number (record { links = now.links; sums = take from now.sums ++ (ys ++ drop most_every (drop from now.sums)) })
+      AreFor op before (take (i + 1) tree) pace number (rewritten now this.link within whole ys long)
   for_next ys long done = record {
     links = so_far.links;
-    each = λ l cycle within. elim (cases_eq this.link l) [
+    each = λ l cycle low_l. elim (cases_eq this.link l) [
       | inl same ↦ subst (λ k. sum_on after k cycle ≡ op (sum_on before k cycle) (part_in (take (i + 1) tree) pace number k cycle)) same (at_link cycle)
       | inr other ↦
-          at_other l cycle other
-          ∙ so_far.each l cycle within
+          sum_there now this.link within whole ys long l cycle other
+          ∙ so_far.each l cycle low_l
           ∙ ap (λ (b : Bool). op (sum_on before l cycle) (if b then number else 0)) (sym (there_uses tree i none inside apart pace l cycle other))
     ];
   } where
     after : Turned
-    after = record { links = now.links; sums = take from now.sums ++ (ys ++ drop most_every (drop from now.sums)) }
+    after = rewritten now this.link within whole ys long
 
     -- the sums of its link
     at_link : (cycle : ℕ) → sum_on after this.link cycle ≡ op (sum_on before this.link cycle) (part_in (take (i + 1) tree) pace number this.link cycle)
     at_link cycle =
         let c = cycle % most_every in
         let below : c < most_every = mod-lt cycle (omega arith) in
-        inside_written now.sums ys from most_every fits long c below
+        sym (sum_again after this.link cycle)
+        ∙ sum_here now this.link within whole ys long c below
         ∙ done c below
         ∙ ap₂ (λ (x : ℕ) (b : Bool). op x (if b then number else 0))
         (turn_of_link now this.link c below ∙ sum_again now this.link cycle ∙ as_before cycle)
         (turn_again pace this.depth cycle good ∙ sym (here_uses tree i none inside apart pace cycle))
 
-    -- those of another
-    at_other : (l cycle : ℕ) → this.link ≢ l → sum_on after l cycle ≡ sum_on now l cycle
-    at_other l cycle other =
-        let c = cycle % most_every in
-        let below : c < most_every = mod-lt cycle (omega arith) in
-        elim (cases_lt l this.link) [
-          | inl less ↦ before_written now.sums ys from most_every fits long (l * most_every + c) (omega (arith, less, below))
-          | inr more ↦ behind_written now.sums ys from most_every fits long (l * most_every + c) (omega (arith, more, other, below))
-        ]
-
-  -- as a loop has it
-  pub hop_done : (ys : List ℕ) (place : ℕ) (given later : List ℕ) → place ≡ this.link → given ≡ now.sums →
+  -- as a loop has it, with the greatest sum
+  pub hop_done : (ys : List ℕ) (place : ℕ) (given later greatest : List ℕ) (most : ℕ) → place ≡ this.link → given ≡ now.sums →
       later ≡ take (place * 80) given ++ (ys ++ drop (place * 80 + 80 - place * 80) (drop (place * 80) given)) → length ys ≡ most_every →
       ((c : ℕ) → c < most_every → get_or ys c 0 ≡ op (get_or (turns_at now this.link) c 0) (if is_turn pace this.depth c then number else 0)) →
-      (length later ≡ now.links * most_every) × AreFor op before (take (i + 1) tree) pace number (record { links = now.links; sums = later })
-  hop_done ys place given later here same is long done =
-      let there : later ≡ written now.sums ys from most_every fits long = is ∙ written_part now.sums given ys place this.link here same in (
-        ap length there ∙ written_length now.sums ys from most_every fits long ∙ whole,
+      AreKept now greatest → most ≡ fold max 0 ys →
+      AreKept (record { links = now.links; sums = later }) (set greatest this.link most)
+      × AreFor op before (take (i + 1) tree) pace number (record { links = now.links; sums = later })
+  hop_done ys place given later greatest most here same is long done kept greatest_is =
+      let there : later ≡ wrote now this.link within whole ys long = is ∙ written_part now.sums given ys place this.link here same in (
+        subst (λ (xs : List ℕ). AreKept (record { links = now.links; sums = xs }) (set greatest this.link most)) (sym there)
+            (kept_on now this.link within whole ys long greatest most kept greatest_is),
         subst (λ (xs : List ℕ). AreFor op before (take (i + 1) tree) pace number (record { links = now.links; sums = xs })) (sym there) (for_next ys long done),
       )
 
@@ -506,26 +649,6 @@ most_of_turns turned l pace depth =
     ap (fold max 0) (same_below (λ turn. if is_turn pace depth turn then get_or (turns_at turned l) turn 0 ∷ [] else [])
     (λ cycle. if is_turn pace depth cycle then sum_on turned l cycle ∷ [] else []) most_every
     (λ c below. ap (λ (n : ℕ). if is_turn pace depth c then n ∷ [] else []) (turn_of_link turned l c below)))
-
--- the numbers of a list, one by one
-each_number : (xs : List ℕ) (n : ℕ) → n ≤ length xs → each_below (λ k. get_or xs k 0 ∷ []) n ≡ take n xs
-each_number xs zero few = refl
-each_number xs (suc n) few =
-    ap (λ (ys : List ℕ). ys ++ get_or xs n 0 ∷ []) (each_number xs n (omega (arith, few))) ∙ sym (take_more xs n 0 (omega (arith, few)))
-    ∙ ap (λ (k : ℕ). take k xs) next
-  where
-    -- one more is the next
-    next : n + 1 ≡ suc n
-    next = omega arith
-
--- the greatest of all sums of a link
-pub most_of_link : (turned : Turned) (l : ℕ) → length (turns_at turned l) ≡ most_every → fold max 0 (turns_at turned l) ≡ most_of turned l
-most_of_link turned l long =
-    ap (fold max 0)
-    (sym (take_all most_every (turns_at turned l) (omega (arith, long)))
-    ∙ sym (each_number (turns_at turned l) most_every (omega (arith, long)))
-    ∙ same_below (λ k. get_or (turns_at turned l) k 0 ∷ []) (λ cycle. sum_on turned l cycle ∷ []) most_every
-    (λ c below. ap (λ (n : ℕ). n ∷ []) (turn_of_link turned l c below)))
 
 -- which is that in the cycles of a stream without pauses
 pub most_of_each : (turned : Turned) (l : ℕ) (pace : Pace) (depth : ℕ) → pace.pause ≡ 0 → most_of turned l ≡ most_at turned l pace depth

@@ -63,6 +63,12 @@ most_at turned l pace depth =
 abbrev pub most_of : Turned → ℕ → ℕ
 most_of turned l = fold max 0 (each_below (λ cycle. sum_on turned l cycle ∷ []) most_every)
 
+-- sums as they are kept: of each link those of all cycles, and beside them the greatest of these
+pub record AreKept (turned : Turned) (greatest : List ℕ) : Type 0 where
+  pub whole : length turned.sums ≡ turned.links * most_every
+  pub as_many : length greatest ≡ turned.links
+  pub each : (l : ℕ) → l < turned.links → slice_index_or greatest l 0 ≡ most_of turned l
+
 -- ---- the sums of one link
 
 -- by cycle

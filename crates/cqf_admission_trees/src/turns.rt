@@ -65,44 +65,51 @@ fn take_from_some(turns: &mut [u64], first: usize, every: usize, number: u64)
     }
 }
 
-/// Adds a number to those of a link's sums in whose cycles frames of this pace are so deep on their way.
-fn add_to_turns(turns: &mut [u64], pace: Pace, depth: u8, number: u64)
+/// Adds a number to those of a link's sums in whose cycles frames of this pace are so deep on their way. What was the greatest sum is given,
+/// and what then is comes back.
+fn add_to_turns(turns: &mut [u64], most: u64, pace: Pace, depth: u8, number: u64) -> u64
     requires of_link { length turns.old ≡ most_every }
     requires good { most_every % (pace.pause + 1) ≡ 0 }
     requires room { HaveRoomIn (λ turn. is_turn pace depth turn) turns.old number }
-    ensures { AreMoreWhere (λ turn. is_turn pace depth turn) turns.old number turns.new }
+    requires most { most ≡ fold max 0 turns.old }
+    ensures turns { AreMoreWhere (λ turn. is_turn pace depth turn) turns.old number turns.new }
+    ensures most { result ≡ fold max 0 turns.new }
 {
     if pace.pause == 0 {
         add_to_each(turns, number);
-    } else {
-        let every = usize::from(pace.pause) + 1;
-        add_to_some(
-            turns,
-            (usize::from(pace.phase) + usize::from(depth)) % every,
-            every,
-            number,
-        );
+        return most + number;
     }
+    let every = usize::from(pace.pause) + 1;
+    add_to_some(
+        turns,
+        (usize::from(pace.phase) + usize::from(depth)) % every,
+        every,
+        number,
+    );
+    most_of_all(turns)
 }
 
-/// Takes a number from these.
-fn take_from_turns(turns: &mut [u64], pace: Pace, depth: u8, number: u64)
+/// Takes a number from these, likewise.
+fn take_from_turns(turns: &mut [u64], most: u64, pace: Pace, depth: u8, number: u64) -> u64
     requires of_link { length turns.old ≡ most_every }
     requires good { most_every % (pace.pause + 1) ≡ 0 }
     requires held { HaveIn (λ turn. is_turn pace depth turn) turns.old number }
-    ensures { AreLessWhere (λ turn. is_turn pace depth turn) turns.old number turns.new }
+    requires most { most ≡ fold max 0 turns.old }
+    ensures turns { AreLessWhere (λ turn. is_turn pace depth turn) turns.old number turns.new }
+    ensures most { result ≡ fold max 0 turns.new }
 {
     if pace.pause == 0 {
         take_from_each(turns, number);
-    } else {
-        let every = usize::from(pace.pause) + 1;
-        take_from_some(
-            turns,
-            (usize::from(pace.phase) + usize::from(depth)) % every,
-            every,
-            number,
-        );
+        return most - number;
     }
+    let every = usize::from(pace.pause) + 1;
+    take_from_some(
+        turns,
+        (usize::from(pace.phase) + usize::from(depth)) % every,
+        every,
+        number,
+    );
+    most_of_all(turns)
 }
 
 /// The greatest of some sums.
@@ -138,18 +145,18 @@ pub struct Sums {
     links: usize,
     /// Link by link, and of each by its cycle.
     sums: Vec<u64>,
+    /// The greatest of each link's, which a stream without pauses asks for and moves with no look at the others.
+    greatest: Vec<u64>,
 }
 
 impl Model for Sums {
-    ghost use Rattle.std.specs.Prelude.{◌≡◌, ◌*◌, length};
-    ghost use Rattle.cqf_model.specs.Limits.{most_every};
-    ghost use Rattle.cqf_admission_trees.specs.Turns.{Turned};
+    ghost use Rattle.cqf_admission_trees.specs.Turns.{AreKept, Turned};
 
     ghost Value = { Turned };
 
     ghost view = { λ s. record { links = s.links; sums = s.sums.items } };
 
-    ghost invariant = { λ s. length s.sums.items ≡ s.links * most_every };
+    ghost invariant = { λ s. AreKept (record { links = s.links; sums = s.sums.items }) s.greatest.items };
 }
 
 impl Sums {
@@ -157,10 +164,11 @@ impl Sums {
     pub fn new(alloc: Global, links: u16) -> Result<Sums, Memory>
         ensures { IfOk result (λ sums. AreNone sums links) }
     {
-        let sums = vec![in alloc; 0; usize::from(links) * TURNS]?;
+        let links = usize::from(links);
         Ok(Sums {
-            links: usize::from(links),
-            sums,
+            links,
+            sums: vec![in alloc; 0; links * TURNS]?,
+            greatest: vec![in alloc; 0; links]?,
         })
     }
 
@@ -175,9 +183,11 @@ impl Sums {
     {
         let number = u64::from(number);
         for hop in tree {
-            let first = usize::from(hop.link) * TURNS;
-            add_to_turns(
+            let link = usize::from(hop.link);
+            let first = link * TURNS;
+            self.greatest[link] = add_to_turns(
                 &mut self.sums[first..first + TURNS],
+                self.greatest[link],
                 pace,
                 hop.depth,
                 number,
@@ -195,9 +205,11 @@ impl Sums {
     {
         let number = u64::from(number);
         for hop in tree {
-            let first = usize::from(hop.link) * TURNS;
-            take_from_turns(
+            let link = usize::from(hop.link);
+            let first = link * TURNS;
+            self.greatest[link] = take_from_turns(
                 &mut self.sums[first..first + TURNS],
+                self.greatest[link],
                 pace,
                 hop.depth,
                 number,
@@ -221,13 +233,12 @@ impl Sums {
         requires good { most_every % (pace.pause + 1) ≡ 0 }
         ensures { result ≡ most_at self.now hop.now.link pace hop.now.depth }
     {
-        let turns = self.turns_of(hop.link);
         if pace.pause == 0 {
-            return most_of_all(turns);
+            return self.most_of(hop.link);
         }
         let every = usize::from(pace.pause) + 1;
         most_of_some(
-            turns,
+            self.turns_of(hop.link),
             (usize::from(pace.phase) + usize::from(hop.depth)) % every,
             every,
         )
@@ -238,7 +249,7 @@ impl Sums {
         requires { link < self.now.links }
         ensures { result ≡ most_of self.now link }
     {
-        most_of_all(self.turns_of(link))
+        self.greatest[usize::from(link)]
     }
 
     /// The same sums again, unless memory runs out.
@@ -248,6 +259,7 @@ impl Sums {
         Ok(Sums {
             links: self.links,
             sums: Vec::from_slice(alloc, self.sums.as_slice())?,
+            greatest: Vec::from_slice(alloc, self.greatest.as_slice())?,
         })
     }
 }

@@ -33,7 +33,7 @@ use Rattle.cqf_bridge.specs.Batch.{LinkBatch}
 use Rattle.cqf_bridge.specs.BridgeState.{BridgeState, IsBridge, end_of_cycle}
 use Rattle.cqf_bridge_gates.specs.Gates.{AreKept, HaveCounted, counted_in, gate_in}
 use Rattle.cqf_bridge.specs.PortRecord.{PortRecord, rules_on, with_frames}
-use Rattle.cqf_bridge.specs.Receiving.{IsFirstOver, MayCome, port_queued, verdicts_in}
+use Rattle.cqf_bridge.specs.Receiving.{IsFirstOver, MayCome, links_into, port_queued, verdicts_in}
 use Rattle.cqf_model.specs.Limits.{end_of_starts}
 
 -- a batch is of the cycle, and each of its frames may come by its link
@@ -197,3 +197,8 @@ IsFaultInRun run bridge cycle batches fault = IsFaultByPoliced (verdicts_in run 
 pub record HasGates (b : BridgeState) (gates : List KeptGate) : Type 0 where
   pub bridge : IsBridge b
   pub gates_kept : b.spent ≡ false → AreKept b.received gates
+
+-- what a bridge keeps beside what its callers see of it: its gates, and the links that end in it, by number
+pub record IsKept (b : BridgeState) (gates : List KeptGate) (incoming : List ℕ) : Type 0 where
+  pub has_gates : HasGates b gates
+  pub entering : incoming ≡ links_into b.domain b.number

@@ -7,7 +7,7 @@ ghost use Rattle.cqf_bridge.specs.Quiet.{IsNextAt, MayPass, passed};
 ghost use Rattle.cqf_bridge.specs.Receiving.{CanReceive, IsReceiveFault, IsRunOfBridge, ReceivesCycle};
 ghost use Rattle.cqf_model.specs.Limits.{most_cycles};
 
-use crate::checking::are_batches;
+use crate::checking::{are_batches, links_into};
 use crate::outgoing::Outgoing;
 use crate::phases::{ReceivePhase, TransmitPhase};
 use crate::quiet::rest_ports;
@@ -29,6 +29,8 @@ use std::marker::Model;
 pub struct Bridge {
     domain: Domain,
     number: u16,
+    /// The links that end in it, by number.
+    incoming: Vec<u16>,
     /// How many cycles it has sent, and received.
     sent: u32,
     received: u32,
@@ -43,7 +45,7 @@ pub struct Bridge {
 
 impl Model for Bridge {
     ghost use Rattle.cqf_bridge.specs.BridgeState.{BridgeState};
-    ghost use Rattle.cqf_bridge.specs.Taking.{HasGates};
+    ghost use Rattle.cqf_bridge.specs.Taking.{IsKept};
 
     ghost Value = { BridgeState };
 
@@ -57,7 +59,7 @@ impl Model for Bridge {
       background = b.background.items;
     } };
 
-    ghost invariant = { λ b. HasGates (record {
+    ghost invariant = { λ b. IsKept (record {
       domain = b.domain;
       number = b.number;
       sent = b.sent;
@@ -65,7 +67,7 @@ impl Model for Bridge {
       spent = b.spent;
       ports = b.ports.items;
       background = b.background.items;
-    }) b.gates };
+    }) b.gates b.incoming.items };
 }
 
 /// The ports of the links that leave a bridge, by number of link.
@@ -87,9 +89,11 @@ impl Bridge {
         requires { number < length plan.now.bridges }
         ensures { IfOk result (λ bridge. bridge ≡ new_bridge plan.now number) }
     {
+        let incoming = links_into(alloc, plan.domain(), number)?;
         Ok(Bridge {
             domain: plan.domain().try_copy(alloc)?,
             number,
+            incoming,
             sent: 0,
             received: 0,
             spent: false,
@@ -194,7 +198,8 @@ impl Bridge {
         if cycle.0 != self.received || self.sent == self.received || table.cycle().0 != cycle.0 {
             return Err(BridgeFault::WrongCycle);
         }
-        if !are_batches(&self.domain, self.number, cycle, table, batches) {
+        let incoming = self.incoming.as_slice();
+        if !are_batches(&self.domain, self.number, incoming, cycle, table, batches) {
             return Err(BridgeFault::StrangeBatch);
         }
         let phase = ReceivePhase {

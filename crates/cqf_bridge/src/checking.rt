@@ -1,5 +1,5 @@
 //! Whether batches are those of a bridge in a cycle. It takes no memory.
-ghost use Rattle.std.specs.Prelude.{◌≡◌, ◌*◌, ◌<◌, ◌==◌, ◌&&◌, false, length, map, true};
+ghost use Rattle.std.specs.Prelude.{◌≡◌, ◌*◌, ◌<◌, ◌==◌, ◌&&◌, false, IfOk, length, map, true};
 ghost use Rattle.std.specs.List.{list_any};
 ghost use Rattle.cqf_model.specs.Domain.{cycle_of, enters, leaves};
 ghost use Rattle.cqf_model.specs.Table.{goes_on, same_way};
@@ -15,7 +15,8 @@ use arrayvec::ArrayVec;
 use cqf_admission::Table;
 use cqf_model::{Hop, Node, Row, Sent};
 use cqf_topology::Domain;
-use cqf_units::{Cycle, Nanos, Octets};
+use cqf_units::{Cycle, Memory, Nanos, Octets};
+use std::alloc::Global;
 
 /// Whether a frame goes on by a hop from the way that it came, and the hop's link leaves the bridge.
 pub fn leads_by(domain: &Domain, hop: &Hop, way: Option<u16>, bridge: u16) -> bool
@@ -132,6 +133,14 @@ pub fn incoming_links(domain: &Domain, number: u16) -> ArrayVec<u16, 4096>
     links
 }
 
+/// The same on the heap. `Memory` where a growth is refused.
+pub(crate) fn links_into(alloc: Global, domain: &Domain, number: u16) -> Result<Vec<u16>, Memory>
+    ensures { IfOk result (λ links. links.items ≡ links_into domain.now number) }
+{
+    let links = incoming_links(domain, number);
+    Vec::from_slice(alloc, links.as_slice())
+}
+
 /// Whether batches are of these links, one for each, in this order.
 fn are_of_links(batches: &[Batch], links: &[u16]) -> bool
     ensures yes { result ≡ true → map (λ (b : LinkBatch). b.link) batches.now ≡ links.now }
@@ -148,21 +157,22 @@ fn are_of_links(batches: &[Batch], links: &[u16]) -> bool
     true
 }
 
-/// Whether batches are those of a bridge in a cycle: one for each link that ends in it, by number, each of the cycle and of
+/// Whether batches are those of a bridge in a cycle: one for each of the links that end in it, by number, each of the cycle and of
 /// frames that may come.
 pub(crate) fn are_batches(
     domain: &Domain,
     number: u16,
+    incoming: &[u16],
     cycle: Cycle,
     table: &Table,
     batches: &[Batch],
 ) -> bool
+    requires incoming { incoming.now ≡ links_into domain.now number }
     requires early { cycle.0 < most_cycles }
     ensures yes { result ≡ true → AreBatchesOf domain.now number cycle.0 table.now.rows batches.now }
     ensures no { result ≡ false → ¬ AreBatchesOf domain.now number cycle.0 table.now.rows batches.now }
 {
-    let links = incoming_links(domain, number);
-    if !are_of_links(batches, links.as_slice()) {
+    if !are_of_links(batches, incoming) {
         return false;
     }
     for batch in batches {

@@ -1,6 +1,6 @@
 -- The limits of a run and of what it reads (profile): those that are fixed, the bounds up to which plants are represented, and
 -- those that are set for a plant.
-use Rattle.std.specs.Prelude.{ℕ, ◌*◌, min}
+use Rattle.std.specs.Prelude.{ℕ, ◌*◌, Bool, true, false, min}
 use Rattle.cqf_model.specs.declared.limits.Limits.{Limits}
 
 -- the most cycles of a run, which are the most Seals of a history
@@ -70,6 +70,23 @@ most_rows = 16777215
 -- the limits that a plant has where none are set
 abbrev pub profile : Limits
 profile = record { bridges = 32; stations = 64; links = 64; nodes = 17; hops = 64; streams = 1024; rows = 1000000 }
+
+-- those of large plants: what is represented, but of rows, which have to be few enough to be kept
+abbrev pub large : Limits
+large = record {
+  bridges = most_bridges;
+  stations = most_stations;
+  links = most_links;
+  nodes = most_nodes;
+  hops = most_hops;
+  streams = most_streams;
+  rows = 10000000;
+}
+
+-- the limits of a plant that is said to be large, or isn't
+abbrev pub limits_where : Bool → Limits
+limits_where true = large
+limits_where false = profile
 
 -- how many there may be: as many as are set, and no more than are represented
 abbrev pub bridges_within : Limits → ℕ

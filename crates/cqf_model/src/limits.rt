@@ -3,6 +3,7 @@
 ghost use Rattle.std.specs.Prelude.{◌≡◌};
 ghost use Rattle.cqf_model.specs.Limits.{
   profile,
+  limits_where,
   bridges_within,
   stations_within,
   links_within,
@@ -84,7 +85,7 @@ pub const PROFILE: Limits = Limits {
     rows: 1_000_000,
 };
 
-/// The limits of large plants: what is represented.
+/// The limits of large plants: what is represented, but of rows.
 pub const LARGE: Limits = Limits {
     bridges: MOST_BRIDGES,
     stations: MOST_STATIONS,
@@ -101,6 +102,13 @@ impl Limits {
         ensures { result ≡ profile }
     {
         PROFILE
+    }
+
+    /// The limits of a plant that is said to be large, or isn't.
+    pub fn where_large(is_large: bool) -> Limits
+        ensures { result ≡ limits_where is_large }
+    {
+        if is_large { LARGE } else { PROFILE }
     }
 
     /// How many bridges a domain may have: as many as are set, and no more than are represented.

@@ -4,7 +4,7 @@ use crate::trees::Tree;
 use cqf_units::{Cycle, Name, Rate};
 
 /// A node of a domain, by its number among the bridges or among the stations.
-#[derive(Clone, Copy, Debug, PartialEq, Eq)]
+#[derive(Clone, Copy, Debug, PartialEq, Eq, Hash)]
 pub enum Node {
     Bridge(u16),
     Station(u16),

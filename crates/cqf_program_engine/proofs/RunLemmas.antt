@@ -1,22 +1,23 @@
 -- From what each step of a run says to what the run comes to.
 use Rattle.std.proofs.Common.{◌≡◌, ◌≢◌, ◌⊎◌, ◌≤◌, ◌<◌, ◌∙◌, ℕ, List, [], ◌∷◌, Bool, true, false, Option, Some}
-use Rattle.std.proofs.Common.{None, length, arith, codes, inl, inr, sym, subst, refl}
+use Rattle.std.proofs.Common.{None, length, arith, codes, inl, inr, sym, subst, subst₂, refl}
 use Rattle.std.specs.Str.{IsUtf8}
 use Rattle.std.specs.declared.io.ErrorKind.{ErrorKind}
 use Rattle.std.specs.Io.KnownBytes.{IsAtEnd}
 use Rattle.std.proofs.Math.Logic.{∥∥₁_elim}
+use Rattle.cqf_model.specs.declared.limits.Limits.{Limits}
 use Rattle.cqf_program_stop.specs.Stops.{EndsWith, line_of}
 use Rattle.clap.specs.Words.{Row, Text, first_of, subcommand_of}
 use Rattle.cqf_program_words.specs.Shown.{EndsShown, ShowsLine, ShowsWords, is_shown_whole, no_command}
-use Rattle.cqf_program_words.specs.Words.{EndsWords, IsJob, IsJobOf, IsNumberIn, Mean, cqf_app}
+use Rattle.cqf_program_words.specs.Words.{EndsWords, IsJob, IsJobOf, IsNumberIn, Mean, app_for, limits_of}
 use Rattle.cqf_program_engine.specs.Edge.{IsHeard, Marks, Reading}
 use Rattle.cqf_program_press.specs.Edge.{Writing}
 use Rattle.cqf_program_press.specs.Kinds.{NoKind, SomeKind}
 use Rattle.cqf_program_engine.specs.Run.{first_line, input_of, version_line, words_of, AskForVersion, Ends}
 use Rattle.cqf_program_engine.specs.Run.{EndsByStatus, EndsFaulty, EndsInput, EndsRead, HandsOver, HasCause, HasFault}
-use Rattle.cqf_program_engine.specs.Run.{HasRun, HasWords, most_line, IsBehindWords, IsEnd, IsFailure, IsOutput}
+use Rattle.cqf_program_engine.specs.Run.{HasRun, HasWords, most_line, IsBehindWords, IsDone, IsEnd, IsFailure, IsOutput}
 use Rattle.cqf_program_engine.specs.Run.{IsFailedRun, IsMisuse, IsRefusedRun, TellsCandidates}
-use Rattle.cqf_program_engine.specs.Run.{IsRefusal, IsStopped, StopsWithAnswer, IsToldOutput, IsTooLongInput, IsWithin}
+use Rattle.cqf_program_engine.specs.Run.{IsRefusal, IsStopped, StopsWithAnswer, IsToldOutput, IsTooLong, IsWithin, most_bytes}
 use Rattle.cqf_program_engine.specs.Run.{FaultIsOfThreads, FaultIsOfThreadsOrOutput, TellsStop, TellsFaultAlone}
 use Rattle.cqf_program_threads.specs.ThreadsOutput.{EndsThreads, IsThreadsOutput}
 use Rattle.cqf_program_press.proofs.EdgeLemmas.{Appends-whole}
@@ -57,7 +58,7 @@ no_words_ask (inl same) = (cc)
 no_words_ask (inr same) = (cc)
 
 -- words of the first line that mean no job stop it too
-pub HasCause-by_line : (bytes : List ℕ) (stop : Stop) → length bytes ≤ 67108864 → HasWords bytes → EndsWords (words_of [] bytes) stop
+pub HasCause-by_line : (bytes : List ℕ) (stop : Stop) → length bytes ≤ most_bytes [] → HasWords bytes → EndsWords (words_of [] bytes) stop
     → ShowsLine (first_line bytes) stop → (is_shown_whole (first_line bytes) ≡ true → TellsCandidates (words_of [] bytes) stop) → HasCause [] bytes stop
 HasCause-by_line bytes stop short text e shows tells = elim e.statuses [
   | inl zero_is ↦ inl (zero_is, inl (e.help zero_is))
@@ -74,7 +75,7 @@ TellsCandidates-of {line} {first} {words} {taken} stop same_line same_words tell
     (subst (λ (those : List (List ℕ)). is_shown_whole line ≡ true → TellsCandidates those stop) same_words tells)
 
 -- a first line that isn't text stops it
-pub HasCause-by_bytes : (bytes : List ℕ) (stop : Stop) → length bytes ≤ 67108864 → ¬ IsUtf8 (first_line bytes)
+pub HasCause-by_bytes : (bytes : List ℕ) (stop : Stop) → length bytes ≤ most_bytes [] → ¬ IsUtf8 (first_line bytes)
     → EndsWith 2 (line_of (codes "cqf: words")) stop → HasCause [] bytes stop
 HasCause-by_bytes bytes stop short no_text e = elim e.statuses [
   | inl two ↦ inr (inr (inl (record { status = two; short = λ none. short; cause = inl (refl, no_text, e.line_is two) })))
@@ -82,7 +83,7 @@ HasCause-by_bytes bytes stop short no_text e = elim e.statuses [
 ]
 
 -- one that is too long to have words stops it
-pub HasCause-by_length : (bytes : List ℕ) (stop : Stop) → length bytes ≤ 67108864 → most_line < length (first_line bytes) → EndsShown no_command stop
+pub HasCause-by_length : (bytes : List ℕ) (stop : Stop) → length bytes ≤ most_bytes [] → most_line < length (first_line bytes) → EndsShown no_command stop
     → HasCause [] bytes stop
 HasCause-by_length bytes stop short long e = elim e.statuses [
   | inl two ↦ inr (inr (inl (record { status = two; short = λ none. short; cause = inr (inl (refl, long, e.shows two)) })))
@@ -94,25 +95,25 @@ pub HasCause-by_memory : (words : List (List ℕ)) (bytes : List ℕ) (stop : St
 HasCause-by_memory words bytes stop three none = inr (inr (inr (inl (three, none))))
 
 -- a read that was broken off ends the input
-pub EndsInput-broken : (input : Reading) (before : Bool) (cause : Broken) (stop : Stop) → Marks before input.failed cause → EndsRead cause stop
-    → EndsInput input stop
-EndsInput-broken input before Memory stop marks ended = inr (inr ended)
-EndsInput-broken input before Fault stop marks ended = elim ended.statuses [
+pub EndsInput-broken : (most : ℕ) (input : Reading) (before : Bool) (cause : Broken) (stop : Stop) → Marks before input.failed cause → EndsRead cause stop
+    → EndsInput most input stop
+EndsInput-broken most input before Memory stop marks ended = inr (inr ended)
+EndsInput-broken most input before Fault stop marks ended = elim ended.statuses [
   | inl four ↦ inr (inl (four, record { failed = marks; line = ended.line_is four }))
   | inr three ↦ inr (inr (three, ended.memory three))
 ]
 
--- more bytes than the program reads end it
-pub EndsInput-long : (input : Reading) (stop : Stop) → IsTooLongInput input.bytes → input.failed ≡ false →
+-- more bytes than so many end it
+pub EndsInput-long : (most : ℕ) (input : Reading) (stop : Stop) → IsTooLong most input.bytes → input.failed ≡ false →
     EndsWith 1 (line_of (codes "cqf: input too long")) stop
-    → EndsInput input stop
-EndsInput-long input stop long sound ended = elim ended.statuses [
+    → EndsInput most input stop
+EndsInput-long most input stop long sound ended = elim ended.statuses [
   | inl one ↦ inl (one, record { long = long; sound = sound; line = ended.line_is one })
   | inr three ↦ inr (inr (three, ended.memory three))
 ]
 
 -- a read that ends before the input does stops it
-pub IsStopped-by_input : (words : List (List ℕ)) (input : Reading) (stop : Stop) → EndsInput input stop → (words ≢ [] → (job : Job) × Mean words job)
+pub IsStopped-by_input : (words : List (List ℕ)) (input : Reading) (stop : Stop) → EndsInput (most_bytes words) input stop → (words ≢ [] → (job : Job) × Mean words job)
     → IsStopped words input stop
 IsStopped-by_input words input stop (inl e) means =
     let refused : IsRefusedRun words input.bytes stop = record { status = e.0; length_first = inl (e.1.long, e.1.line, means) } in
@@ -132,100 +133,128 @@ IsStopped-by_cause words input stop sound at_end (inr (inr (inr (inl e)))) = inr
 IsStopped-by_cause words input stop sound at_end (inr (inr (inr (inr e)))) = inr (inr (inr (inr (e.0, inr (sound, at_end, e.1)))))
 
 -- a refused input has status 1 or 3
-refusal_statuses : (job : Job) (input : List ℕ) (stop : Stop) → IsRefusal job input stop → (stop.status ≡ 1) ⊎ (stop.status ≡ 3)
-refusal_statuses (Port until rate) input stop h = h.statuses
-refusal_statuses (Line cycles) input stop h = h.statuses
-refusal_statuses (Compile format) input stop h = h.statuses
-refusal_statuses Load input stop h = h.statuses
-refusal_statuses (Latency strict) input stop h = h.statuses
-refusal_statuses (Run cycles threads) input stop h = h.statuses
-refusal_statuses (Report cycles) input stop h = h.statuses
-refusal_statuses (Deliveries cycles) input stop h = h.statuses
-refusal_statuses (Check cycles) input stop h = h.statuses
-refusal_statuses (Summary cycles) input stop h = h.statuses
-refusal_statuses (Offers cycles seed) input stop h = h.statuses
-refusal_statuses (Hops cycles stream frame) input stop h = h.statuses
-refusal_statuses (Plan table given) input stop h = h.statuses
+refusal_statuses : (limits : Limits) (job : Job) (input : List ℕ) (stop : Stop) → IsRefusal limits job input stop → (stop.status ≡ 1) ⊎ (stop.status ≡ 3)
+refusal_statuses limits (Port until rate) input stop h = h.statuses
+refusal_statuses limits (Line cycles) input stop h = h.statuses
+refusal_statuses limits (Compile format) input stop h = h.statuses
+refusal_statuses limits Load input stop h = h.statuses
+refusal_statuses limits (Latency strict) input stop h = h.statuses
+refusal_statuses limits (Run cycles threads) input stop h = h.statuses
+refusal_statuses limits (Report cycles) input stop h = h.statuses
+refusal_statuses limits (Deliveries cycles) input stop h = h.statuses
+refusal_statuses limits (Check cycles) input stop h = h.statuses
+refusal_statuses limits (Summary cycles) input stop h = h.statuses
+refusal_statuses limits (Offers cycles seed) input stop h = h.statuses
+refusal_statuses limits (Hops cycles stream frame) input stop h = h.statuses
+refusal_statuses limits (Plan table given) input stop h = h.statuses
 
 -- a refused input with status 3 is told with no text
-refusal_memory : (job : Job) (input : List ℕ) (stop : Stop) → IsRefusal job input stop → stop.status ≡ 3 → stop.text.items ≡ []
-refusal_memory (Port until rate) input stop h = h.memory
-refusal_memory (Line cycles) input stop h = h.memory
-refusal_memory (Compile format) input stop h = h.memory
-refusal_memory Load input stop h = h.memory
-refusal_memory (Latency strict) input stop h = h.memory
-refusal_memory (Run cycles threads) input stop h = h.memory
-refusal_memory (Report cycles) input stop h = h.memory
-refusal_memory (Deliveries cycles) input stop h = h.memory
-refusal_memory (Check cycles) input stop h = h.memory
-refusal_memory (Summary cycles) input stop h = h.memory
-refusal_memory (Offers cycles seed) input stop h = h.memory
-refusal_memory (Hops cycles stream frame) input stop h = h.memory
-refusal_memory (Plan table given) input stop h = h.memory
+refusal_memory : (limits : Limits) (job : Job) (input : List ℕ) (stop : Stop) → IsRefusal limits job input stop → stop.status ≡ 3 → stop.text.items ≡ []
+refusal_memory limits (Port until rate) input stop h = h.memory
+refusal_memory limits (Line cycles) input stop h = h.memory
+refusal_memory limits (Compile format) input stop h = h.memory
+refusal_memory limits Load input stop h = h.memory
+refusal_memory limits (Latency strict) input stop h = h.memory
+refusal_memory limits (Run cycles threads) input stop h = h.memory
+refusal_memory limits (Report cycles) input stop h = h.memory
+refusal_memory limits (Deliveries cycles) input stop h = h.memory
+refusal_memory limits (Check cycles) input stop h = h.memory
+refusal_memory limits (Summary cycles) input stop h = h.memory
+refusal_memory limits (Offers cycles seed) input stop h = h.memory
+refusal_memory limits (Hops cycles stream frame) input stop h = h.memory
+refusal_memory limits (Plan table given) input stop h = h.memory
 
 -- a job that fails has status 4
-failure_status : (job : Job) (input : List ℕ) (stop : Stop) → IsFailure job input stop → stop.status ≡ 4
-failure_status (Port until rate) input stop h = absurd h
-failure_status (Line cycles) input stop h = absurd h
-failure_status (Compile format) input stop h = absurd h
-failure_status Load input stop h = absurd h
-failure_status (Latency strict) input stop h = absurd h
-failure_status (Run cycles true) input stop h = h.0
-failure_status (Run cycles false) input stop h = absurd h
-failure_status (Report cycles) input stop h = absurd h
-failure_status (Deliveries cycles) input stop h = absurd h
-failure_status (Check cycles) input stop h = absurd h
-failure_status (Summary cycles) input stop h = absurd h
-failure_status (Offers cycles seed) input stop h = absurd h
-failure_status (Hops cycles stream frame) input stop h = absurd h
-failure_status (Plan table given) input stop h = absurd h
+failure_status : (limits : Limits) (job : Job) (input : List ℕ) (stop : Stop) → IsFailure limits job input stop → stop.status ≡ 4
+failure_status limits (Port until rate) input stop h = absurd h
+failure_status limits (Line cycles) input stop h = absurd h
+failure_status limits (Compile format) input stop h = absurd h
+failure_status limits Load input stop h = absurd h
+failure_status limits (Latency strict) input stop h = absurd h
+failure_status limits (Run cycles true) input stop h = h.0
+failure_status limits (Run cycles false) input stop h = absurd h
+failure_status limits (Report cycles) input stop h = absurd h
+failure_status limits (Deliveries cycles) input stop h = absurd h
+failure_status limits (Check cycles) input stop h = absurd h
+failure_status limits (Summary cycles) input stop h = absurd h
+failure_status limits (Offers cycles seed) input stop h = absurd h
+failure_status limits (Hops cycles stream frame) input stop h = absurd h
+failure_status limits (Plan table given) input stop h = absurd h
 
 -- the end of a run on threads is that of its job
-pub IsEnd-threads : (cycles : ℕ) (job : Job) (input : List ℕ) (stop : Stop) → job ≡ Run cycles true → EndsThreads cycles input stop → IsEnd job input stop
-IsEnd-threads cycles job input stop same e =
-    let of_run : IsEnd (Run cycles true) input stop = elim e.statuses [
+pub IsEnd-threads : (limits : Limits) (cycles : ℕ) (job : Job) (input : List ℕ) (stop : Stop) → job ≡ Run cycles true →
+    EndsThreads limits cycles input stop → IsEnd limits job input stop
+IsEnd-threads limits cycles job input stop same e =
+    let of_run : IsEnd limits (Run cycles true) input stop = elim e.statuses [
       | inl one ↦ inl (record { statuses = inl one; line = e.refused; memory = e.memory })
       | inr other ↦ elim other [
         | inl three ↦ inl (record { statuses = inr three; line = e.refused; memory = e.memory })
         | inr four ↦ inr (four, e.fault four)
       ]
     ] in
-    subst (λ (j : Job). IsEnd j input stop) (sym same) of_run
+    subst (λ (j : Job). IsEnd limits j input stop) (sym same) of_run
 
 -- its output is that of its job
-pub IsOutput-threads : (cycles : ℕ) (job : Job) (input output : List ℕ) → job ≡ Run cycles true → IsThreadsOutput cycles input output →
-    IsOutput job input output
-IsOutput-threads cycles job input output same h = subst (λ (j : Job). IsOutput j input output) (sym same) h
+pub IsOutput-threads : (limits : Limits) (cycles : ℕ) (job : Job) (input output : List ℕ) → job ≡ Run cycles true →
+    IsThreadsOutput limits cycles input output → IsOutput limits job input output
+IsOutput-threads limits cycles job input output same h = subst (λ (j : Job). IsOutput limits j input output) (sym same) h
 
 -- its number of cycles is within its limit
 pub threads_within : (cycles : ℕ) (job : Job) → job ≡ Run cycles true → IsWithin job → cycles ≤ 100000
 threads_within cycles job same h = subst (λ (j : Job). IsWithin j) same h
 
 -- an input that is refused stops it
-HasCause-by_refusal : (words : List (List ℕ)) (bytes : List ℕ) (job : Job) (stop : Stop) → length bytes ≤ 67108864
-    → (words ≡ [] → HasWords bytes) → Mean (words_of words bytes) job → IsRefusal job (input_of words bytes) stop → HasCause words bytes stop
-HasCause-by_refusal words bytes job stop short text means h = elim (refusal_statuses job (input_of words bytes) stop h) [
+HasCause-by_refusal : (words : List (List ℕ)) (bytes : List ℕ) (job : Job) (stop : Stop) → length bytes ≤ most_bytes words
+    → (words ≡ [] → HasWords bytes) → Mean (words_of words bytes) job → IsRefusal (limits_of (words_of words bytes)) job (input_of words bytes) stop
+    → HasCause words bytes stop
+HasCause-by_refusal words bytes job stop short text means h = elim (refusal_statuses (limits_of (words_of words bytes)) job (input_of words bytes) stop h) [
   | inl one ↦ inr (inl (record { status = one; length_first = inr (short, text, (job, means, h)) }))
-  | inr three ↦ HasCause-by_memory words bytes stop three (refusal_memory job (input_of words bytes) stop h three)
+  | inr three ↦ HasCause-by_memory words bytes stop three (refusal_memory (limits_of (words_of words bytes)) job (input_of words bytes) stop h three)
 ]
 
 -- a job that fails stops it
-HasCause-by_failure : (words : List (List ℕ)) (bytes : List ℕ) (job : Job) (stop : Stop) → length bytes ≤ 67108864
-    → (words ≡ [] → HasWords bytes) → Mean (words_of words bytes) job → IsFailure job (input_of words bytes) stop → HasCause words bytes stop
+HasCause-by_failure : (words : List (List ℕ)) (bytes : List ℕ) (job : Job) (stop : Stop) → length bytes ≤ most_bytes words
+    → (words ≡ [] → HasWords bytes) → Mean (words_of words bytes) job → IsFailure (limits_of (words_of words bytes)) job (input_of words bytes) stop
+    → HasCause words bytes stop
 HasCause-by_failure words bytes job stop short text means h =
     let failed : IsFailedRun words bytes stop = record { short = short; text = text; job = job; means = means; fails = h } in
-    inr (inr (inr (inr (failure_status job (input_of words bytes) stop h, failed))))
+    inr (inr (inr (inr (failure_status (limits_of (words_of words bytes)) job (input_of words bytes) stop h, failed))))
 
 -- a job that ends without its output stops it
-pub HasCause-by_end : (words : List (List ℕ)) (bytes : List ℕ) (job : Job) (stop : Stop) → length bytes ≤ 67108864
-    → (words ≡ [] → HasWords bytes) → Mean (words_of words bytes) job → IsEnd job (input_of words bytes) stop → HasCause words bytes stop
+pub HasCause-by_end : (words : List (List ℕ)) (bytes : List ℕ) (job : Job) (stop : Stop) → length bytes ≤ most_bytes words
+    → (words ≡ [] → HasWords bytes) → Mean (words_of words bytes) job → IsEnd (limits_of (words_of words bytes)) job (input_of words bytes) stop
+    → HasCause words bytes stop
 HasCause-by_end words bytes job stop short text means (inl h) = HasCause-by_refusal words bytes job stop short text means h
 HasCause-by_end words bytes job stop short text means (inr h) = HasCause-by_failure words bytes job stop short text means h
+
+-- a run of the words that the first line has is done: of these, of their limits and of what stands behind the line by their other names
+pub IsDone-by_line : (bytes rest output : List ℕ) (words : List (List ℕ)) (limits : Limits) (job : Job) → length bytes ≤ most_bytes [] → HasWords bytes
+    → words ≡ words_of [] bytes → limits ≡ limits_of (words_of [] bytes) → rest ≡ input_of [] bytes → Mean words job → IsOutput limits job rest output
+    → IsDone [] bytes output
+IsDone-by_line bytes rest output words limits job short text same within behind means h = record {
+  short = short;
+  text = λ _. text;
+  job = job;
+  means = subst (λ (those : List (List ℕ)). Mean those job) same means;
+  is_output = subst₂ (λ (set : Limits) (input : List ℕ). IsOutput set job input output) within behind h;
+}
+
+-- and one that ends without its output is stopped
+pub HasCause-by_line_end : (bytes rest : List ℕ) (words : List (List ℕ)) (limits : Limits) (job : Job) (stop : Stop) → length bytes ≤ most_bytes []
+    → HasWords bytes → words ≡ words_of [] bytes → limits ≡ limits_of (words_of [] bytes) → rest ≡ input_of [] bytes → Mean words job
+    → IsEnd limits job rest stop → HasCause [] bytes stop
+HasCause-by_line_end bytes rest words limits job stop short text same within behind means h =
+    HasCause-by_end [] bytes job stop short (λ _. text) (subst (λ (those : List (List ℕ)). Mean those job) same means)
+    (subst₂ (λ (set : Limits) (input : List ℕ). IsEnd set job input stop) within behind h)
 
 -- words that are given are the run's
 means_given : (words : List (List ℕ)) (bytes : List ℕ) (job : Job) → words ≢ [] → Mean words job → Mean (words_of words bytes) job
 means_given [] bytes job some means = absurd (some refl)
 means_given (word ∷ words) bytes job some means = means
+
+words_given : (words : List (List ℕ)) (bytes : List ℕ) → words ≢ [] → words ≡ words_of words bytes
+words_given [] bytes some = absurd (some refl)
+words_given (word ∷ words) bytes some = refl
 
 -- and all bytes are the input
 input_given : (words : List (List ℕ)) (bytes : List ℕ) → words ≢ [] → bytes ≡ input_of words bytes
@@ -234,22 +263,24 @@ input_given (word ∷ words) bytes some = refl
 
 -- a job that ends without its output stops a run of words that are given
 pub IsStopped-by_given : (words : List (List ℕ)) (input : Reading) (job : Job) (stop : Stop) → words ≢ [] → input.failed ≡ false → IsAtEnd input.after
-    → length input.bytes ≤ 67108864 → Mean words job → IsEnd job input.bytes stop → IsStopped words input stop
+    → length input.bytes ≤ most_bytes words → Mean words job → IsEnd (limits_of words) job input.bytes stop → IsStopped words input stop
 IsStopped-by_given words input job stop some sound at_end short means h =
     IsStopped-by_cause words input stop sound at_end
     (HasCause-by_end words input.bytes job stop short (λ none. absurd (some none)) (means_given words input.bytes job some means)
-    (subst (λ (bytes : List ℕ). IsEnd job bytes stop) (input_given words input.bytes some) h))
+    (subst₂ (λ (those : List (List ℕ)) (bytes : List ℕ). IsEnd (limits_of those) job bytes stop) (words_given words input.bytes some)
+    (input_given words input.bytes some) h))
 
 -- a run of words that are given is done
 pub HasRun-given : (words : List (List ℕ)) (input : Reading) (output : List ℕ) (job : Job) → words ≢ [] → input.failed ≡ false → IsAtEnd input.after
-    → length input.bytes ≤ 67108864 → Mean words job → IsOutput job input.bytes output → HasRun words input output
+    → length input.bytes ≤ most_bytes words → Mean words job → IsOutput (limits_of words) job input.bytes output → HasRun words input output
 HasRun-given words input output job some sound at_end short means h = record {
   is_done = record {
     short = short;
     text = λ none. absurd (some none);
     job = job;
     means = means_given words input.bytes job some means;
-    is_output = subst (λ (bytes : List ℕ). IsOutput job bytes output) (input_given words input.bytes some) h;
+    is_output = subst₂ (λ (those : List (List ℕ)) (bytes : List ℕ). IsOutput (limits_of those) job bytes output)
+        (words_given words input.bytes some) (input_given words input.bytes some) h;
   };
   at_end = at_end;
   sound = sound;
@@ -267,7 +298,7 @@ answer_of words input stop (inr (inr (inr (inr e)))) none = absurd (omega (arith
 module _ (fails refuses : ErrorKind → Type 0) (words : List (List ℕ)) (input : Reading) (output faults : Writing)
     (may_fail : input.failed ≡ true → SomeKind fails) (may_refuse : output.refused ≡ true → SomeKind refuses) where
   -- a run that hands over what it has for its output ends with that, or with the output's fault
-  Ends-told : (text : List ℕ) (status : ℕ) → IsHeard input → IsBehindWords words input → IsToldOutput words input text → input.failed ≡ false
+  Ends-told : (text : List ℕ) (status : ℕ) → IsHeard (most_bytes words) input → IsBehindWords words input → IsToldOutput words input text → input.failed ≡ false
       → HandsOver text output faults status → Ends fails refuses words input output faults status
   Ends-told text status heard behind_words is_output sound h = record {
     heard = heard;
@@ -300,7 +331,7 @@ module _ (fails refuses : ErrorKind → Type 0) (words : List (List ℕ)) (input
   }
 
   -- a run that is done ends with its output
-  pub Ends-ran : (text : List ℕ) (status : ℕ) → IsHeard input → IsBehindWords words input → HasRun words input text → HandsOver text output faults status
+  pub Ends-ran : (text : List ℕ) (status : ℕ) → IsHeard (most_bytes words) input → IsBehindWords words input → HasRun words input text → HandsOver text output faults status
       → Ends fails refuses words input output faults status
   Ends-ran text status heard behind_words ran h = Ends-told text status heard behind_words (inl (ran.is_done, ran.at_end)) ran.sound h
 
@@ -326,7 +357,7 @@ module _ (fails refuses : ErrorKind → Type 0) (words : List (List ℕ)) (input
   barred_by_status stop (inr (inr (inr (inr e)))) some known told = inr (inr (inr (inr (e.0, fault_told stop e.1 told))))
 
   -- a run that is stopped ends as it was stopped
-  pub Ends-stopped : (stop : Stop) (status : ℕ) → IsHeard input → IsBehindWords words input → IsStopped words input stop
+  pub Ends-stopped : (stop : Stop) (status : ℕ) → IsHeard (most_bytes words) input → IsBehindWords words input → IsStopped words input stop
       → TellsStop stop output faults status → Ends fails refuses words input output faults status
   Ends-stopped stop status heard behind_words s (inl t) =
       let answer = answer_of words input stop s t.0 in
@@ -400,4 +431,4 @@ found_within job (Some command) is = job_within job command.0 command.1 is
 
 -- so are those of a job that words mean
 pub IsWithin-means : (words : List Text) (job : Job) → Mean words job → IsWithin job
-IsWithin-means words job means = found_within job (subcommand_of cqf_app words) means.read
+IsWithin-means words job means = found_within job (subcommand_of (app_for words) words) means.read

@@ -1,5 +1,5 @@
 -- The program's edge: what a reader gave.
-use Rattle.std.specs.Prelude.{ℕ, ◌≡◌, ◌≤◌, ◌-◌, ◌&&◌, ◌∷◌, ◌++◌, List, [], Bool, true, false, Option, ⊤, drop, if◌then◌else◌, length, nat_le, take}
+use Rattle.std.specs.Prelude.{ℕ, ◌≡◌, ◌≤◌, ◌+◌, ◌-◌, ◌&&◌, ◌∷◌, ◌++◌, List, [], Bool, true, false, Option, ⊤, drop, if◌then◌else◌, length, nat_le, take}
 use Rattle.std.specs.Io.KnownBytes.{Consumes}
 use Rattle.std.specs.declared.io.ErrorKind.{ErrorKind}
 use Rattle.std.specs.declared.io.traits.Read as read
@@ -47,10 +47,10 @@ pub record IsUnheard {R : Type 0} {s : source.Ghosts R} {r : read.Ghosts R} (hea
   pub nothing : heard.bytes ≡ []
   pub sound : heard.failed ≡ false
 
--- these bytes were taken from the reader and no others, at most one more than the program reads
-pub record IsHeard (input : Reading) : Type 0 where
+-- these bytes were taken from the reader and no others, at most one more than so many
+pub record IsHeard (most : ℕ) (input : Reading) : Type 0 where
   pub taken : Consumes input.before input.after input.bytes
-  pub few : length input.bytes ≤ 67108865
+  pub few : length input.bytes ≤ most + 1
 
 -- the bytes from a place up to another, none where there are no such places
 abbrev pub piece_of : List ℕ → ℕ → ℕ → List ℕ

@@ -1,5 +1,5 @@
 -- What a run of the program comes to, for the words that it is given and the bytes that its reader has (profile).
-use Rattle.std.specs.Prelude.{ℕ, ◌≡◌, ◌≢◌, ◌⊎◌, ◌≤◌, ◌<◌, ◌==◌, ◌++◌, Bool, true, false, List, [], ◌∷◌, Ok, Option, String, ⊤, codes, length, option_map, string_bytes}
+use Rattle.std.specs.Prelude.{ℕ, ◌≡◌, ◌≢◌, ◌⊎◌, ◌≤◌, ◌<◌, ◌==◌, ◌++◌, Bool, true, false, List, [], ◌∷◌, Ok, Option, String, ⊤, codes, if◌then◌else◌, length, option_map, string_bytes}
 use Rattle.std.specs.declared.alloc.Global.{Global}
 use Rattle.std.specs.Io.KnownBytes.{Appends, IsAtEnd, Keeps}
 use Rattle.std.specs.List.{slice_split, before_first, after_first}
@@ -32,12 +32,13 @@ use Rattle.cqf_program_plans.specs.TcOutput.{tc_of_input}
 use Rattle.cqf_program_threads.specs.ThreadsOutput.{IsThreadsOutput, TellsFault}
 use Rattle.cqf_program_words.specs.Candidates.{times_of}
 use Rattle.cqf_program_words.specs.Shown.{ShowsBehind, ShowsLine, ShowsWords, are_printable, is_shown_whole, no_command}
-use Rattle.cqf_program_words.specs.Words.{AreMistaken, AskForHelp, Mean, TellsNoCandidates}
+use Rattle.cqf_program_words.specs.Words.{AreMistaken, AskForHelp, Mean, TellsNoCandidates, ask_for_large, limits_of}
 use Rattle.cqf_program_stop.specs.declared.stops.Stop.{Stop}
 use Rattle.cqf_program_engine.specs.declared.runs.TheConstants.{VERSION}
 use Rattle.cqf_program_words.specs.declared.words.Format.TheVariants as form
 use Rattle.cqf_program_words.specs.declared.words.Job.{Job}
 use Rattle.cqf_program_words.specs.declared.words.Job.TheVariants.{Check, Compile, Deliveries, Hops, Latency, Line, Load, Offers, Plan, Port, Report, Run, Summary}
+use Rattle.cqf_model.specs.declared.limits.Limits.{Limits}
 use Rattle.cqf_model.specs.Limits.{last_until, most_cycles}
 
 -- the job's numbers aren't above their limits
@@ -65,49 +66,50 @@ is_threaded job = false
 abbrev pub wanted_of : Option (String Global) → Option ℕ → Wanted
 wanted_of stream frame = record { stream = option_map string_bytes stream; frame = frame }
 
--- the output of a job for its input
-abbrev pub IsOutput : Job → List ℕ → List ℕ → Type 0
-IsOutput (Port until rate) input output = IsPortOutput until rate input output
-IsOutput (Line cycles) input output = IsLineOutput cycles input output
-IsOutput (Compile form.List) input output = compiled_input input ≡ Ok output
-IsOutput (Compile form.Tc) input output = tc_of_input input ≡ Ok output
-IsOutput Load input output = loaded_input input ≡ Ok output
-IsOutput (Latency strict) input output = latency_of_input strict input ≡ Ok output
-IsOutput (Run cycles false) input output = IsRunOutput cycles input output
-IsOutput (Run cycles true) input output = IsThreadsOutput cycles input output
-IsOutput (Report cycles) input output = IsReportOutput cycles input output
-IsOutput (Deliveries cycles) input output = IsDeliveriesOutput cycles input output
-IsOutput (Check cycles) input output = IsChecked cycles input (Ok output)
-IsOutput (Offers cycles seed) input output = offered_input cycles seed input ≡ Ok output
-IsOutput (Summary cycles) input output = IsSummaryOutput cycles input output
-IsOutput (Hops cycles stream frame) input output = IsHopsOutput cycles (wanted_of stream frame) input output
-IsOutput (Plan table given) input output = IsPlanOf table (option_map times_of given) input (Ok output)
+-- the output of a job for its input, which is read within some limits
+abbrev pub IsOutput : Limits → Job → List ℕ → List ℕ → Type 0
+IsOutput limits (Port until rate) input output = IsPortOutput until rate input output
+IsOutput limits (Line cycles) input output = IsLineOutput cycles input output
+IsOutput limits (Compile form.List) input output = compiled_input limits input ≡ Ok output
+IsOutput limits (Compile form.Tc) input output = tc_of_input limits input ≡ Ok output
+IsOutput limits Load input output = loaded_input limits input ≡ Ok output
+IsOutput limits (Latency strict) input output = latency_of_input limits strict input ≡ Ok output
+IsOutput limits (Run cycles false) input output = IsRunOutput limits cycles input output
+IsOutput limits (Run cycles true) input output = IsThreadsOutput limits cycles input output
+IsOutput limits (Report cycles) input output = IsReportOutput limits cycles input output
+IsOutput limits (Deliveries cycles) input output = IsDeliveriesOutput limits cycles input output
+IsOutput limits (Check cycles) input output = IsChecked limits cycles input (Ok output)
+IsOutput limits (Offers cycles seed) input output = offered_input limits cycles seed input ≡ Ok output
+IsOutput limits (Summary cycles) input output = IsSummaryOutput limits cycles input output
+IsOutput limits (Hops cycles stream frame) input output = IsHopsOutput limits cycles (wanted_of stream frame) input output
+IsOutput limits (Plan table given) input output = IsPlanOf limits table (option_map times_of given) input (Ok output)
 
--- the input of a job is refused, with the line of its first fault; or of a deadline that isn't kept for sure, where that is strict, or
--- of what isn't well, where that is checked; or no candidate for the cycle time is good. `compile` refuses the same whatever its format
-abbrev pub IsRefusal : Job → List ℕ → Stop → Type 0
-IsRefusal (Port until rate) input stop = IsRefused (port_input input) stop
-IsRefusal (Line cycles) input stop = IsRefused (line_input input) stop
-IsRefusal (Compile format) input stop = IsRefused (compiled_input input) stop
-IsRefusal Load input stop = IsRefused (loaded_input input) stop
-IsRefusal (Latency strict) input stop = IsRefused (latency_of_input strict input) stop
-IsRefusal (Run cycles threads) input stop = IsRefused (scenario_input cycles input) stop
-IsRefusal (Report cycles) input stop = IsRefused (scenario_input cycles input) stop
-IsRefusal (Deliveries cycles) input stop = IsRefused (planned_scenario cycles input) stop
-IsRefusal (Check cycles) input stop = IsCheckRefusal cycles input stop
-IsRefusal (Offers cycles seed) input stop = IsRefused (offered_input cycles seed input) stop
-IsRefusal (Summary cycles) input stop = IsRefused (planned_scenario cycles input) stop
-IsRefusal (Hops cycles stream frame) input stop = IsRefused (scenario_input cycles input) stop
-IsRefusal (Plan table given) input stop = IsPlanRefusal table (option_map times_of given) input stop
+-- the input of a job, which is read within some limits, is refused, with the line of its first fault; or of a deadline that isn't kept
+-- for sure, where that is strict, or of what isn't well, where that is checked; or no candidate for the cycle time is good. `compile`
+-- refuses the same whatever its format
+abbrev pub IsRefusal : Limits → Job → List ℕ → Stop → Type 0
+IsRefusal limits (Port until rate) input stop = IsRefused (port_input input) stop
+IsRefusal limits (Line cycles) input stop = IsRefused (line_input input) stop
+IsRefusal limits (Compile format) input stop = IsRefused (compiled_input limits input) stop
+IsRefusal limits Load input stop = IsRefused (loaded_input limits input) stop
+IsRefusal limits (Latency strict) input stop = IsRefused (latency_of_input limits strict input) stop
+IsRefusal limits (Run cycles threads) input stop = IsRefused (scenario_input limits cycles input) stop
+IsRefusal limits (Report cycles) input stop = IsRefused (scenario_input limits cycles input) stop
+IsRefusal limits (Deliveries cycles) input stop = IsRefused (planned_scenario limits cycles input) stop
+IsRefusal limits (Check cycles) input stop = IsCheckRefusal limits cycles input stop
+IsRefusal limits (Offers cycles seed) input stop = IsRefused (offered_input limits cycles seed input) stop
+IsRefusal limits (Summary cycles) input stop = IsRefused (planned_scenario limits cycles input) stop
+IsRefusal limits (Hops cycles stream frame) input stop = IsRefused (scenario_input limits cycles input) stop
+IsRefusal limits (Plan table given) input stop = IsPlanRefusal limits table (option_map times_of given) input stop
 
 -- a run on threads fails, with the line of its fault: its input isn't refused. No other job fails
-abbrev pub IsFailure : Job → List ℕ → Stop → Type 0
-IsFailure (Run cycles true) input stop = (stop.status ≡ 4) × TellsFault cycles (scenario_input cycles input) stop.text.items
-IsFailure job input stop = ⊥
+abbrev pub IsFailure : Limits → Job → List ℕ → Stop → Type 0
+IsFailure limits (Run cycles true) input stop = (stop.status ≡ 4) × TellsFault cycles (scenario_input limits cycles input) stop.text.items
+IsFailure limits job input stop = ⊥
 
 -- how a job ends without its output
-abbrev pub IsEnd : Job → List ℕ → Stop → Type 0
-IsEnd job input stop = IsRefusal job input stop ⊎ IsFailure job input stop
+abbrev pub IsEnd : Limits → Job → List ℕ → Stop → Type 0
+IsEnd limits job input stop = IsRefusal limits job input stop ⊎ IsFailure limits job input stop
 
 -- the byte is a space
 abbrev pub is_space : ℕ → Bool
@@ -140,25 +142,30 @@ abbrev pub input_of : List (List ℕ) → List ℕ → List ℕ
 input_of [] bytes = behind_first_line bytes
 input_of (word ∷ words) bytes = bytes
 
--- more bytes than the program reads
-abbrev pub IsTooLongInput : List ℕ → Type 0
-IsTooLongInput bytes = 67108864 < length bytes
+-- the most bytes that the program reads, by the words that are given: more where these ask for large plants, and not where the input begins
+-- with its words
+abbrev pub most_bytes : List (List ℕ) → ℕ
+most_bytes words = if ask_for_large words then 536870912 else 67108864
+
+-- more bytes than so many
+abbrev pub IsTooLong : ℕ → List ℕ → Type 0
+IsTooLong most bytes = most < length bytes
 
 -- the run is done: its words mean a job, and this is the job's output for its input
 pub record IsDone (words : List (List ℕ)) (bytes output : List ℕ) : Type 0 where
-  pub short : length bytes ≤ 67108864
+  pub short : length bytes ≤ most_bytes words
   pub text : words ≡ [] → HasWords bytes
   pub job : Job
   pub means : Mean (words_of words bytes) job
-  pub is_output : IsOutput job (input_of words bytes) output
+  pub is_output : IsOutput (limits_of (words_of words bytes)) job (input_of words bytes) output
 
 -- the input is refused: it is too long, where words that are given mean a job; or the words mean a job, and this is the
 -- line of the first fault of its input: the stop has status 1, so that the line is that of the fault
 pub record IsRefusedRun (words : List (List ℕ)) (bytes : List ℕ) (stop : Stop) : Type 0 where
   pub status : stop.status ≡ 1
-  pub length_first : (IsTooLongInput bytes × (stop.text.items ≡ line_of (codes "cqf: input too long")) × (words ≢ [] → (job : Job) × Mean words job))
-      ⊎ ((length bytes ≤ 67108864) × (words ≡ [] → HasWords bytes)
-      × ((job : Job) × Mean (words_of words bytes) job × IsRefusal job (input_of words bytes) stop))
+  pub length_first : (IsTooLong (most_bytes words) bytes × (stop.text.items ≡ line_of (codes "cqf: input too long")) × (words ≢ [] → (job : Job) × Mean words job))
+      ⊎ ((length bytes ≤ most_bytes words) × (words ≡ [] → HasWords bytes)
+      × ((job : Job) × Mean (words_of words bytes) job × IsRefusal (limits_of (words_of words bytes)) job (input_of words bytes) stop))
 
 -- the program's version is asked for, by one of these words alone
 abbrev pub AskForVersion : List (List ℕ) → Type 0
@@ -178,7 +185,7 @@ ShowsMistake (word ∷ words) bytes stop = ShowsWords (word ∷ words) stop × T
 -- version. The stop has status 2
 pub record IsMisuse (words : List (List ℕ)) (bytes : List ℕ) (stop : Stop) : Type 0 where
   pub status : stop.status ≡ 2
-  pub short : words ≡ [] → length bytes ≤ 67108864
+  pub short : words ≡ [] → length bytes ≤ most_bytes words
   pub cause : ((words ≡ []) × ¬ IsUtf8 (first_line bytes) × (stop.text.items ≡ line_of (codes "cqf: words")))
       ⊎ (((words ≡ []) × (most_line < length (first_line bytes)) × ShowsBehind no_command stop.text.items)
       ⊎ ((words ≡ [] → HasWords bytes) × AreMistaken (words_of words bytes) × ((job : Job) → ¬ Mean (words_of words bytes) job)
@@ -186,15 +193,15 @@ pub record IsMisuse (words : List (List ℕ)) (bytes : List ℕ) (stop : Stop) :
 
 -- a run on threads fails: the words mean that job, and this is the line of its fault. The stop has status 4
 pub record IsFailedRun (words : List (List ℕ)) (bytes : List ℕ) (stop : Stop) : Type 0 where
-  pub short : length bytes ≤ 67108864
+  pub short : length bytes ≤ most_bytes words
   pub text : words ≡ [] → HasWords bytes
   pub job : Job
   pub means : Mean (words_of words bytes) job
-  pub fails : IsFailure job (input_of words bytes) stop
+  pub fails : IsFailure (limits_of (words_of words bytes)) job (input_of words bytes) stop
 
 -- all that the program reads was read: too many bytes, or what there was
-abbrev pub IsAll : Reading → Type 0
-IsAll input = IsTooLongInput input.bytes ⊎ IsAtEnd input.after
+abbrev pub IsAll : List (List ℕ) → Reading → Type 0
+IsAll words input = IsTooLong (most_bytes words) input.bytes ⊎ IsAtEnd input.after
 
 -- words that are given mean a job before anything is read
 abbrev pub IsBehindWords : List (List ℕ) → Reading → Type 0
@@ -205,9 +212,9 @@ abbrev pub EndsRead : Broken → Stop → Type 0
 EndsRead Memory stop = (stop.status ≡ 3) × (stop.text.items ≡ [])
 EndsRead Fault stop = EndsWith 4 (line_of (codes "cqf: input fault")) stop
 
--- status 1: there are too many bytes
-pub record EndsTooLong (input : Reading) (stop : Stop) : Type 0 where
-  pub long : IsTooLongInput input.bytes
+-- status 1: there are more bytes than so many
+pub record EndsTooLong (most : ℕ) (input : Reading) (stop : Stop) : Type 0 where
+  pub long : IsTooLong most input.bytes
   pub sound : input.failed ≡ false
   pub line : stop.text.items ≡ line_of (codes "cqf: input too long")
 
@@ -216,17 +223,17 @@ pub record EndsUnread (input : Reading) (stop : Stop) : Type 0 where
   pub failed : input.failed ≡ true
   pub line : stop.text.items ≡ line_of (codes "cqf: input fault")
 
--- how a read of the whole input ends before its end; status 3 is want of memory
-abbrev pub EndsInput : Reading → Stop → Type 0
-EndsInput input stop = ((stop.status ≡ 1) × EndsTooLong input stop)
+-- how a read of the whole input, of so many bytes at most, ends before its end; status 3 is want of memory
+abbrev pub EndsInput : ℕ → Reading → Stop → Type 0
+EndsInput most input stop = ((stop.status ≡ 1) × EndsTooLong most input stop)
     ⊎ (((stop.status ≡ 4) × EndsUnread input stop)
     ⊎ ((stop.status ≡ 3) × (stop.text.items ≡ [])))
 
--- how a read of one text more ends before its end: with status 1 where all come to too many bytes, with status 4 where the reader failed, which
--- it may for these kinds of error, and with status 3 for want of memory
-pub record EndsText (fails : ErrorKind → Type 0) (bytes : List ℕ) (stop : Stop) : Type 0 where
+-- how a read of one text more ends before its end: with status 1 where all come to more than so many bytes, with status 4 where the reader
+-- failed, which it may for these kinds of error, and with status 3 for want of memory
+pub record EndsText (fails : ErrorKind → Type 0) (most : ℕ) (bytes : List ℕ) (stop : Stop) : Type 0 where
   pub statuses : (stop.status ≡ 1) ⊎ ((stop.status ≡ 4) ⊎ (stop.status ≡ 3))
-  pub long : stop.status ≡ 1 → IsTooLongInput bytes × (stop.text.items ≡ line_of (codes "cqf: input too long"))
+  pub long : stop.status ≡ 1 → IsTooLong most bytes × (stop.text.items ≡ line_of (codes "cqf: input too long"))
   pub fault : stop.status ≡ 4 → stop.text.items ≡ line_of (codes "cqf: input fault")
   pub may : stop.status ≡ 4 → SomeKind fails
   pub memory : stop.status ≡ 3 → stop.text.items ≡ []
@@ -272,7 +279,7 @@ pub record StopsWithAnswer (words : List (List ℕ)) (input : Reading) (stop : S
 -- status 1: the input is refused, behind all that the program reads of it
 pub record StopsRefused (words : List (List ℕ)) (input : Reading) (stop : Stop) : Type 0 where
   pub refused : IsRefusedRun words input.bytes stop
-  pub whole : IsAll input
+  pub whole : IsAll words input
   pub sound : input.failed ≡ false
 
 -- status 2: the words mean no job
@@ -366,7 +373,7 @@ pub record EndsRefused (words : List (List ℕ)) (input : Reading) (output fault
   pub stop : Stop
   pub refused : IsRefusedRun words input.bytes stop
   pub told : TellsFaultAlone stop.text.items output faults
-  pub whole : IsAll input
+  pub whole : IsAll words input
   pub sound : input.failed ≡ false
 
 -- status 2: the words mean no job
@@ -394,9 +401,10 @@ EndsByStatus fails refuses words input output faults status = ((status ≡ 0) ×
     ⊎ (((status ≡ 3) × EndsForMemory output faults)
     ⊎ ((status ≡ 4) × EndsFaulty fails refuses words input output faults))))
 
--- what the engine leaves: what was read, and what its status stands for, where reads may fail and the output may refuse for these kinds of error
+-- what the engine leaves: what was read, and what its status stands for, where reads may fail and the output may refuse for these kinds
+-- of error
 pub record Ends (fails refuses : ErrorKind → Type 0) (words : List (List ℕ)) (input : Reading) (output faults : Writing) (status : ℕ) : Type 0 where
-  pub heard : IsHeard input
+  pub heard : IsHeard (most_bytes words) input
   pub behind_words : IsBehindWords words input
   pub by_status : EndsByStatus fails refuses words input output faults status
 

@@ -5,16 +5,12 @@ ghost use Rattle.cqf_program_engine.specs.Edge.{HasRead, MayBreak};
 ghost use Rattle.cqf_program_press.specs.Kinds.{SomeKind};
 
 use crate::heard::Broken;
-use crate::inputs::MOST_BYTES;
 use crate::retries::read_again;
 use crate::sources::Source;
 use cqf_units::Memory;
 use std::alloc::Global;
 use std::io;
 use std::marker::Model;
-
-/// The most bytes that there is ever room for: one more than the program reads.
-const MOST_ROOM: usize = MOST_BYTES + 1;
 
 /// How many bytes are read at a time, and by how many the room grows.
 pub(crate) const STEP: usize = 1_048_576;
@@ -38,34 +34,34 @@ impl Model for Filled {
 
 /// Reserves room for so many more. Behind the first step that is room for all that there may ever be, so that nothing is copied
 /// again, and where that much is refused, at least for so many.
-fn reserve(bytes: &mut Vec<u8>, more: usize) -> Result<(), Memory>
-    requires { length bytes.old.items ≤ 67108865 }
+fn reserve(bytes: &mut Vec<u8>, more: usize, room: usize) -> Result<(), Memory>
+    requires { length bytes.old.items ≤ room }
     ensures { bytes.new.items ≡ bytes.old.items }
 {
     let long = bytes.len();
-    if long > 0 && bytes.reserve_exact(MOST_ROOM - long).is_ok() {
+    if long > 0 && bytes.reserve_exact(room - long).is_ok() {
         return Ok(());
     }
     bytes.reserve(more)
 }
 
-/// Makes the bytes longer by a step, or up to the most that there is room for.
-fn lengthen(bytes: &mut Vec<u8>) -> Result<(), Memory>
-    requires { length bytes.old.items < 67108865 }
+/// Makes the bytes longer by a step, or up to the most that there may ever be.
+fn lengthen(bytes: &mut Vec<u8>, room: usize) -> Result<(), Memory>
+    requires { length bytes.old.items < room }
     ensures longer { OnOk result (length bytes.old.items < length bytes.new.items) }
     ensures front { take (length bytes.old.items) bytes.new.items ≡ bytes.old.items }
     ensures err { OnErr result (bytes.new.items ≡ bytes.old.items) }
 {
     let long = bytes.len();
-    let more = STEP.min(MOST_ROOM - long);
-    reserve(bytes, more)?;
+    let more = STEP.min(room - long);
+    reserve(bytes, more, room)?;
     bytes.resize(long + more, 0)
 }
 
-/// Sees to it that the bytes are longer than what is filled of them.
-fn make_room(bytes: &mut Vec<u8>, filled: usize) -> Result<(), Memory>
+/// Sees to it that the bytes are longer than what is filled of them, where there are never more than so many.
+fn make_room(bytes: &mut Vec<u8>, filled: usize, room: usize) -> Result<(), Memory>
     requires inside { filled ≤ length bytes.old.items }
-    requires few { filled < 67108865 }
+    requires few { filled < room }
     ensures room { OnOk result (filled < length bytes.new.items) }
     ensures front { take filled bytes.new.items ≡ take filled bytes.old.items }
     ensures inside { filled ≤ length bytes.new.items }
@@ -73,7 +69,7 @@ fn make_room(bytes: &mut Vec<u8>, filled: usize) -> Result<(), Memory>
     if filled < bytes.len() {
         return Ok(());
     }
-    lengthen(bytes)
+    lengthen(bytes, room)
 }
 
 /// One read of at most so many bytes into the buffer, from a place on.
@@ -115,17 +111,22 @@ impl Filled {
         &self.bytes.as_slice()[..self.count]
     }
 
-    /// One read of at most so many bytes, behind those that were filled: how many it gave, none only at the end of the input.
-    /// `Err` with `Fault` where the reader fails. With `Memory` it wasn't asked.
-    pub(crate) fn fill<R: Source>(&mut self, reader: &mut R, most: usize) -> Result<usize, Broken>
+    /// One read of at most so many bytes, behind those that were filled, of which there is never more room than is said: how many it gave,
+    /// none only at the end of the input. `Err` with `Fault` where the reader fails. With `Memory` it wasn't asked.
+    pub(crate) fn fill<R: Source>(
+        &mut self,
+        reader: &mut R,
+        most: usize,
+        room: usize,
+    ) -> Result<usize, Broken>
         requires some { 0 < most }
-        requires few { length self.old + most ≤ 67108865 }
+        requires few { length self.old + most ≤ room }
         ensures read { HasRead (R.remaining reader.old) (R.remaining reader.new) self.old self.new (length self.old + most) }
         ensures count { IfOk result (λ count. length self.new ≡ length self.old + count) }
         ensures end { IfOk result (λ count. count ≡ 0 → IsAtEnd (R.remaining reader.new)) }
         ensures err { IfErr result (MayBreak R.fails) }
     {
-        make_room(&mut self.bytes, self.count)?;
+        make_room(&mut self.bytes, self.count, room)?;
         match read_at(reader, self.bytes.as_mut_slice(), self.count, most) {
             Ok(count) => {
                 self.count += count;

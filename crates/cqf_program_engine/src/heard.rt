@@ -61,11 +61,11 @@ impl<R: Source> Heard<R> {
         self.bytes.as_slice()
     }
 
-    /// One read, of at most so many bytes: how many it gave, none only at the end of the input. `Err` with `Fault` where
-    /// the reader fails. With `Memory` it wasn't asked.
-    pub(crate) fn read(&mut self, most: usize) -> Result<usize, Broken>
+    /// One read, of at most so many bytes, where there is never room for more of them all than is said: how many it gave, none only at the
+    /// end of the input. `Err` with `Fault` where the reader fails. With `Memory` it wasn't asked.
+    pub(crate) fn read(&mut self, most: usize, room: usize) -> Result<usize, Broken>
         requires some { 0 < most }
-        requires few { length self.old.bytes + most ≤ 67108865 }
+        requires few { length self.old.bytes + most ≤ room }
         ensures read { HasRead (R.remaining self.old.reader) (R.remaining self.new.reader) self.old.bytes self.new.bytes
             (length self.old.bytes + most) }
         ensures count { IfOk result (λ count. length self.new.bytes ≡ length self.old.bytes + count) }
@@ -74,7 +74,7 @@ impl<R: Source> Heard<R> {
         ensures err { IfErr result (Marks self.old.failed self.new.failed) }
         ensures may { IfErr result (MayBreak R.fails) }
     {
-        let read = self.bytes.fill(&mut self.reader, most);
+        let read = self.bytes.fill(&mut self.reader, most, room);
         if let Err(Broken::Fault) = read {
             self.failed = true;
         }

@@ -1,18 +1,34 @@
 //! The bytes that the program reads.
-ghost use Rattle.std.specs.Prelude.{◌≡◌, ◌≤◌, codes, false, IfErr, OnOk, length};
+ghost use Rattle.std.specs.Prelude.{◌≡◌, ◌≤◌, ◌<◌, ◌^◌, codes, false, IfErr, OnOk, length, map};
 ghost use Rattle.cqf_program_stop.specs.Stops.{EndsWith, line_of};
 ghost use Rattle.std.specs.Io.KnownBytes.{IsAtEnd};
 ghost use Rattle.cqf_program_engine.specs.Edge.{IsHeard, IsUnheard, reading};
-ghost use Rattle.cqf_program_engine.specs.Run.{EndsInput, EndsRead};
+ghost use Rattle.cqf_program_engine.specs.Run.{EndsInput, EndsRead, most_bytes};
 
 use crate::filled::STEP;
 use crate::heard::{Broken, Heard};
 use crate::sources::Source;
 use cqf_program_stop::{FAULT, REFUSED, Stop};
+use cqf_program_words::ask_for_large;
 use std::alloc::Global;
 
-/// The most bytes that the program reads (profile).
+/// The most bytes that the program reads where no large plants are asked for (profile).
 pub const MOST_BYTES: usize = 67_108_864;
+
+/// The most where they are.
+pub const MOST_BYTES_OF_LARGE: usize = 536_870_912;
+
+/// The most bytes that the program reads, by the words that are given.
+pub fn most_bytes(words: &[&str]) -> usize
+    ensures value { result ≡ most_bytes (map (λ word. word.now) words.now) }
+    ensures small { result < 2 ^ 63 }
+{
+    if ask_for_large(words) {
+        MOST_BYTES_OF_LARGE
+    } else {
+        MOST_BYTES
+    }
+}
 
 /// The end of a read that was broken off.
 pub(crate) fn stop_of(alloc: Global, cause: Broken) -> Stop
@@ -31,20 +47,20 @@ pub(crate) fn stop_of_length(alloc: Global) -> Stop
     Stop::with_line(alloc, REFUSED, "cqf: input too long\n")
 }
 
-/// Takes all that the reader gives. `Err` with status 4 where the reader fails, with status 1 where it gives more than
-/// 67,108,864 bytes, and with status 3 for want of memory. It has then given what was taken so far, at most one byte
-/// more than that.
-pub fn read_input<R: Source>(alloc: Global, input: &mut Heard<R>) -> Result<(), Stop>
-    requires { IsUnheard input.old }
-    ensures heard { IsHeard (reading R.remaining input.old input.new) }
+/// Takes all that the reader gives. `Err` with status 4 where the reader fails, with status 1 where it gives more than so many
+/// bytes, and with status 3 for want of memory. It has then given what was taken so far, at most one byte more than that.
+pub fn read_input<R: Source>(alloc: Global, most: usize, input: &mut Heard<R>) -> Result<(), Stop>
+    requires small { most < 2 ^ 63 }
+    requires unheard { IsUnheard input.old }
+    ensures heard { IsHeard most (reading R.remaining input.old input.new) }
     ensures end { OnOk result (IsAtEnd (R.remaining input.new.reader)) }
-    ensures short { OnOk result (length input.new.bytes ≤ 67108864) }
+    ensures short { OnOk result (length input.new.bytes ≤ most) }
     ensures sound { OnOk result (input.new.failed ≡ false) }
-    ensures err { IfErr result (EndsInput (reading R.remaining input.old input.new)) }
+    ensures err { IfErr result (EndsInput most (reading R.remaining input.old input.new)) }
 {
-    while input.bytes().len() <= MOST_BYTES {
-        let room = STEP.min(MOST_BYTES + 1 - input.bytes().len());
-        match input.read(room) {
+    while input.bytes().len() <= most {
+        let step = STEP.min(most + 1 - input.bytes().len());
+        match input.read(step, most + 1) {
             Ok(0) => return Ok(()),
             Ok(_) => {}
             Err(cause) => return Err(stop_of(alloc, cause)),

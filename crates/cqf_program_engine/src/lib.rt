@@ -5,8 +5,8 @@
 //!   refused anything. The engine runs over these, so that its caller knows why a run ended as it did.
 //! - A [`Source`] is a reader of which is known for which kinds of error it may fail, a [`Sink`] a writer of which is known for which it may
 //!   refuse. [`fault_is_of_threads`] says what status 4 comes of where they never do.
-//! - [`read_input`] reads all that a reader gives, and [`answer`] is the output of a job for an input, unless that is a run on
-//!   threads: the parts of a run.
+//! - [`read_input`] reads all that a reader gives, [`most_bytes`] at most, and [`answer`] is the output of a job for an input that is read
+//!   within some limits, unless that is a run on threads: the parts of a run.
 //! - [`Texts`] are the texts of several readers, bounded together.
 //! - [`Prepared`] is what an output is told from. All memory is had before its first byte is told.
 //!
@@ -33,7 +33,7 @@ mod texts;
 
 pub use cqf_program_press::{Sink, Told};
 pub use heard::Heard;
-pub use inputs::{MOST_BYTES, read_input};
+pub use inputs::{MOST_BYTES, MOST_BYTES_OF_LARGE, most_bytes, read_input};
 pub use laws::{fault_in_memory_is_of_threads_or_memory, fault_is_of_threads};
 pub use prepared::Prepared;
 pub use runs::{VERSION, answer, engine, tell};

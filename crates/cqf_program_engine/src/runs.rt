@@ -16,13 +16,14 @@ ghost use Rattle.cqf_program_stop.specs.Stops.{EndsWith, IsRefused};
 ghost use Rattle.cqf_program_engine.specs.Run.{version_line, IsAsking, IsVersionWord, IsWithin, IsOutput, IsEnd};
 ghost use Rattle.cqf_program_engine.specs.Run.{IsRefusal, IsBehindWords, Ends, EndsTold, HandsOver, HasCause, HasRun};
 ghost use Rattle.cqf_program_engine.specs.Run.{IsDone, IsStopped, TellsCandidates, TellsStop, is_space, is_threaded, first_line, wanted_of};
-ghost use Rattle.cqf_program_engine.specs.Run.{behind_first_line};
+ghost use Rattle.cqf_program_engine.specs.Run.{behind_first_line, most_bytes};
 ghost use Rattle.cqf_model.specs.Limits.{most_cycles};
 
 use crate::heard::Heard;
-use crate::inputs::read_input;
+use crate::inputs::{MOST_BYTES, most_bytes, read_input};
 use crate::prepared::Prepared;
 use crate::sources::Source;
+use cqf_model::Limits;
 use cqf_program_hops::{Choice, hops_output};
 use cqf_program_offers::offers_output;
 use cqf_program_plans::{compile_output, latency_output, load_output, port_output, tc_output};
@@ -32,21 +33,28 @@ use cqf_program_sketch::plan_output;
 use cqf_program_stop::{DONE, FAULT, NO_MEMORY, Stop, USAGE};
 use cqf_program_summary::summary_output;
 use cqf_program_threads::threads_output;
-use cqf_program_words::{Candidates, Format, Job, read_words, stop_of_line, stop_of_long_line};
+use cqf_program_words::{
+    Candidates, Format, Job, limits_of, read_words, stop_of_line, stop_of_long_line,
+};
 use cqf_text::split_line;
 use cqf_units::Memory;
 use std::alloc::{AllocError, Global};
 use std::sync::Wait;
 use std::thread::Threads;
 
-/// The output of `compile` in a format, ready to be told. `Err` as [`prepare`] has it.
-fn prepare_compiled(alloc: Global, format: Format, input: &[u8]) -> Result<Prepared, Stop>
-    ensures ok { IfOk result (HasText (IsOutput (Job.Compile format) input.now)) }
-    ensures err { IfErr result (IsRefusal (Job.Compile format) input.now) }
+/// The output of `compile` in a format, for an input that is read within some limits, ready to be told. `Err` as [`prepare`] has it.
+fn prepare_compiled(
+    alloc: Global,
+    limits: Limits,
+    format: Format,
+    input: &[u8],
+) -> Result<Prepared, Stop>
+    ensures ok { IfOk result (HasText (IsOutput limits (Job.Compile format) input.now)) }
+    ensures err { IfErr result (IsRefusal limits (Job.Compile format) input.now) }
 {
     match format {
-        Format::List => Ok(Prepared::Config(compile_output(alloc, input)?)),
-        Format::Tc => Ok(Prepared::Script(tc_output(alloc, input)?)),
+        Format::List => Ok(Prepared::Config(compile_output(alloc, limits, input)?)),
+        Format::Tc => Ok(Prepared::Script(tc_output(alloc, limits, input)?)),
     }
 }
 
@@ -60,24 +68,25 @@ fn name_of(name: &Option<String>) -> Option<&str>
     }
 }
 
-/// The output of `hops` over so many cycles, of the frames of a stream and of one frame alone where these are named, ready to be told.
-/// `Err` as [`prepare`] has it.
+/// The output of `hops` over so many cycles, of the frames of a stream and of one frame alone where these are named, for an input that is
+/// read within some limits, ready to be told. `Err` as [`prepare`] has it.
 fn prepare_hops(
     alloc: Global,
+    limits: Limits,
     cycles: u32,
     stream: &Option<String>,
     frame: Option<u32>,
     input: &[u8],
 ) -> Result<Prepared, Stop>
     requires { cycles ≤ most_cycles }
-    ensures ok { IfOk result (HasText (IsHopsOutput cycles (wanted_of stream.now frame) input.now)) }
-    ensures err { IfErr result (IsRefused (scenario_input cycles input.now)) }
+    ensures ok { IfOk result (HasText (IsHopsOutput limits cycles (wanted_of stream.now frame) input.now)) }
+    ensures err { IfErr result (IsRefused (scenario_input limits cycles input.now)) }
 {
     let choice = Choice {
         stream: name_of(stream),
         frame,
     };
-    Ok(Prepared::Hops(hops_output(alloc, cycles, choice, input)?))
+    Ok(Prepared::Hops(hops_output(alloc, limits, cycles, choice, input)?))
 }
 
 /// The candidates for the cycle time, where some are given.
@@ -94,61 +103,72 @@ fn times_of(alloc: Global, given: Option<Candidates>) -> Result<Option<Vec<u32>>
     }
 }
 
-/// The output of `plan`, on candidates for the cycle time where some are given. `Err` as [`prepare`] has it.
+/// The output of `plan`, on candidates for the cycle time where some are given, for an input that is read within some limits. `Err` as
+/// [`prepare`] has it.
 fn planned(
     alloc: Global,
+    limits: Limits,
     table: bool,
     given: Option<Candidates>,
     input: &[u8],
 ) -> Result<Vec<u8>, Stop>
-    ensures ok { IfOk result (λ text. IsPlanOf table (option_map times_of given) input.now (Ok text.items)) }
-    ensures err { IfErr result (IsPlanRefusal table (option_map times_of given) input.now) }
+    ensures ok { IfOk result (λ text. IsPlanOf limits table (option_map times_of given) input.now (Ok text.items)) }
+    ensures err { IfErr result (IsPlanRefusal limits table (option_map times_of given) input.now) }
 {
     match times_of(alloc, given) {
-        Ok(times) => plan_output(alloc, table, times, input),
+        Ok(times) => plan_output(alloc, limits, table, times, input),
         Err(_) => Err(Stop::memory(alloc)),
     }
 }
 
-/// The output of a job for its input, ready to be told, unless it is a run on threads; `rt` is for the threads of `report`. `Err`
-/// with status 1 and the line of the first fault of the input, and with status 3 for want of memory.
+/// The output of a job for its input, which is read within some limits, ready to be told, unless it is a run on threads; `rt` is for the
+/// threads of `report`. `Err` with status 1 and the line of the first fault of the input, and with status 3 for want of memory.
 fn prepare(
     rt: &(impl Threads + Sync),
     alloc: Global,
+    limits: Limits,
     job: &Job,
     input: &[u8],
 ) -> Result<Prepared, Stop>
     requires within { IsWithin job.now }
     requires unthreaded { is_threaded job.now ≡ false }
-    ensures ok { IfOk result (HasText (IsOutput job.now input.now)) }
-    ensures err { IfErr result (IsRefusal job.now input.now) }
+    ensures ok { IfOk result (HasText (IsOutput limits job.now input.now)) }
+    ensures err { IfErr result (IsRefusal limits job.now input.now) }
 {
     match *job {
         Job::Port { until, rate } => Ok(Prepared::Port(port_output(alloc, until, rate, input)?)),
         Job::Line { cycles } => Ok(Prepared::Line(line_output(alloc, cycles, input)?)),
-        Job::Compile { format } => prepare_compiled(alloc, format, input),
-        Job::Load => Ok(Prepared::Load(load_output(alloc, input)?)),
-        Job::Latency { strict } => Ok(Prepared::Latency(latency_output(alloc, strict, input)?)),
+        Job::Compile { format } => prepare_compiled(alloc, limits, format, input),
+        Job::Load => Ok(Prepared::Load(load_output(alloc, limits, input)?)),
+        Job::Latency { strict } => Ok(Prepared::Latency(latency_output(
+            alloc, limits, strict, input,
+        )?)),
         Job::Run {
             cycles,
             threads: false,
-        } => Ok(Prepared::Run(run_output(alloc, cycles, input)?)),
+        } => Ok(Prepared::Run(run_output(alloc, limits, cycles, input)?)),
         Job::Run { threads: true, .. } => unreachable!(),
-        Job::Report { cycles } => Ok(Prepared::Text(report_output(rt, alloc, cycles, input)?)),
+        Job::Report { cycles } => Ok(Prepared::Text(report_output(
+            rt, alloc, limits, cycles, input,
+        )?)),
         Job::Deliveries { cycles } => {
-            Ok(Prepared::Deliveries(deliveries_output(alloc, cycles, input)?))
+            Ok(Prepared::Deliveries(deliveries_output(alloc, limits, cycles, input)?))
         }
-        Job::Check { cycles } => Ok(Prepared::Text(check_output(alloc, cycles, input)?)),
-        Job::Summary { cycles } => Ok(Prepared::Summary(summary_output(alloc, cycles, input)?)),
+        Job::Check { cycles } => Ok(Prepared::Text(check_output(alloc, limits, cycles, input)?)),
+        Job::Summary { cycles } => Ok(Prepared::Summary(summary_output(
+            alloc, limits, cycles, input,
+        )?)),
         Job::Offers { cycles, seed } => {
-            Ok(Prepared::Text(offers_output(alloc, cycles, seed, input)?))
+            Ok(Prepared::Text(offers_output(alloc, limits, cycles, seed, input)?))
         }
         Job::Hops {
             cycles,
             ref stream,
             frame,
-        } => prepare_hops(alloc, cycles, stream, frame, input),
-        Job::Plan { table, given } => Ok(Prepared::Text(planned(alloc, table, given, input)?)),
+        } => prepare_hops(alloc, limits, cycles, stream, frame, input),
+        Job::Plan { table, given } => Ok(Prepared::Text(planned(
+            alloc, limits, table, given, input,
+        )?)),
     }
 }
 
@@ -165,20 +185,21 @@ fn text_told(alloc: Global, output: Prepared) -> Result<Vec<u8>, Memory>
     Ok(told.into_writer())
 }
 
-/// The output of a job for its input, unless it is a run on threads; `rt` is for the threads of `report`. `Err` with status 1
-/// and the line of the first fault of the input, and with status 3 for want of memory.
+/// The output of a job for its input, which is read within some limits, unless it is a run on threads; `rt` is for the threads of `report`.
+/// `Err` with status 1 and the line of the first fault of the input, and with status 3 for want of memory.
 pub fn answer(
     rt: &(impl Threads + Sync),
     alloc: Global,
+    limits: Limits,
     job: &Job,
     input: &[u8],
 ) -> Result<Vec<u8>, Stop>
     requires within { IsWithin job.now }
     requires unthreaded { is_threaded job.now ≡ false }
-    ensures ok { IfOk result (λ output. IsOutput job.now input.now output.items) }
-    ensures err { IfErr result (IsRefusal job.now input.now) }
+    ensures ok { IfOk result (λ output. IsOutput limits job.now input.now output.items) }
+    ensures err { IfErr result (IsRefusal limits job.now input.now) }
 {
-    let output = prepare(rt, alloc, job, input)?;
+    let output = prepare(rt, alloc, limits, job, input)?;
     match text_told(alloc, output) {
         Ok(text) => Ok(text),
         Err(_) => Err(Stop::memory(alloc)),
@@ -198,38 +219,41 @@ fn threaded_cycles(job: &Job) -> Option<u32>
     }
 }
 
-/// The output of a run on threads, ready to be told.
+/// The output of a run on threads, for an input that is read within some limits, ready to be told.
 fn prepare_threads(
     rt: &(impl Threads + Wait + Sync),
     alloc: Global,
+    limits: Limits,
     cycles: u32,
     input: &[u8],
 ) -> Result<Prepared, Stop>
     requires { cycles ≤ most_cycles }
-    ensures ok { IfOk result (HasText (IsThreadsOutput cycles input.now)) }
-    ensures err { IfErr result (EndsThreads cycles input.now) }
+    ensures ok { IfOk result (HasText (IsThreadsOutput limits cycles input.now)) }
+    ensures err { IfErr result (EndsThreads limits cycles input.now) }
 {
-    match threads_output(rt, alloc, cycles, input) {
+    match threads_output(rt, alloc, limits, cycles, input) {
         Ok(output) => Ok(Prepared::Account(output)),
         Err(stop) => Err(stop),
     }
 }
 
-/// The output of any job for its input, ready to be told; `rt` is for the threads of a run and of `report`. `Err` with status 1
-/// and the line of the first fault of the input, with status 3 for want of memory, and with status 4 where a run on threads fails.
+/// The output of any job for its input, which is read within some limits, ready to be told; `rt` is for the threads of a run and of
+/// `report`. `Err` with status 1 and the line of the first fault of the input, with status 3 for want of memory, and with status 4 where
+/// a run on threads fails.
 fn output_of(
     rt: &(impl Threads + Wait + Sync),
     alloc: Global,
+    limits: Limits,
     job: &Job,
     input: &[u8],
 ) -> Result<Prepared, Stop>
     requires { IsWithin job.now }
-    ensures ok { IfOk result (HasText (IsOutput job.now input.now)) }
-    ensures err { IfErr result (IsEnd job.now input.now) }
+    ensures ok { IfOk result (HasText (IsOutput limits job.now input.now)) }
+    ensures err { IfErr result (IsEnd limits job.now input.now) }
 {
     match threaded_cycles(job) {
-        Some(cycles) => prepare_threads(rt, alloc, cycles, input),
-        None => prepare(rt, alloc, job, input),
+        Some(cycles) => prepare_threads(rt, alloc, limits, cycles, input),
+        None => prepare(rt, alloc, limits, job, input),
     }
 }
 
@@ -294,7 +318,7 @@ fn run_given<R: Source>(
 ) -> Result<Prepared, Stop>
     requires given { map (λ word. word.now) words.now ≢ [] }
     requires unheard { IsUnheard input.old }
-    ensures heard { IsHeard (reading R.remaining input.old input.new) }
+    ensures heard { IsHeard (most_bytes (map (λ word. word.now) words.now)) (reading R.remaining input.old input.new) }
     ensures behind_words { IsBehindWords (map (λ word. word.now) words.now) (reading R.remaining input.old input.new) }
     ensures ok { IfOk result (HasText (HasRun (map (λ word. word.now) words.now) (reading R.remaining input.old input.new))) }
     ensures err { IfErr result (IsStopped (map (λ word. word.now) words.now) (reading R.remaining input.old input.new)) }
@@ -306,10 +330,10 @@ fn run_given<R: Source>(
         Ok(job) => job,
         Err(stop) => return Err(stop),
     };
-    if let Err(stop) = read_input(alloc, input) {
+    if let Err(stop) = read_input(alloc, most_bytes(words), input) {
         return Err(stop);
     }
-    output_of(rt, alloc, &job, input.bytes())
+    output_of(rt, alloc, limits_of(words), &job, input.bytes())
 }
 
 /// The first line of the bytes, and what stands behind it.
@@ -323,8 +347,8 @@ fn split_first_line(bytes: &[u8]) -> (&[u8], &[u8])
     }
 }
 
-/// The job that the words of a line mean. `Err` as [`read_words`] has it, but a long line, or one with unprintable characters, isn't echoed as
-/// it is.
+/// The job that the words of a line mean. `Err` as [`read_words`] has it, but a long line, or one with unprintable characters, isn't
+/// echoed as it is.
 fn read_line(alloc: Global, line: &str, words: &[&str]) -> Result<Job, Stop>
     ensures ok { IfOk result (Mean (map (λ word. word.now) words.now)) }
     ensures err { IfErr result (EndsWords (map (λ word. word.now) words.now)) }
@@ -343,7 +367,7 @@ fn run_line(
     alloc: Global,
     bytes: &[u8],
 ) -> Result<Prepared, Stop>
-    requires { length bytes.now ≤ 67108864 }
+    requires { length bytes.now ≤ most_bytes [] }
     ensures ok { IfOk result (HasText (IsDone [] bytes.now)) }
     ensures err { IfErr result (HasCause [] bytes.now) }
 {
@@ -361,7 +385,7 @@ fn run_line(
         Ok(job) => job,
         Err(stop) => return Err(stop),
     };
-    output_of(rt, alloc, &job, rest)
+    output_of(rt, alloc, limits_of(words.as_slice()), &job, rest)
 }
 
 /// The run of words that the input begins with.
@@ -371,11 +395,11 @@ fn run_taken<R: Source>(
     input: &mut Heard<R>,
 ) -> Result<Prepared, Stop>
     requires { IsUnheard input.old }
-    ensures heard { IsHeard (reading R.remaining input.old input.new) }
+    ensures heard { IsHeard (most_bytes []) (reading R.remaining input.old input.new) }
     ensures ok { IfOk result (HasText (HasRun [] (reading R.remaining input.old input.new))) }
     ensures err { IfErr result (IsStopped [] (reading R.remaining input.old input.new)) }
 {
-    if let Err(stop) = read_input(alloc, input) {
+    if let Err(stop) = read_input(alloc, MOST_BYTES, input) {
         return Err(stop);
     }
     run_line(rt, alloc, input.bytes())
@@ -389,7 +413,7 @@ fn run<R: Source>(
     input: &mut Heard<R>,
 ) -> Result<Prepared, Stop>
     requires { IsUnheard input.old }
-    ensures heard { IsHeard (reading R.remaining input.old input.new) }
+    ensures heard { IsHeard (most_bytes (map (λ word. word.now) words.now)) (reading R.remaining input.old input.new) }
     ensures behind_words { IsBehindWords (map (λ word. word.now) words.now) (reading R.remaining input.old input.new) }
     ensures ok { IfOk result (HasText (HasRun (map (λ word. word.now) words.now) (reading R.remaining input.old input.new))) }
     ensures err { IfErr result (IsStopped (map (λ word. word.now) words.now) (reading R.remaining input.old input.new)) }

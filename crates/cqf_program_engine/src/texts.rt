@@ -1,17 +1,17 @@
 //! The texts of several readers.
-ghost use Rattle.std.specs.Prelude.{◌≡◌, ◌≤◌, ◌∷◌, [], ◌++◌, IfErr, IfOk, OnOk, length, map};
+ghost use Rattle.std.specs.Prelude.{◌≡◌, ◌≤◌, ◌<◌, ◌^◌, ◌+◌, ◌∷◌, [], ◌++◌, IfErr, IfOk, OnOk, length, map};
 ghost use Rattle.std.specs.Io.KnownBytes.{IsAtEnd};
 ghost use Rattle.cqf_program_engine.specs.Edge.{HasRead, piece_of, pieces_of};
 ghost use Rattle.cqf_program_engine.specs.Run.{EndsText};
 
 use crate::filled::{Filled, STEP};
-use crate::inputs::{MOST_BYTES, stop_of, stop_of_length};
+use crate::inputs::{stop_of, stop_of_length};
 use crate::sources::Source;
 use cqf_program_stop::Stop;
 use cqf_units::Memory;
 use std::alloc::Global;
 
-/// The texts of several readers, bounded together: of all of them at most 67,108,865 bytes are read.
+/// The texts of several readers, bounded together: of all of them at most one byte more is read than there may be.
 #[derive(Drop)]
 pub struct Texts {
     bytes: Filled,
@@ -42,16 +42,22 @@ impl Texts {
     }
 
     /// Takes all that the reader gives, as one text more. `Err` with status 4 where the reader fails, with status 1 where all texts come to
-    /// more than 67,108,864 bytes, and with status 3 for want of memory.
-    pub fn read<R: Source>(&mut self, alloc: Global, reader: &mut R) -> Result<(), Stop>
-        requires { length self.old.bytes ≤ 67108864 }
-        ensures read { HasRead (R.remaining reader.old) (R.remaining reader.new) self.old.bytes self.new.bytes 67108865 }
+    /// more than so many bytes, and with status 3 for want of memory.
+    pub fn read<R: Source>(
+        &mut self,
+        alloc: Global,
+        most: usize,
+        reader: &mut R,
+    ) -> Result<(), Stop>
+        requires small { most < 2 ^ 63 }
+        requires few { length self.old.bytes ≤ most }
+        ensures read { HasRead (R.remaining reader.old) (R.remaining reader.new) self.old.bytes self.new.bytes (most + 1) }
         ensures end { OnOk result (IsAtEnd (R.remaining reader.new)) }
-        ensures short { OnOk result (length self.new.bytes ≤ 67108864) }
+        ensures short { OnOk result (length self.new.bytes ≤ most) }
         ensures ends { OnOk result (self.new.ends.items ≡ self.old.ends.items ++ length self.new.bytes ∷ []) }
-        ensures err { IfErr result (EndsText R.fails self.new.bytes) }
+        ensures err { IfErr result (EndsText R.fails most self.new.bytes) }
     {
-        self.fill(alloc, reader)?;
+        self.fill(alloc, most, reader)?;
         let end = self.bytes.as_slice().len();
         match self.ends.push(end) {
             Ok(()) => Ok(()),
@@ -60,17 +66,18 @@ impl Texts {
     }
 
     /// Takes all that the reader gives.
-    fn fill<R: Source>(&mut self, alloc: Global, reader: &mut R) -> Result<(), Stop>
-        requires { length self.old.bytes ≤ 67108864 }
-        ensures read { HasRead (R.remaining reader.old) (R.remaining reader.new) self.old.bytes self.new.bytes 67108865 }
+    fn fill<R: Source>(&mut self, alloc: Global, most: usize, reader: &mut R) -> Result<(), Stop>
+        requires small { most < 2 ^ 63 }
+        requires few { length self.old.bytes ≤ most }
+        ensures read { HasRead (R.remaining reader.old) (R.remaining reader.new) self.old.bytes self.new.bytes (most + 1) }
         ensures end { OnOk result (IsAtEnd (R.remaining reader.new)) }
-        ensures short { OnOk result (length self.new.bytes ≤ 67108864) }
+        ensures short { OnOk result (length self.new.bytes ≤ most) }
         ensures ends { self.new.ends.items ≡ self.old.ends.items }
-        ensures err { IfErr result (EndsText R.fails self.new.bytes) }
+        ensures err { IfErr result (EndsText R.fails most self.new.bytes) }
     {
-        while self.bytes.as_slice().len() <= MOST_BYTES {
-            let room = STEP.min(MOST_BYTES + 1 - self.bytes.as_slice().len());
-            match self.bytes.fill(reader, room) {
+        while self.bytes.as_slice().len() <= most {
+            let step = STEP.min(most + 1 - self.bytes.as_slice().len());
+            match self.bytes.fill(reader, step, most + 1) {
                 Ok(0) => return Ok(()),
                 Ok(_) => {}
                 Err(cause) => return Err(stop_of(alloc, cause)),

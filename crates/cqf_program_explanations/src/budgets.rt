@@ -9,9 +9,6 @@ use crate::told::Told;
 use std::alloc::{AllocError, Global};
 use std::collections::BTreeMap;
 
-/// How many streams are held at once at most.
-const MOST_STREAMS: usize = 1024;
-
 /// The longest cycle time, in ns.
 const LONGEST_CYCLE: u64 = 10_000_000;
 
@@ -235,7 +232,8 @@ fn tell_held(
 /// Tells of a stream behind the most that are held at once.
 fn tell_beyond(given: &Given<'_>, told: &mut Told, asked: &Asked<'_>) -> Result<(), AllocError> {
     let (place, label) = (asked.item.place(), asked.item.counted(given.alloc)?);
-    told.tell(format!(in given.alloc; "{place}: {label}: at most 1,024 streams are held at once")?)
+    let most = Grouped(given.limits.streams_within() as u64);
+    told.tell(format!(in given.alloc; "{place}: {label}: at most {most} streams are held at once")?)
 }
 
 /// Tries a stream behind those placed: places it, or tells why it doesn't go where that is asked for.
@@ -255,7 +253,7 @@ fn try_stream<'p>(
         if wanted == Wanted::NameHeld {
             tell_held(given, told, asked, first)?;
         }
-    } else if placed.streams.len() >= MOST_STREAMS {
+    } else if placed.streams.len() >= given.limits.streams_within() {
         if wanted == Wanted::TooManyStreams {
             tell_beyond(given, told, asked)?;
         }

@@ -10,8 +10,8 @@ use crate::words::shortened;
 use std::alloc::{AllocError, Global};
 use std::collections::BTreeMap;
 
-/// Most bridges, stations and links of a domain.
-const MOST: [(&str, u64); 3] = [("bridges", 32), ("stations", 64), ("links", 64)];
+/// The keys of a domain's bridges, stations and links.
+const COUNTED: [&str; 3] = ["bridges", "stations", "links"];
 
 /// The octets of the gap behind a frame (IEEE 802.3).
 const GAP_OCTETS: u64 = 12;
@@ -280,13 +280,22 @@ fn count_of(given: &Given<'_>, key: &str) -> Result<u64, AllocError> {
     Ok(count as u64)
 }
 
+/// How many there may be of what stands at a key.
+fn most_of(given: &Given<'_>, key: &str) -> usize {
+    match key {
+        "bridges" => given.limits.bridges_within(),
+        "stations" => given.limits.stations_within(),
+        _ => given.limits.links_within(),
+    }
+}
+
 /// Tells of which there are too many.
 pub(crate) fn tell_too_many(given: &Given<'_>, told: &mut Told) -> Result<(), AllocError> {
-    for (key, most) in &MOST {
-        let count = count_of(given, key)?;
-        if count > *most {
+    for key in &COUNTED {
+        let (count, most) = (count_of(given, key)?, most_of(given, key) as u64);
+        if count > most {
             if let Some(found) = given.plant.top(key) {
-                let (place, count) = (found.place, Grouped(count));
+                let (place, count, most) = (found.place, Grouped(count), Grouped(most));
                 told.tell(format!(in given.alloc;
                     "{place}: {count} {key}: a domain has at most {most}"
                 )?)?;

@@ -19,6 +19,7 @@ use crate::stream_faults::{form_fault_of, tell_form_faults};
 use crate::table_faults::{Table, tell_table};
 use crate::told::Told;
 use crate::toml_faults::{tell_bad_value, tell_missing, tell_not_toml};
+use cqf_model::Limits;
 use std::alloc::{AllocError, Global};
 
 /// A file that the words name, with its text; the name `-` is standard input.
@@ -120,8 +121,8 @@ fn tell_refusal(
 /// texts, and behind these `and N more` where there are more. Each line begins with two blanks and ends with LF, and has no other byte
 /// below 32. It is empty where there is nothing to say: the line is no refusal that is known, or says all by itself, or no file is named.
 ///
-/// `command` is the command's word, such as `run`. `cycles` is how many cycles are run, where the words say it. `sources` are the files
-/// that the words name, in their order. `line` is the line of the refusal with its line feed.
+/// `command` is the command's word, such as `run`. `cycles` is how many cycles are run, where the words say it. `limits` are those within
+/// which a plant is read. `sources` are the files that the words name, in their order. `line` is the line of the refusal with its line feed.
 ///
 /// # Errors
 /// Where a growth is refused.
@@ -129,6 +130,7 @@ pub fn explanation(
     alloc: Global,
     command: &str,
     cycles: Option<u32>,
+    limits: Limits,
     sources: &[Source<'_>],
     line: &[u8],
 ) -> Result<Vec<u8>, AllocError>
@@ -137,7 +139,7 @@ pub fn explanation(
     let mut told = Told::new(alloc);
     if let Some(refusal) = refusal_of(line) {
         if !sources.is_empty() {
-            let given = given_of(alloc, command, cycles, sources)?;
+            let given = given_of(alloc, command, cycles, limits, sources)?;
             tell_refusal(&given, &mut told, refusal)?;
         }
     }

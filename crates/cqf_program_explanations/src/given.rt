@@ -5,6 +5,7 @@ use crate::network::{Network, network_of, smallest_network};
 use crate::parts::{Input, input_of};
 use crate::plant::Plant;
 use crate::sketch::reads_sketch;
+use cqf_model::Limits;
 use std::alloc::{AllocError, Global};
 
 /// The command, its files, and what they come to.
@@ -14,6 +15,8 @@ pub(crate) struct Given<'a> {
     pub command: &'a str,
     /// How many cycles are run, where the words say it.
     pub cycles: Option<u32>,
+    /// Those within which a plant is read.
+    pub limits: Limits,
     pub sources: &'a [Source<'a>],
     pub input: Input<'a>,
     pub plant: Plant<'a>,
@@ -24,6 +27,7 @@ pub(crate) fn given_of<'a>(
     alloc: Global,
     command: &'a str,
     cycles: Option<u32>,
+    limits: Limits,
     sources: &'a [Source<'a>],
 ) -> Result<Given<'a>, AllocError> {
     let input = input_of(alloc, command, sources)?;
@@ -32,6 +36,7 @@ pub(crate) fn given_of<'a>(
         alloc,
         command,
         cycles,
+        limits,
         sources,
         input,
         plant,
@@ -42,8 +47,8 @@ impl Given<'_> {
     /// The network of the plant, or of the command that has its own.
     pub(crate) fn network(&self) -> Result<Network<'_>, AllocError> {
         if self.command == "line" {
-            return smallest_network(self.alloc);
+            return smallest_network(self.alloc, self.limits);
         }
-        network_of(self.alloc, &self.plant, reads_sketch(self))
+        network_of(self.alloc, &self.plant, self.limits, reads_sketch(self))
     }
 }

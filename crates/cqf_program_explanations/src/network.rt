@@ -3,6 +3,7 @@
 use crate::plant::{Found, Item, Kind, Plant};
 use crate::sketch::is_duplex;
 use crate::words::question;
+use cqf_model::Limits;
 use std::alloc::{AllocError, Global};
 
 /// A link as it is written; what isn't there is empty or 0.
@@ -26,6 +27,7 @@ pub(crate) struct Network<'p> {
     /// In ns.
     pub cycle: u64,
     pub guard: u64,
+    pub limits: Limits,
     /// Whether it is a sketch's, in which a link may stand for two, there and back.
     pub is_sketch: bool,
 }
@@ -55,6 +57,7 @@ fn link_of<'p>(item: &Item<'p>) -> Link<'p> {
 pub(crate) fn network_of<'p>(
     alloc: Global,
     plant: &'p Plant<'_>,
+    limits: Limits,
     is_sketch: bool,
 ) -> Result<Network<'p>, AllocError> {
     let (bridge_names, station_names) = (plant.names("bridges")?, plant.names("stations")?);
@@ -73,18 +76,23 @@ pub(crate) fn network_of<'p>(
         links,
         cycle: plant.number("cycle"),
         guard: plant.number("guard"),
+        limits,
         is_sketch,
     })
 }
 
 /// The nodes of the smallest network, which the command `line` has: a bridge and a station.
-pub(crate) fn smallest_network<'p>(alloc: Global) -> Result<Network<'p>, AllocError> {
+pub(crate) fn smallest_network<'p>(
+    alloc: Global,
+    limits: Limits,
+) -> Result<Network<'p>, AllocError> {
     Ok(Network {
         bridges: vec![in alloc; "a"]?,
         nodes: vec![in alloc; "a", "s"]?,
         links: Vec::new(alloc),
         cycle: 0,
         guard: 0,
+        limits,
         is_sketch: false,
     })
 }

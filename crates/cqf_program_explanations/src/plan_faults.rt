@@ -7,7 +7,7 @@ use crate::places::Grouped;
 use crate::plant::{Item, Kind};
 use crate::refusal::Refusal;
 use crate::sketch::{is_in_step, listeners_of, longest_frame, talkers_link, time_on};
-use crate::stream_faults::{form_fault_of, tell_form_faults};
+use crate::stream_faults::{FormFault, form_fault_of, tell_form_faults};
 use crate::told::Told;
 use crate::words::{question, shortened};
 use std::alloc::{AllocError, Global};
@@ -251,6 +251,25 @@ fn tell_no_way(
     )?)
 }
 
+/// Tells of a stream whose ways have too many links together.
+fn tell_wide(given: &Given<'_>, told: &mut Told, item: &Item<'_>) -> Result<(), AllocError> {
+    let (place, label) = (item.place_of("to"), item.label(given.alloc)?);
+    let most = Grouped(given.limits.hops_within() as u64);
+    told.tell(format!(in given.alloc;
+        "{place}: {label}: its ways have more than {most} links together: give some listeners a stream of their own"
+    )?)
+}
+
+/// Tells of each stream whose paths have too many links together, or of the one of this name whose ways have.
+fn tell_many_hops(given: &Given<'_>, told: &mut Told, stream: &str) -> Result<(), AllocError> {
+    for item in &given.plant.items(Kind::Stream)? {
+        if item.text("name") == Some(stream) && item.get("to").is_some() {
+            return tell_wide(given, told, item);
+        }
+    }
+    tell_form_faults(given, told, FormFault::TooManyHops)
+}
+
 /// Tells of a stream of a name why it isn't placed.
 fn tell_unplaced(
     given: &Given<'_>,
@@ -267,15 +286,17 @@ fn tell_unplaced(
         "Late" => tell_late(given, told, item, unplaced.value),
         "TooManyStreams" => {
             let (place, label) = (item.place(), item.counted(given.alloc)?);
+            let most = Grouped(given.limits.streams_within() as u64);
             told.tell(format!(in given.alloc;
-                "{place}: {label}: at most 1,024 streams are held at once"
+                "{place}: {label}: at most {most} streams are held at once"
             )?)
         }
         _ => Ok(()),
     }
 }
 
-/// Tells why a sketch comes to no plant: of each stream that is wrong in this way whatever the cycle time is, or of the one that isn't placed.
+/// Tells why a sketch comes to no plant: of each stream that is wrong in this way whatever the cycle time is, or of the one that isn't
+/// placed.
 pub(crate) fn tell_plan(
     given: &Given<'_>,
     told: &mut Told,
@@ -288,6 +309,7 @@ pub(crate) fn tell_plan(
         "NoTalker" => return tell_no_talkers(given, told),
         "NoListener" => return tell_no_listeners(given, told),
         "NameHeld" => return tell_names_twice(given, told),
+        "TooManyHops" => return tell_many_hops(given, told, unplaced.stream),
         _ => {}
     }
     if let Some(fault) = form_fault_of(unplaced.fault) {

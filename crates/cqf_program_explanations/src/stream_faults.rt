@@ -3,7 +3,7 @@
 use crate::forms::{EVERY_FORM, NAME_FORM, PHASE_FORM};
 use crate::given::Given;
 use crate::network::Network;
-use crate::places::Place;
+use crate::places::{Grouped, Place};
 use crate::plant::{Item, Kind, number_of};
 use crate::told::Told;
 use crate::words::shortened;
@@ -41,6 +41,7 @@ pub(crate) enum FormFault {
     BrokenPath,
     LoopingPath,
     NotATree,
+    TooManyHops,
 }
 
 /// The first thing that is wrong with a path.
@@ -55,9 +56,6 @@ enum Broken<'p> {
 
 /// After how many cycles each stream is offered again, as it was: each `every` divides them.
 pub(crate) const MOST_EVERY: u64 = 80;
-
-/// How many nodes a path has at most: 16 bridges and a station.
-const MOST_NODES: usize = 17;
 
 /// The texts of an array.
 fn texts_of<'p>(alloc: Global, value: &'p Value) -> Result<Vec<&'p str>, AllocError> {
@@ -135,10 +133,11 @@ fn broken_of<'p>(network: &Network<'_>, path: &[&'p str]) -> Option<Broken<'p>> 
     if !network.is_bridge(first) {
         return Some(Broken::BeginsAtStation(first));
     }
-    let within = path.get(..MOST_NODES).unwrap_or(path);
+    let most = network.limits.nodes_within();
+    let within = path.get(..most).unwrap_or(path);
     if let Some((from, to)) = first_gap(network, within) {
         Some(Broken::NoLink(from, to))
-    } else if path.len() > MOST_NODES {
+    } else if path.len() > most {
         Some(Broken::TooLong)
     } else if network.is_bridge(last) {
         Some(Broken::EndsAtBridge(last))
@@ -158,9 +157,14 @@ fn loop_of<'p>(path: &[&'p str]) -> Option<(&'p str, usize, usize)> {
     None
 }
 
+/// With how many nodes two paths begin alike.
+fn same_nodes(before: &[&str], path: &[&str]) -> usize {
+    path.iter().zip(before).take_while(|(a, b)| a == b).count()
+}
+
 /// The first node that two paths reach in two ways, behind what both begin with; `None` where they are apart there.
 fn meeting<'p>(before: &[&str], path: &[&'p str]) -> Option<&'p str> {
-    let same = path.iter().zip(before).take_while(|(a, b)| a == b).count();
+    let same = same_nodes(before, path);
     let (rest, other) = (path.get(same..)?, before.get(same..)?);
     rest.iter().find(|name| other.contains(name)).copied()
 }
@@ -198,6 +202,19 @@ fn are_no_tree(paths: &[Vec<&str>]) -> bool {
         }
     }
     false
+}
+
+/// How many links the tree of some paths has: each adds those behind what it has in common with one before it.
+fn hops_of(paths: &[Vec<&str>]) -> usize {
+    let mut hops: usize = 0;
+    for (place, path) in paths.iter().enumerate() {
+        let mut same: usize = 1;
+        for before in paths.iter().take(place) {
+            same = same.max(same_nodes(before.as_slice(), path.as_slice()));
+        }
+        hops = hops.saturating_add(path.len().saturating_sub(same));
+    }
+    hops
 }
 
 /// Whether the paths are none, or one of them is broken.
@@ -249,6 +266,8 @@ impl Asked<'_> {
             Some(FormFault::LoopingPath)
         } else if are_no_tree(paths) {
             Some(FormFault::NotATree)
+        } else if hops_of(paths) > network.limits.hops_within() {
+            Some(FormFault::TooManyHops)
         } else {
             None
         }
@@ -320,7 +339,11 @@ fn tell_unknown_nodes(
 }
 
 /// What is wrong with a path, in words.
-fn broken_words(alloc: Global, broken: Broken<'_>) -> Result<String, AllocError> {
+fn broken_words(
+    alloc: Global,
+    network: &Network<'_>,
+    broken: Broken<'_>,
+) -> Result<String, AllocError> {
     match broken {
         Broken::Empty => String::from_str(
             alloc,
@@ -333,7 +356,10 @@ fn broken_words(alloc: Global, broken: Broken<'_>) -> Result<String, AllocError>
         Broken::EndsAtBridge(name) => {
             format!(in alloc; "the path ends at the bridge {name}: a path ends at a station")
         }
-        Broken::TooLong => String::from_str(alloc, "the path has more than 16 bridges"),
+        Broken::TooLong => {
+            let most = network.limits.nodes_within().saturating_sub(1);
+            format!(in alloc; "the path has more than {most} bridges")
+        }
     }
 }
 
@@ -350,7 +376,7 @@ fn tell_broken_paths(
     }
     for path in &asked.paths {
         if let Some(broken) = broken_of(network, path.as_slice()) {
-            let words = broken_words(given.alloc, broken)?;
+            let words = broken_words(given.alloc, network, broken)?;
             told.tell(format!(in given.alloc; "{place}: {label}: {words}")?)?;
         }
     }
@@ -403,6 +429,16 @@ fn tell_strays(given: &Given<'_>, told: &mut Told, asked: &Asked<'_>) -> Result<
     Ok(())
 }
 
+/// Tells how many links the tree of a stream has, which are too many.
+fn tell_hops(given: &Given<'_>, told: &mut Told, asked: &Asked<'_>) -> Result<(), AllocError> {
+    let (place, label) = (asked.paths_place(), asked.item.counted(given.alloc)?);
+    let hops = Grouped(hops_of(asked.paths.as_slice()) as u64);
+    let most = Grouped(given.limits.hops_within() as u64);
+    told.tell(format!(in given.alloc;
+        "{place}: {label}: its paths have {hops} links together: a tree has at most {most}"
+    )?)
+}
+
 /// Tells what is wrong with the form of a stream.
 fn tell_form(
     given: &Given<'_>,
@@ -428,6 +464,7 @@ fn tell_form(
         FormFault::BrokenPath => tell_broken_paths(given, told, network, asked),
         FormFault::LoopingPath => tell_loops(given, told, asked),
         FormFault::NotATree => tell_strays(given, told, asked),
+        FormFault::TooManyHops => tell_hops(given, told, asked),
     }
 }
 
@@ -441,6 +478,7 @@ pub(crate) fn form_fault_of(fault: &str) -> Option<FormFault> {
         "BrokenPath" => Some(FormFault::BrokenPath),
         "LoopingPath" => Some(FormFault::LoopingPath),
         "NotATree" => Some(FormFault::NotATree),
+        "TooManyHops" => Some(FormFault::TooManyHops),
         _ => None,
     }
 }

@@ -80,9 +80,6 @@ const ARRIVAL_COLUMNS: [Column; 4] = [
     ),
 ];
 
-/// How many rows a table has at most.
-const MOST_ROWS: u64 = 1_000_000;
-
 impl Table {
     /// The table of a part's name.
     pub(crate) fn of(part: &str) -> Option<Table> {
@@ -355,7 +352,7 @@ pub(crate) fn place_of_offer<'p>(
     let place = Table::Offers.place(given.command, rest);
     let (Some(part), Some(row)) = (
         rest.get(place),
-        read_decimal(number.as_bytes(), 1, MOST_ROWS),
+        read_decimal(number.as_bytes(), 1, u64::from(given.limits.rows_within())),
     ) else {
         return Ok(None);
     };
@@ -394,7 +391,8 @@ fn tell_count(given: &Given<'_>, told: &mut Told, part: Part<'_>) -> Result<(), 
         line: None,
     };
     let rows = (records_of(given.alloc, part)?.len() as u64).saturating_sub(1);
-    let (rows, most) = (Grouped(rows), Grouped(MOST_ROWS));
+    let most = Grouped(u64::from(given.limits.rows_within()));
+    let rows = Grouped(rows);
     told.tell(format!(in given.alloc; "{place}: {rows} rows: a table has at most {most}")?)
 }
 

@@ -1,4 +1,5 @@
 -- What the command `hops` gives for its input (profile).
+use Rattle.cqf_model.specs.declared.limits.Limits.{Limits}
 use Rattle.std.specs.Prelude.{ℕ, ◌≡◌, List, Ok}
 use Rattle.cqf_model.specs.Book.{Contents}
 use Rattle.cqf_program_scenario.specs.Books.{IsBookOfScenario}
@@ -8,9 +9,9 @@ use Rattle.cqf_program_hops.specs.Legs.{AreByFrame, Wanted, wanted_legs}
 use Rattle.cqf_program_hops.specs.LegsText.{text_of_legs}
 
 -- the output is the text of what the one-thread book of the input's scenario tells of the wanted frames, by frame
-pub record IsHopsOutput (cycles : ℕ) (wanted : Wanted) (input output : List ℕ) : Type 0 where
+pub record IsHopsOutput (limits : Limits) (cycles : ℕ) (wanted : Wanted) (input output : List ℕ) : Type 0 where
   pub scenario : Scenario
-  pub holds : scenario_input cycles input ≡ Ok scenario
+  pub holds : scenario_input limits cycles input ≡ Ok scenario
   pub book : Contents
   pub is_book : IsBookOfScenario cycles scenario book
   pub legs : List Leg

@@ -12,6 +12,7 @@ ghost use Rattle.cqf_program_hops.specs.LegsText.{text_of_legs};
 use crate::gathering::legs_of_scenario;
 use crate::hops_outputs::HopsOutput;
 use crate::wanting::Choice;
+use cqf_model::Limits;
 use cqf_program_press::Sheet;
 use cqf_program_scenario::{Given, read_given};
 use cqf_program_stop::Stop;
@@ -43,24 +44,25 @@ fn output_of(
     })
 }
 
-/// The output of `hops` over so many cycles, 0 to 100,000, ready to be told: each start and each drop of the wanted frames in the book of
-/// the input's scenario, by frame, then instant, then link (profile).
+/// The output of `hops` over so many cycles, 0 to 100,000, for an input that is read within some limits, ready to be told: each start and
+/// each drop of the wanted frames in the book of the input's scenario, by frame, then instant, then link (profile).
 ///
 /// # Errors
 /// With status 1 and the line of the first fault of the input: of its parts, of the domain, the streams, the script, the
 /// offers, or the background frames; and with status 3 for want of memory.
 pub fn hops_output(
     alloc: Global,
+    limits: Limits,
     cycles: u32,
     choice: Choice<'_>,
     input: &[u8],
 ) -> Result<HopsOutput, Stop>
     requires { cycles ≤ most_cycles }
-    ensures ok { IfOk result (λ output. IsHopsOutput cycles (wanted_by choice.entry) input.now
+    ensures ok { IfOk result (λ output. IsHopsOutput limits cycles (wanted_by choice.entry) input.now
         (text_of_legs output.domain output.offers output.legs)) }
-    ensures err { IfErr result (IsRefused (scenario_input cycles input.now)) }
+    ensures err { IfErr result (IsRefused (scenario_input limits cycles input.now)) }
 {
-    let given = read_given(alloc, cycles, input)?;
+    let given = read_given(alloc, limits, cycles, input)?;
     match output_of(alloc, cycles, choice, given) {
         Ok(output) => Ok(output),
         Err(_) => Err(Stop::memory(alloc)),

@@ -12,6 +12,7 @@ use Rattle.cqf_model.specs.declared.history.Receipt.{Receipt}
 use Rattle.cqf_model.specs.declared.history.Refused.{Refused}
 use Rattle.cqf_model.specs.declared.history.Refused.TheVariants.{BadName, BadOctets, BadPace, UnknownNode, BrokenPath, LoopingPath, NotATree, TooManyHops}
 use Rattle.cqf_model.specs.declared.history.Reply.TheVariants.{Accepted}
+use Rattle.cqf_model.specs.declared.limits.Limits.{Limits}
 use Rattle.cqf_model.specs.declared.topology.Row.{Row}
 use Rattle.cqf_model.specs.Domain.{Domain}
 use Rattle.cqf_model.specs.History.{Asked, IsLegalHistory, Recorded, admit_reply, held_in, next_number, refusal_of, refused_at, refused_if, reply_to, seals, tree_of}
@@ -20,7 +21,7 @@ use Rattle.cqf_laws_history.proofs.Granted.{granted}
 use Rattle.cqf_laws_latency.specs.Streams.{AdmitsOnly}
 use Rattle.cqf_text.specs.Lines.{lines_of}
 use Rattle.cqf_text.specs.Parts.{parts_of}
-use Rattle.cqf_topology.specs.DomainText.{domain_of_text}
+use Rattle.cqf_topology.specs.DomainText.{domain_within}
 use Rattle.cqf_topology.specs.PlannedText.{PlannedText, planned_of_text}
 use Rattle.cqf_admission_script.specs.Script.{Called, administrators, script_of}
 use Rattle.cqf_program_stop.specs.Stops.{or_line}
@@ -78,11 +79,12 @@ module _ (asks : ScriptsAskOnly) where
   abbrev with_streams : ℕ → RunTexts → Domain → List PlannedText → Result Read (List ℕ)
   with_streams cycles texts d found = and_then (scenario_behind cycles d (asked_in found) texts) (with_scenario found)
 
-  pub asks_firsts : (cycles : ℕ) (input : List ℕ) (read : Read) → planned_scenario cycles input ≡ Ok read → AskOnly (firsts (asked_in read.1)) read.0.calls
-  asks_firsts cycles input read h =
-      let t = stepped {B = Read} (run_parts (parts_of input)) (planned_scenario_of cycles) read h in
+  pub asks_firsts : (limits : Limits) (cycles : ℕ) (input : List ℕ) (read : Read) → planned_scenario limits cycles input ≡ Ok read →
+      AskOnly (firsts (asked_in read.1)) read.0.calls
+  asks_firsts limits cycles input read h =
+      let t = stepped {B = Read} (run_parts (parts_of input)) (planned_scenario_of limits cycles) read h in
       let texts : RunTexts = t.0 in
-      let a = stepped {B = Read} (or_line domain_line (domain_of_text texts.domain))
+      let a = stepped {B = Read} (or_line domain_line (domain_within limits texts.domain))
       (λ (d : Domain). and_then (or_line streams_line (planned_of_text texts.streams)) (with_streams cycles texts d)) read t.2 in
       let b = stepped {B = Read} (or_line streams_line (planned_of_text texts.streams)) (with_streams cycles texts a.0) read a.2 in
       let c = stepped {B = Read} (scenario_behind cycles a.0 (asked_in b.0) texts) (with_scenario b.0) read b.2 in

@@ -11,6 +11,7 @@ use Rattle.cqf_lists.proofs.Pairs.{one_of_pairs}
 use Rattle.cqf_units.specs.Name.{is_name}
 use Rattle.cqf_units.specs.declared.timing.Nanos.{Nanos}
 use Rattle.cqf_model.specs.declared.frames.Offered.{Offered}
+use Rattle.cqf_model.specs.declared.limits.Limits.{Limits}
 use Rattle.cqf_model.specs.declared.topology.Hop.{Hop}
 use Rattle.cqf_model.specs.declared.topology.Row.{Row}
 use Rattle.cqf_model.specs.Book.{Contents}
@@ -126,8 +127,8 @@ none_taken [] = refl
 none_taken (y ∷ ds) = none_taken ds
 
 module _ (rows : RowsAreOfList) (timely : HistoryIsTimely) (orderly : TablesAreOrderly) (arrivals : ArrivalsAreTheShift) (asks : ScriptsAskOnly)
-    (histories : HistoriesAdmitOnly) (legal_of : HistoriesAreLegal) (cycles : ℕ) (input : List ℕ) (s : Scenario) (streams : List PlannedText)
-    (book : Contents) (is : IsReadRun cycles input s streams book) where
+    (histories : HistoriesAdmitOnly) (legal_of : HistoriesAreLegal) (limits : Limits) (cycles : ℕ) (input : List ℕ) (s : Scenario) (streams : List PlannedText)
+    (book : Contents) (is : IsReadRun limits cycles input s streams book) where
   abbrev d : Domain
   d = s.domain
 
@@ -141,7 +142,7 @@ module _ (rows : RowsAreOfList) (timely : HistoryIsTimely) (orderly : TablesAreO
   goods = filter (is_good d) told
 
   only : AdmitsOnly goods (history_of cycles s)
-  only = admits_told asks histories legal_of cycles input s streams book is
+  only = admits_told asks histories legal_of limits cycles input s streams book is
 
   module _ (asked : Asked) (listed : Contains told asked) (hop : Hop) (among : Contains (listeners_of d (granted_row d 0 0 asked)) hop) where
     -- an arrival there of a frame of the stream
@@ -258,7 +259,7 @@ module _ (rows : RowsAreOfList) (timely : HistoryIsTimely) (orderly : TablesAreO
 -- so of each row
 pub latencies_are_bounded : RowsAreOfList → HistoryIsTimely → TablesAreOrderly → ArrivalsAreTheShift → ScriptsAskOnly → HistoriesAdmitOnly →
     HistoriesAreLegal → LatenciesAreBounded
-latencies_are_bounded rows timely orderly arrivals asks histories legal_of cycles input s streams book fare way taken is of took =
+latencies_are_bounded rows timely orderly arrivals asks histories legal_of limits cycles input s streams book fare way taken is of took =
     let d = s.domain in
     let told = told_streams (asked_in streams) in
     let cost = told_cost d told in
@@ -272,8 +273,8 @@ latencies_are_bounded rows timely orderly arrivals asks histories legal_of cycle
     let listener = contains_from_map (way_to (deliveries_named asked.name ds)) (listeners_by d (cost asked) (row_of_stream d asked)) way of_it in
     let counted : taken_of (latencies_to (name_of_listener listener.0) (deliveries_named asked.name ds)) ≡ Some taken =
     ap (λ (w : Way). w.tally.taken) listener.2 ∙ took in
-    let b = bounded_to rows timely orderly arrivals asks histories legal_of cycles input s streams book is asked stream.1 (form_refusal d asked) listener.0
-    listener.1 taken counted in
+    let b = bounded_to rows timely orderly arrivals asks histories legal_of limits cycles input s streams book is asked stream.1 (form_refusal d asked)
+    listener.0 listener.1 taken counted in
     record {
       asked = asked;
       told = stream.1;

@@ -236,13 +236,13 @@ verdicts_hold_of_deliveries planned names holds apart orderly says arrivals d st
 
 -- so of a script
 pub verdicts_hold_of_scripts : VerdictsHoldOfDeliveries → PlannedScenariosAskOnly → HistoriesAdmitOnly → HistoriesAreLegal → VerdictsHoldOfScripts
-verdicts_hold_of_scripts verdicts asks histories legal cycles input s streams plan book short holds domain may admitted is =
+verdicts_hold_of_scripts verdicts asks histories legal limits cycles input s streams plan book short holds domain may admitted is =
     verdicts s.domain streams plan (history_of cycles s) s.offers s.background cycles book domain admitted (legal cycles s short may.room)
-    (histories cycles s (asked_in streams) (asks cycles input s streams holds)) may.offers may.background is.is_book
+    (histories cycles s (asked_in streams) (asks limits cycles input s streams holds)) may.offers may.background is.is_book
 
 -- and of each account
 pub verdicts_hold_of_accounts : VerdictsHoldOfDeliveries → PlannedScenariosAskOnly → AccountsAdmitOnly → VerdictsHoldOfAccounts
-verdicts_hold_of_accounts verdicts asks accounts cycles input s streams plan entries asked book holds domain may admitted commands account =
+verdicts_hold_of_accounts verdicts asks accounts limits cycles input s streams plan entries asked book holds domain may admitted commands account =
     verdicts s.domain streams plan entries s.offers s.background cycles book domain admitted account.history.legal
-    (accounts cycles s (asked_in streams) asked entries (asks cycles input s streams holds) commands account.history) may.offers may.background
+    (accounts cycles s (asked_in streams) asked entries (asks limits cycles input s streams holds) commands account.history) may.offers may.background
     (record { sealed = account.sealed; is_book = account.keeps.is_book })

@@ -320,9 +320,9 @@ asked_without (flow ∷ flows) = ap (λ (rest : List Asked). asked_by flow.0.0 �
 
 -- of a script
 pub plans_keep_their_word_to_scripts : PlansKeepTheirWord → PlannedScenariosAskOnly → HistoriesAdmitOnly → HistoriesAreLegal → PlansKeepTheirWordToScripts
-plans_keep_their_word_to_scripts keep asks histories legal cycles input s flows book short holds accepted may plan is =
+plans_keep_their_word_to_scripts keep asks histories legal limits cycles input s flows book short holds accepted may plan is =
     let only = subst (λ (streams : List Asked). AskOnly streams s.calls) (asked_without flows)
-    (asks cycles input s (map (λ (flow : FlowText). flow.0) flows) holds) in
+    (asks limits cycles input s (map (λ (flow : FlowText). flow.0) flows) holds) in
     keep s.domain flows (history_of cycles s) s.offers s.background cycles book plan (record {
       accepted = accepted;
       legal = legal cycles s short may.room;
@@ -335,9 +335,9 @@ plans_keep_their_word_to_scripts keep asks histories legal cycles input s flows 
 
 -- and of each account
 pub plans_keep_their_word_on_threads : PlansKeepTheirWord → PlannedScenariosAskOnly → AccountsAdmitOnly → PlansKeepTheirWordOnThreads
-plans_keep_their_word_on_threads keep asks accounts cycles input s flows entries asked book holds accepted may plan commands account =
+plans_keep_their_word_on_threads keep asks accounts limits cycles input s flows entries asked book holds accepted may plan commands account =
     let only = subst (λ (streams : List Asked). AskOnly streams s.calls) (asked_without flows)
-    (asks cycles input s (map (λ (flow : FlowText). flow.0) flows) holds) in
+    (asks limits cycles input s (map (λ (flow : FlowText). flow.0) flows) holds) in
     keep s.domain flows entries s.offers s.background cycles book plan (record {
       accepted = accepted;
       legal = account.history.legal;

@@ -5,6 +5,7 @@ use Rattle.cqf_lists.proofs.Members.{contains_from_filter, contains_from_map, fi
 use Rattle.cqf_lists.proofs.Pairs.{one_of_pairs}
 use Rattle.cqf_model.specs.declared.frames.Offered.{Offered}
 use Rattle.cqf_model.specs.declared.history.Refused.{Refused}
+use Rattle.cqf_model.specs.declared.limits.Limits.{Limits}
 use Rattle.cqf_model.specs.declared.topology.Hop.{Hop}
 use Rattle.cqf_model.specs.declared.topology.Row.{Row}
 use Rattle.cqf_model.specs.Book.{Contents}
@@ -105,14 +106,14 @@ module _ (rows : RowsAreOfList) (cycles : ℕ) (s : Scenario) (requests : List A
 
 -- of a script over its streams
 module _ (asks : ScriptsAskOnly) (histories : HistoriesAdmitOnly) (legal_of : HistoriesAreLegal) where
-  pub admits_told : (cycles : ℕ) (input : List ℕ) (s : Scenario) (streams : List PlannedText) (book : Contents) →
-      IsReadRun cycles input s streams book → AdmitsOnly (filter (is_good s.domain) (told_streams (asked_in streams))) (history_of cycles s)
-  admits_told cycles input s streams book is =
+  pub admits_told : (limits : Limits) (cycles : ℕ) (input : List ℕ) (s : Scenario) (streams : List PlannedText) (book : Contents) →
+      IsReadRun limits cycles input s streams book → AdmitsOnly (filter (is_good s.domain) (told_streams (asked_in streams))) (history_of cycles s)
+  admits_told limits cycles input s streams book is =
       admits_good s.domain (history_of cycles s) (asked_in streams) (legal_of cycles s is.short is.may.room)
-      (histories cycles s (firsts (asked_in streams)) (asks_firsts asks cycles input (s, streams) is.read))
+      (histories cycles s (firsts (asked_in streams)) (asks_firsts asks limits cycles input (s, streams) is.read))
 
   pub rows_add_up : RowsAreOfList → TablesAreOrderly → EachIsToldOnce → EachListenerIsToldOnce → RowsAddUp
-  rows_add_up rows orderly once listeners cycles input s streams book fare way is of =
+  rows_add_up rows orderly once listeners limits cycles input s streams book fare way is of =
       let d = s.domain in
       let requests = asked_in streams in
       let run = run_of_scenario cycles s in
@@ -121,7 +122,7 @@ module _ (asks : ScriptsAskOnly) (histories : HistoriesAdmitOnly) (legal_of : Hi
       let cost = told_cost d told in
       let offers = offers_within d (length run.tables) (numbered run.offers) in
       let ds = deliveries_of run streams book in
-      let only = admits_told cycles input s streams book is in
+      let only = admits_told limits cycles input s streams book is in
       let stream = contains_from_map (fare_of d cost (deadline_named streams) offers ds) told fare of.0 in
       let asked : Asked = stream.0 in
       let of_it : Contains (ways_of d (cost asked) (deliveries_named asked.name ds) (row_of_stream d asked)) way =

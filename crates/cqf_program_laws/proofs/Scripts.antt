@@ -10,6 +10,7 @@ use Rattle.cqf_lists.specs.Lists.{or_else}
 use Rattle.cqf_lists.specs.Results.{and_then}
 use Rattle.cqf_lists.proofs.Members.{contains_cases, contains_from_filter, contains_from_map, contains_from_take, contains_none, find_member}
 use Rattle.cqf_topology_fields.specs.Fields.{and_first}
+use Rattle.cqf_model.specs.declared.limits.Limits.{Limits}
 use Rattle.cqf_model.specs.declared.frames.Background.{Background}
 use Rattle.cqf_model.specs.declared.frames.Offer.{Offer}
 use Rattle.cqf_model.specs.Domain.{Domain, is_text}
@@ -17,7 +18,7 @@ use Rattle.cqf_model.specs.History.{Act, Admits, Asked, Seals, Withdraws, seals}
 use Rattle.cqf_model.specs.Limits.{most_calls}
 use Rattle.cqf_text.specs.Lines.{lines_of}
 use Rattle.cqf_text.specs.Parts.{parts_of}
-use Rattle.cqf_topology.specs.DomainText.{domain_of_text}
+use Rattle.cqf_topology.specs.DomainText.{domain_within}
 use Rattle.cqf_topology.specs.PlannedText.{PlannedText, planned_of_text}
 use Rattle.cqf_topology.specs.PacedText.{PacedText, paced_of_text}
 use Rattle.cqf_admission.specs.Asking.{asked_by}
@@ -187,8 +188,8 @@ made_calls texts d calls s h =
     ap (λ (z : Scenario). z.calls) (same_ok (made_of texts d calls c.0) s c.2)
 
 pub scenarios_ask_only : ScenariosAskOnly
-scenarios_ask_only cycles texts s requests h streams =
-    let a = stepped {B = Scenario} (or_line domain_line (domain_of_text texts.domain))
+scenarios_ask_only limits cycles texts s requests h streams =
+    let a = stepped {B = Scenario} (or_line domain_line (domain_within limits texts.domain))
     (λ (d : Domain). and_then (calls_in cycles texts) (made_by texts d)) s h in
     let b = stepped {B = Scenario} (calls_in cycles texts) (made_by texts a.0) s a.2 in
     let e = stepped {B = List Called} (or_line streams_line (paced_of_text texts.streams)) (λ (found : List PacedText).
@@ -223,18 +224,18 @@ read_ask cycles texts d found s read h is =
     let made : Read = (s, found) in
     subst (λ (z : Read). AskOnly (asked_in z.1) z.0.calls) (same_ok made read is) (behind_ask cycles d (asked_in found) texts s h)
 
-planned_ask : (cycles : ℕ) (input : List ℕ) (read : Read) → planned_scenario cycles input ≡ Ok read → AskOnly (asked_in read.1) read.0.calls
-planned_ask cycles input read h =
-    let t = stepped {B = Read} (run_parts (parts_of input)) (planned_scenario_of cycles) read h in
+planned_ask : (limits : Limits) (cycles : ℕ) (input : List ℕ) (read : Read) → planned_scenario limits cycles input ≡ Ok read → AskOnly (asked_in read.1) read.0.calls
+planned_ask limits cycles input read h =
+    let t = stepped {B = Read} (run_parts (parts_of input)) (planned_scenario_of limits cycles) read h in
     let texts : RunTexts = t.0 in
-    let a = stepped {B = Read} (or_line domain_line (domain_of_text texts.domain))
+    let a = stepped {B = Read} (or_line domain_line (domain_within limits texts.domain))
     (λ (d : Domain). and_then (or_line streams_line (planned_of_text texts.streams)) (with_streams cycles texts d)) read t.2 in
     let b = stepped {B = Read} (or_line streams_line (planned_of_text texts.streams)) (with_streams cycles texts a.0) read a.2 in
     let c = stepped {B = Read} (scenario_behind cycles a.0 (asked_in b.0) texts) (with_scenario b.0) read b.2 in
     read_ask cycles texts a.0 b.0 c.0 read c.1 c.2
 
 pub planned_scenarios_ask_only : PlannedScenariosAskOnly
-planned_scenarios_ask_only cycles input s streams h = planned_ask cycles input (s, streams) h
+planned_scenarios_ask_only limits cycles input s streams h = planned_ask limits cycles input (s, streams) h
 
 -- ---- histories
 

@@ -4,6 +4,7 @@ use Rattle.std.specs.Option.{ForSome}
 use Rattle.cqf_model.specs.declared.frames.Background.{Background}
 use Rattle.cqf_model.specs.declared.frames.Offer.{Offer}
 use Rattle.cqf_model.specs.declared.frames.Offered.{Offered}
+use Rattle.cqf_model.specs.declared.limits.Limits.{Limits}
 use Rattle.cqf_model.specs.declared.topology.Row.{Row}
 use Rattle.cqf_model.specs.Book.{Contents}
 use Rattle.cqf_model.specs.Domain.{Domain, IsAccepted}
@@ -103,15 +104,16 @@ PlansKeepTheirWord =
 -- in that of each script over the plan
 abbrev pub PlansKeepTheirWordToScripts : Type 0
 PlansKeepTheirWordToScripts =
-    (cycles : ℕ) (input : List ℕ) (s : Scenario) (flows : List FlowText) (book : Contents) → cycles ≤ most_cycles →
-    planned_scenario cycles input ≡ Ok (s, map (λ (flow : FlowText). flow.0) flows) → IsAccepted s.domain → MayBeRun cycles s →
+    (limits : Limits) (cycles : ℕ) (input : List ℕ) (s : Scenario) (flows : List FlowText) (book : Contents) → cycles ≤ most_cycles →
+    planned_scenario limits cycles input ≡ Ok (s, map (λ (flow : FlowText). flow.0) flows) → IsAccepted s.domain → MayBeRun cycles s →
     IsKeptPlan s.domain flows → IsBookOfScenario cycles s book → PlanKeepsItsWord (run_of_scenario cycles s) flows cycles book
 
 -- and in that of each account of such a script's run on threads
 abbrev pub PlansKeepTheirWordOnThreads : Type 0
 PlansKeepTheirWordOnThreads =
-    (cycles : ℕ) (input : List ℕ) (s : Scenario) (flows : List FlowText) (entries : List Recorded) (asked : List (List Act)) (book : Contents) →
-    planned_scenario cycles input ≡ Ok (s, map (λ (flow : FlowText). flow.0) flows) → IsAccepted s.domain → MayBeRun cycles s →
+    (limits : Limits) (cycles : ℕ) (input : List ℕ) (s : Scenario) (flows : List FlowText) (entries : List Recorded) (asked : List (List Act))
+    (book : Contents) →
+    planned_scenario limits cycles input ≡ Ok (s, map (λ (flow : FlowText). flow.0) flows) → IsAccepted s.domain → MayBeRun cycles s →
     IsKeptPlan s.domain flows → AreCommandsBehind s.calls s.sealer asked →
     IsAccountOf s.domain (opening_history s) s.offers s.background cycles asked entries book →
     PlanKeepsItsWord (run_of_history s.domain entries s.offers s.background cycles) flows cycles book

@@ -1,5 +1,6 @@
 -- What a script's calls ask for, and which histories they make.
 use Rattle.std.specs.Prelude.{ℕ, ◌≡◌, ◌≤◌, List, [], Ok, Contains, map}
+use Rattle.cqf_model.specs.declared.limits.Limits.{Limits}
 use Rattle.cqf_model.specs.Calls.{IsHistoryOf}
 use Rattle.cqf_model.specs.History.{Act, Asked, IsLegalHistory, Recorded}
 use Rattle.cqf_model.specs.Limits.{most_cycles}
@@ -28,13 +29,15 @@ ScriptsAskOnly = (requests : List Asked) (cycles : ℕ) (text : List ℕ) (calls
 
 -- so it is with the scenario of an input's parts, whose streams text has these requests
 abbrev pub ScenariosAskOnly : Type 0
-ScenariosAskOnly = (cycles : ℕ) (texts : RunTexts) (s : Scenario) (requests : List PacedText) → scenario_of cycles texts ≡ Ok s →
+ScenariosAskOnly =
+    (limits : Limits) (cycles : ℕ) (texts : RunTexts) (s : Scenario) (requests : List PacedText) → scenario_of limits cycles texts ≡ Ok s →
     paced_of_text texts.streams ≡ Ok requests → AskOnly (map asked_by requests) s.calls
 
 -- and with that of an input that is read with its deadlines
 abbrev pub PlannedScenariosAskOnly : Type 0
-PlannedScenariosAskOnly = (cycles : ℕ) (input : List ℕ) (s : Scenario) (streams : List PlannedText) → planned_scenario cycles input ≡ Ok (s, streams) →
-    AskOnly (asked_in streams) s.calls
+PlannedScenariosAskOnly =
+    (limits : Limits) (cycles : ℕ) (input : List ℕ) (s : Scenario) (streams : List PlannedText) →
+    planned_scenario limits cycles input ≡ Ok (s, streams) → AskOnly (asked_in streams) s.calls
 
 -- the history of such calls admits streams of the list alone, over however many cycles
 abbrev pub HistoriesAdmitOnly : Type 0

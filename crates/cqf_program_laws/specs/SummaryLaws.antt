@@ -1,5 +1,6 @@
 -- What a summary tells of a script over its streams (profile).
 use Rattle.std.specs.Prelude.{ℕ, ◌≡◌, ◌+◌, ◌≤◌, Contains, List, Ok, Some}
+use Rattle.cqf_model.specs.declared.limits.Limits.{Limits}
 use Rattle.cqf_model.specs.declared.topology.Hop.{Hop}
 use Rattle.cqf_model.specs.Book.{Contents}
 use Rattle.cqf_model.specs.Domain.{Domain}
@@ -22,10 +23,10 @@ use Rattle.cqf_program_summary.specs.declared.tallies.Taken.{Taken}
 use Rattle.cqf_program_summary.specs.Summary.{Fare, summary_of}
 use Rattle.cqf_program_summary.specs.Told.{told_streams}
 
--- a script over streams that was read, and its one-thread book
-pub record IsReadRun (cycles : ℕ) (input : List ℕ) (s : Scenario) (streams : List PlannedText) (book : Contents) : Type 0 where
+-- a script over streams that was read under limits, and its one-thread book
+pub record IsReadRun (limits : Limits) (cycles : ℕ) (input : List ℕ) (s : Scenario) (streams : List PlannedText) (book : Contents) : Type 0 where
   pub short : cycles ≤ most_cycles
-  pub read : planned_scenario cycles input ≡ Ok (s, streams)
+  pub read : planned_scenario limits cycles input ≡ Ok (s, streams)
   pub domain : IsDomain s.domain
   pub may : MayBeRun cycles s
   pub is_book : IsBookOfScenario cycles s book
@@ -38,8 +39,8 @@ IsRowOf cycles s streams book fare way =
 -- each offer that a row counts ends in just one of four ways at its listener
 abbrev pub RowsAddUp : Type 0
 RowsAddUp =
-    (cycles : ℕ) (input : List ℕ) (s : Scenario) (streams : List PlannedText) (book : Contents) (fare : Fare) (way : Way) →
-    IsReadRun cycles input s streams book → IsRowOf cycles s streams book fare way →
+    (limits : Limits) (cycles : ℕ) (input : List ℕ) (s : Scenario) (streams : List PlannedText) (book : Contents) (fare : Fare) (way : Way) →
+    IsReadRun limits cycles input s streams book → IsRowOf cycles s streams book fare way →
     fare.offered ≡ way.tally.delivered + way.tally.late + fare.dropped + way.tally.under_way
 
 -- what frames took that came to the listener of a row is no less than the least that `latency` has for the last link of their way, and no
@@ -58,6 +59,7 @@ pub record AreWithinBounds (d : Domain) (streams : List Asked) (fare : Fare) (wa
 
 abbrev pub LatenciesAreBounded : Type 0
 LatenciesAreBounded =
-    (cycles : ℕ) (input : List ℕ) (s : Scenario) (streams : List PlannedText) (book : Contents) (fare : Fare) (way : Way) (taken : Taken) →
-    IsReadRun cycles input s streams book → IsRowOf cycles s streams book fare way → way.tally.taken ≡ Some taken →
+    (limits : Limits) (cycles : ℕ) (input : List ℕ) (s : Scenario) (streams : List PlannedText) (book : Contents) (fare : Fare) (way : Way)
+    (taken : Taken) →
+    IsReadRun limits cycles input s streams book → IsRowOf cycles s streams book fare way → way.tally.taken ≡ Some taken →
     AreWithinBounds s.domain (asked_in streams) fare way taken

@@ -3,6 +3,7 @@ use Rattle.std.specs.Prelude.{ℕ, ◌≡◌, ◌≢◌, ◌≤◌, List, [], tr
 use Rattle.cqf_units.specs.declared.timing.Nanos.{Nanos}
 use Rattle.cqf_model.specs.declared.frames.Background.{Background}
 use Rattle.cqf_model.specs.declared.frames.Offer.{Offer}
+use Rattle.cqf_model.specs.declared.limits.Limits.{Limits}
 use Rattle.cqf_model.specs.Book.{Contents}
 use Rattle.cqf_model.specs.Domain.{Domain}
 use Rattle.cqf_model.specs.Headline.{IsAccountOf}
@@ -68,16 +69,17 @@ VerdictsHoldOfDeliveries =
 -- so they are in the book of a script over the plan's streams
 abbrev pub VerdictsHoldOfScripts : Type 0
 VerdictsHoldOfScripts =
-    (cycles : ℕ) (input : List ℕ) (s : Scenario) (streams : List PlannedText) (plan : List Recorded) (book : Contents) → cycles ≤ most_cycles →
-    planned_scenario cycles input ≡ Ok (s, streams) → IsDomain s.domain → MayBeRun cycles s →
+    (limits : Limits) (cycles : ℕ) (input : List ℕ) (s : Scenario) (streams : List PlannedText) (plan : List Recorded) (book : Contents) →
+    cycles ≤ most_cycles → planned_scenario limits cycles input ≡ Ok (s, streams) → IsDomain s.domain → MayBeRun cycles s →
     admitted_from s.domain [] 1 (asked_in streams) ≡ Ok plan → IsBookOfScenario cycles s book →
     AreAsJudged (latencies_told s.domain plan streams) (deliveries_of (run_of_scenario cycles s) streams book)
 
 -- and in that of each account of its run on threads
 abbrev pub VerdictsHoldOfAccounts : Type 0
 VerdictsHoldOfAccounts =
-    (cycles : ℕ) (input : List ℕ) (s : Scenario) (streams : List PlannedText) (plan entries : List Recorded) (asked : List (List Act)) (book : Contents) →
-    planned_scenario cycles input ≡ Ok (s, streams) → IsDomain s.domain → MayBeRun cycles s →
+    (limits : Limits) (cycles : ℕ) (input : List ℕ) (s : Scenario) (streams : List PlannedText) (plan entries : List Recorded)
+    (asked : List (List Act)) (book : Contents) →
+    planned_scenario limits cycles input ≡ Ok (s, streams) → IsDomain s.domain → MayBeRun cycles s →
     admitted_from s.domain [] 1 (asked_in streams) ≡ Ok plan → AreCommandsBehind s.calls s.sealer asked →
     IsAccountOf s.domain (opening_history s) s.offers s.background cycles asked entries book →
     AreAsJudged (latencies_told s.domain plan streams)

@@ -12,6 +12,7 @@ use crate::calls::made_calls;
 use crate::offers::made_offers;
 use crate::parts::{copied_requests, requests_part};
 use cqf_admission_requests::{Names, Ordered};
+use cqf_model::Limits;
 use cqf_program_files::{begins_as_offers, cycles_of};
 use cqf_program_offers::flows_part;
 use cqf_program_scenario::{domain_part, script_part};
@@ -43,11 +44,17 @@ fn input_of(alloc: Global, first: &[u8], rest: &[&[u8]]) -> Result<Vec<u8>, Stop
 }
 
 /// A plant alone, with calls and offers.
-fn with_both(alloc: Global, cycles: u32, domain: &[u8], streams: &[u8]) -> Result<Vec<u8>, Stop>
-    ensures ok { IfOk result (λ made. with_both cycles domain.now streams.now ≡ Ok made.items) }
-    ensures err { IfErr result (IsRefused (with_both cycles domain.now streams.now)) }
+fn with_both(
+    alloc: Global,
+    limits: Limits,
+    cycles: u32,
+    domain: &[u8],
+    streams: &[u8],
+) -> Result<Vec<u8>, Stop>
+    ensures ok { IfOk result (λ made. with_both limits cycles domain.now streams.now ≡ Ok made.items) }
+    ensures err { IfErr result (IsRefused (with_both limits cycles domain.now streams.now)) }
 {
-    let plan = domain_part(alloc, domain)?;
+    let plan = domain_part(alloc, limits, domain)?;
     let flows = flows_part(alloc, streams)?;
     let requests = copied_requests(alloc, flows.as_slice())?;
     let script = made_calls(alloc, &plan, requests.as_slice())?;
@@ -82,15 +89,16 @@ fn check_script(
 /// A plant and a script, with offers.
 fn with_offers(
     alloc: Global,
+    limits: Limits,
     cycles: u32,
     domain: &[u8],
     streams: &[u8],
     script: &[u8],
 ) -> Result<Vec<u8>, Stop>
-    ensures ok { IfOk result (λ made. with_offers cycles domain.now streams.now script.now ≡ Ok made.items) }
-    ensures err { IfErr result (IsRefused (with_offers cycles domain.now streams.now script.now)) }
+    ensures ok { IfOk result (λ made. with_offers limits cycles domain.now streams.now script.now ≡ Ok made.items) }
+    ensures err { IfErr result (IsRefused (with_offers limits cycles domain.now streams.now script.now)) }
 {
-    let plan = domain_part(alloc, domain)?;
+    let plan = domain_part(alloc, limits, domain)?;
     let flows = flows_part(alloc, streams)?;
     let requests = copied_requests(alloc, flows.as_slice())?;
     let _orders = check_script(alloc, cycles, requests.as_slice(), script)?;
@@ -99,11 +107,17 @@ fn with_offers(
 }
 
 /// The script that is made for a plant.
-fn calls_for(alloc: Global, planned: bool, domain: &[u8], streams: &[u8]) -> Result<Vec<u8>, Stop>
-    ensures ok { IfOk result (λ script. calls_for planned domain.now streams.now ≡ Ok script.items) }
-    ensures err { IfErr result (IsRefused (calls_for planned domain.now streams.now)) }
+fn calls_for(
+    alloc: Global,
+    limits: Limits,
+    planned: bool,
+    domain: &[u8],
+    streams: &[u8],
+) -> Result<Vec<u8>, Stop>
+    ensures ok { IfOk result (λ script. calls_for limits planned domain.now streams.now ≡ Ok script.items) }
+    ensures err { IfErr result (IsRefused (calls_for limits planned domain.now streams.now)) }
 {
-    let plan = domain_part(alloc, domain)?;
+    let plan = domain_part(alloc, limits, domain)?;
     let requests = requests_part(alloc, planned, streams)?;
     made_calls(alloc, &plan, requests.as_slice())
 }
@@ -111,37 +125,40 @@ fn calls_for(alloc: Global, planned: bool, domain: &[u8], streams: &[u8]) -> Res
 /// A plant and offers, with calls.
 fn with_calls(
     alloc: Global,
+    limits: Limits,
     planned: bool,
     domain: &[u8],
     streams: &[u8],
     offers: &[u8],
 ) -> Result<Vec<u8>, Stop>
-    ensures ok { IfOk result (λ made. with_calls planned domain.now streams.now (offers.now ∷ []) ≡ Ok made.items) }
-    ensures err { IfErr result (IsRefused (with_calls planned domain.now streams.now (offers.now ∷ []))) }
+    ensures ok { IfOk result (λ made. with_calls limits planned domain.now streams.now (offers.now ∷ []) ≡ Ok made.items) }
+    ensures err { IfErr result (IsRefused (with_calls limits planned domain.now streams.now (offers.now ∷ []))) }
 {
-    let script = calls_for(alloc, planned, domain, streams)?;
+    let script = calls_for(alloc, limits, planned, domain, streams)?;
     input_of(alloc, domain, &[streams, script.as_slice(), offers])
 }
 
 /// A plant, offers, and what stands behind them, with calls.
 fn with_calls_between<'p>(
     alloc: Global,
+    limits: Limits,
     planned: bool,
     domain: &[u8],
     streams: &'p [u8],
     offers: &'p [u8],
     last: &'p [u8],
 ) -> Result<Vec<u8>, Stop>
-    ensures ok { IfOk result (λ made. with_calls planned domain.now streams.now (offers.now ∷ last.now ∷ []) ≡ Ok made.items) }
-    ensures err { IfErr result (IsRefused (with_calls planned domain.now streams.now (offers.now ∷ last.now ∷ []))) }
+    ensures ok { IfOk result (λ made. with_calls limits planned domain.now streams.now (offers.now ∷ last.now ∷ []) ≡ Ok made.items) }
+    ensures err { IfErr result (IsRefused (with_calls limits planned domain.now streams.now (offers.now ∷ last.now ∷ []))) }
 {
-    let script = calls_for(alloc, planned, domain, streams)?;
+    let script = calls_for(alloc, limits, planned, domain, streams)?;
     input_of(alloc, domain, &[streams, script.as_slice(), offers, last])
 }
 
 /// A plant and a third part, with offers or calls.
 fn made_of_three(
     alloc: Global,
+    limits: Limits,
     planned: bool,
     cycles: u32,
     domain: &[u8],
@@ -149,22 +166,23 @@ fn made_of_three(
     third: &[u8],
 ) -> Result<Option<Vec<u8>>, Stop>
     ensures ok { IfOk result (λ made. (input : List ℕ) →
-        made_of_parts planned cycles input (domain.now ∷ streams.now ∷ third.now ∷ [])
+        made_of_parts limits planned cycles input (domain.now ∷ streams.now ∷ third.now ∷ [])
         ≡ Ok (option_map_or (λ text. text.items) made input)) }
     ensures err { IfErr result (λ stop. (input : List ℕ) →
-        IsRefused (made_of_parts planned cycles input (domain.now ∷ streams.now ∷ third.now ∷ [])) stop) }
+        IsRefused (made_of_parts limits planned cycles input (domain.now ∷ streams.now ∷ third.now ∷ [])) stop) }
 {
     if begins_as_offers(third) {
-        let made = with_calls(alloc, planned, domain, streams, third)?;
+        let made = with_calls(alloc, limits, planned, domain, streams, third)?;
         return Ok(Some(made));
     }
-    let made = with_offers(alloc, cycles, domain, streams, third)?;
+    let made = with_offers(alloc, limits, cycles, domain, streams, third)?;
     Ok(Some(made))
 }
 
 /// A plant and two parts more, with calls where the first of them is of offers.
 fn made_of_four<'p>(
     alloc: Global,
+    limits: Limits,
     planned: bool,
     domain: &[u8],
     streams: &'p [u8],
@@ -172,56 +190,62 @@ fn made_of_four<'p>(
     fourth: &'p [u8],
 ) -> Result<Option<Vec<u8>>, Stop>
     ensures ok { IfOk result (λ made. (cycles : ℕ) → (input : List ℕ) →
-        made_of_parts planned cycles input (domain.now ∷ streams.now ∷ third.now ∷ fourth.now ∷ [])
+        made_of_parts limits planned cycles input (domain.now ∷ streams.now ∷ third.now ∷ fourth.now ∷ [])
         ≡ Ok (option_map_or (λ text. text.items) made input)) }
     ensures err { IfErr result (λ stop. (cycles : ℕ) → (input : List ℕ) →
-        IsRefused (made_of_parts planned cycles input (domain.now ∷ streams.now ∷ third.now ∷ fourth.now ∷ [])) stop) }
+        IsRefused (made_of_parts limits planned cycles input (domain.now ∷ streams.now ∷ third.now ∷ fourth.now ∷ [])) stop) }
 {
     if !begins_as_offers(third) {
         return Ok(None);
     }
-    let made = with_calls_between(alloc, planned, domain, streams, third, fourth)?;
+    let made = with_calls_between(alloc, limits, planned, domain, streams, third, fourth)?;
     Ok(Some(made))
 }
 
 /// An input of parts over so many cycles, with what isn't given, where something isn't.
 fn made_of_parts(
     alloc: Global,
+    limits: Limits,
     planned: bool,
     cycles: u32,
     parts: &[&[u8]],
 ) -> Result<Option<Vec<u8>>, Stop>
-    ensures ok { IfOk result (λ made. (input : List ℕ) → made_of_parts planned cycles input (map (λ part. part.now) parts.now)
+    ensures ok { IfOk result (λ made. (input : List ℕ) → made_of_parts limits planned cycles input (map (λ part. part.now) parts.now)
         ≡ Ok (option_map_or (λ text. text.items) made input)) }
-    ensures err { IfErr result (λ stop. (input : List ℕ) → IsRefused (made_of_parts planned cycles input (map (λ part. part.now) parts.now)) stop) }
+    ensures err { IfErr result (λ stop. (input : List ℕ) → IsRefused (made_of_parts limits planned cycles input (map (λ part. part.now) parts.now)) stop) }
 {
     match *parts {
         [] | [_] => Ok(None),
         [domain, streams] => {
-            let made = with_both(alloc, cycles, domain, streams)?;
+            let made = with_both(alloc, limits, cycles, domain, streams)?;
             Ok(Some(made))
         }
         [domain, streams, third] => {
-            made_of_three(alloc, planned, cycles, domain, streams, third)
+            made_of_three(alloc, limits, planned, cycles, domain, streams, third)
         }
         [domain, streams, third, fourth] => {
-            made_of_four(alloc, planned, domain, streams, third, fourth)
+            made_of_four(alloc, limits, planned, domain, streams, third, fourth)
         }
         [_, _, _, _, _, ..] => Ok(None),
     }
 }
 
-/// The input of a job with what isn't given, or `None` where it stays as it is: of a job that reads a script, a plant alone gets calls and
-/// offers, a plant and a script offers, a plant and offers, which begin with `at,`, calls. Calls admit all streams before cycle 0; offers are
-/// those of the streams with traffic, so early that all arrive (profile).
+/// The input of a job, read within some limits, with what isn't given, or `None` where it stays as it is: of a job that reads a script, a
+/// plant alone gets calls and offers, a plant and a script offers, a plant and offers, which begin with `at,`, calls. Calls admit all
+/// streams before cycle 0; offers are those of the streams with traffic, so early that all arrive (profile).
 ///
 /// # Errors
 /// With status 1 and the line of the first fault: of the domain, of the streams, their traffic too where offers are made, of the script
 /// or the first stream that isn't admitted, of the first stream that is refused as by `load`, or `cqf: offers: TooMany`; and with status 3
 /// for want of memory.
-pub fn made_input(alloc: Global, job: &Job, input: &[u8]) -> Result<Option<Vec<u8>>, Stop>
-    ensures ok { IfOk result (λ made. made_for job.now input.now ≡ Ok (option_map_or (λ text. text.items) made input.now)) }
-    ensures err { IfErr result (IsRefused (made_for job.now input.now)) }
+pub fn made_input(
+    alloc: Global,
+    limits: Limits,
+    job: &Job,
+    input: &[u8],
+) -> Result<Option<Vec<u8>>, Stop>
+    ensures ok { IfOk result (λ made. made_for limits job.now input.now ≡ Ok (option_map_or (λ text. text.items) made input.now)) }
+    ensures err { IfErr result (IsRefused (made_for limits job.now input.now)) }
 {
     let Some(cycles) = cycles_of(job) else {
         return Ok(None);
@@ -229,5 +253,5 @@ pub fn made_input(alloc: Global, job: &Job, input: &[u8]) -> Result<Option<Vec<u
     let Ok(found) = parts(alloc, input) else {
         return Err(Stop::memory(alloc));
     };
-    made_of_parts(alloc, is_planned(job), cycles, found.as_slice())
+    made_of_parts(alloc, limits, is_planned(job), cycles, found.as_slice())
 }

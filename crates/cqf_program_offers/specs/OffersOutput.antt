@@ -4,15 +4,17 @@ use Rattle.std.specs.Option.{unwrap_or}
 use Rattle.cqf_lists.specs.Results.{and_then}
 use Rattle.cqf_model.specs.declared.topology.Node.{Node}
 use Rattle.cqf_model.specs.Domain.{Domain, node_named}
+use Rattle.cqf_model.specs.declared.limits.Limits.{Limits}
 use Rattle.cqf_model.specs.History.{Asked}
+use Rattle.cqf_model.specs.Limits.{rows_within}
 use Rattle.cqf_text.specs.Parts.{parts_of}
-use Rattle.cqf_topology.specs.DomainText.{domain_of_text}
+use Rattle.cqf_topology.specs.DomainText.{domain_within}
 use Rattle.cqf_admission.specs.Asking.{asked_by}
 use Rattle.cqf_report.specs.Offers.{as_bridge}
 use Rattle.cqf_traffic.specs.declared.faults.FlowsFault.{FlowsFault}
 use Rattle.cqf_traffic.specs.FlowsText.{FlowText, flows_fault_text, flows_of_text}
 use Rattle.cqf_traffic_offers.specs.declared.senders.Sender.{Sender}
-use Rattle.cqf_traffic_offers.specs.Offering.{frames_before, most_offers, offers_before}
+use Rattle.cqf_traffic_offers.specs.Offering.{frames_before, offers_before}
 use Rattle.cqf_program_stop.specs.Stops.{fault_line, or_line}
 use Rattle.cqf_program_scenario.specs.Lines.{domain_line}
 use Rattle.cqf_program_scenario.specs.Parts.{two_parts}
@@ -27,10 +29,11 @@ flows_line fault = fault_line (codes "streams") (flows_fault_text fault)
 abbrev pub too_many_line : List ℕ
 too_many_line = fault_line (codes "offers") (codes "TooMany")
 
--- the domain and the streams of an input, or the line of the first fault: of the parts, then of the domain, then of the streams
-abbrev pub flows_input : List ℕ → Result (Domain × List FlowText) (List ℕ)
-flows_input input = and_then (two_parts (parts_of input)) (λ parts.
-    and_then (or_line domain_line (domain_of_text parts.0)) (λ domain.
+-- the domain and the streams of an input that is read within some limits, or the line of the first fault: of the parts, then of the domain,
+-- then of the streams
+abbrev pub flows_input : Limits → List ℕ → Result (Domain × List FlowText) (List ℕ)
+flows_input limits input = and_then (two_parts (parts_of input)) (λ parts.
+    and_then (or_line domain_line (domain_within limits parts.0)) (λ domain.
     and_then (or_line flows_line (flows_of_text parts.1)) (λ flows. Ok (domain, flows))))
 
 -- what a stream asks for
@@ -52,7 +55,7 @@ sender_of d flow = record { name = flow.0.0.name; bridge = edge_of d flow.0.0.pa
 -- what streams offer before an instant, as a text, or the line where it is too much
 abbrev pub offered_by : Domain → ℕ → Option ℕ → List Sender → Result (List ℕ) (List ℕ)
 offered_by d until seed senders =
-    if nat_le (frames_before until senders) most_offers then Ok (offers_text d (offers_before until seed senders)) else Err too_many_line
+    if nat_le (frames_before until senders) (rows_within d.limits) then Ok (offers_text d (offers_before until seed senders)) else Err too_many_line
 
 -- streams as their talkers see them, where each is judged as by `load`, or the line of the first that is refused
 abbrev pub senders_of : Domain → List FlowText → Result (List Sender) (List ℕ)
@@ -62,6 +65,6 @@ senders_of d flows = and_then (listed_from d [] (map asked_in flows)) (λ rows. 
 abbrev pub offered_of : Domain → ℕ → Option ℕ → List FlowText → Result (List ℕ) (List ℕ)
 offered_of d until seed flows = and_then (senders_of d flows) (offered_by d until seed)
 
--- the text for an input over so many cycles, or the line of its first fault
-abbrev pub offered_input : ℕ → Option ℕ → List ℕ → Result (List ℕ) (List ℕ)
-offered_input cycles seed input = and_then (flows_input input) (λ found. offered_of found.0 (cycles * found.0.cycle_time) seed found.1)
+-- the text for an input over so many cycles, read within some limits, or the line of its first fault
+abbrev pub offered_input : Limits → ℕ → Option ℕ → List ℕ → Result (List ℕ) (List ℕ)
+offered_input limits cycles seed input = and_then (flows_input limits input) (λ found. offered_of found.0 (cycles * found.0.cycle_time) seed found.1)

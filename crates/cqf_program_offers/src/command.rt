@@ -9,6 +9,7 @@ ghost use Rattle.cqf_program_offers.specs.OffersText.{offers_text};
 use crate::reading::flows_input;
 use crate::sending::senders_of;
 use crate::text::offers_text;
+use cqf_model::Limits;
 use cqf_program_stop::{REFUSED, Stop};
 use cqf_topology::Domain;
 use cqf_traffic::Flow;
@@ -40,8 +41,8 @@ fn text_of_senders(
 /// What senders offer, as a text.
 ///
 /// # Errors
-/// With status 1 and the line `cqf: offers: TooMany` where they have more than 1,000,000 frames together, late ones too; and with status 3
-/// for want of memory.
+/// With status 1 and the line `cqf: offers: TooMany` where they have more frames together, late ones too, than the domain may be offered;
+/// and with status 3 for want of memory.
 pub fn offered_by(
     alloc: Global,
     domain: &Domain,
@@ -51,7 +52,8 @@ pub fn offered_by(
     ensures ok { IfOk result (λ text. offered_by domain.now until.end.0 until.seed senders.now ≡ Ok text.items) }
     ensures err { IfErr result (IsRefused (offered_by domain.now until.end.0 until.seed senders.now)) }
 {
-    if !are_few(until.end, senders) {
+    let most = domain.limits().rows_within();
+    if !are_few(until.end, senders, most) {
         return Err(too_many_stop(alloc));
     }
     match text_of_senders(alloc, domain, until, senders) {
@@ -77,21 +79,23 @@ pub fn offered_of(
     offered_by(alloc, domain, until, senders.as_slice())
 }
 
-/// The output of `offers` over so many cycles, up to 100,000, with a seed or without: what the streams of a plant offer (profile).
+/// The output of `offers` over so many cycles, up to 100,000, with a seed or without, for an input that is read within some limits: what the
+/// streams of a plant offer (profile).
 ///
 /// # Errors
 /// With status 1 and the line of the first fault of the input: of its parts, of the domain, of the streams, or of the first stream that is
 /// refused as by `load`; or the line `cqf: offers: TooMany`; and with status 3 for want of memory.
 pub fn offers_output(
     alloc: Global,
+    limits: Limits,
     cycles: u32,
     seed: Option<u32>,
     input: &[u8],
 ) -> Result<Vec<u8>, Stop>
-    ensures ok { IfOk result (λ text. offered_input cycles seed input.now ≡ Ok text.items) }
-    ensures err { IfErr result (IsRefused (offered_input cycles seed input.now)) }
+    ensures ok { IfOk result (λ text. offered_input limits cycles seed input.now ≡ Ok text.items) }
+    ensures err { IfErr result (IsRefused (offered_input limits cycles seed input.now)) }
 {
-    let (domain, flows) = flows_input(alloc, input)?;
+    let (domain, flows) = flows_input(alloc, limits, input)?;
     let end = Nanos(u64::from(cycles) * domain.cycle_time().0);
     offered_of(alloc, &domain, Until { end, seed }, flows.as_slice())
 }

@@ -4,6 +4,7 @@ ghost use Rattle.cqf_program_offers.specs.OffersOutput.{flows_input, flows_line}
 ghost use Rattle.cqf_program_stop.specs.Stops.{EndsWith, IsRefused, or_line};
 ghost use Rattle.cqf_traffic.specs.FlowsText.{flow_text, flows_of_text};
 
+use cqf_model::Limits;
 use cqf_program_scenario::{domain_part, two_parts};
 use cqf_program_stop::Stop;
 use cqf_topology::{Domain, StreamsFault};
@@ -33,14 +34,18 @@ pub fn flows_part(alloc: Global, text: &[u8]) -> Result<Vec<Flow>, Stop>
     }
 }
 
-/// The domain and the streams of the input. `Err` with status 1 and the line of the first fault: of its parts, of the domain, or of the
-/// streams; and with status 3 for want of memory.
-pub(crate) fn flows_input(alloc: Global, input: &[u8]) -> Result<(Domain, Vec<Flow>), Stop>
-    ensures ok { IfOk result (λ found. flows_input input.now ≡ Ok (found.0, map flow_text found.1.items)) }
-    ensures err { IfErr result (IsRefused (flows_input input.now)) }
+/// The domain and the streams of the input, read within some limits. `Err` with status 1 and the line of the first fault: of its parts,
+/// of the domain, or of the streams; and with status 3 for want of memory.
+pub(crate) fn flows_input(
+    alloc: Global,
+    limits: Limits,
+    input: &[u8],
+) -> Result<(Domain, Vec<Flow>), Stop>
+    ensures ok { IfOk result (λ found. flows_input limits input.now ≡ Ok (found.0, map flow_text found.1.items)) }
+    ensures err { IfErr result (IsRefused (flows_input limits input.now)) }
 {
     let (domain_text, streams_text) = two_parts(alloc, input)?;
-    let domain = domain_part(alloc, domain_text)?;
+    let domain = domain_part(alloc, limits, domain_text)?;
     let flows = flows_part(alloc, streams_text)?;
     Ok((domain, flows))
 }

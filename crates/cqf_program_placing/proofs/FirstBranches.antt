@@ -1,13 +1,10 @@
 -- The branches of first ways are those of a tree, and each of its links has room.
 use Rattle.std.proofs.Common.{◌≡◌, ◌≢◌, ◌∙◌, ◌+◌, ◌-◌, ◌<◌, ◌≤◌, ◌++◌, ℕ, zero, suc, Bool, true, false, ◌==◌, List, [], ◌∷◌, Option, Some, None}
-use Rattle.std.proofs.Common.{AllPairs, Contains, cond, eqb, get_or, is_some, length, map, not, option_map, position, take, refl, ap, subst, sym, arith}
+use Rattle.std.proofs.Common.{AllPairs, Contains, cond, get_or, is_some, length, map, not, option_map, position, take, refl, ap, subst, sym, arith}
 use Rattle.std.specs.Prelude.{is_none, nat_le, nat_lt, slice_get}
 use Rattle.std.specs.Option.{option_map_or}
 use Rattle.std.specs.List.{flat_map, list_all, list_any}
-use Rattle.std.proofs.lemmas.Bool.{and_from, and_parts, both_ways, eq-eqb, eqb-true, false_from_ne_true, leb-true, ltb-true, ne_eqb, not-true, not_from_false}
-use Rattle.std.proofs.lemmas.List.Elements.{All-contains}
-use Rattle.std.proofs.lemmas.Map.Keys.{IsDistinct-from_apart}
-use Rattle.std.proofs.lemmas.Map.Steps.{length-le_from_distinct_below}
+use Rattle.std.proofs.lemmas.Bool.{and_from, and_parts, both_ways, eq-eqb, false_from_ne_true, leb-true, ltb-true, not-true, not_from_false}
 use Rattle.std.proofs.lemmas.List.{length-map, length-take-le}
 use Rattle.std.proofs.lemmas.Option.{get_or_from_slice_get, same_Some, slice_get-get_or, slice_get-map, slice_get_within}
 use Rattle.cqf_lists.specs.Lists.{least, or_else}
@@ -25,10 +22,9 @@ use Rattle.cqf_model.specs.declared.topology.Row.{Row}
 use Rattle.cqf_model.specs.Domain.{Domain, budget, is_text, node_named}
 use Rattle.cqf_model.specs.History.{Branch, are_apart, broken_place, first_place, hop_to, hops_along, is_broken_at, is_loop_at, is_stray, left_on}
 use Rattle.cqf_model.specs.History.{link_at, link_before, make_a_tree, part, short_link, tree_of}
-use Rattle.cqf_model.specs.Limits.{hops_within, nodes_within}
+use Rattle.cqf_model.specs.Limits.{hops_within}
 use Rattle.cqf_model.specs.Paces.{each_cycle}
 use Rattle.cqf_model.specs.Table.{links_in}
-use Rattle.cqf_model.proofs.Hops.{hops_apart, hops_inside}
 use Rattle.cqf_model.proofs.Texts.{is_text_itself, is_text_same}
 use Rattle.cqf_topology.specs.DomainText.{IsDomain}
 use Rattle.cqf_ways.specs.Steps.{led_along}
@@ -40,38 +36,22 @@ use Rattle.cqf_program_plans.specs.EndNames.{name_of_end}
 use Rattle.cqf_admission.specs.Costs.{left_beside}
 use Rattle.cqf_admission.proofs.CostLemmas.{beside_is_most}
 use Rattle.cqf_program_placing.specs.Placing.{names_along}
-use Rattle.cqf_program_placing.specs.Room.{HasRoomIn, HaveRoom}
+use Rattle.cqf_program_placing.specs.Room.{HasRoomIn, HaveRoom, MayBeWays}
 use Rattle.cqf_program_placing.specs.Turns.{left_emptiest, lefts_on}
 use Rattle.cqf_program_placing.proofs.Emptiest.{emptiest_of_each}
 use Rattle.cqf_program_placing.proofs.RouteLemmas.{left_there, lefts_many}
 use Rattle.cqf_program_placing.proofs.WayNames.{branch_from, known_there, link_there, named_end, simple_there, whole_there}
 
--- branches that are those of a tree
+-- branches that are those of a tree, of however many hops
 pub record AreBranches (d : Domain) (paths : List Branch) : Type 0 where
   pub known : position (λ name. is_none (node_named d name)) (flat_map (λ branch. branch) paths) ≡ None
   pub whole : broken_place d paths ≡ None
   pub simple : first_place (is_loop_at d) paths ≡ None
   pub together : least (is_stray paths) (length paths) ≡ None
-  pub few : nat_lt (hops_within d.limits) (length (tree_of d paths)) ≡ false
 
--- a branch may have as many nodes as a way and a tree as many hops as there are links, as where no limits are set
-pub record HasRoomForWays (d : Domain) : Type 0 where
-  pub nodes : 17 ≤ nodes_within d.limits
-  pub hops : length d.links ≤ hops_within d.limits
-
--- so no tree has too many
-pub few_hops : (d : Domain) (paths : List Branch) → HasRoomForWays d → nat_lt (hops_within d.limits) (length (tree_of d paths)) ≡ false
-few_hops d paths room =
-    let tree = tree_of d paths in
-    let links : List ℕ = links_in tree in
-    let count : length links ≡ length tree = length-map tree (λ (hop : Hop). hop.link) in
-    let apart : AllPairs (λ (a b : ℕ). eqb a b ≡ false) links = λ i j e l m. ne_eqb (get_or links i e) (get_or links j e) (hops_apart d paths i j e l m) in
-    let few = length-le_from_distinct_below links (length d.links) (IsDistinct-from_apart eqb links apart) (λ q h.
-    let (x, among, same) = any_member (eqb q) links h in
-    let (hop, there, is) = contains_from_map (λ (h : Hop). h.link) tree x among in
-    omega (arith, All-contains (λ (h : Hop). h.link < length d.links) tree hop (hops_inside d paths) there, is, eqb-true q x same)) in
-    false_from_ne_true (nat_lt (hops_within d.limits) (length tree)) (λ t.
-    omega (arith, ltb-true (hops_within d.limits) (length tree) t, few, count, room.hops))
+-- no more of them than a tree may have
+abbrev pub AreFew : Domain → List Branch → Type 0
+AreFew d paths = length (tree_of d paths) ≤ hops_within d.limits
 
 -- ---- what no branch fails
 
@@ -279,7 +259,7 @@ module _ (d : Domain) (good : IsDomain d) where
         let (way, is, same) = branch_at k branch at in (k, way, is, same)
 
     -- so they are branches of a tree, where there is a station and no two are the same
-    pub first_branches : 0 < length stations → AllPairs (λ a b. a ≢ b) stations → HasRoomForWays d → FirstWaysHaveNoLoop → FirstWaysPartForGood →
+    pub first_branches : 0 < length stations → AllPairs (λ a b. a ≢ b) stations → MayBeWays d.limits → FirstWaysHaveNoLoop → FirstWaysPartForGood →
         AreBranches d (map (names_along d bridge) ways)
     first_branches some apart room no_loop parts =
         let paths = map (names_along d bridge) ways in
@@ -294,7 +274,7 @@ module _ (d : Domain) (good : IsDomain d) where
               let (k, way, at, same) = way_of branch c in
               let w = way_there k way at in
               subst (λ (b : Branch). is_broken_at d b place ≡ false) same
-              (whole_there d good bridge inside way (get_or stations k 0) place w.is_way.leads w.is_way.few room.nodes)));
+              (whole_there d good bridge inside way (get_or stations k 0) place w.is_way.leads w.is_way.few room)));
           simple = no_place_fails (is_loop_at d) paths (λ branch place c below.
               let (k, way, at, same) = way_of branch c in
               let w = way_there k way at in
@@ -314,7 +294,6 @@ module _ (d : Domain) (good : IsDomain d) where
               (λ k. make_a_tree (sym same k) (sym same_other k))
               ∙ make_one (Bridge bridge) (Station s) (Station t) way other one.is_way.leads two.is_way.leads
               (parts d.links (has_room (lefts_on d rows every) cost) (Bridge bridge) s t way other (apart i j 0 before low) one two));
-          few = few_hops d paths room;
         }
 
     -- and, where it is offered in each cycle, each link of that tree has left what the stream costs

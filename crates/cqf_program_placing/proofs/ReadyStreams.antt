@@ -1,22 +1,23 @@
 -- What settled streams have that were read of a sketch's text.
-use Rattle.std.proofs.Common.{◌≡◌, ◌≢◌, ◌∙◌, ◌+◌, ◌-◌, ◌<◌, ◌≤◌, ℕ, suc, Bool, true, false, ◌&&◌, ◌||◌, List, [], ◌∷◌, Option, Some, None, Ok, Err}
+use Rattle.std.proofs.Common.{◌≡◌, ◌≢◌, ◌∙◌, ◌+◌, ◌-◌, ◌<◌, ◌≤◌, ◌==◌, ℕ, zero, suc, Bool, true, false, ◌&&◌, ◌||◌, List, [], ◌∷◌, Option, Some, None, Ok, Err}
 use Rattle.std.proofs.Common.{AllPairs, Contains, IfSome, cond, length, ok_or, option_map, position, refl, ap, subst, sym, inl, inr, arith}
 use Rattle.std.specs.Prelude.{is_none, nat_le, nat_lt}
 use Rattle.std.specs.List.{flat_map}
-use Rattle.std.proofs.lemmas.Bool.{and_parts, leb-true}
-use Rattle.cqf_lists.specs.Lists.{least, or_else}
+use Rattle.std.proofs.lemmas.Bool.{and_parts, leb-true, ltb-false}
+use Rattle.cqf_lists.specs.Lists.{each_below, each_once, least, or_else}
 use Rattle.cqf_lists.proofs.Least.{or_else_none}
 use Rattle.cqf_lists.proofs.Members.{contains_cases, contains_here, contains_later, contains_none}
 use Rattle.cqf_lists.proofs.Pairs.{pairs_cons, pairs_head, pairs_none, pairs_tail}
 use Rattle.cqf_units.specs.Name.{is_name}
-use Rattle.cqf_laws_history.proofs.Granted.{refused_at_none}
+use Rattle.cqf_laws_history.proofs.Granted.{refused_at_none, refused_if_none}
 use Rattle.cqf_laws_traffic.specs.Traffic.{needed}
 use Rattle.cqf_model.specs.declared.history.Refused.TheVariants as refused
+use Rattle.cqf_model.specs.declared.topology.Hop.{Hop}
 use Rattle.cqf_model.specs.declared.topology.Node.{Node}
 use Rattle.cqf_model.specs.declared.topology.Node.TheVariants.{Bridge, Station}
 use Rattle.cqf_model.specs.Domain.{Domain, node_named}
-use Rattle.cqf_model.specs.History.{Branch, begins_elsewhere, broken_place, ends_at_bridge, first_place, is_beyond_most, is_broken_at, is_loop_at, is_stray}
-use Rattle.cqf_model.specs.History.{link_from, node_at, refused_at, refused_if, tree_of}
+use Rattle.cqf_model.specs.History.{Branch, begins_elsewhere, broken_place, ends_at_bridge, first_place, hop_to, hops_along}
+use Rattle.cqf_model.specs.History.{is_beyond_most, is_broken_at, is_loop_at, is_stray, link_before, link_from, node_at, refused_at, refused_if, tree_of}
 use Rattle.cqf_model.specs.Limits.{hops_within}
 use Rattle.cqf_model.proofs.Texts.{named_once}
 use Rattle.cqf_topology.proofs.Refusals.{and_then-Ok, ok_or-Ok, refuse-Ok}
@@ -28,7 +29,7 @@ use Rattle.cqf_program_placing.specs.declared.faults.PlanFault.TheVariants as fa
 use Rattle.cqf_program_placing.specs.Placing.{if_enough, reserved_by, reserved_on}
 use Rattle.cqf_program_placing.specs.Settled.{Along, Between, SettledStream, SettledWay, are_reservable, entrance_at, first_apart, is_paced, settled_next, settled_way}
 use Rattle.cqf_program_placing.specs.Settled.{station_by_name, stations_by_name}
-use Rattle.cqf_program_placing.proofs.FirstBranches.{AreBranches, HasRoomForWays, few_hops}
+use Rattle.cqf_program_placing.proofs.FirstBranches.{AreBranches, AreFew}
 use Rattle.cqf_program_placing.proofs.PlaceLemmas.{needed_least}
 use Rattle.cqf_program_placing.proofs.SettledLemmas.{and_first-Ok, entrance_there, settled_by, station_named_by}
 
@@ -51,7 +52,7 @@ pub record IsToStations (d : Domain) (bridge : ℕ) (stations : List ℕ) : Type
 
 -- or along the branches of a tree
 abbrev pub IsGoodWay : Domain → SettledWay → Type 0
-IsGoodWay d (Along paths) = AreBranches d paths
+IsGoodWay d (Along paths) = AreBranches d paths × AreFew d paths
 IsGoodWay d (Between bridge stations) = IsToStations d bridge stations
 
 -- what a settled stream has of this
@@ -167,13 +168,28 @@ module _ (sketch : SketchDomain) (cycle other : ℕ) where
   same_place [] = refl
   same_place (branch ∷ paths) = (λ i. first_place (λ b place. same_broken b place i) (branch ∷ paths))
 
-  -- and branches that are a tree of it are one
-  pub same_branches : (paths : List Branch) → HasRoomForWays (domain_at sketch other) → tree_refusal (domain_at sketch cycle) paths ≡ None →
-      AreBranches (domain_at sketch other) paths
-  same_branches paths room e =
+  -- and has the same hops
+  same_before : (branch : Branch) (place : ℕ) → link_before (domain_at sketch cycle) branch place ≡ link_before (domain_at sketch other) branch place
+  same_before branch zero = refl
+  same_before branch (suc place) = same_link (node_at (domain_at sketch cycle) branch place) (node_at (domain_at sketch cycle) branch (place + 1))
+
+  same_hops : (branch : Branch) → hops_along (domain_at sketch cycle) branch ≡ hops_along (domain_at sketch other) branch
+  same_hops branch =
       let d : Domain = domain_at sketch cycle in
+      (λ i. each_below (λ place. hop_to (place + 1) (same_before branch place i) (same_link (node_at d branch place) (node_at d branch (place + 1)) i))
+      (length branch - 1))
+
+  same_tree : (paths : List Branch) → tree_of (domain_at sketch cycle) paths ≡ tree_of (domain_at sketch other) paths
+  same_tree paths = (λ i. each_once (λ (a b : Hop). a.link == b.link) (flat_map (λ branch. same_hops branch i) paths))
+
+  -- and branches that are a tree of it are one
+  pub same_branches : (paths : List Branch) → tree_refusal (domain_at sketch cycle) paths ≡ None →
+      AreBranches (domain_at sketch other) paths × AreFew (domain_at sketch other) paths
+  same_branches paths e =
+      let d : Domain = domain_at sketch cycle in
+      let many : Bool = nat_lt (hops_within d.limits) (length (tree_of d paths)) in
       let unknown = position (λ name. is_none (node_named d name)) (flat_map (λ branch. branch) paths) in
-      let hops = refused_if (nat_lt (hops_within d.limits) (length (tree_of d paths))) refused.TooManyHops in
+      let hops = refused_if many refused.TooManyHops in
       let stray = or_else (refused_at (λ branch. refused.NotATree branch) (least (is_stray paths) (length paths))) hops in
       let looping = or_else (refused_at (λ place. refused.LoopingPath place) (first_place (is_loop_at d) paths)) stray in
       let broken = or_else (refused_at (λ place. refused.BrokenPath place) (broken_place d paths)) looping in
@@ -181,23 +197,25 @@ module _ (sketch : SketchDomain) (cycle other : ℕ) where
       let b = or_else_none (refused_at (λ place. refused.BrokenPath place) (broken_place d paths)) looping a.1 in
       let c = or_else_none (refused_at (λ place. refused.LoopingPath place) (first_place (is_loop_at d) paths)) stray b.1 in
       let s = or_else_none (refused_at (λ branch. refused.NotATree branch) (least (is_stray paths) (length paths))) hops c.1 in
-      record {
+      let few : length (tree_of d paths) ≤ hops_within d.limits =
+      ltb-false (hops_within d.limits) (length (tree_of d paths)) (refused_if_none many refused.TooManyHops s.1) in
+      let are : AreBranches (domain_at sketch other) paths = record {
         known = refused_at_none (λ place. refused.UnknownNode place) unknown a.0;
         whole = sym (same_place paths) ∙ refused_at_none (λ place. refused.BrokenPath place) (broken_place d paths) b.0;
         simple = refused_at_none (λ place. refused.LoopingPath place) (first_place (is_loop_at d) paths) c.0;
         together = refused_at_none (λ branch. refused.NotATree branch) (least (is_stray paths) (length paths)) s.0;
-        few = few_hops (domain_at sketch other) paths room;
-      }
+      } in
+      (are, subst (λ (tree : List Hop). length tree ≤ hops_within d.limits) (same_tree paths) few)
 
   -- ---- the stream
 
-  way_ready : (wanted : WantedText) (way : SettledWay) → HasTalkerLinks sketch → HasRoomForWays (domain_at sketch other) → AreListeners wanted →
+  way_ready : (wanted : WantedText) (way : SettledWay) → HasTalkerLinks sketch → AreListeners wanted →
       settled_way sketch (domain_at sketch cycle) wanted ≡ Ok way → IsGoodWay (domain_at sketch other) way
-  way_ready (AlongText paths) way talkers room listeners e =
+  way_ready (AlongText paths) way talkers listeners e =
       let parts = refuse-Ok (tree_refusal (domain_at sketch cycle) paths) fault.Refused (Ok (Along paths)) way e in
       let is : Along paths ≡ way = let h = parts.1 in cc in
-      subst (IsGoodWay (domain_at sketch other)) is (same_branches paths room parts.0)
-  way_ready (BetweenText from to) way talkers room listeners e =
+      subst (IsGoodWay (domain_at sketch other)) is (same_branches paths parts.0)
+  way_ready (BetweenText from to) way talkers listeners e =
       let d : Domain = domain_at sketch cycle in
       let (entrance, entered, rest) = and_then-Ok (ok_or (entrance_at sketch (node_named d from)) fault.NoTalker) _ way e in
       let (stations, named, more) = and_then-Ok (stations_by_name d to) _ way rest in
@@ -212,10 +230,9 @@ module _ (sketch : SketchDomain) (cycle other : ℕ) where
       subst (IsGoodWay (domain_at sketch other)) is good
 
   -- a stream that was read, and is settled behind others, is ready
-  pub next_ready : (before : List (List ℕ)) (text : StreamText) (one : SettledStream) → HasTalkerLinks sketch → HasRoomForWays (domain_at sketch other) →
-      IsReadStream text →
+  pub next_ready : (before : List (List ℕ)) (text : StreamText) (one : SettledStream) → HasTalkerLinks sketch → IsReadStream text →
       settled_next sketch (domain_at sketch cycle) before text ≡ Ok one → IsReady (domain_at sketch other) one
-  next_ready before text one talkers room read e =
+  next_ready before text one talkers read e =
       let so = settled_by sketch (domain_at sketch cycle) before text one e in
       record {
         named = subst (λ (n : List ℕ). is_name n ≡ true) so.name_is so.named;
@@ -223,5 +240,5 @@ module _ (sketch : SketchDomain) (cycle other : ℕ) where
         paced = so.paced;
         reserves = λ none_asked none_needed. read.reserves (so.octets_are ∙ none_asked) (so.traffic_is ∙ none_needed);
         traffic = subst (λ (t : Option TrafficText). IfSome t IsTrafficText) so.traffic_is read.traffic;
-        good_way = way_ready text.way one.way talkers room read.listeners so.way_is;
+        good_way = way_ready text.way one.way talkers read.listeners so.way_is;
       }

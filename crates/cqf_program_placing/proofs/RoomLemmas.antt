@@ -1,10 +1,10 @@
 -- Streams are placed where there is room.
 use Rattle.std.proofs.Common.{◌≡◌, ◌∙◌, ◌+◌, ◌-◌, ◌*◌, ◌<◌, ◌≤◌, ◌++◌, ℕ, suc, true, false, ◌&&◌, List, [], ◌∷◌, Option, Some, None, Result, Ok, Err}
 use Rattle.std.proofs.Common.{All, Contains, ext_get_or, get_or, length, map, not, option_map, ap, arith, inl, inr, mul-le-mul_right, refl, subst, subst₂, sym}
-use Rattle.std.specs.Prelude.{nat_le}
+use Rattle.std.specs.Prelude.{nat_le, nat_lt}
 use Rattle.std.specs.List.{list_any}
 use Rattle.std.proofs.Math.Nat.{le_of_mul-le-mul_right}
-use Rattle.std.proofs.lemmas.Bool.{both_ways, false_from_ne_true, le-leb, lt-leb}
+use Rattle.std.proofs.lemmas.Bool.{both_ways, false_from_ne_true, le-leb, le-ltb, lt-leb, lt-ltb}
 use Rattle.std.proofs.lemmas.List.Elements.{All-contains}
 use Rattle.std.proofs.lemmas.Option.{slice_get-get_or, slice_get_within}
 use Rattle.cqf_lists.specs.Lists.{or_else}
@@ -22,7 +22,7 @@ use Rattle.cqf_model.specs.declared.topology.Hop.{Hop}
 use Rattle.cqf_model.specs.declared.topology.Pace.{Pace}
 use Rattle.cqf_model.specs.Domain.{Domain, bridge_of, budget, is_text}
 use Rattle.cqf_model.specs.History.{Branch, Recorded, held_in, is_pace, left_on, refusal_of, refused_at, refused_if, seals, short_link, tree_of}
-use Rattle.cqf_model.specs.Limits.{streams_within}
+use Rattle.cqf_model.specs.Limits.{hops_within, streams_within}
 use Rattle.cqf_model.specs.Paces.{each_cycle}
 use Rattle.cqf_topology.specs.DomainText.{IsDomain, is_among}
 use Rattle.cqf_admission.specs.Asking.{asked_with}
@@ -42,10 +42,10 @@ use Rattle.cqf_program_placing.specs.Placing.{ArePlacedFrom, IsAnswered, IsAsked
 use Rattle.cqf_program_placing.specs.Placing.{names_along, reserved_on, turns_on}
 use Rattle.cqf_program_placing.specs.Turns.{AreGoodTurns, IsChosenBy, IsLeastFull, IsPhaseAlong, IsPhaseOnTree, MayBeFirst, every_in, lefts_on, pace_by, shares_with}
 use Rattle.cqf_program_placing.specs.Room.{ArePlacedByRoomFrom, HasNoRoom, HasRoomIn, HaveRoom, IsPlacedAlong, IsPlacedBetween, IsPlacedByRoom, IsPlacedOnWay, IsPlacedWith}
-use Rattle.cqf_program_placing.specs.Room.{PlacedWhereThereIsRoom}
+use Rattle.cqf_program_placing.specs.Room.{MayBeWays, PlacedWhereThereIsRoom}
 use Rattle.cqf_program_placing.specs.Settled.{Along, Between, SettledStream, SettledWay, settled_behind, settled_next}
 use Rattle.cqf_program_placing.proofs.Behind.{IsBehind, none_behind, one_behind}
-use Rattle.cqf_program_placing.proofs.FirstBranches.{AreBranches, HasRoomForWays, first_branches, first_enough, none_short, way_there}
+use Rattle.cqf_program_placing.proofs.FirstBranches.{AreBranches, AreFew, first_branches, first_enough, none_short, way_there}
 use Rattle.cqf_program_placing.proofs.Emptiest.{left_of_hop}
 use Rattle.cqf_program_placing.proofs.PlaceLemmas.{reserved_few}
 use Rattle.cqf_program_placing.proofs.ReadyStreams.{IsGoodWay, IsReadStream, IsReady, IsToStations, next_ready, reserved_least}
@@ -68,14 +68,16 @@ module _ (d : Domain) (rows : List Row) (name : List ℕ) (octets every phase : 
   abbrev lacks_room : ℕ → Refused
   lacks_room l = refused.BudgetShort l (left_on d rows (tree_of d paths) (pace_by every phase) l)
 
-  -- where its branches are those of a tree, and it has a pace, it is refused for want of room, or for nothing
-  refused_for_room : refusal_of d rows (asked_with name octets every phase paths)
-      ≡ refused_at lacks_room (short_link d rows (cost_of octets) (pace_by every phase) (tree_of d paths))
-  refused_for_room =
+  -- where its branches are those of a tree, and it has a pace, it is refused for their hops, for want of room, or for nothing
+  refused_on_tree : refusal_of d rows (asked_with name octets every phase paths)
+      ≡ or_else (refused_if (nat_lt (hops_within d.limits) (length (tree_of d paths))) refused.TooManyHops)
+      (refused_at lacks_room (short_link d rows (cost_of octets) (pace_by every phase) (tree_of d paths)))
+  refused_on_tree =
       let named = may.named in
       let least_is : nat_le 64 octets ≡ true = le-leb 64 octets may.least_octets in
       let most_is : nat_le octets 60000 ≡ true = le-leb octets 60000 may.most_octets in
       let many : nat_le (streams_within d.limits) (length rows) ≡ false = lt-leb (streams_within d.limits) (length rows) may.few in
+      let hops = refused_if (nat_lt (hops_within d.limits) (length (tree_of d paths))) refused.TooManyHops in
       let short = refused_at lacks_room (short_link d rows (cost_of octets) (pace_by every phase) (tree_of d paths)) in
       (λ i. or_else (refused_if (not (named i)) refused.BadName)
       (or_else (refused_if (not (least_is i && most_is i)) refused.BadOctets)
@@ -84,47 +86,74 @@ module _ (d : Domain) (rows : List Row) (name : List ℕ) (octets every phase : 
       (or_else (refused_at (λ place. refused.BrokenPath place) (branches.whole i))
       (or_else (refused_at (λ place. refused.LoopingPath place) (branches.simple i))
       (or_else (refused_at (λ branch. refused.NotATree branch) (branches.together i))
-      (or_else (refused_if (branches.few i) refused.TooManyHops)
+      (or_else hops
       (or_else (refused_if (may.name_free i) refused.NameHeld)
       (or_else (refused_if (many i) refused.TooManyStreams) short))))))))))
 
+  -- where it has more hops than may be it is refused for these
+  wide_so : (become : PlacedOr) → hops_within d.limits < length (tree_of d paths) →
+      become ≡ answered d (asked_with name octets every phase paths) (refusal_of d rows (asked_with name octets every phase paths)) →
+      become ≡ Unplaced (fault.Refused refused.TooManyHops)
+  wide_so become wide is =
+      let short = refused_at lacks_room (short_link d rows (cost_of octets) (pace_by every phase) (tree_of d paths)) in
+      is ∙ ap (answered d (asked_with name octets every phase paths))
+      (refused_on_tree ∙ ap (λ b. or_else (refused_if b refused.TooManyHops) short) (lt-ltb (hops_within d.limits) (length (tree_of d paths)) wide))
+
+  -- and else for want of room, or for nothing
+  refused_for_room : AreFew d paths → refusal_of d rows (asked_with name octets every phase paths)
+      ≡ refused_at lacks_room (short_link d rows (cost_of octets) (pace_by every phase) (tree_of d paths))
+  refused_for_room few =
+      let short = refused_at lacks_room (short_link d rows (cost_of octets) (pace_by every phase) (tree_of d paths)) in
+      refused_on_tree ∙ ap (λ b. or_else (refused_if b refused.TooManyHops) short) (le-ltb (hops_within d.limits) (length (tree_of d paths)) few)
+
   -- where no link lacks room it is granted
-  granted_so : (become : PlacedOr) → short_link d rows (cost_of octets) (pace_by every phase) (tree_of d paths) ≡ None →
+  granted_so : (become : PlacedOr) → AreFew d paths → short_link d rows (cost_of octets) (pace_by every phase) (tree_of d paths) ≡ None →
       become ≡ answered d (asked_with name octets every phase paths) (refusal_of d rows (asked_with name octets every phase paths)) →
       become ≡ Placed (asked_with name octets every phase paths)
-  granted_so become enough is =
-      is ∙ ap (answered d (asked_with name octets every phase paths)) (refused_for_room ∙ ap (refused_at lacks_room) enough)
+  granted_so become few enough is =
+      is ∙ ap (answered d (asked_with name octets every phase paths)) (refused_for_room few ∙ ap (refused_at lacks_room) enough)
 
   -- and where one does, it is refused for the first
-  short_so : (become : PlacedOr) (l : ℕ) → short_link d rows (cost_of octets) (pace_by every phase) (tree_of d paths) ≡ Some l →
+  short_so : (become : PlacedOr) (l : ℕ) → AreFew d paths → short_link d rows (cost_of octets) (pace_by every phase) (tree_of d paths) ≡ Some l →
       become ≡ answered d (asked_with name octets every phase paths) (refusal_of d rows (asked_with name octets every phase paths)) →
       become ≡ Unplaced (fault.Short (name_of_bridge d (bridge_of d l)) (name_of_end d l) (left_on d rows (tree_of d paths) (pace_by every phase) l))
-  short_so become l short is =
-      is ∙ ap (answered d (asked_with name octets every phase paths)) (refused_for_room ∙ ap (refused_at lacks_room) short)
+  short_so become l few short is =
+      is ∙ ap (answered d (asked_with name octets every phase paths)) (refused_for_room few ∙ ap (refused_at lacks_room) short)
 
 -- ---- phases
 
--- branches of a tree are refused for nothing
-tree_is_good : (d : Domain) (paths : List Branch) → AreBranches d paths → tree_refusal d paths ≡ None
-tree_is_good d paths branches =
+-- branches of a tree with no more hops than may be are refused for nothing
+tree_is_good : (d : Domain) (paths : List Branch) → AreBranches d paths → AreFew d paths → tree_refusal d paths ≡ None
+tree_is_good d paths branches few =
+    let within : nat_lt (hops_within d.limits) (length (tree_of d paths)) ≡ false = le-ltb (hops_within d.limits) (length (tree_of d paths)) few in
     (λ i. or_else (refused_at (λ place. refused.UnknownNode place) (branches.known i))
     (or_else (refused_at (λ place. refused.BrokenPath place) (branches.whole i))
     (or_else (refused_at (λ place. refused.LoopingPath place) (branches.simple i))
     (or_else (refused_at (λ branch. refused.NotATree branch) (branches.together i))
-    (refused_if (branches.few i) refused.TooManyHops)))))
+    (refused_if (within i) refused.TooManyHops)))))
 
 -- so the phase is by that tree
 phase_on_tree : (d : Domain) (rows : List Row) (cost : ℕ) (paths : List Branch) (turns : Turns) (first : ℕ) → AreBranches d paths →
-    IsPhaseAlong d rows cost paths turns first → IsPhaseOnTree d rows cost paths turns first
-phase_on_tree d rows cost paths (Given every phase) first branches is = is
-phase_on_tree d rows cost paths (Chosen every) first branches is =
-    subst (λ (o : Option Refused). IsChosenBy d rows cost paths every o first) (tree_is_good d paths branches) is
+    AreFew d paths → IsPhaseAlong d rows cost paths turns first → IsPhaseOnTree d rows cost paths turns first
+phase_on_tree d rows cost paths (Given every phase) first branches few is = is
+phase_on_tree d rows cost paths (Chosen every) first branches few is =
+    subst (λ (o : Option Refused). IsChosenBy d rows cost paths every o first) (tree_is_good d paths branches few) is
 
 -- it is one that may be
 first_on_tree : (d : Domain) (rows : List Row) (cost : ℕ) (paths : List Branch) (turns : Turns) (first : ℕ) →
     IsPhaseOnTree d rows cost paths turns first → MayBeFirst turns first
 first_on_tree d rows cost paths (Given every phase) first is = is
 first_on_tree d rows cost paths (Chosen every) first is = is.within
+
+-- and so is that of branches which are refused
+first_along : (d : Domain) (rows : List Row) (cost : ℕ) (paths : List Branch) (turns : Turns) (first : ℕ) → AreGoodTurns turns →
+    IsPhaseAlong d rows cost paths turns first → MayBeFirst turns first
+first_along d rows cost paths (Given every phase) first good is = is
+first_along d rows cost paths (Chosen every) first good is = by (tree_refusal d paths) is
+  where
+    by : (o : Option Refused) → IsChosenBy d rows cost paths every o first → first < every
+    by None chosen = chosen.within
+    by (Some refusal) none = omega (arith, none, good.some)
 
 -- and so it makes a pace
 paced_so : (turns : Turns) (first : ℕ) → AreGoodTurns turns → MayBeFirst turns first → is_pace (every_in turns) first ≡ true
@@ -173,7 +202,7 @@ room_so d rows cost paths (Chosen every) first other some is may room = room_in_
 
 -- ---- one stream
 
-module _ (one_way : FirstWayIsOne) (no_loop : FirstWaysHaveNoLoop) (parts : FirstWaysPartForGood) (d : Domain) (good : IsDomain d) (room : HasRoomForWays d)
+module _ (one_way : FirstWayIsOne) (no_loop : FirstWaysHaveNoLoop) (parts : FirstWaysPartForGood) (d : Domain) (good : IsDomain d) (room : MayBeWays d.limits)
     (entries : List Recorded) where
   -- the rows beside which it is placed
   abbrev rows : List Row
@@ -201,20 +230,28 @@ module _ (one_way : FirstWayIsOne) (no_loop : FirstWaysHaveNoLoop) (parts : Firs
 
   -- a stream along the branches of a tree
   along_so : (name : List ℕ) (octets : ℕ) (turns : Turns) (paths : List Branch) (become : PlacedOr) (after : List Recorded) →
-      MayAsk d rows name octets → AreGoodTurns turns → AreBranches d paths → IsAskedFor d entries name octets turns paths become after →
+      MayAsk d rows name octets → AreGoodTurns turns → AreBranches d paths → AreFew d paths → IsAskedFor d entries name octets turns paths become after →
       IsPlacedAlong d rows name octets turns paths become
-  along_so name octets turns paths become after may good_turns branches is =
+  along_so name octets turns paths become after may good_turns branches few is =
       let cost : ℕ = cost_of octets in
       let some : 1 ≤ cost = omega (arith, may.least_octets) in
-      let on_tree = phase_on_tree d rows cost paths turns is.phase branches is.is_phase in
+      let on_tree = phase_on_tree d rows cost paths turns is.phase branches few is.is_phase in
       let paced = paced_so turns is.phase good_turns (first_on_tree d rows cost paths turns is.phase on_tree) in
       record {
         phase = is.phase;
         is_phase = on_tree;
-        placed = λ other may_be room. granted_so d rows name octets (every_in turns) is.phase paths may paced branches become
+        placed = λ other may_be room. granted_so d rows name octets (every_in turns) is.phase paths may paced branches become few
             (none_short d rows cost (pace_by (every_in turns) is.phase) paths (room_so d rows cost paths turns is.phase other some on_tree may_be room)) is.answer;
-        unplaced = λ l short. short_so d rows name octets (every_in turns) is.phase paths may paced branches become l short is.answer;
+        unplaced = λ l short. short_so d rows name octets (every_in turns) is.phase paths may paced branches become l few short is.answer;
       }
+
+  -- one whose tree has more hops than may be
+  too_wide : (name : List ℕ) (octets : ℕ) (turns : Turns) (paths : List Branch) (become : PlacedOr) (after : List Recorded) →
+      MayAsk d rows name octets → AreGoodTurns turns → AreBranches d paths → hops_within d.limits < length (tree_of d paths) →
+      IsAskedFor d entries name octets turns paths become after → become ≡ Unplaced (fault.Refused refused.TooManyHops)
+  too_wide name octets turns paths become after may good_turns branches wide is =
+      let paced = paced_so turns is.phase good_turns (first_along d rows (cost_of octets) paths turns is.phase good_turns is.is_phase) in
+      wide_so d rows name octets (every_in turns) is.phase paths may paced branches become wide is.answer
 
   -- where it is offered in each cycle, and each link of the tree has room, it is placed
   each_so : (name : List ℕ) (octets : ℕ) (turns : Turns) (paths : List Branch) (become : PlacedOr) → AreGoodTurns turns → every_in turns ≡ 1 →
@@ -239,22 +276,30 @@ module _ (one_way : FirstWayIsOne) (no_loop : FirstWaysHaveNoLoop) (parts : Firs
       let first : HaveRoom d rows every cost bridge stations found.ways = found.first in
       let branches : AreBranches d paths = subst (AreBranches d) (sym found.are)
       (first_branches d good rows every cost bridge to.inside stations found.ways first to.some to.apart room no_loop parts) in
-      let along : IsPlacedAlong d rows name octets turns paths become = along_so name octets turns paths become after may good_turns branches is in
+      let by_ways : (ways : List (List ℕ)) → HaveRoom d rows every cost bridge stations ways → paths ≡ map (names_along d bridge) ways =
+      λ ways also. found.are ∙ ap (map (names_along d bridge)) (same_ways every cost bridge stations found.ways ways to.inside first also) in
+      let along : AreFew d paths → IsPlacedAlong d rows name octets turns paths become = λ few.
+      along_so name octets turns paths become after may good_turns branches few is in
       record {
-        placed = λ ways also. subst (λ (ps : List Branch). IsPlacedAlong d rows name octets turns ps become)
-            (found.are ∙ ap (map (names_along d bridge)) (same_ways every cost bridge stations found.ways ways to.inside first also)) along;
-        each_cycle = λ each ways also.
-            let same : paths ≡ map (names_along d bridge) ways =
-            found.are ∙ ap (map (names_along d bridge)) (same_ways every cost bridge stations found.ways ways to.inside first also) in
+        placed = λ ways also few.
+            subst (λ (ps : List Branch). IsPlacedAlong d rows name octets turns ps become) (by_ways ways also)
+            (along (subst (AreFew d) (sym (by_ways ways also)) few));
+        each_cycle = λ each ways also few.
+            let same : paths ≡ map (names_along d bridge) ways = by_ways ways also in
             let enough : HasRoomIn d rows cost (tree_of d paths) each_cycle = subst (λ (ps : List Branch). HasRoomIn d rows cost (tree_of d ps) each_cycle)
             (sym found.are) (first_enough d good rows every cost bridge to.inside stations found.ways first each) in
-            each_so name octets turns paths become good_turns each along enough ∙ ap (λ (ps : List Branch). Placed (asked_with name octets 1 0 ps)) same;
+            each_so name octets turns paths become good_turns each (along (subst (AreFew d) (sym same) few)) enough
+            ∙ ap (λ (ps : List Branch). Placed (asked_with name octets 1 0 ps)) same;
+        wide = λ ways also many.
+            too_wide name octets turns paths become after may good_turns branches
+            (subst (λ (ps : List Branch). hops_within d.limits < length (tree_of d ps)) (sym (by_ways ways also)) many) is;
         unplaced = λ place without. absurd (not_both every cost bridge stations found.ways place first without);
         either = inl (found.ways, first);
       }
   between_so name octets turns bridge stations (Err found) become after may good_turns to full is = record {
-    placed = λ ways first. absurd (not_both (every_in turns) (cost_of octets) bridge stations ways full.place first full.without);
-    each_cycle = λ each ways first. absurd (not_both (every_in turns) (cost_of octets) bridge stations ways full.place first full.without);
+    placed = λ ways first few. absurd (not_both (every_in turns) (cost_of octets) bridge stations ways full.place first full.without);
+    each_cycle = λ each ways first few. absurd (not_both (every_in turns) (cost_of octets) bridge stations ways full.place first full.without);
+    wide = λ ways first many. absurd (not_both (every_in turns) (cost_of octets) bridge stations ways full.place first full.without);
     unplaced = λ place without. (found, is.0, full);
     either = inr (full.place, full.without);
   }
@@ -264,7 +309,7 @@ module _ (one_way : FirstWayIsOne) (no_loop : FirstWaysHaveNoLoop) (parts : Firs
       IsRouted d rows (every_in turns) (cost_of octets) way routed → IsAnswered d entries name octets turns routed become after →
       IsPlacedOnWay d rows name octets turns way become
   on_way_so name octets turns (Along paths) routed become after may good_turns branches given is =
-      along_so name octets turns paths become after may good_turns branches
+      along_so name octets turns paths become after may good_turns branches.0 branches.1
       (subst (λ (r : Result (List Branch) PlanFault). IsAnswered d entries name octets turns r become after) given is)
   on_way_so name octets turns (Between bridge stations) routed become after may good_turns to found is =
       between_so name octets turns bridge stations routed become after may good_turns to found is
@@ -310,13 +355,10 @@ free_name names rows name own same absent named = false_from_ne_true (list_any (
     (member_any (λ other. is_text other name) names row.name (named row there) (sym (ap (is_text row.name) same) ∙ is)))
 
 module _ (goes_on : HistoryGoesOn) (counted : SealsAreCounted) (grants : GrantedIsHeld) (refuses : RefusedChangesNothing) (one_way : FirstWayIsOne)
-    (no_loop : FirstWaysHaveNoLoop) (parts : FirstWaysPartForGood) (sketch : SketchDomain) (is_sketch : IsSketch sketch) (cycle : ℕ) (good : IsDomain (domain_at sketch cycle)) where
+    (no_loop : FirstWaysHaveNoLoop) (parts : FirstWaysPartForGood) (sketch : SketchDomain) (is_sketch : IsSketch sketch) (room : MayBeWays sketch.limits) (cycle : ℕ)
+    (good : IsDomain (domain_at sketch cycle)) where
   abbrev d : Domain
   d = domain_at sketch cycle
-
-  -- it has room for ways, since no limits are set
-  room : HasRoomForWays d
-  room = record { nodes = omega arith; hops = omega (arith, good.accepted.few_links) }
 
   -- a stream, and then the others
   one_stream : (names : List (List ℕ)) (text : StreamText) (one : SettledStream) (streams : List SettledStream) (entries end : List Recorded)
@@ -326,7 +368,7 @@ module _ (goes_on : HistoryGoesOn) (counted : SealsAreCounted) (grants : Granted
   one_stream names text one streams entries end [] behind read settled rest placed = absurd placed
   one_stream names text one streams entries end (become ∷ more) behind read settled rest placed =
       let stands = next_stands sketch (domain_at sketch (open_cycle sketch)) names text one settled in
-      let ready = next_ready sketch (open_cycle sketch) cycle names text one is_sketch.has_talkers room read settled in
+      let ready = next_ready sketch (open_cycle sketch) cycle names text one is_sketch.has_talkers read settled in
       let rows : List Row = held_in d entries (seals entries) in
       let free = free_name names rows text.name one.name stands.own_name stands.not_held behind.named in
       let few : length rows < streams_within d.limits = omega (arith, behind.few_rows, stands.few_set) in
@@ -355,9 +397,9 @@ module _ (goes_on : HistoryGoesOn) (counted : SealsAreCounted) (grants : Granted
 -- so the streams of a sketch are
 pub placed_by_room : HistoryGoesOn → SealsAreCounted → GrantedIsHeld → RefusedChangesNothing → FirstWayIsOne → FirstWaysHaveNoLoop → FirstWaysPartForGood →
     PlacedWhereThereIsRoom
-placed_by_room goes_on counted grants refuses one_way no_loop parts sketch text texts streams cycle placed is_sketch is_open read settled domain are =
+placed_by_room goes_on counted grants refuses one_way no_loop parts sketch text texts streams cycle placed is_sketch room is_open read settled domain are =
     let good = is_sketch.domains cycle is_open in
     subst (λ (d : Domain). ArePlacedByRoomFrom d [] streams placed.outcomes placed.entries) (sym domain)
-    (all_streams goes_on counted grants refuses one_way no_loop parts sketch is_sketch cycle good [] texts streams [] placed.entries placed.outcomes
+    (all_streams goes_on counted grants refuses one_way no_loop parts sketch is_sketch room cycle good [] texts streams [] placed.entries placed.outcomes
     (none_behind (domain_at sketch cycle)) (streams_read text texts read) settled
     (subst (λ (d : Domain). ArePlacedFrom d [] streams placed.outcomes placed.entries) domain are))

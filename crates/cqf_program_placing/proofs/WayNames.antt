@@ -24,7 +24,8 @@ use Rattle.cqf_plants.proofs.NamesApart.{apart_across, behind_apart, front_apart
 use Rattle.cqf_report.specs.Books.{name_of_bridge, name_of_node}
 use Rattle.cqf_ways.specs.Steps.{led_along}
 use Rattle.cqf_ways.specs.WayLaws.{EndsOnce, ends_along}
-use Rattle.cqf_ways.specs.Ways.{led_by, led_to}
+use Rattle.cqf_ways.specs.Ways.{led_by, led_to, most_links}
+use Rattle.cqf_program_placing.specs.Room.{MayBeWays}
 use Rattle.cqf_program_plans.specs.EndNames.{name_of_end}
 use Rattle.cqf_program_placing.proofs.RouteLemmas.{name_at_end, to_node}
 
@@ -228,15 +229,15 @@ module _ (d : Domain) (good : IsDomain d) where
           (false_from_ne_true (k + 1 == length branch) (λ t. other (omega (arith, eqb-true (k + 1) (length branch) t, long))))
     ]
 
-    -- it has seventeen nodes at most, which are as many as may be
-    few_there : (k : ℕ) → length way ≤ 16 → 17 ≤ nodes_within d.limits → is_beyond_most d branch k ≡ false
+    -- it has no more nodes than may be
+    few_there : (k : ℕ) → length way ≤ most_links → MayBeWays d.limits → is_beyond_most d branch k ≡ false
     few_there k few most = false_from_ne_true (is_beyond_most d branch k) (λ t.
         let parts = and_parts (k == nodes_within d.limits) (nat_lt k (length branch)) t in
         omega (arith, eqb-true k (nodes_within d.limits) parts.0, ltb-true k (length branch) parts.1, long, few, most))
 
     -- so it is broken nowhere
-    pub whole_there : (station k : ℕ) → led_along (led_to d.links) (Bridge bridge) way ≡ Some (Station station) → length way ≤ 16 →
-        17 ≤ nodes_within d.limits → is_broken_at d (branch_from d (Bridge bridge) way) k ≡ false
+    pub whole_there : (station k : ℕ) → led_along (led_to d.links) (Bridge bridge) way ≡ Some (Station station) → length way ≤ most_links →
+        MayBeWays d.limits → is_broken_at d (branch_from d (Bridge bridge) way) k ≡ false
     whole_there station k e few most =
         (λ i. begins_there (Station station) k e i || linked_there (Station station) k e i || ends_there station k e i || few_there k few most i)
 

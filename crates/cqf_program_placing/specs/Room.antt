@@ -1,19 +1,22 @@
 -- Streams are placed where there is room, in a planner's words.
-use Rattle.std.specs.Prelude.{ℕ, ◌≡◌, ◌≤◌, ◌⊎◌, List, [], ◌∷◌, Contains, Result, Ok, Err, Some, map}
+use Rattle.std.specs.Prelude.{ℕ, ◌≡◌, ◌≤◌, ◌<◌, ◌⊎◌, List, [], ◌∷◌, Contains, Result, Ok, Err, Some, length, map}
 use Rattle.cqf_units.specs.Timing.{cost_of}
+use Rattle.cqf_model.specs.declared.history.Refused.TheVariants as refused
+use Rattle.cqf_model.specs.declared.limits.Limits.{Limits}
 use Rattle.cqf_model.specs.declared.topology.Hop.{Hop}
 use Rattle.cqf_model.specs.declared.topology.Node.TheVariants.{Bridge}
 use Rattle.cqf_model.specs.declared.topology.Pace.{Pace}
 use Rattle.cqf_model.specs.declared.topology.Row.{Row}
 use Rattle.cqf_model.specs.Domain.{Domain, bridge_of}
 use Rattle.cqf_model.specs.History.{Branch, Recorded, held_in, left_on, seals, short_link, tree_of}
+use Rattle.cqf_model.specs.Limits.{hops_within, nodes_within}
 use Rattle.cqf_model.specs.Table.{links_in}
 use Rattle.cqf_admission.specs.Asking.{asked_with}
 use Rattle.cqf_report.specs.Books.{name_of_bridge}
 use Rattle.cqf_sketch.specs.SketchDomain.{IsOpenCycle, IsSketch, SketchDomain, domain_at}
 use Rattle.cqf_sketch_streams.specs.StreamsText.{StreamText, sketch_streams_of_text}
 use Rattle.cqf_ways.specs.Listeners.{AreFirstWays, IsFirstWithout}
-use Rattle.cqf_ways.specs.Ways.{has_room}
+use Rattle.cqf_ways.specs.Ways.{has_room, most_links}
 use Rattle.cqf_program_plans.specs.EndNames.{name_of_end}
 use Rattle.cqf_program_placing.specs.declared.faults.PlanFault.{PlanFault}
 use Rattle.cqf_program_placing.specs.declared.faults.PlanFault.TheVariants as fault
@@ -45,16 +48,27 @@ HaveRoom d rows every cost bridge stations ways = AreFirstWays d.links (has_room
 abbrev pub HasNoRoom : Domain → List Row → ℕ → ℕ → ℕ → List ℕ → ℕ → Type 0
 HasNoRoom d rows every cost bridge stations place = IsFirstWithout d.links (has_room (lefts_on d rows every) cost) (Bridge bridge) stations place
 
--- a stream between a bridge and stations: where there are ways with room it goes by the first, and what becomes of it is as above; one that
--- is offered in each cycle is placed then. Where there is no way with room to some station it isn't, for the first such; and one of the two
--- is the case. So it is never refused for its name, its octets, its cycles, its branches or its tree, for its number among the streams, or,
--- where it is offered in each cycle, for a link that lacks room
+-- a branch may have as many nodes as stand on a way: so it is in the profile, and of large plants
+abbrev pub MayBeWays : Limits → Type 0
+MayBeWays limits = most_links < nodes_within limits
+
+-- how many hops the tree of ways from a bridge has
+abbrev pub hops_on_ways : Domain → ℕ → List (List ℕ) → ℕ
+hops_on_ways d bridge ways = length (tree_of d (map (names_along d bridge) ways))
+
+-- a stream between a bridge and stations: where there are ways with room whose tree has no more hops than may be, it goes by the first, and
+-- what becomes of it is as above; one that is offered in each cycle is placed then. Where their tree has more it isn't, for its hops. Where
+-- there is no way with room to some station it isn't, for the first such; and one of the two is the case. So it is never refused for its
+-- name, its octets, its cycles or its branches, for its number among the streams, or, where it is offered in each cycle, for a link that
+-- lacks room; and in the profile, where a tree may have as many hops as there are links, not for its hops
 pub record IsPlacedBetween (d : Domain) (rows : List Row) (name : List ℕ) (octets : ℕ) (turns : Turns) (bridge : ℕ) (stations : List ℕ)
     (become : PlacedOr) : Type 0 where
   pub placed : (ways : List (List ℕ)) → HaveRoom d rows (every_in turns) (cost_of octets) bridge stations ways →
-      IsPlacedAlong d rows name octets turns (map (names_along d bridge) ways) become
+      hops_on_ways d bridge ways ≤ hops_within d.limits → IsPlacedAlong d rows name octets turns (map (names_along d bridge) ways) become
   pub each_cycle : every_in turns ≡ 1 → (ways : List (List ℕ)) → HaveRoom d rows (every_in turns) (cost_of octets) bridge stations ways →
-      become ≡ Placed (asked_with name octets 1 0 (map (names_along d bridge) ways))
+      hops_on_ways d bridge ways ≤ hops_within d.limits → become ≡ Placed (asked_with name octets 1 0 (map (names_along d bridge) ways))
+  pub wide : (ways : List (List ℕ)) → HaveRoom d rows (every_in turns) (cost_of octets) bridge stations ways →
+      hops_within d.limits < hops_on_ways d bridge ways → become ≡ Unplaced (fault.Refused refused.TooManyHops)
   pub unplaced : (place : ℕ) → HasNoRoom d rows (every_in turns) (cost_of octets) bridge stations place →
       (found : PlanFault) × (become ≡ Unplaced found) × IsFull d rows (every_in turns) (cost_of octets) bridge stations found
   pub either : ((ways : List (List ℕ)) × HaveRoom d rows (every_in turns) (cost_of octets) bridge stations ways)
@@ -85,9 +99,9 @@ ArePlacedByRoomFrom d entries (stream ∷ streams) (become ∷ more) end =
 abbrev pub ArePlacedByRoom : List SettledStream → PlacedStreams → Type 0
 ArePlacedByRoom streams placed = ArePlacedByRoomFrom placed.domain [] streams placed.outcomes placed.entries
 
--- the streams of a sketch's text, settled, are so, on each cycle time that is open to its domain
+-- the streams of a sketch's text, settled, are so, on each cycle time that is open to its domain, whose branches may be ways
 abbrev pub PlacedWhereThereIsRoom : Type 0
 PlacedWhereThereIsRoom =
     (sketch : SketchDomain) (text : List ℕ) (texts : List StreamText) (streams : List SettledStream) (cycle_time : ℕ) (placed : PlacedStreams) →
-    IsSketch sketch → IsOpenCycle sketch cycle_time → sketch_streams_of_text text ≡ Ok texts → settled_of sketch texts ≡ Ok streams →
+    IsSketch sketch → MayBeWays sketch.limits → IsOpenCycle sketch cycle_time → sketch_streams_of_text text ≡ Ok texts → settled_of sketch texts ≡ Ok streams →
     placed.domain ≡ domain_at sketch cycle_time → ArePlaced streams placed → ArePlacedByRoom streams placed

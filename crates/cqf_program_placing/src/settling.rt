@@ -182,7 +182,7 @@ fn settle_all(
 /// given branches, why they are no tree of the plant, as [`find_tree`](cqf_admission_trees::find_tree) has it; of another `NoTalker`, where
 /// it comes from no bridge and from no station with a talker's link, `NoListener` of the first listener that is no station, and `NoWay` of
 /// the first to which no links lead from its edge bridge, at most 16 of them. `NameHeld`, where an earlier one has its name;
-/// `TooManyStreams`, where there are 1,024 before it. `TooSoon`, where nothing is left of its deadline when a frame is whole at its edge
+/// `TooManyStreams`, where there are as many before it as may be held. `TooSoon`, where nothing is left of its deadline when a frame is whole at its edge
 /// bridge: such a frame, as long as its traffic lets it be, or else as its octets and at most 1,522, and 8 octets of preamble before it,
 /// takes their time on the talker's link and that link's delay. `Memory` where a growth is refused.
 pub fn settle(

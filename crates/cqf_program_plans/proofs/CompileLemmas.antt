@@ -1,6 +1,7 @@
 -- Streams admitted in turn, each of which is held from cycle 0 on.
 use Rattle.std.proofs.Common.{◌≡◌, ◌≢◌, ◌⊎◌, ◌∙◌, ◌<◌, ◌+◌, ◌++◌, ℕ, true, List, [], ◌∷◌, Option, Some, None, Result, Ok, Err, length, map, arith, ap, subst}
 use Rattle.std.proofs.Common.{refl, sym, length-append, inl, inr}
+use Rattle.cqf_model.specs.declared.limits.Limits.{Limits}
 use Rattle.cqf_model.specs.declared.history.Receipt.{Receipt}
 use Rattle.cqf_model.specs.declared.history.Refused.{Refused}
 use Rattle.cqf_model.specs.declared.history.Refused.TheVariants.{BadName, BadOctets, BadPace, UnknownNode, BrokenPath, LoopingPath, NotATree, TooManyHops, NameHeld, TooManyStreams}
@@ -14,7 +15,7 @@ use Rattle.cqf_laws_history.specs.StateLaws.{AreHeld, GrantedFindsRoom, GrantedI
 use Rattle.cqf_admission.specs.Admission.{Administration, Answers, is_entered}
 use Rattle.cqf_admission.specs.Asking.{asked_by, asked_paced}
 use Rattle.cqf_text.specs.Parts.{parts_of}
-use Rattle.cqf_topology.specs.DomainText.{domain_of_text}
+use Rattle.cqf_topology.specs.DomainText.{domain_within}
 use Rattle.cqf_topology.specs.PacedText.{paced_text, paced_of_text}
 use Rattle.cqf_lists.specs.Results.{and_then, refuse}
 use Rattle.cqf_program_stop.specs.Stops.{EndsWith}
@@ -179,11 +180,11 @@ refused-ends old new asked refused place stop more all answers line memory =
     line memory
 
 -- the domain and the streams that are read are the input's
-pub compile_input-is : (input domain_text streams_text : List ℕ) (domain : Domain) (requests : List PacedRequest) →
-    two_parts (parts_of input) ≡ Ok (domain_text, streams_text) → domain_of_text domain_text ≡ Ok domain →
-    paced_of_text streams_text ≡ Ok (map paced_text requests) → compile_input input ≡ Ok (domain, map asked_paced requests)
-compile_input-is input domain_text streams_text domain requests parts domain_is streams_are =
-    ap (λ found. and_then found (λ texts. and_then (or_line domain_line (domain_of_text texts.0))
+pub compile_input-is : (limits : Limits) (input domain_text streams_text : List ℕ) (domain : Domain) (requests : List PacedRequest) →
+    two_parts (parts_of input) ≡ Ok (domain_text, streams_text) → domain_within limits domain_text ≡ Ok domain →
+    paced_of_text streams_text ≡ Ok (map paced_text requests) → compile_input limits input ≡ Ok (domain, map asked_paced requests)
+compile_input-is limits input domain_text streams_text domain requests parts domain_is streams_are =
+    ap (λ found. and_then found (λ texts. and_then (or_line domain_line (domain_within limits texts.0))
     (λ d. and_then (or_line streams_line (paced_of_text texts.1)) (λ read. Ok (d, map asked_by read))))) parts
     ∙ ap (λ found. and_then (or_line domain_line found)
     (λ d. and_then (or_line streams_line (paced_of_text streams_text)) (λ read. Ok (d, map asked_by read)))) domain_is

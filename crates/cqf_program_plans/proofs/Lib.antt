@@ -7,6 +7,9 @@ mod TcLines
 mod TcFunctions
 mod TcCallLemmas
 mod Streams
+mod NextKept
+mod LeavingRows
+mod NotedRows
 mod Listed
 mod Fits
 mod PlanFits
@@ -17,3 +20,4 @@ pub mod LookedOver
 pub mod Found
 mod CostsByTurn
 mod LatencyLines
+mod Rounds

@@ -1,6 +1,6 @@
 -- The lines of the script before the functions of bridges, and what is found among them.
 use Rattle.std.proofs.Common.{ℕ, ◌≡◌, ◌++◌, ◌==◌, ◌∙◌, ◌||◌, ◌/◌, ◌%◌, Bool, true, false, not, List, [], ◌∷◌, append_assoc, ap, codes, cond, decimal}
-use Rattle.std.proofs.Common.{arith, length, refl, suc, zero}
+use Rattle.std.proofs.Common.{arith, length, nat_le, refl, suc, zero}
 use Rattle.std.specs.List.{list_all, list_any}
 use Rattle.std.specs.Prelude.{if◌then◌else◌}
 use Rattle.std.proofs.lemmas.Bool.{and_from}
@@ -11,12 +11,13 @@ use Rattle.cqf_gates.specs.GateListText.{hex_digit, line_of_gates}
 use Rattle.cqf_model.specs.declared.topology.Row.{Row}
 use Rattle.cqf_model.specs.Domain.{Domain, is_text}
 use Rattle.cqf_model.specs.GateList.{Entry, port_list}
+use Rattle.cqf_model.specs.Limits.{streams_within}
 use Rattle.cqf_topology.specs.DomainText.{IsDomain}
 use Rattle.cqf_program_plans.specs.TcBridge.{pauses}
 use Rattle.cqf_program_plans.specs.TcCalls.{head_of, lines_behind, lines_before, lines_of_function}
 use Rattle.cqf_program_plans.specs.TcChecks.{checks_text}
 use Rattle.cqf_program_plans.specs.TcText.{bridges_text, by_list_lines, by_list_text, choice_text, list_gates_text}
-use Rattle.cqf_program_plans.specs.TcText.{gate_command, given_text, link_text, list_command, multiple, name_text}
+use Rattle.cqf_program_plans.specs.TcText.{gate_command, given_text, last_gate, link_text, list_command, multiple, name_text}
 use Rattle.cqf_program_plans.specs.TcText.{names_text, no_gates_text, old_gates_text, opening_text, tc_gate_text, tc_text, undo_gate, undo_list, usage_text}
 use Rattle.cqf_program_plans.specs.TcWords.{tx_words}
 use Rattle.cqf_program_plans.proofs.TcLines.{IsWithin, Reads, Skips, begins, behind_within, bridge_within, decimal_within, is_within, none_within}
@@ -76,8 +77,12 @@ given_skipped d rows =
 checks_skipped : Skips is_head_byte checks_text
 checks_skipped = skips is_head_byte checks_text refl refl
 
-old_gates_skipped : Skips is_head_byte old_gates_text
-old_gates_skipped = skips is_head_byte old_gates_text refl refl
+old_gates_by : (few : Bool) → Skips is_head_byte (old_gates_text (if few then codes "1024" else codes "16384"))
+old_gates_by true = skips is_head_byte (old_gates_text (codes "1024")) refl refl
+old_gates_by false = skips is_head_byte (old_gates_text (codes "16384")) refl refl
+
+old_gates_skipped : (d : Domain) → Skips is_head_byte (old_gates_text (last_gate d))
+old_gates_skipped d = old_gates_by (nat_le (streams_within d.limits) 1024)
 
 no_gates_skipped : Skips is_head_byte no_gates_text
 no_gates_skipped = skips is_head_byte no_gates_text refl refl
@@ -127,44 +132,44 @@ rest_of d rows = list_gates_text rows ++ last_of d rows
 
 to_functions : (d : Domain) (rows : List Row) (y : ℕ) (head : List ℕ) → IsDomain d → is_head_byte y ≡ true →
     lines_behind (y ∷ head) (lines_of (tc_text d rows)) ≡ lines_behind (y ∷ head)
-    (lines_of (link_text d ++ (old_gates_text ++ (no_gates_text ++ (tc_gate_text d ++ rest_of d rows)))))
+    (lines_of (link_text d ++ ((old_gates_text (last_gate d)) ++ (no_gates_text ++ (tc_gate_text d ++ rest_of d rows)))))
 to_functions d rows y head domain of_head =
     let rest = rest_of d rows in
     let tail = last_of d rows in
     let gates = tc_gate_text d ++ list_gates_text rows in
     let last = no_gates_text ++ gates in
-    let behind_link = old_gates_text ++ last in
+    let behind_link = (old_gates_text (last_gate d)) ++ last in
     let behind_checks = link_text d ++ behind_link in
-    let one : (checks_text ++ behind_checks) ++ tail ≡ checks_text ++ (link_text d ++ (old_gates_text ++ (no_gates_text ++ (tc_gate_text d ++ rest)))) =
+    let one : (checks_text ++ behind_checks) ++ tail ≡ checks_text ++ (link_text d ++ ((old_gates_text (last_gate d)) ++ (no_gates_text ++ (tc_gate_text d ++ rest)))) =
     append_assoc checks_text behind_checks tail
     ∙ ap (λ text. checks_text ++ text) (append_assoc (link_text d) behind_link tail
-    ∙ ap (λ text. link_text d ++ text) (append_assoc old_gates_text last tail
-    ∙ ap (λ text. old_gates_text ++ text) (append_assoc no_gates_text gates tail
+    ∙ ap (λ text. link_text d ++ text) (append_assoc (old_gates_text (last_gate d)) last tail
+    ∙ ap (λ text. (old_gates_text (last_gate d)) ++ text) (append_assoc no_gates_text gates tail
     ∙ ap (λ text. no_gates_text ++ text) (append_assoc (tc_gate_text d) (list_gates_text rows) tail)))) in
     text_passed y head (usage_text d rows) _ of_head (usage_skipped d rows)
     ∙ text_passed y head (opening_text d) _ of_head (opening_skipped d domain)
     ∙ text_passed y head (given_text d rows) _ of_head (given_skipped d rows)
     ∙ ap (λ text. lines_behind (y ∷ head) (lines_of text)) one
-    ∙ text_passed y head checks_text (link_text d ++ (old_gates_text ++ (no_gates_text ++ (tc_gate_text d ++ rest)))) of_head checks_skipped
+    ∙ text_passed y head checks_text (link_text d ++ ((old_gates_text (last_gate d)) ++ (no_gates_text ++ (tc_gate_text d ++ rest)))) of_head checks_skipped
 
 -- the function of a link is read
 pub link_found : (d : Domain) (rows : List Row) → IsDomain d → lines_of_function (codes "link") (tc_text d rows) ≡ list_command d ∷ undo_list ∷ []
 link_found d rows domain =
     ap (lines_before (codes "}")) (to_functions d rows 108 (codes "ink() {") domain refl
-    ∙ ap (lines_behind (head_of (codes "link"))) (link_reads d (old_gates_text ++ (no_gates_text ++ (tc_gate_text d ++ rest_of d rows)))))
+    ∙ ap (lines_behind (head_of (codes "link"))) (link_reads d ((old_gates_text (last_gate d)) ++ (no_gates_text ++ (tc_gate_text d ++ rest_of d rows)))))
 
 -- behind that of a link, other functions are looked for among those of gates and of bridges
 to_gate : (d : Domain) (rows : List Row) (y : ℕ) (head : List ℕ) → IsDomain d → is_head_byte y ≡ true → is_text (codes "link() {") (y ∷ head) ≡ false →
     lines_behind (y ∷ head) (lines_of (tc_text d rows)) ≡ lines_behind (y ∷ head) (lines_of (tc_gate_text d ++ rest_of d rows))
 to_gate d rows y head domain of_head other =
-    let behind = old_gates_text ++ (no_gates_text ++ (tc_gate_text d ++ rest_of d rows)) in
+    let behind = (old_gates_text (last_gate d)) ++ (no_gates_text ++ (tc_gate_text d ++ rest_of d rows)) in
     let more = list_command d ∷ undo_list ∷ codes "}" ∷ [] ∷ lines_of behind in
     to_functions d rows y head domain of_head
     ∙ ap (lines_behind (y ∷ head)) (link_reads d behind)
     ∙ passed_over y head (codes "# the transmission gates of the interface $1" ∷ []) (codes "link() {" ∷ more) of_head refl
     ∙ ap (λ (b : Bool). cond b more (lines_behind (y ∷ head) more)) other
     ∙ passed_over y head (list_command d ∷ undo_list ∷ codes "}" ∷ [] ∷ []) (lines_of behind) of_head refl
-    ∙ text_passed y head old_gates_text (no_gates_text ++ (tc_gate_text d ++ rest_of d rows)) of_head old_gates_skipped
+    ∙ text_passed y head (old_gates_text (last_gate d)) (no_gates_text ++ (tc_gate_text d ++ rest_of d rows)) of_head (old_gates_skipped d)
     ∙ text_passed y head no_gates_text (tc_gate_text d ++ rest_of d rows) of_head no_gates_skipped
 
 -- the function of a gate is read

@@ -1,11 +1,12 @@
 -- What the command `compile` gives for its input (profile): the configuration of a domain and its streams, or the line of
 -- the input's first fault.
+use Rattle.cqf_model.specs.declared.limits.Limits.{Limits}
 use Rattle.std.specs.Prelude.{ℕ, ◌≡◌, ◌≤◌, ◌+◌, ◌++◌, codes, decimal, length, List, [], ◌∷◌, map, Result, Ok}
 use Rattle.cqf_model.specs.declared.topology.Row.{Row}
 use Rattle.cqf_model.specs.Domain.{Domain}
 use Rattle.cqf_model.specs.History.{Admits, Asked, Recorded, held_in, IsLegalHistory, refusal_of, reply_to, seals}
 use Rattle.cqf_text.specs.Parts.{parts_of}
-use Rattle.cqf_topology.specs.DomainText.{domain_of_text}
+use Rattle.cqf_topology.specs.DomainText.{domain_within}
 use Rattle.cqf_lists.specs.Results.{and_then, refuse}
 use Rattle.cqf_topology.specs.PacedText.{paced_of_text}
 use Rattle.cqf_laws_history.specs.StateLaws.{with_entry}
@@ -35,9 +36,9 @@ admitted_from d entries place (asked ∷ more) =
 
 -- the domain and the streams of an input, or the line of the first fault: of the parts, then of the domain, then of the
 -- streams
-abbrev pub compile_input : List ℕ → Result (Domain × List Asked) (List ℕ)
-compile_input input = and_then (two_parts (parts_of input)) (λ parts.
-    and_then (or_line domain_line (domain_of_text parts.0)) (λ domain.
+abbrev pub compile_input : Limits → List ℕ → Result (Domain × List Asked) (List ℕ)
+compile_input limits input = and_then (two_parts (parts_of input)) (λ parts.
+    and_then (or_line domain_line (domain_within limits parts.0)) (λ domain.
     and_then (or_line streams_line (paced_of_text parts.1)) (λ requests. Ok (domain, map asked_by requests))))
 
 -- the configuration of a domain with all of these streams admitted before cycle 0
@@ -45,8 +46,8 @@ abbrev pub configuration_of : Domain → List Asked → Result (List ℕ) (List 
 configuration_of d streams = and_then (admitted_from d [] 1 streams) (λ entries. Ok (config_text d (held_in d entries 0)))
 
 -- the configuration for an input, or the line of its first fault
-abbrev pub compiled_input : List ℕ → Result (List ℕ) (List ℕ)
-compiled_input input = and_then (compile_input input) (λ found. configuration_of found.0 found.1)
+abbrev pub compiled_input : Limits → List ℕ → Result (List ℕ) (List ℕ)
+compiled_input limits input = and_then (compile_input limits input) (λ found. configuration_of found.0 found.1)
 
 -- a history of admissions alone, each of them granted: no Seal, one held stream for each entry, and at most 16,384
 pub record AreAllHeld (d : Domain) (entries : List Recorded) : Type 0 where

@@ -8,6 +8,7 @@ pub mod TcBridge
 pub mod TcChecks
 pub mod TcText
 pub mod TcOutput
+pub mod TcRows
 pub mod TcCalls
 pub mod TcLaws
 pub mod Fitting

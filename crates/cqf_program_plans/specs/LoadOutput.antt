@@ -1,5 +1,6 @@
 -- What the command `load` gives for its input (profile): what each link holds of the streams and has left, or the line of the
 -- input's first fault.
+use Rattle.cqf_model.specs.declared.limits.Limits.{Limits}
 use Rattle.std.specs.Prelude.{ℕ, ◌+◌, ◌++◌, List, [], ◌∷◌, Result, Ok, length}
 use Rattle.cqf_lists.specs.Results.{and_then, refuse}
 use Rattle.cqf_model.specs.declared.topology.Row.{Row}
@@ -22,5 +23,5 @@ load_of d streams = and_then (listed_from d [] streams) (λ rows. Ok (load_text 
 
 -- the text for an input, or the line of its first fault: of the parts, of the domain, of the streams, or of the first stream
 -- that isn't listed
-abbrev pub loaded_input : List ℕ → Result (List ℕ) (List ℕ)
-loaded_input input = and_then (compile_input input) (λ found. load_of found.0 found.1)
+abbrev pub loaded_input : Limits → List ℕ → Result (List ℕ) (List ℕ)
+loaded_input limits input = and_then (compile_input limits input) (λ found. load_of found.0 found.1)

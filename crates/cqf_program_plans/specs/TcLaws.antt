@@ -1,13 +1,15 @@
--- The lists of the script are those that are compiled.
-use Rattle.std.specs.Prelude.{ℕ, ◌≡◌, ◌≤◌, ◌<◌, Some, Ok}
+-- The lists of the script are those that are compiled, and begin anew together.
+use Rattle.std.specs.Prelude.{ℕ, ◌≡◌, ◌%◌, ◌≤◌, ◌<◌, Contains, List, Some, Ok}
 use Rattle.cqf_compile.specs.BridgeGates.{gate_at}
-use Rattle.cqf_admission_trees.specs.Turns.{IsGoodPace}
+use Rattle.cqf_admission_trees.specs.Turns.{AreOfGoodPaces, IsGoodPace}
 use Rattle.cqf_gates.specs.ReservedSpans.{reserved_spans}
 use Rattle.cqf_model.specs.declared.topology.Pace.{Pace}
 use Rattle.cqf_model.specs.declared.topology.Row.{Row}
 use Rattle.cqf_model.specs.Domain.{Domain, IsAccepted}
 use Rattle.cqf_model.specs.GateList.{port_list}
 use Rattle.cqf_model.specs.Limits.{most_reserved}
+use Rattle.cqf_model.specs.StreamGate.{gate_cycles}
+use Rattle.cqf_program_plans.specs.TcText.{rounds_in}
 use Rattle.cqf_program_plans.specs.TcWords.{gate_of_words, gate_words, list_words, tx_of_words, tx_words}
 
 -- in each accepted domain the words of a port are read as the list that each port is compiled to; those of the function of stream
@@ -22,3 +24,12 @@ pub record ScriptListsReadBack (d : Domain) : Type 0 where
 
 abbrev pub ScriptsHoldTheLists : Type 0
 ScriptsHoldTheLists = (d : Domain) → IsAccepted d → ScriptListsReadBack d
+
+-- where a script begins its lists, all of them begin anew: the cycles of each stream's gate go into those of its rounds, and so do the two of a
+-- port's list
+pub record AllBeginAnew (rows : List Row) : Type 0 where
+  pub gates : (row : Row) → Contains rows row → rounds_in rows % gate_cycles row.pace ≡ 0
+  pub ports : rounds_in rows % 2 ≡ 0
+
+abbrev pub ListsBeginAnew : Type 0
+ListsBeginAnew = (rows : List Row) → AreOfGoodPaces rows → AllBeginAnew rows

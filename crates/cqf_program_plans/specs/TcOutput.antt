@@ -1,5 +1,6 @@
 -- What the command `compile --format tc` gives for its input (profile): the script, or the line of the input's first fault, as
 -- `compile` has it.
+use Rattle.cqf_model.specs.declared.limits.Limits.{Limits}
 use Rattle.std.specs.Prelude.{ℕ, ◌≡◌, List, [], Result, Ok}
 use Rattle.cqf_lists.specs.Results.{and_then}
 use Rattle.cqf_admission_trees.specs.Turns.{AreOfGoodPaces}
@@ -9,6 +10,7 @@ use Rattle.cqf_model.specs.GateList.{port_list}
 use Rattle.cqf_model.specs.History.{Asked, held_in}
 use Rattle.cqf_program_plans.specs.CompileOutput.{admitted_from, compile_input}
 use Rattle.cqf_program_plans.specs.ConfigTold.{ConfiguredPlan}
+use Rattle.cqf_program_plans.specs.TcRows.{AreByBridge}
 use Rattle.cqf_program_plans.specs.TcText.{tc_text}
 use Rattle.cqf_program_plans.specs.TcWords.{gate_words, tx_words}
 
@@ -17,8 +19,8 @@ abbrev pub tc_of : Domain → List Asked → Result (List ℕ) (List ℕ)
 tc_of d streams = and_then (admitted_from d [] 1 streams) (λ entries. Ok (tc_text d (held_in d entries 0)))
 
 -- the script for an input, or the line of its first fault
-abbrev pub tc_of_input : List ℕ → Result (List ℕ) (List ℕ)
-tc_of_input input = and_then (compile_input input) (λ found. tc_of found.0 found.1)
+abbrev pub tc_of_input : Limits → List ℕ → Result (List ℕ) (List ℕ)
+tc_of_input limits input = and_then (compile_input limits input) (λ found. tc_of found.0 found.1)
 
 -- the text of an output
 abbrev pub text_of_tc : ConfiguredPlan → List ℕ
@@ -29,7 +31,8 @@ pub record AreWordsOf (d : Domain) (ports gates : List ℕ) : Type 0 where
   pub of_ports : ports ≡ tx_words (port_list d.cycle_time d.guard)
   pub of_gates : gates ≡ gate_words d.cycle_time
 
--- the script can be told: the rows' paces are good, and the words are those of the domain's lists
-pub record IsReadyScript (d : Domain) (rows : List Row) (ports gates : List ℕ) : Type 0 where
+-- the script can be told: the rows' paces are good, it is known which of them leave a bridge, and the words are those of the domain's lists
+pub record IsReadyScript (d : Domain) (rows : List Row) (places : List (List ℕ)) (ports gates : List ℕ) : Type 0 where
   pub paced : AreOfGoodPaces rows
+  pub by_bridge : AreByBridge d rows places
   pub words : AreWordsOf d ports gates

@@ -1,11 +1,11 @@
 -- The script that `compile --format tc` writes: a POSIX shell script that sets the gates of a bridge by `tc` (profile).
-use Rattle.std.specs.Prelude.{ℕ, ◌*◌, ◌++◌, List, [], ◌∷◌, codes, decimal, if◌then◌else◌, length}
+use Rattle.std.specs.Prelude.{ℕ, ◌*◌, ◌++◌, List, [], ◌∷◌, codes, decimal, if◌then◌else◌, length, nat_le}
 use Rattle.std.specs.List.{list_any}
 use Rattle.cqf_lists.specs.Lists.{each_below}
 use Rattle.cqf_model.specs.declared.topology.Row.{Row}
 use Rattle.cqf_model.specs.Domain.{Domain}
 use Rattle.cqf_model.specs.GateList.{port_list}
-use Rattle.cqf_model.specs.Limits.{most_every}
+use Rattle.cqf_model.specs.Limits.{most_every, streams_within}
 use Rattle.cqf_report.specs.Books.{name_of_bridge}
 use Rattle.cqf_program_plans.specs.TcBridge.{bridge_text, pauses}
 use Rattle.cqf_program_plans.specs.TcChecks.{checks_text}
@@ -81,19 +81,27 @@ abbrev pub link_text : Domain → List ℕ
 link_text d =
     codes "# the transmission gates of the interface $1\nlink() {\n" ++ (list_command d ++ (codes "\n" ++ (undo_list ++ codes "\n}\n\n")))
 
+-- the greatest index of a gate of an earlier plan: as many as streams may be held where limits are set as in the profile, or more
+abbrev pub last_gate : Domain → List ℕ
+last_gate d = if nat_le (streams_within d.limits) 1024 then codes "1024" else codes "16384"
+
 -- the gates of an earlier plan at an interface
-abbrev pub old_gates_text : List ℕ
-old_gates_text =
+abbrev pub old_gates_text : List ℕ → List ℕ
+old_gates_text last =
     codes "# the stream gates of an earlier plan at the interface $1, a line each, in words of tc: the filters whose only action is a gate,\n"
-    ++ (codes "# and whose pref is the gate's index, 1 to 1024\nold_gates() {\n"
+    ++ (codes "# and whose pref is the gate's index, 1 to "
+    ++ (last
+    ++ (codes "\nold_gates() {\n"
     ++ (codes "    $tc filter show dev \"$1\" ingress chain \"$chain\" 2>/dev/null | awk '\n        function tell() {\n"
-    ++ (codes "            if (actions == 1 && kind == \"gate\" && pref == number && pref >= 1 && pref <= 1024 && handle != \"\")\n"
+    ++ (codes "            if (actions == 1 && kind == \"gate\" && pref == number && pref >= 1 && pref <= "
+    ++ (last
+    ++ (codes " && handle != \"\")\n"
     ++ (codes "                print \"pref\", pref, \"protocol\", protocol, \"handle\", handle, filter\n        }\n        $1 == \"filter\" {\n"
     ++ (codes "            tell()\n            actions = 0; kind = \"\"; number = 0; pref = 0; handle = \"\"\n            for (i = 2; i < NF; i++) {\n"
     ++ (codes "                if ($i == \"protocol\") protocol = $(i + 1)\n                if ($i == \"pref\") { pref = $(i + 1); filter = $(i + 2) }\n"
     ++ (codes "                if ($i == \"handle\") handle = $(i + 1)\n            }\n        }\n"
     ++ (codes "        $1 == \"action\" && $2 == \"order\" { actions++; kind = $4 }\n        $1 == \"index\" { number = $2 }\n        END { tell() }'\n}\n"
-    ++ codes "\n"))))))))
+    ++ codes "\n"))))))))))))
 
 -- takes the gates of an earlier plan off an interface
 abbrev pub no_gates_text : List ℕ
@@ -155,7 +163,7 @@ choice_text d =
 
 -- the functions that bridges call
 abbrev pub functions_text : Domain → List Row → List ℕ
-functions_text d rows = checks_text ++ (link_text d ++ (old_gates_text ++ (no_gates_text ++ (tc_gate_text d ++ list_gates_text rows))))
+functions_text d rows = checks_text ++ (link_text d ++ (old_gates_text (last_gate d) ++ (no_gates_text ++ (tc_gate_text d ++ list_gates_text rows))))
 
 -- the script of a domain and the rows of its streams
 abbrev pub tc_text : Domain → List Row → List ℕ

@@ -19,7 +19,7 @@ use cqf_admission_trees::count_places;
 use cqf_compile::compile;
 use cqf_gates::{compiled_list, write_tx};
 use cqf_laws_history::state_follows_history;
-use cqf_model::Row;
+use cqf_model::{Limits, Row};
 use cqf_program_press::Sheet;
 use cqf_program_scenario::{domain_part, streams_part, two_parts};
 use cqf_program_stop::{REFUSED, Stop};
@@ -30,17 +30,21 @@ use std::alloc::Global;
 /// The administrator that the streams of `compile` are admitted by.
 const SEAT: u16 = 0;
 
-/// The domain and the streams of the input.
+/// The domain and the streams of the input, which is read within some limits.
 ///
 /// # Errors
 /// With status 1 and the line of the first fault of the input: of its parts, of the domain, or of the streams; and with status 3
 /// for want of memory.
-pub fn read_plan(alloc: Global, input: &[u8]) -> Result<(Domain, Vec<PacedRequest>), Stop>
-    ensures ok { IfOk result (λ found. compile_input input.now ≡ Ok (found.0, map asked_paced found.1.items)) }
-    ensures err { IfErr result (IsRefused (compile_input input.now)) }
+pub fn read_plan(
+    alloc: Global,
+    limits: Limits,
+    input: &[u8],
+) -> Result<(Domain, Vec<PacedRequest>), Stop>
+    ensures ok { IfOk result (λ found. compile_input limits input.now ≡ Ok (found.0, map asked_paced found.1.items)) }
+    ensures err { IfErr result (IsRefused (compile_input limits input.now)) }
 {
     let (domain_text, streams_text) = two_parts(alloc, input)?;
-    let domain = domain_part(alloc, domain_text)?;
+    let domain = domain_part(alloc, limits, domain_text)?;
     let requests = streams_part(alloc, streams_text)?;
     Ok((domain, requests))
 }
@@ -246,15 +250,15 @@ fn config_of(
     }
 }
 
-/// The output of `compile`, ready to be told: the configuration of the domain and its streams.
+/// The output of `compile` for an input that is read within some limits, ready to be told: the configuration of the domain and its streams.
 ///
 /// # Errors
 /// With status 1 and the line of the first fault of the input: of its parts, of the domain, of the streams, or of the first
 /// stream that isn't admitted; and with status 3 for want of memory.
-pub fn compile_output(alloc: Global, input: &[u8]) -> Result<ConfigOutput, Stop>
-    ensures ok { IfOk result (λ output. compiled_input input.now ≡ Ok (text_of_config output)) }
-    ensures err { IfErr result (IsRefused (compiled_input input.now)) }
+pub fn compile_output(alloc: Global, limits: Limits, input: &[u8]) -> Result<ConfigOutput, Stop>
+    ensures ok { IfOk result (λ output. compiled_input limits input.now ≡ Ok (text_of_config output)) }
+    ensures err { IfErr result (IsRefused (compiled_input limits input.now)) }
 {
-    let (domain, requests) = read_plan(alloc, input)?;
+    let (domain, requests) = read_plan(alloc, limits, input)?;
     config_of(alloc, &domain, requests.as_slice())
 }

@@ -14,7 +14,7 @@ use crate::latency_listeners::latencies_of_rows;
 use crate::latency_outputs::LatencyOutput;
 use crate::latency_reading::{parted, read_planned};
 use crate::rows_of_cycle_0;
-use cqf_model::Row;
+use cqf_model::{Limits, Row};
 use cqf_program_press::Sheet;
 use cqf_program_stop::{REFUSED, Stop};
 use cqf_topology::{Domain, PacedRequest, Planned};
@@ -153,17 +153,22 @@ fn output_of_streams(
     }
 }
 
-/// The output of `latency`, ready to be told: how long the frames of each stream of the input take to each of its listeners,
-/// and whether they keep the stream's deadline (profile).
+/// The output of `latency` for an input that is read within some limits, ready to be told: how long the frames of each stream of the
+/// input take to each of its listeners, and whether they keep the stream's deadline (profile).
 ///
 /// # Errors
 /// With status 1 and the line of the first fault of the input: of its parts, of the domain, of the streams, or of the first
 /// stream that isn't admitted; or else, where `strict` is, of the first latency whose frames aren't within its deadline for
 /// sure; and with status 3 for want of memory.
-pub fn latency_output(alloc: Global, strict: bool, input: &[u8]) -> Result<LatencyOutput, Stop>
-    ensures ok { IfOk result (λ output. latency_of_input strict input.now ≡ Ok (text_of_latency output)) }
-    ensures err { IfErr result (IsRefused (latency_of_input strict input.now)) }
+pub fn latency_output(
+    alloc: Global,
+    limits: Limits,
+    strict: bool,
+    input: &[u8],
+) -> Result<LatencyOutput, Stop>
+    ensures ok { IfOk result (λ output. latency_of_input limits strict input.now ≡ Ok (text_of_latency output)) }
+    ensures err { IfErr result (IsRefused (latency_of_input limits strict input.now)) }
 {
-    let (domain, streams) = read_planned(alloc, input)?;
+    let (domain, streams) = read_planned(alloc, limits, input)?;
     output_of_streams(alloc, strict, domain, streams)
 }

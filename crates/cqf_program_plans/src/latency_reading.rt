@@ -5,19 +5,24 @@ ghost use Rattle.cqf_program_plans.specs.LatencyInput.{asked_in, deadlines_in, l
 ghost use Rattle.cqf_program_stop.specs.Stops.{IsRefused};
 ghost use Rattle.cqf_topology.specs.PlannedText.{planned_text};
 
+use cqf_model::Limits;
 use cqf_program_scenario::{domain_part, planned_part, two_parts};
 use cqf_program_stop::Stop;
 use cqf_topology::{Domain, PacedRequest, Planned};
 use cqf_units::Memory;
 use std::alloc::Global;
 
-/// The domain and the streams of the input, with their deadlines.
-pub(crate) fn read_planned(alloc: Global, input: &[u8]) -> Result<(Domain, Vec<Planned>), Stop>
-    ensures ok { IfOk result (λ found. latency_input input.now ≡ Ok (found.0, map planned_text found.1.items)) }
-    ensures err { IfErr result (IsRefused (latency_input input.now)) }
+/// The domain and the streams of the input, read within some limits, with their deadlines.
+pub(crate) fn read_planned(
+    alloc: Global,
+    limits: Limits,
+    input: &[u8],
+) -> Result<(Domain, Vec<Planned>), Stop>
+    ensures ok { IfOk result (λ found. latency_input limits input.now ≡ Ok (found.0, map planned_text found.1.items)) }
+    ensures err { IfErr result (IsRefused (latency_input limits input.now)) }
 {
     let (domain_text, streams_text) = two_parts(alloc, input)?;
-    let domain = domain_part(alloc, domain_text)?;
+    let domain = domain_part(alloc, limits, domain_text)?;
     let streams = planned_part(alloc, streams_text)?;
     Ok((domain, streams))
 }

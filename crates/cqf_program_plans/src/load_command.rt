@@ -10,6 +10,7 @@ use crate::load_listing::Listing;
 use crate::load_outputs::LoadOutput;
 use crate::{read_plan, stream_stop};
 use cqf_admission_trees::count_places;
+use cqf_model::Limits;
 use cqf_program_press::Sheet;
 use cqf_program_stop::Stop;
 use cqf_topology::{Domain, PacedRequest};
@@ -55,18 +56,18 @@ fn list_all(alloc: Global, domain: &Domain, requests: &[PacedRequest]) -> Result
     Ok(listing)
 }
 
-/// The output of `load`, ready to be told: a line a link, with what it holds of the streams and has left. A stream that a link
-/// has no room for is told with the others (profile).
+/// The output of `load` for an input that is read within some limits, ready to be told: a line a link, with what it holds of the streams
+/// and has left. A stream that a link has no room for is told with the others (profile).
 ///
 /// # Errors
 /// With status 1 and the line of the first fault of the input: of its parts, of the domain, of the streams, or of the first
 /// stream that is refused for another reason than a link's budget, where those before it count as accepted; and with status 3
 /// for want of memory.
-pub fn load_output(alloc: Global, input: &[u8]) -> Result<LoadOutput, Stop>
-    ensures ok { IfOk result (λ output. loaded_input input.now ≡ Ok (text_of_load output)) }
-    ensures err { IfErr result (IsRefused (loaded_input input.now)) }
+pub fn load_output(alloc: Global, limits: Limits, input: &[u8]) -> Result<LoadOutput, Stop>
+    ensures ok { IfOk result (λ output. loaded_input limits input.now ≡ Ok (text_of_load output)) }
+    ensures err { IfErr result (IsRefused (loaded_input limits input.now)) }
 {
-    let (domain, requests) = read_plan(alloc, input)?;
+    let (domain, requests) = read_plan(alloc, limits, input)?;
     let listing = list_all(alloc, &domain, requests.as_slice())?;
     match Sheet::new(alloc) {
         Ok(sheet) => Ok(LoadOutput {

@@ -10,6 +10,7 @@ ghost use Rattle.cqf_program_plans.specs.TcBridge.{bridge_text, clearing_by, eac
 ghost use Rattle.cqf_program_plans.specs.TcBridge.{gate_call, gate_target, if_left, link_call, link_lines, link_need, list_call, needs_by, plain_call};
 ghost use Rattle.cqf_program_plans.specs.TcBridge.{out_need, stream_clearing, stream_gates, stream_lines, stream_needs};
 ghost use Rattle.cqf_program_plans.specs.TcBridge.{way_clearing, way_in, way_need, way_out, ways_out};
+ghost use Rattle.cqf_program_plans.specs.TcRows.{places_at};
 
 use crate::tc_lists::{pauses, put_list_words};
 use crate::tc_ways::way_of;
@@ -347,11 +348,19 @@ fn put_needs_of<W: Sink>(
 }
 
 /// Puts what the streams need that leave the bridge.
-fn put_needs<W: Sink>(press: &mut Press<'_, W>, domain: &Domain, bridge: u16, rows: &[Row])
+fn put_needs<W: Sink>(
+    press: &mut Press<'_, W>,
+    domain: &Domain,
+    bridge: u16,
+    rows: &[Row],
+    places: &[usize],
+)
+    requires { places.now ≡ places_at domain.now rows.now bridge }
     ensures { Puts W.contents press.old press.new (each_stream (stream_needs domain.now bridge) rows.now) }
 {
     let mut seen = [false; 65536];
-    for row in rows {
+    for place in places {
+        let row = &rows[*place];
         let way = way_of(domain, bridge, &mut seen, row);
         put_needs_of(press, domain, bridge, row, way);
     }
@@ -376,11 +385,19 @@ fn put_clearing_of<W: Sink>(press: &mut Press<'_, W>, row: &Row, way: Option<(Op
 }
 
 /// Puts the lines that clear the interfaces by which streams come.
-fn put_clearings<W: Sink>(press: &mut Press<'_, W>, domain: &Domain, bridge: u16, rows: &[Row])
+fn put_clearings<W: Sink>(
+    press: &mut Press<'_, W>,
+    domain: &Domain,
+    bridge: u16,
+    rows: &[Row],
+    places: &[usize],
+)
+    requires { places.now ≡ places_at domain.now rows.now bridge }
     ensures { Puts W.contents press.old press.new (each_stream (stream_clearing domain.now bridge) rows.now) }
 {
     let mut seen = [false; 65536];
-    for row in rows {
+    for place in places {
+        let row = &rows[*place];
         let way = way_of(domain, bridge, &mut seen, row);
         put_clearing_of(press, row, way);
     }
@@ -397,23 +414,33 @@ fn put_stream<W: Sink>(press: &mut Press<'_, W>, domain: &Domain, bridge: u16, r
 }
 
 /// Puts the lines of the streams that leave the bridge.
-fn put_streams<W: Sink>(press: &mut Press<'_, W>, domain: &Domain, bridge: u16, rows: &[Row])
-    requires { AreOfGoodPaces rows.now }
+fn put_streams<W: Sink>(
+    press: &mut Press<'_, W>,
+    domain: &Domain,
+    bridge: u16,
+    rows: &[Row],
+    places: &[usize],
+)
+    requires paced { AreOfGoodPaces rows.now }
+    requires at { places.now ≡ places_at domain.now rows.now bridge }
     ensures { Puts W.contents press.old press.new (flat_map (stream_gates domain.now bridge) rows.now) }
 {
-    for row in rows {
+    for place in places {
+        let row = &rows[*place];
         put_stream(press, domain, bridge, row);
     }
 }
 
-/// Puts the function of a bridge.
+/// Puts the function of a bridge, which the streams of the rows at some places leave. The time grows with these and with the links.
 pub(crate) fn put_bridge_function<W: Sink>(
     press: &mut Press<'_, W>,
     domain: &Domain,
     bridge: u16,
     rows: &[Row],
+    places: &[usize],
 )
-    requires { AreOfGoodPaces rows.now }
+    requires paced { AreOfGoodPaces rows.now }
+    requires at { places.now ≡ places_at domain.now rows.now bridge }
     ensures { Puts W.contents press.old press.new (bridge_text domain.now rows.now bridge) }
 {
     press.put(b"bridge_");
@@ -422,10 +449,10 @@ pub(crate) fn put_bridge_function<W: Sink>(
     put_bridge(press, domain, bridge);
     press.put(b"\n");
     put_out_needs(press, domain, bridge);
-    put_needs(press, domain, bridge, rows);
+    put_needs(press, domain, bridge, rows, places);
     press.put(b"    ready\n");
-    put_clearings(press, domain, bridge, rows);
+    put_clearings(press, domain, bridge, rows, places);
     put_links(press, domain, bridge);
-    put_streams(press, domain, bridge, rows);
+    put_streams(press, domain, bridge, rows, places);
     press.put(b"}\n");
 }

@@ -7,10 +7,11 @@ ghost use Rattle.cqf_program_stop.specs.Stops.{IsRefused};
 ghost use Rattle.cqf_program_plans.specs.TcOutput.{tc_of, tc_of_input, text_of_tc};
 
 use crate::tc_outputs::TcOutput;
+use crate::tc_rows::places_by_bridge;
 use crate::tc_words::{write_gate_words, write_tx_words};
 use crate::{read_plan, rows_of_cycle_0};
 use cqf_gates::compiled_list;
-use cqf_model::Row;
+use cqf_model::{Limits, Row};
 use cqf_program_press::Sheet;
 use cqf_program_stop::Stop;
 use cqf_topology::{Domain, PacedRequest};
@@ -25,10 +26,12 @@ fn script_ready(alloc: Global, domain: Domain, rows: Vec<Row>) -> Result<TcOutpu
     let port_list = compiled_list(domain.cycle_time(), domain.guard());
     let port_words = write_tx_words(alloc, &port_list)?;
     let gate_words = write_gate_words(alloc, domain.cycle_time().0 as u32)?;
+    let places = places_by_bridge(alloc, &domain, rows.as_slice())?;
     let sheet = Sheet::new(alloc)?;
     Ok(TcOutput {
         domain,
         rows,
+        places,
         port_words,
         gate_words,
         sheet,
@@ -48,16 +51,17 @@ fn script_of(alloc: Global, domain: Domain, requests: &[PacedRequest]) -> Result
     }
 }
 
-/// The output of `compile --format tc`, ready to be told: the script for the domain and its streams (profile).
+/// The output of `compile --format tc` for an input that is read within some limits, ready to be told: the script for the domain and its
+/// streams (profile).
 ///
 /// # Errors
 /// Those of `crate::compile_output`: with status 1 and the line of the first fault of the input, of its parts, of the
 /// domain, of the streams, or of the first stream that isn't admitted; and with status 3 for want of memory.
-pub fn tc_output(alloc: Global, input: &[u8]) -> Result<TcOutput, Stop>
-    ensures ok { IfOk result (λ output. tc_of_input input.now ≡ Ok (text_of_tc output)) }
-    ensures err { IfErr result (IsRefused (tc_of_input input.now)) }
-    ensures as_compile { IfErr result (IsRefused (compiled_input input.now)) }
+pub fn tc_output(alloc: Global, limits: Limits, input: &[u8]) -> Result<TcOutput, Stop>
+    ensures ok { IfOk result (λ output. tc_of_input limits input.now ≡ Ok (text_of_tc output)) }
+    ensures err { IfErr result (IsRefused (tc_of_input limits input.now)) }
+    ensures as_compile { IfErr result (IsRefused (compiled_input limits input.now)) }
 {
-    let (domain, requests) = read_plan(alloc, input)?;
+    let (domain, requests) = read_plan(alloc, limits, input)?;
     script_of(alloc, domain, requests.as_slice())
 }

@@ -4,7 +4,7 @@ ghost use Rattle.cqf_lists.specs.Lists.{each_below};
 ghost use Rattle.cqf_model.specs.GateList.{port_list};
 ghost use Rattle.cqf_program_press.specs.Press.{Puts};
 ghost use Rattle.cqf_program_plans.specs.TcText.{choice_line, choice_text, gate_command, given_text, link_text, list_command};
-ghost use Rattle.cqf_program_plans.specs.TcText.{multiple, name_text, names_text, no_gates_text, old_gates_text, opening_text};
+ghost use Rattle.cqf_program_plans.specs.TcText.{last_gate, multiple, name_text, names_text, no_gates_text, old_gates_text, opening_text};
 ghost use Rattle.cqf_program_plans.specs.TcText.{tc_gate_text, usage_text};
 ghost use Rattle.cqf_program_plans.specs.TcWords.{gate_words, tx_words};
 
@@ -142,20 +142,36 @@ pub(crate) fn put_link_function<W: Sink>(
     press.put(b"\n}\n\n");
 }
 
-/// Puts the function that finds the gates of an earlier plan.
-pub(crate) fn put_old_gates_function<W: Sink>(press: &mut Press<'_, W>)
-    ensures { Puts W.contents press.old press.new old_gates_text }
+/// The greatest index of a gate of an earlier plan, as a text.
+fn last_gate(domain: &Domain) -> &'static [u8]
+    ensures { result.now ≡ last_gate domain.now }
 {
+    if domain.limits().streams_within() <= 1024 {
+        b"1024".as_slice()
+    } else {
+        b"16384".as_slice()
+    }
+}
+
+/// Puts the function that finds the gates of an earlier plan.
+pub(crate) fn put_old_gates_function<W: Sink>(press: &mut Press<'_, W>, domain: &Domain)
+    ensures { Puts W.contents press.old press.new (old_gates_text (last_gate domain.now)) }
+{
+    let last = last_gate(domain);
     press.put(
         b"# the stream gates of an earlier plan at the interface $1, a line each, in words of tc: the filters whose only action is a gate,\n",
     );
-    press.put(b"# and whose pref is the gate's index, 1 to 1024\nold_gates() {\n");
+    press.put(b"# and whose pref is the gate's index, 1 to ");
+    press.put(last);
+    press.put(b"\nold_gates() {\n");
     press.put(
         b"    $tc filter show dev \"$1\" ingress chain \"$chain\" 2>/dev/null | awk '\n        function tell() {\n",
     );
     press.put(
-        b"            if (actions == 1 && kind == \"gate\" && pref == number && pref >= 1 && pref <= 1024 && handle != \"\")\n",
+        b"            if (actions == 1 && kind == \"gate\" && pref == number && pref >= 1 && pref <= ",
     );
+    press.put(last);
+    press.put(b" && handle != \"\")\n");
     press.put(
         b"                print \"pref\", pref, \"protocol\", protocol, \"handle\", handle, filter\n        }\n        $1 == \"filter\" {\n",
     );

@@ -1,6 +1,6 @@
 //! The lists of a script are those that are compiled, and are set where they are due.
 ghost use Rattle.cqf_program_plans.specs.TcCalls.{ScriptsCallWhatIsDue};
-ghost use Rattle.cqf_program_plans.specs.TcLaws.{ScriptsHoldTheLists};
+ghost use Rattle.cqf_program_plans.specs.TcLaws.{ListsBeginAnew, ScriptsHoldTheLists};
 
 /// The words of a script's lists, read back, are the compiled ones: those of a port the list of each port of the domain, those of
 /// a stream's gate, with the octets of a reservation as their parameter, the list of the gate of a stream that is offered in each
@@ -17,4 +17,10 @@ pub fn scripts_hold_the_lists()
 /// `gate` those of the list of a stream's gate, and `gate_by_list` takes them from the call (profile).
 pub fn scripts_call_what_is_due()
     ensures { ScriptsCallWhatIsDue }
+{}
+
+/// The lists of a script, which begin at a multiple of so many cycles, all begin anew there: after as many cycles as its BASE has to be a multiple
+/// of, each stream's gate has gone through its list some times in whole, and so has each port (profile).
+pub fn lists_begin_anew()
+    ensures { ListsBeginAnew }
 {}

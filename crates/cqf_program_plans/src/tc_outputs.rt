@@ -5,12 +5,13 @@ use cqf_program_press::Sheet;
 use cqf_topology::Domain;
 use std::marker::Model;
 
-/// What the output of `compile --format tc` is told from: a domain, the rows of its streams by number, the words of the list that each port has and of the
-/// list that each stream's gate has, and a sheet.
+/// What the output of `compile --format tc` is told from: a domain, the rows of its streams by number, for each bridge the places of the rows
+/// whose streams leave it, the words of the list that each port has and of the list that each stream's gate has, and a sheet.
 #[derive(Drop)]
 pub struct TcOutput {
     pub(crate) domain: Domain,
     pub(crate) rows: Vec<Row>,
+    pub(crate) places: Vec<Vec<usize>>,
     pub(crate) port_words: Vec<u8>,
     pub(crate) gate_words: Vec<u8>,
     pub(crate) sheet: Sheet,
@@ -19,10 +20,11 @@ pub struct TcOutput {
 impl Model for TcOutput {
     ghost use Rattle.cqf_program_plans.specs.ConfigTold.{ConfiguredPlan};
     ghost use Rattle.cqf_program_plans.specs.TcOutput.{IsReadyScript};
+    ghost use Rattle.cqf_program_plans.specs.TcRows.{places_in};
 
     ghost Value = { ConfiguredPlan };
 
     ghost view = { λ o. record { domain = o.domain; rows = o.rows.items } };
 
-    ghost invariant = { λ o. IsReadyScript o.domain o.rows.items o.port_words.items o.gate_words.items };
+    ghost invariant = { λ o. IsReadyScript o.domain o.rows.items (places_in o.places.items) o.port_words.items o.gate_words.items };
 }

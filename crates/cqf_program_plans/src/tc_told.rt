@@ -3,6 +3,7 @@ ghost use Rattle.cqf_admission_trees.specs.Turns.{AreOfGoodPaces};
 ghost use Rattle.cqf_program_press.specs.Edge.{HasTold, writing};
 ghost use Rattle.cqf_program_press.specs.Press.{Puts};
 ghost use Rattle.cqf_program_plans.specs.TcOutput.{AreWordsOf, IsReadyScript, text_of_tc};
+ghost use Rattle.cqf_program_plans.specs.TcRows.{AreByBridge, places_in};
 ghost use Rattle.cqf_program_plans.specs.TcText.{bridges_text, functions_text, tc_text};
 
 use crate::tc_bridges::put_bridge_function;
@@ -18,12 +19,19 @@ use cqf_program_press::{Press, Sink, Told};
 use cqf_topology::Domain;
 
 /// Puts a function a bridge.
-fn put_bridges<W: Sink>(press: &mut Press<'_, W>, domain: &Domain, rows: &[Row])
-    requires { AreOfGoodPaces rows.now }
+fn put_bridges<W: Sink>(
+    press: &mut Press<'_, W>,
+    domain: &Domain,
+    rows: &[Row],
+    places: &[Vec<usize>],
+)
+    requires paced { AreOfGoodPaces rows.now }
+    requires by_bridge { AreByBridge domain.now rows.now (places_in places.now) }
     ensures { Puts W.contents press.old press.new (bridges_text domain.now rows.now) }
 {
     for bridge in 0..domain.bridges() {
-        put_bridge_function(press, domain, bridge, rows);
+        let here = places[usize::from(bridge)].as_slice();
+        put_bridge_function(press, domain, bridge, rows, here);
     }
 }
 
@@ -40,28 +48,30 @@ fn put_functions<W: Sink>(
 {
     put_checks(press);
     put_link_function(press, domain, port_words);
-    put_old_gates_function(press);
+    put_old_gates_function(press, domain);
     put_no_gates_function(press);
     put_gate_function(press, domain, gate_words);
     put_list_gates(press, rows);
 }
 
-/// Puts the script of a domain and the rows of its streams, with the words of the lists of ports and of gates.
+/// Puts the script of a domain and the rows of its streams, of which it is known which leave a bridge, with the words of the lists of ports
+/// and of gates.
 fn put_script<W: Sink>(
     press: &mut Press<'_, W>,
     domain: &Domain,
     rows: &[Row],
+    places: &[Vec<usize>],
     port_words: &[u8],
     gate_words: &[u8],
 )
-    requires { IsReadyScript domain.now rows.now port_words.now gate_words.now }
+    requires { IsReadyScript domain.now rows.now (places_in places.now) port_words.now gate_words.now }
     ensures { Puts W.contents press.old press.new (tc_text domain.now rows.now) }
 {
     put_usage(press, domain, rows);
     put_opening(press, domain);
     put_given(press, domain, rows);
     put_functions(press, domain, rows, port_words, gate_words);
-    put_bridges(press, domain, rows);
+    put_bridges(press, domain, rows, places);
     put_choice(press, domain);
 }
 
@@ -73,6 +83,7 @@ impl TcOutput {
         let TcOutput {
             domain,
             rows,
+            places,
             port_words,
             gate_words,
             sheet,
@@ -82,6 +93,7 @@ impl TcOutput {
             &mut press,
             &domain,
             rows.as_slice(),
+            places.as_slice(),
             port_words.as_slice(),
             gate_words.as_slice(),
         );

@@ -1,10 +1,11 @@
 -- What was read is the input's scenario, with its streams.
 use Rattle.std.proofs.Common.{◌≡◌, ◌∙◌, ℕ, List, Result, Ok, map, ap, sym}
 use Rattle.cqf_lists.specs.Results.{and_then}
+use Rattle.cqf_model.specs.declared.limits.Limits.{Limits}
 use Rattle.cqf_model.specs.Domain.{Domain}
 use Rattle.cqf_model.specs.History.{Asked}
 use Rattle.cqf_topology.specs.declared.paced.PacedRequest.{PacedRequest}
-use Rattle.cqf_topology.specs.DomainText.{domain_of_text}
+use Rattle.cqf_topology.specs.DomainText.{domain_within}
 use Rattle.cqf_topology.specs.PlannedText.{PlannedText, planned_of_text}
 use Rattle.cqf_admission.specs.Asking.{asked_paced}
 use Rattle.cqf_program_scenario.specs.Lines.{domain_line, streams_line}
@@ -15,14 +16,14 @@ use Rattle.cqf_program_stop.specs.declared.stops.Stop.{Stop}
 use Rattle.cqf_program_stop.specs.Stops.{IsRefused, or_line}
 use Rattle.cqf_program_runs.specs.PlannedScenario.{planned_scenario_of}
 
-module _ (cycles : ℕ) (texts : RunTexts) (d : Domain) (streams : List PlannedText) (domain : domain_of_text texts.domain ≡ Ok d)
-    (read : planned_of_text texts.streams ≡ Ok streams) where
+module _ (limits : Limits) (cycles : ℕ) (texts : RunTexts) (d : Domain) (streams : List PlannedText)
+    (domain : domain_within limits texts.domain ≡ Ok d) (read : planned_of_text texts.streams ≡ Ok streams) where
   -- with the streams beside it
   abbrev with_scenario : List PlannedText → Scenario → Result (Scenario × List PlannedText) (List ℕ)
   with_scenario found scenario = Ok (scenario, found)
 
   -- what stands behind the domain and the streams decides
-  planned_is : planned_scenario_of cycles texts ≡ and_then (scenario_behind cycles d (asked_in streams) texts) (with_scenario streams)
+  planned_is : planned_scenario_of limits cycles texts ≡ and_then (scenario_behind cycles d (asked_in streams) texts) (with_scenario streams)
   planned_is =
       let with_streams : Domain → List PlannedText → Result (Scenario × List PlannedText) (List ℕ) =
       λ d found. and_then (scenario_behind cycles d (asked_in found) texts) (with_scenario found) in
@@ -31,14 +32,14 @@ module _ (cycles : ℕ) (texts : RunTexts) (d : Domain) (streams : List PlannedT
 
   -- where that is read, all is
   pub planned-Ok : (requests : List PacedRequest) (s : Scenario) → map asked_paced requests ≡ asked_in streams →
-      scenario_behind cycles d (map asked_paced requests) texts ≡ Ok s → planned_scenario_of cycles texts ≡ Ok (s, streams)
+      scenario_behind cycles d (map asked_paced requests) texts ≡ Ok s → planned_scenario_of limits cycles texts ≡ Ok (s, streams)
   planned-Ok requests s asked is =
       planned_is
       ∙ ap (λ found. and_then found (with_scenario streams)) (ap (λ (found : List Asked). scenario_behind cycles d found texts) (sym asked) ∙ is)
 
   -- and where that is refused, all is
   pub planned-refused : (requests : List PacedRequest) (stop : Stop) → map asked_paced requests ≡ asked_in streams →
-      IsRefused (scenario_behind cycles d (map asked_paced requests) texts) stop → IsRefused (planned_scenario_of cycles texts) stop
+      IsRefused (scenario_behind cycles d (map asked_paced requests) texts) stop → IsRefused (planned_scenario_of limits cycles texts) stop
   planned-refused requests stop asked refused = record {
     statuses = refused.statuses;
     line = λ one. planned_is

@@ -1,5 +1,6 @@
 -- What is told of an administration is the output of the scenario that it was made of.
 use Rattle.std.proofs.Common.{◌≡◌, ◌∙◌, ℕ, List, Ok, arith, refl, sym, subst}
+use Rattle.cqf_model.specs.declared.limits.Limits.{Limits}
 use Rattle.cqf_model.specs.declared.frames.Background.{Background}
 use Rattle.cqf_model.specs.declared.frames.Offer.{Offer}
 use Rattle.cqf_model.specs.Domain.{Domain, IsAccepted}
@@ -17,10 +18,10 @@ use Rattle.cqf_program_runs.specs.ReportOutput.{IsReportOutput}
 use Rattle.cqf_program_runs.specs.ReportTelling.{TellsTheBook}
 
 -- what tells the book is the output
-pub IsReportOutput-told : (cycles : ℕ) (input text : List ℕ) (s : Scenario) (d : Domain) (entries : List Recorded) (offers : List Offer) →
-    scenario_input cycles input ≡ Ok s → d ≡ s.domain → entries ≡ history_of cycles s → offers ≡ s.offers →
-    TellsTheBook d entries offers s.background cycles text → IsReportOutput cycles input text
-IsReportOutput-told cycles input text s d entries offers holds domain history same tells =
+pub IsReportOutput-told : (limits : Limits) (cycles : ℕ) (input text : List ℕ) (s : Scenario) (d : Domain) (entries : List Recorded) (offers : List Offer) →
+    scenario_input limits cycles input ≡ Ok s → d ≡ s.domain → entries ≡ history_of cycles s → offers ≡ s.offers →
+    TellsTheBook d entries offers s.background cycles text → IsReportOutput limits cycles input text
+IsReportOutput-told limits cycles input text s d entries offers holds domain history same tells =
     let told : TellsTheBook s.domain (history_of cycles s) s.offers s.background cycles text =
     subst (λ (os : List Offer). TellsTheBook s.domain (history_of cycles s) os s.background cycles text) same
     (subst (λ (es : List Recorded). TellsTheBook s.domain es offers s.background cycles text) history

@@ -2,6 +2,7 @@
 use Rattle.std.proofs.Common.{◌≡◌, ◌∙◌, ℕ, List, Option, Some, None, Result, Err, ap, find, length, map, option_map, refl, subst, sym, count_by, nat_le}
 use Rattle.cqf_lists.specs.Results.{refuse}
 use Rattle.cqf_lists.proofs.EachBelow.{length-singles}
+use Rattle.cqf_model.specs.declared.limits.Limits.{Limits}
 use Rattle.cqf_model.specs.declared.frames.Offered.{Offered}
 use Rattle.cqf_model.specs.Book.{Contents}
 use Rattle.cqf_model.specs.History.{Recorded, table_at}
@@ -34,9 +35,9 @@ use Rattle.cqf_program_runs.specs.RefusedInLog.{refused_from}
 use Rattle.cqf_program_runs.proofs.RefusedInLogs.{first_refused-log}
 
 -- the text of the deliveries is the output
-pub IsDeliveriesOutput-made : (cycles : ℕ) (input : List ℕ) (planned : PlannedGiven) (deliveries : List Delivery) → IsPlannedGiven cycles input planned →
-    AreDeliveriesOf cycles planned deliveries → IsDeliveriesOutput cycles input (text_of_deliveries deliveries)
-IsDeliveriesOutput-made cycles input planned deliveries given are =
+pub IsDeliveriesOutput-made : (limits : Limits) (cycles : ℕ) (input : List ℕ) (planned : PlannedGiven) (deliveries : List Delivery) → IsPlannedGiven limits cycles input planned →
+    AreDeliveriesOf cycles planned deliveries → IsDeliveriesOutput limits cycles input (text_of_deliveries deliveries)
+IsDeliveriesOutput-made limits cycles input planned deliveries given are =
     let made = are given.streams given.planned in
     record {
       found = (scenario_given planned.given, given.streams);
@@ -67,22 +68,22 @@ IsCheckedScenario-made cycles s streams deliveries frames later found granted ma
         (sym (length-singles (table_at s.domain (history_of cycles s)) cycles))
 
 -- and of the input
-pub IsChecked-given : (cycles : ℕ) (input : List ℕ) (planned : PlannedGiven) (found : Result (List ℕ) (List ℕ)) → IsPlannedGiven cycles input planned →
-    IsCheckedGiven cycles planned found → IsChecked cycles input found
-IsChecked-given cycles input planned found given told =
+pub IsChecked-given : (limits : Limits) (cycles : ℕ) (input : List ℕ) (planned : PlannedGiven) (found : Result (List ℕ) (List ℕ)) → IsPlannedGiven limits cycles input planned →
+    IsCheckedGiven cycles planned found → IsChecked limits cycles input found
+IsChecked-given limits cycles input planned found given told =
     subst (λ read. IsCheckedOf cycles read found) (sym given.holds) (told given.streams given.planned)
 
-pub IsCheckRefusal-given : (cycles : ℕ) (input : List ℕ) (planned : PlannedGiven) (stop : Stop) → IsPlannedGiven cycles input planned →
-    IsRefusedGiven cycles planned stop → IsCheckRefusal cycles input stop
-IsCheckRefusal-given cycles input planned stop given refused = record {
+pub IsCheckRefusal-given : (limits : Limits) (cycles : ℕ) (input : List ℕ) (planned : PlannedGiven) (stop : Stop) → IsPlannedGiven limits cycles input planned →
+    IsRefusedGiven cycles planned stop → IsCheckRefusal limits cycles input stop
+IsCheckRefusal-given limits cycles input planned stop given refused = record {
   statuses = refused.statuses;
-  line = λ one. IsChecked-given cycles input planned (Err stop.text.items) given (refused.line one);
+  line = λ one. IsChecked-given limits cycles input planned (Err stop.text.items) given (refused.line one);
   memory = refused.memory;
 }
 
 -- of an input that is refused it is the line of its first fault
-pub IsCheckRefusal-read : (cycles : ℕ) (input : List ℕ) (stop : Stop) → IsRefused (planned_scenario cycles input) stop → IsCheckRefusal cycles input stop
-IsCheckRefusal-read cycles input stop refused = record {
+pub IsCheckRefusal-read : (limits : Limits) (cycles : ℕ) (input : List ℕ) (stop : Stop) → IsRefused (planned_scenario limits cycles input) stop → IsCheckRefusal limits cycles input stop
+IsCheckRefusal-read limits cycles input stop refused = record {
   statuses = refused.statuses;
   line = λ one. subst (λ read. IsCheckedOf cycles read (Err stop.text.items)) (sym (refused.line one)) refl;
   memory = refused.memory;

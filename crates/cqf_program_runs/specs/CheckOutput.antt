@@ -1,4 +1,5 @@
 -- What the command `check` tells of its input (profile).
+use Rattle.cqf_model.specs.declared.limits.Limits.{Limits}
 use Rattle.std.specs.Prelude.{ℕ, ◌≡◌, ◌⊎◌, List, [], Result, Ok, Err}
 use Rattle.cqf_model.specs.Book.{Contents}
 use Rattle.cqf_topology.specs.PlannedText.{PlannedText}
@@ -21,11 +22,11 @@ IsCheckedOf cycles (Ok read) found = IsCheckedScenario cycles read.0 read.1 foun
 IsCheckedOf cycles (Err line) found = Err line ≡ found
 
 -- what is told of an input: where all is well, the line that says so; else the line that ends the run
-abbrev pub IsChecked : ℕ → List ℕ → Result (List ℕ) (List ℕ) → Type 0
-IsChecked cycles input found = IsCheckedOf cycles (planned_scenario cycles input) found
+abbrev pub IsChecked : Limits → ℕ → List ℕ → Result (List ℕ) (List ℕ) → Type 0
+IsChecked limits cycles input found = IsCheckedOf cycles (planned_scenario limits cycles input) found
 
 -- not all is well, and the run ends with status 1 and the line that tells why, or lacks memory
-pub record IsCheckRefusal (cycles : ℕ) (input : List ℕ) (stop : Stop) : Type 0 where
+pub record IsCheckRefusal (limits : Limits) (cycles : ℕ) (input : List ℕ) (stop : Stop) : Type 0 where
   pub statuses : (stop.status ≡ 1) ⊎ (stop.status ≡ 3)
-  pub line : stop.status ≡ 1 → IsChecked cycles input (Err stop.text.items)
+  pub line : stop.status ≡ 1 → IsChecked limits cycles input (Err stop.text.items)
   pub memory : stop.status ≡ 3 → stop.text.items ≡ []

@@ -1,4 +1,5 @@
 -- A scenario that was read with its streams, and the deliveries that were made of it.
+use Rattle.cqf_model.specs.declared.limits.Limits.{Limits}
 use Rattle.std.specs.Prelude.{ℕ, ◌≡◌, List, Option, Ok, map}
 use Rattle.cqf_admission.specs.Asking.{asked_paced}
 use Rattle.cqf_model.specs.Book.{Contents}
@@ -27,17 +28,17 @@ pub record ArePlannedIn (text : List ℕ) (requests : List PacedRequest) (deadli
   pub planned : ArePlannedBeside streams requests deadlines
 
 -- what a run is given is what some parts have, and may be run; what its orders name stands there
-pub record IsPlannedIn (cycles : ℕ) (texts : RunTexts) (made : PlannedGiven) : Type 0 where
+pub record IsPlannedIn (limits : Limits) (cycles : ℕ) (texts : RunTexts) (made : PlannedGiven) : Type 0 where
   pub streams : List PlannedText
-  pub holds : planned_scenario_of cycles texts ≡ Ok (scenario_given made.given, streams)
+  pub holds : planned_scenario_of limits cycles texts ≡ Ok (scenario_given made.given, streams)
   pub planned : ArePlannedBeside streams made.given.requests.items made.deadlines.items
   pub may : MayBeRun cycles (scenario_given made.given)
   pub stand : HasOrders made.given
 
 -- it is what the input has
-pub record IsPlannedGiven (cycles : ℕ) (input : List ℕ) (made : PlannedGiven) : Type 0 where
+pub record IsPlannedGiven (limits : Limits) (cycles : ℕ) (input : List ℕ) (made : PlannedGiven) : Type 0 where
   pub streams : List PlannedText
-  pub holds : planned_scenario cycles input ≡ Ok (scenario_given made.given, streams)
+  pub holds : planned_scenario limits cycles input ≡ Ok (scenario_given made.given, streams)
   pub planned : ArePlannedBeside streams made.given.requests.items made.deadlines.items
   pub may : MayBeRun cycles (scenario_given made.given)
   pub stand : HasOrders made.given

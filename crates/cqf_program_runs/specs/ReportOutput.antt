@@ -1,4 +1,5 @@
 -- What the command `report` gives for its input (profile): what each link carries.
+use Rattle.cqf_model.specs.declared.limits.Limits.{Limits}
 use Rattle.std.specs.Prelude.{ℕ, ◌≡◌, List, Ok}
 use Rattle.cqf_model.specs.Book.{Contents}
 use Rattle.cqf_report.specs.LinkSums.{links_text}
@@ -6,9 +7,9 @@ use Rattle.cqf_program_scenario.specs.Books.{IsBookOfScenario}
 use Rattle.cqf_program_scenario.specs.Scenario.{Scenario, scenario_input}
 
 -- the output is the text of the sums by link of the one-thread book of the input's scenario
-pub record IsReportOutput (cycles : ℕ) (input output : List ℕ) : Type 0 where
+pub record IsReportOutput (limits : Limits) (cycles : ℕ) (input output : List ℕ) : Type 0 where
   pub scenario : Scenario
-  pub holds : scenario_input cycles input ≡ Ok scenario
+  pub holds : scenario_input limits cycles input ≡ Ok scenario
   pub book : Contents
   pub is_book : IsBookOfScenario cycles scenario book
   pub written : output ≡ links_text scenario.domain book

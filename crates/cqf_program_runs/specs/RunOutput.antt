@@ -1,4 +1,5 @@
 -- What the command `run` gives for its input (profile): the history of a scenario, and its book.
+use Rattle.cqf_model.specs.declared.limits.Limits.{Limits}
 use Rattle.std.specs.Prelude.{ℕ, ◌≡◌, ◌++◌, List, Ok, codes}
 use Rattle.cqf_model.specs.Book.{Contents}
 use Rattle.cqf_model.specs.Domain.{Domain}
@@ -15,9 +16,9 @@ abbrev pub run_text : Domain → List Recorded → Contents → List ℕ
 run_text d entries book = history_text entries ++ (line_of (codes "%%") ++ text_of_book d book)
 
 -- the output is the text of the history of the input's scenario, and of the one-thread book of that history
-pub record IsRunOutput (cycles : ℕ) (input output : List ℕ) : Type 0 where
+pub record IsRunOutput (limits : Limits) (cycles : ℕ) (input output : List ℕ) : Type 0 where
   pub scenario : Scenario
-  pub holds : scenario_input cycles input ≡ Ok scenario
+  pub holds : scenario_input limits cycles input ≡ Ok scenario
   pub book : Contents
   pub is_book : IsBookOfScenario cycles scenario book
   pub written : output ≡ run_text scenario.domain (history_of cycles scenario) book

@@ -31,6 +31,7 @@ use crate::refused_calls::{first_refused, refused_line};
 use crate::under_way::UnderWay;
 use crate::{Counts, Delivery, complaint_about, first_bad, unfinished_line, well_line};
 use cqf_admission::Logged;
+use cqf_model::Limits;
 use cqf_program_press::Sheet;
 use cqf_program_scenario::{Given, Ran, run_given};
 use cqf_program_stop::{REFUSED, Stop};
@@ -57,18 +58,23 @@ fn output_of(alloc: Global, cycles: u32, planned: PlannedGiven) -> Result<Delive
     })
 }
 
-/// The output of `deliveries` over so many cycles, 0 to 100,000, ready to be told: what becomes of each offer of these cycles, and
-/// when it is whole at each listener (profile).
+/// The output of `deliveries` over so many cycles, 0 to 100,000, for an input that is read within some limits, ready to be told: what
+/// becomes of each offer of these cycles, and when it is whole at each listener (profile).
 ///
 /// # Errors
 /// With status 1 and the line of the first fault of the input: of its parts, of the domain, the streams, the script, the
 /// offers, or the background frames; and with status 3 for want of memory.
-pub fn deliveries_output(alloc: Global, cycles: u32, input: &[u8]) -> Result<DeliveriesOutput, Stop>
+pub fn deliveries_output(
+    alloc: Global,
+    limits: Limits,
+    cycles: u32,
+    input: &[u8],
+) -> Result<DeliveriesOutput, Stop>
     requires { cycles ≤ most_cycles }
-    ensures ok { IfOk result (λ output. (text : List ℕ) × AreDeliveriesTold output text × IsDeliveriesOutput cycles input.now text) }
-    ensures err { IfErr result (IsRefused (planned_scenario cycles input.now)) }
+    ensures ok { IfOk result (λ output. (text : List ℕ) × AreDeliveriesTold output text × IsDeliveriesOutput limits cycles input.now text) }
+    ensures err { IfErr result (IsRefused (planned_scenario limits cycles input.now)) }
 {
-    let planned = read_planned_given(alloc, cycles, input)?;
+    let planned = read_planned_given(alloc, limits, cycles, input)?;
     match output_of(alloc, cycles, planned) {
         Ok(output) => Ok(output),
         Err(_) => Err(Stop::memory(alloc)),
@@ -112,8 +118,8 @@ fn finish(alloc: Global, counts: Counts) -> Result<Vec<u8>, Stop>
     }
 }
 
-/// What is told of the deliveries of a run that is over, whose frames are followed from the first offer on, and of whose offers so many are of
-/// cycles that aren't run. What was there is room for the deliveries of one offer.
+/// What is told of the deliveries of a run that is over, whose frames are followed from the first offer on, and of whose offers so many
+/// are of cycles that aren't run. What was there is room for the deliveries of one offer.
 fn check_each(
     alloc: Global,
     here: Few,
@@ -223,18 +229,24 @@ fn check_scenario(alloc: Global, cycles: u32, planned: &PlannedGiven) -> Result<
     }
 }
 
-/// The line of `check` over so many cycles, 0 to 100,000, where all goes well: no call of the script is refused, and every offer is of a
-/// cycle that is run, covered, whole at every listener within the run, and within its deadline (profile).
+/// The line of `check` over so many cycles, 0 to 100,000, for an input that is read within some limits, where all goes well: no call of
+/// the script is refused, and every offer is of a cycle that is run, covered, whole at every listener within the run, and within its
+/// deadline (profile).
 ///
 /// # Errors
 /// With status 1 and a line: of the first fault of the input, as [`deliveries_output`]; else of the first call that is refused; else
 /// of the first delivery that is dropped or late; else, of how many deliveries are under way and how many offers are of cycles that
 /// aren't run. And with status 3 for want of memory.
-pub fn check_output(alloc: Global, cycles: u32, input: &[u8]) -> Result<Vec<u8>, Stop>
+pub fn check_output(
+    alloc: Global,
+    limits: Limits,
+    cycles: u32,
+    input: &[u8],
+) -> Result<Vec<u8>, Stop>
     requires { cycles ≤ most_cycles }
-    ensures ok { IfOk result (λ line. IsChecked cycles input.now (Ok line.items)) }
-    ensures err { IfErr result (IsCheckRefusal cycles input.now) }
+    ensures ok { IfOk result (λ line. IsChecked limits cycles input.now (Ok line.items)) }
+    ensures err { IfErr result (IsCheckRefusal limits cycles input.now) }
 {
-    let planned = read_planned_given(alloc, cycles, input)?;
+    let planned = read_planned_given(alloc, limits, cycles, input)?;
     check_scenario(alloc, cycles, &planned)
 }

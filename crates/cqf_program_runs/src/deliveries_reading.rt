@@ -7,6 +7,7 @@ ghost use Rattle.cqf_topology.specs.PlannedText.{planned_of_text};
 ghost use Rattle.cqf_program_runs.specs.PlannedScenario.{planned_scenario, planned_scenario_of};
 ghost use Rattle.cqf_program_runs.specs.DeliveriesReading.{ArePlannedIn, IsPlannedGiven, IsPlannedIn};
 
+use cqf_model::Limits;
 use cqf_program_plans::parted;
 use cqf_program_scenario::{Given, RunParts, domain_part, planned_part, read_behind, run_parts};
 use cqf_program_stop::Stop;
@@ -36,26 +37,36 @@ fn read_paced_streams(
     }
 }
 
-/// The scenario of some parts, with its streams' deadlines.
-fn read_planned_parts(alloc: Global, cycles: u32, parts: RunParts<'_>) -> Result<PlannedGiven, Stop>
-    ensures ok { IfOk result (λ made. IsPlannedIn cycles (texts_of parts.entry) made) }
-    ensures err { IfErr result (IsRefused (planned_scenario_of cycles (texts_of parts.entry))) }
+/// The scenario of some parts that are read within some limits, with its streams' deadlines.
+fn read_planned_parts(
+    alloc: Global,
+    limits: Limits,
+    cycles: u32,
+    parts: RunParts<'_>,
+) -> Result<PlannedGiven, Stop>
+    ensures ok { IfOk result (λ made. IsPlannedIn limits cycles (texts_of parts.entry) made) }
+    ensures err { IfErr result (IsRefused (planned_scenario_of limits cycles (texts_of parts.entry))) }
 {
-    let domain = domain_part(alloc, parts.domain)?;
+    let domain = domain_part(alloc, limits, parts.domain)?;
     let (requests, deadlines) = read_paced_streams(alloc, parts.streams)?;
     let given = read_behind(alloc, cycles, domain, requests, parts)?;
     Ok(PlannedGiven { given, deadlines })
 }
 
-/// The scenario of the input over so many cycles, with its streams' deadlines (profile).
+/// The scenario of the input over so many cycles, read within some limits, with its streams' deadlines (profile).
 ///
 /// # Errors
 /// With status 1 and the line of the first fault of the input: of its parts, of the domain, the streams, the script, the
 /// offers, or the background frames; and with status 3 for want of memory.
-pub fn read_planned_given(alloc: Global, cycles: u32, input: &[u8]) -> Result<PlannedGiven, Stop>
-    ensures ok { IfOk result (λ made. IsPlannedGiven cycles input.now made) }
-    ensures err { IfErr result (IsRefused (planned_scenario cycles input.now)) }
+pub fn read_planned_given(
+    alloc: Global,
+    limits: Limits,
+    cycles: u32,
+    input: &[u8],
+) -> Result<PlannedGiven, Stop>
+    ensures ok { IfOk result (λ made. IsPlannedGiven limits cycles input.now made) }
+    ensures err { IfErr result (IsRefused (planned_scenario limits cycles input.now)) }
 {
     let parts = run_parts(alloc, input)?;
-    read_planned_parts(alloc, cycles, parts)
+    read_planned_parts(alloc, limits, cycles, parts)
 }

@@ -12,7 +12,7 @@ ghost use Rattle.cqf_model.specs.Limits.{most_cycles, most_rows};
 
 use crate::report_carried::carried_columns;
 use cqf_laws_report::{book_of_history_is_there, report_is_told};
-use cqf_model::Offer;
+use cqf_model::{Limits, Offer};
 use cqf_program_scenario::{Log, administer};
 use cqf_program_stop::Stop;
 use cqf_report::write_columns;
@@ -45,9 +45,9 @@ fn text_of_report(
     write_columns(rt, alloc, log.domain(), columns.as_slice())
 }
 
-/// The output of `report` over so many cycles, 0 to 100,000: the sums by link of the book of the input's scenario, which is
-/// the book that `run` writes (profile). The network isn't run: what its links carry is told by the offers and the history of
-/// admissions. The time grows with the input and the cycles, and with the links by which the offers leave.
+/// The output of `report` over so many cycles, 0 to 100,000, for an input that is read within some limits: the sums by link of the book
+/// of the input's scenario, which is the book that `run` writes (profile). The network isn't run: what its links carry is told by the
+/// offers and the history of admissions. The time grows with the input and the cycles, and with the links by which the offers leave.
 ///
 /// # Errors
 /// With status 1 and the line of the first fault of the input: of its parts, of the domain, the streams, the script, the
@@ -55,14 +55,15 @@ fn text_of_report(
 pub fn report_output(
     rt: &(impl Threads + Sync),
     alloc: Global,
+    limits: Limits,
     cycles: u32,
     input: &[u8],
 ) -> Result<Vec<u8>, Stop>
     requires { cycles ≤ most_cycles }
-    ensures ok { IfOk result (λ output. IsReportOutput cycles input.now output.items) }
-    ensures err { IfErr result (IsRefused (scenario_input cycles input.now)) }
+    ensures ok { IfOk result (λ output. IsReportOutput limits cycles input.now output.items) }
+    ensures err { IfErr result (IsRefused (scenario_input limits cycles input.now)) }
 {
-    let made = administer(alloc, cycles, input)?;
+    let made = administer(alloc, limits, cycles, input)?;
     match text_of_report(rt, alloc, cycles, &made.log, made.offers.as_slice()) {
         Ok(text) => Ok(text),
         Err(_) => Err(Stop::memory(alloc)),

@@ -11,6 +11,7 @@ ghost use Rattle.cqf_program_stop.specs.Stops.{IsRefused, line_of};
 ghost use Rattle.cqf_model.specs.Limits.{most_cycles};
 
 use crate::run_outputs::RunOutput;
+use cqf_model::Limits;
 use cqf_program_press::{Press, Sheet, Sink, Told};
 use cqf_program_scenario::{Log, Simulated, simulate};
 use cqf_program_stop::Stop;
@@ -48,17 +49,22 @@ impl RunOutput {
     }
 }
 
-/// The output of `run` over so many cycles, 0 to 100,000, ready to be told.
+/// The output of `run` over so many cycles, 0 to 100,000, for an input that is read within some limits, ready to be told.
 ///
 /// # Errors
 /// With status 1 and the line of the first fault of the input: of its parts, of the domain, the streams, the script, the
 /// offers, or the background frames; and with status 3 for want of memory.
-pub fn run_output(alloc: Global, cycles: u32, input: &[u8]) -> Result<RunOutput, Stop>
+pub fn run_output(
+    alloc: Global,
+    limits: Limits,
+    cycles: u32,
+    input: &[u8],
+) -> Result<RunOutput, Stop>
     requires { cycles ≤ most_cycles }
-    ensures ok { IfOk result (λ output. (text : List ℕ) × IsRunTold output text × IsRunOutput cycles input.now text) }
-    ensures err { IfErr result (IsRefused (scenario_input cycles input.now)) }
+    ensures ok { IfOk result (λ output. (text : List ℕ) × IsRunTold output text × IsRunOutput limits cycles input.now text) }
+    ensures err { IfErr result (IsRefused (scenario_input limits cycles input.now)) }
 {
-    let made = simulate(alloc, cycles, input)?;
+    let made = simulate(alloc, limits, cycles, input)?;
     match Sheet::new(alloc) {
         Ok(sheet) => Ok(RunOutput { made, sheet }),
         Err(_) => Err(Stop::memory(alloc)),

@@ -1,9 +1,10 @@
 -- What was read is what the input has.
 use Rattle.std.proofs.Common.{◌≡◌, ◌∙◌, ℕ, List, Result, Ok, map, ap}
 use Rattle.cqf_lists.specs.Results.{and_then}
+use Rattle.cqf_model.specs.declared.limits.Limits.{Limits}
 use Rattle.cqf_model.specs.Domain.{Domain}
 use Rattle.cqf_text.specs.Lines.{lines_of}
-use Rattle.cqf_topology.specs.DomainText.{domain_of_text}
+use Rattle.cqf_topology.specs.DomainText.{domain_within}
 use Rattle.cqf_topology.specs.declared.paced.PacedRequest.{PacedRequest}
 use Rattle.cqf_topology.specs.PacedText.{paced_text, paced_of_text}
 use Rattle.cqf_admission.specs.Asking.{asked_by, asked_paced}
@@ -22,10 +23,11 @@ calls_in-is cycles texts requests streams =
     ∙ ap (λ asked. or_line script_line (script_of asked cycles texts.script)) (asked_texts requests)
 
 -- and so is the scenario, by the domain and the streams that were read
-pub scenario_of-is : (cycles : ℕ) (texts : RunTexts) (d : Domain) (requests : List PacedRequest) → domain_of_text texts.domain ≡ Ok d →
+pub scenario_of-is : (limits : Limits) (cycles : ℕ) (texts : RunTexts) (d : Domain) (requests : List PacedRequest) →
+    domain_within limits texts.domain ≡ Ok d →
     paced_of_text texts.streams ≡ Ok (map paced_text requests) →
-    scenario_of cycles texts ≡ scenario_behind cycles d (map asked_paced requests) texts
-scenario_of-is cycles texts d requests domain streams =
+    scenario_of limits cycles texts ≡ scenario_behind cycles d (map asked_paced requests) texts
+scenario_of-is limits cycles texts d requests domain streams =
     let with_calls : Domain → List Called → Result Scenario (List ℕ) = λ d calls. and_then (frames_of_part d texts) (λ frames.
     Ok (record { domain = d; calls = calls; sealer = administrators (lines_of texts.script); offers = frames.0; background = frames.1 })) in
     ap (λ found. and_then (or_line domain_line found) (λ d. and_then (calls_in cycles texts) (with_calls d))) domain

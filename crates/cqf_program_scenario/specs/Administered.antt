@@ -1,4 +1,5 @@
 -- A scenario whose calls are administered, and whose network isn't run (profile).
+use Rattle.cqf_model.specs.declared.limits.Limits.{Limits}
 use Rattle.std.specs.Prelude.{ℕ, ◌≡◌, List, Ok}
 use Rattle.cqf_model.specs.History.{seals}
 use Rattle.cqf_program_scenario.specs.declared.administered.Administered.{Administered}
@@ -15,7 +16,7 @@ pub record IsAdministered (cycles : ℕ) (s : Scenario) (made : Administered) : 
   pub offers : made.offers.items ≡ s.offers
 
 -- that of the scenario of an input
-pub record IsAdministeredInput (cycles : ℕ) (input : List ℕ) (made : Administered) : Type 0 where
+pub record IsAdministeredInput (limits : Limits) (cycles : ℕ) (input : List ℕ) (made : Administered) : Type 0 where
   pub scenario : Scenario
-  pub holds : scenario_input cycles input ≡ Ok scenario
+  pub holds : scenario_input limits cycles input ≡ Ok scenario
   pub administered : IsAdministered cycles scenario made

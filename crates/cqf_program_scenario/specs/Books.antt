@@ -1,4 +1,5 @@
 -- What comes of a scenario (profile).
+use Rattle.cqf_model.specs.declared.limits.Limits.{Limits}
 use Rattle.std.specs.Prelude.{ℕ, ◌≡◌, List, Ok}
 use Rattle.cqf_model.specs.Book.{Contents}
 use Rattle.cqf_model.specs.Headline.{KeepsThePromise}
@@ -15,9 +16,9 @@ pub record IsBookOfScenario (cycles : ℕ) (s : Scenario) (book : Contents) : Ty
   pub promise : KeepsThePromise (run_of_history s.domain (history_of cycles s) s.offers s.background cycles) book
 
 -- an administration with the history of the input's scenario, and the book of that
-pub record IsSimulated (cycles : ℕ) (input : List ℕ) (a : Administration) (book : Contents) : Type 0 where
+pub record IsSimulated (limits : Limits) (cycles : ℕ) (input : List ℕ) (a : Administration) (book : Contents) : Type 0 where
   pub scenario : Scenario
-  pub holds : scenario_input cycles input ≡ Ok scenario
+  pub holds : scenario_input limits cycles input ≡ Ok scenario
   pub domain : a.domain ≡ scenario.domain
   pub entries : a.entries ≡ history_of cycles scenario
   pub is_book : IsBookOfScenario cycles scenario book

@@ -1,4 +1,5 @@
 -- A scenario whose cycles are closed while it runs: what its bridges and administrators begin with (profile).
+use Rattle.cqf_model.specs.declared.limits.Limits.{Limits}
 use Rattle.std.specs.Prelude.{ℕ, ◌≡◌, List, [], Ok}
 use Rattle.cqf_model.specs.History.{Recorded, seals}
 use Rattle.cqf_program_scenario.specs.declared.opening.Opened.{Opened}
@@ -24,7 +25,7 @@ pub record IsOpened (cycles : ℕ) (s : Scenario) (made : Opened) : Type 0 where
   pub background : made.background.items ≡ s.background
 
 -- that of the scenario of an input
-pub record IsOpenedInput (cycles : ℕ) (input : List ℕ) (made : Opened) : Type 0 where
+pub record IsOpenedInput (limits : Limits) (cycles : ℕ) (input : List ℕ) (made : Opened) : Type 0 where
   pub scenario : Scenario
-  pub holds : scenario_input cycles input ≡ Ok scenario
+  pub holds : scenario_input limits cycles input ≡ Ok scenario
   pub opened : IsOpened cycles scenario made

@@ -1,4 +1,5 @@
 -- What `run` and `report` are given (profile): a domain, what its administrators call for, and the frames that come.
+use Rattle.cqf_model.specs.declared.limits.Limits.{Limits}
 use Rattle.std.specs.Prelude.{ℕ, List, [], Option, Some, None, Result, Ok, map}
 use Rattle.cqf_lists.specs.Results.{and_then}
 use Rattle.cqf_model.specs.declared.frames.Background.{Background}
@@ -7,7 +8,7 @@ use Rattle.cqf_model.specs.Domain.{Domain}
 use Rattle.cqf_model.specs.History.{Asked}
 use Rattle.cqf_text.specs.Lines.{lines_of}
 use Rattle.cqf_text.specs.Parts.{parts_of}
-use Rattle.cqf_topology.specs.DomainText.{domain_of_text}
+use Rattle.cqf_topology.specs.DomainText.{domain_within}
 use Rattle.cqf_topology.specs.PacedText.{paced_of_text}
 use Rattle.cqf_admission.specs.Asking.{asked_by}
 use Rattle.cqf_report.specs.BackgroundFrames.{background_frames_of}
@@ -50,12 +51,12 @@ scenario_behind cycles d streams texts =
 
 -- the scenario of some parts over so many cycles, or the line of their first fault: of the domain, then of the streams, the
 -- script, the offers and the background frames
-abbrev pub scenario_of : ℕ → RunTexts → Result Scenario (List ℕ)
-scenario_of cycles texts = and_then (or_line domain_line (domain_of_text texts.domain)) (λ d.
+abbrev pub scenario_of : Limits → ℕ → RunTexts → Result Scenario (List ℕ)
+scenario_of limits cycles texts = and_then (or_line domain_line (domain_within limits texts.domain)) (λ d.
     and_then (calls_in cycles texts) (λ calls.
     and_then (frames_of_part d texts) (λ frames.
     Ok (record { domain = d; calls = calls; sealer = administrators (lines_of texts.script); offers = frames.0; background = frames.1 }))))
 
 -- the scenario of an input, or the line of its first fault: of the number of parts, and then of the parts
-abbrev pub scenario_input : ℕ → List ℕ → Result Scenario (List ℕ)
-scenario_input cycles input = and_then (run_parts (parts_of input)) (scenario_of cycles)
+abbrev pub scenario_input : Limits → ℕ → List ℕ → Result Scenario (List ℕ)
+scenario_input limits cycles input = and_then (run_parts (parts_of input)) (scenario_of limits cycles)

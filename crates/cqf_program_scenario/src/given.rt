@@ -21,7 +21,7 @@ use crate::{
 use cqf_admission_requests::{Names, Ordered};
 use cqf_admission_script::administrators;
 use cqf_laws_report::offers_stand_in_order;
-use cqf_model::{Background, Offer};
+use cqf_model::{Background, Limits, Offer};
 use cqf_program_stop::Stop;
 use cqf_topology::{Domain, PacedRequest};
 use cqf_units::Memory;
@@ -142,26 +142,31 @@ pub fn read_behind(
     })
 }
 
-/// The scenario of some parts.
-fn read_parts(alloc: Global, cycles: u32, parts: RunParts<'_>) -> Result<Given, Stop>
-    ensures ok { IfOk result (λ given. scenario_of cycles (texts_of parts.entry) ≡ Ok (scenario_given given)) }
+/// The scenario of some parts that are read within some limits.
+fn read_parts(
+    alloc: Global,
+    limits: Limits,
+    cycles: u32,
+    parts: RunParts<'_>,
+) -> Result<Given, Stop>
+    ensures ok { IfOk result (λ given. scenario_of limits cycles (texts_of parts.entry) ≡ Ok (scenario_given given)) }
     ensures stand { IfOk result (λ given. HasOrders given) }
     ensures good { IfOk result (λ given. MayBeRun cycles (scenario_given given)) }
-    ensures err { IfErr result (IsRefused (scenario_of cycles (texts_of parts.entry))) }
+    ensures err { IfErr result (IsRefused (scenario_of limits cycles (texts_of parts.entry))) }
 {
-    let domain = domain_part(alloc, parts.domain)?;
+    let domain = domain_part(alloc, limits, parts.domain)?;
     let requests = streams_part(alloc, parts.streams)?;
     read_behind(alloc, cycles, domain, requests, parts)
 }
 
-/// The scenario of the input over so many cycles, or the end with the line of its first fault. `Err` with status 1, and with status 3 for
-/// want of memory.
-pub fn read_given(alloc: Global, cycles: u32, input: &[u8]) -> Result<Given, Stop>
-    ensures ok { IfOk result (λ given. scenario_input cycles input.now ≡ Ok (scenario_given given)) }
+/// The scenario of the input over so many cycles, read within some limits, or the end with the line of its first fault. `Err` with status 1,
+/// and with status 3 for want of memory.
+pub fn read_given(alloc: Global, limits: Limits, cycles: u32, input: &[u8]) -> Result<Given, Stop>
+    ensures ok { IfOk result (λ given. scenario_input limits cycles input.now ≡ Ok (scenario_given given)) }
     ensures stand { IfOk result (λ given. HasOrders given) }
     ensures good { IfOk result (λ given. MayBeRun cycles (scenario_given given)) }
-    ensures err { IfErr result (IsRefused (scenario_input cycles input.now)) }
+    ensures err { IfErr result (IsRefused (scenario_input limits cycles input.now)) }
 {
     let parts = run_parts(alloc, input)?;
-    read_parts(alloc, cycles, parts)
+    read_parts(alloc, limits, cycles, parts)
 }

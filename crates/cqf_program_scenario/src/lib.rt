@@ -8,7 +8,7 @@
 //!
 //! ```text
 //! two_parts(alloc, b"links = []\n%%\nstreams = []\n") is Ok((b"links = []\n", b"streams = []\n"))
-//! domain_part(alloc, b"links = []\n") ends with status 1 and the line "cqf: domain: Missing cycle"
+//! domain_part(alloc, limits, b"links = []\n") ends with status 1 and the line "cqf: domain: Missing cycle"
 //! ```
 //!
 //! Scenarios: what `run` and `report` are given, and what comes of it on one thread.

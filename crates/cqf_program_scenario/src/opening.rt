@@ -15,7 +15,7 @@ use crate::given::{Given, read_given};
 use crate::parting::{Parted, part_calls};
 use cqf_admission::{Admission, Call, Command};
 use cqf_admission_script::calls_of;
-use cqf_model::{Background, Offer};
+use cqf_model::{Background, Limits, Offer};
 use cqf_program_stop::Stop;
 use cqf_topology::Domain;
 use cqf_units::Memory;
@@ -73,19 +73,19 @@ fn open_given(alloc: Global, cycles: u32, given: Given) -> Result<Opened, Memory
     })
 }
 
-/// Reads the scenario of an input that is to run over so many cycles, 0 to 100,000, which are closed while it runs. All of the
-/// input is read before anything is admitted. The calls of the script before its first Seal are applied in order, and the later
-/// ones are what each administrator calls for; later Seals are passed over (profile).
+/// Reads the scenario of an input within some limits that is to run over so many cycles, 0 to 100,000, which are closed while it runs.
+/// All of the input is read before anything is admitted. The calls of the script before its first Seal are applied in order, and the
+/// later ones are what each administrator calls for; later Seals are passed over (profile).
 ///
 /// # Errors
 /// With status 1 and the line of the first fault of the input: of its parts, of the domain, the streams, the script, the
 /// offers, or the background frames; and with status 3 for want of memory.
-pub fn read_opened(alloc: Global, cycles: u32, input: &[u8]) -> Result<Opened, Stop>
+pub fn read_opened(alloc: Global, limits: Limits, cycles: u32, input: &[u8]) -> Result<Opened, Stop>
     requires { cycles ≤ most_cycles }
-    ensures ok { IfOk result (λ made. IsOpenedInput cycles input.now made) }
-    ensures err { IfErr result (IsRefused (scenario_input cycles input.now)) }
+    ensures ok { IfOk result (λ made. IsOpenedInput limits cycles input.now made) }
+    ensures err { IfErr result (IsRefused (scenario_input limits cycles input.now)) }
 {
-    let given = read_given(alloc, cycles, input)?;
+    let given = read_given(alloc, limits, cycles, input)?;
     match open_given(alloc, cycles, given) {
         Ok(made) => Ok(made),
         Err(_) => Err(Stop::memory(alloc)),

@@ -10,14 +10,14 @@ ghost use Rattle.cqf_admission_requests.specs.declared.orders.Ordered.{Ordered a
 ghost use Rattle.cqf_admission_requests.specs.Orders.{StandsIn, ordered_in};
 ghost use Rattle.cqf_admission_script.specs.Script.{AreFew, script_of};
 ghost use Rattle.cqf_program_stop.specs.Stops.{EndsWith, IsRefused, fault_line, or_line};
-ghost use Rattle.cqf_topology.specs.DomainText.{domain_of_text};
+ghost use Rattle.cqf_topology.specs.DomainText.{domain_within};
 ghost use Rattle.cqf_topology.specs.PlannedText.{planned_of_text, planned_text};
 ghost use Rattle.cqf_topology.specs.PacedText.{paced_text, paced_of_text};
 ghost use Rattle.cqf_model.specs.Limits.{most_rows};
 
 use cqf_admission_requests::{Names, Ordered};
 use cqf_admission_script::{ScriptFault, read_orders};
-use cqf_model::{Background, Offer};
+use cqf_model::{Background, Limits, Offer};
 use cqf_program_stop::Stop;
 use cqf_report::{TableFault, read_background, read_offers};
 use cqf_topology::{
@@ -70,12 +70,13 @@ fn table_stop(alloc: Global, part: &str, fault: TableFault) -> Stop
     }
 }
 
-/// The domain of a part. `Err` with status 1 and the line of its first fault, and with status 3 for want of memory.
-pub fn domain_part(alloc: Global, text: &[u8]) -> Result<Domain, Stop>
-    ensures ok { IfOk result (λ domain. domain_of_text text.now ≡ Ok domain) }
-    ensures err { IfErr result (IsRefused (or_line domain_line (domain_of_text text.now))) }
+/// The domain of a part that is read within some limits. `Err` with status 1 and the line of its first fault, and with status 3 for want
+/// of memory.
+pub fn domain_part(alloc: Global, limits: Limits, text: &[u8]) -> Result<Domain, Stop>
+    ensures ok { IfOk result (λ domain. domain_within limits text.now ≡ Ok domain) }
+    ensures err { IfErr result (IsRefused (or_line domain_line (domain_within limits text.now))) }
 {
-    match Domain::read(alloc, text) {
+    match Domain::read_within(alloc, text, limits) {
         Ok(domain) => Ok(domain),
         Err(fault) => Err(domain_stop(alloc, &fault)),
     }

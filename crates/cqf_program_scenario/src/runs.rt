@@ -16,7 +16,7 @@ use crate::given::{Given, read_given};
 use crate::logs::Log;
 use cqf_admission::Logged;
 use cqf_instants_coverage::{Judgement, cover};
-use cqf_model::Row;
+use cqf_model::{Limits, Row};
 use cqf_program_stop::Stop;
 use cqf_program_telling::ExactBook;
 use cqf_units::Memory;
@@ -44,7 +44,7 @@ pub struct Simulated {
 /// Runs a scenario over so many cycles, 0 to 100,000: its calls are applied in order, and then the cycles that are still open are
 /// closed, by the seat of the Seals; the book is that of the history on one thread. What its orders name stands among its requests
 /// and in its script. Its offers are at bridges of its domain, in order of instant, and its background frames on links of it, at
-/// most 1,000,000 each; its calls are at most as many Seals as cycles, and at most 100,000 others (profile).
+/// most 16,777,215 each; its calls are at most as many Seals as cycles, and at most 100,000 others (profile).
 ///
 /// # Errors
 /// Where a growth is refused.
@@ -95,19 +95,19 @@ fn simulate_given(alloc: Global, cycles: u32, given: Given) -> Result<Simulated,
     Ok(Simulated { log, book })
 }
 
-/// Reads the scenario of an input and runs it over so many cycles, 0 to 100,000. All of the input is read before anything is
-/// admitted. The calls of the script are applied in order, and then the cycles that are still open are closed, by the seat of
+/// Reads the scenario of an input within some limits and runs it over so many cycles, 0 to 100,000. All of the input is read before
+/// anything is admitted. The calls of the script are applied in order, and then the cycles that are still open are closed, by the seat of
 /// the Seals; the book is that of the history on one thread (profile).
 ///
 /// # Errors
 /// With status 1 and the line of the first fault of the input: of its parts, of the domain, the streams, the script, the
 /// offers, or the background frames; and with status 3 for want of memory.
-pub fn simulate(alloc: Global, cycles: u32, input: &[u8]) -> Result<Simulated, Stop>
+pub fn simulate(alloc: Global, limits: Limits, cycles: u32, input: &[u8]) -> Result<Simulated, Stop>
     requires { cycles ≤ most_cycles }
-    ensures ok { IfOk result (λ made. TellsBook made.book (IsSimulated cycles input.now made.log.administration)) }
-    ensures err { IfErr result (IsRefused (scenario_input cycles input.now)) }
+    ensures ok { IfOk result (λ made. TellsBook made.book (IsSimulated limits cycles input.now made.log.administration)) }
+    ensures err { IfErr result (IsRefused (scenario_input limits cycles input.now)) }
 {
-    let given = read_given(alloc, cycles, input)?;
+    let given = read_given(alloc, limits, cycles, input)?;
     match simulate_given(alloc, cycles, given) {
         Ok(made) => Ok(made),
         Err(_) => Err(Stop::memory(alloc)),

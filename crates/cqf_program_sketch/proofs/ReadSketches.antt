@@ -1,5 +1,6 @@
 -- A sketch that is read is one, and its streams are placed where there is room.
-use Rattle.std.proofs.Common.{◌≡◌, ℕ, List, [], Option, Result, Ok, Err, IfSome, subst}
+use Rattle.std.proofs.Common.{◌≡◌, ◌∙◌, ℕ, List, [], Option, Result, Ok, Err, IfSome, ap, subst, sym}
+use Rattle.cqf_model.specs.declared.limits.Limits.{Limits}
 use Rattle.cqf_text.specs.Parts.{parts_of}
 use Rattle.cqf_topology.specs.declared.faults.DomainFault.TheVariants as domain
 use Rattle.cqf_topology.specs.DomainText.{first_taken, if_so}
@@ -12,12 +13,12 @@ use Rattle.cqf_sketch.specs.SketchText.{SketchText, sketch_of_text}
 use Rattle.cqf_sketch.proofs.CheckedLemmas.{passes_sketch}
 use Rattle.cqf_sketch.proofs.InsideLemmas.{all_joined}
 use Rattle.cqf_sketch.proofs.OpenLemmas.{passed_is_sketch}
-use Rattle.cqf_sketch.proofs.ReadLemmas.{sketch_readable}
+use Rattle.cqf_sketch.proofs.ReadLemmas.{draft_limits, sketch_readable}
 use Rattle.cqf_sketch_streams.specs.StreamsText.{sketch_streams_of_text}
 use Rattle.cqf_program_offers.specs.OffersOutput.{flows_line}
 use Rattle.cqf_program_scenario.specs.Parts.{two_parts}
 use Rattle.cqf_program_stop.specs.Stops.{or_line}
-use Rattle.cqf_program_placing.specs.Room.{PlacedWhereThereIsRoom}
+use Rattle.cqf_program_placing.specs.Room.{MayBeWays, PlacedWhereThereIsRoom}
 use Rattle.cqf_program_placing.specs.Settled.{settled_of}
 use Rattle.cqf_program_sketch.specs.PlanLaws.{SketchesArePlacedByRoom}
 use Rattle.cqf_program_sketch.specs.PlanOutput.{Sketched, sketch_line, unsettled_line}
@@ -40,11 +41,11 @@ with_these_edges text edges sketch e =
     cc
 
 -- the domain of a sketch's text is a sketch
-read_is_sketch : (given : Option (List ℕ)) (text : List ℕ) (sketch : SketchDomain) → IfSome given AreCandidates →
-    sketch_domain_of_text given text ≡ Ok sketch → IsSketch sketch
-read_is_sketch given text sketch are e =
-    let (draft, read, passed) = and_then-Ok (sketch_of_text given text) checked sketch e in
-    let readable = sketch_readable given text draft are read in
+read_is_sketch : (limits : Limits) (given : Option (List ℕ)) (text : List ℕ) (sketch : SketchDomain) → IfSome given AreCandidates →
+    sketch_domain_of_text limits given text ≡ Ok sketch → IsSketch sketch
+read_is_sketch limits given text sketch are e =
+    let (draft, read, passed) = and_then-Ok (sketch_of_text limits given text) checked sketch e in
+    let readable = sketch_readable limits given text draft are read in
     let (bridges_apart, rest) = refuse-Ok (first_taken [] draft.bridges) name_taken _ sketch passed in
     let (stations_apart, numbered) = refuse-Ok (first_taken draft.bridges draft.stations) name_taken (with_names draft) sketch rest in
     let (edges, joined_are, checks) = and_then-Ok (joined draft.bridges draft.stations 0 draft.links) (with_edges draft) sketch numbered in
@@ -52,18 +53,31 @@ read_is_sketch given text sketch are e =
     (passed_is_sketch draft edges readable (passes_sketch draft edges sketch checks)
     (all_joined draft.bridges draft.stations 0 draft.links edges readable.delays_most joined_are) bridges_apart stations_apart)
 
+-- and has the limits within which it was read
+read_limits : (limits : Limits) (given : Option (List ℕ)) (text : List ℕ) (sketch : SketchDomain) → sketch_domain_of_text limits given text ≡ Ok sketch →
+    sketch.limits ≡ limits
+read_limits limits given text sketch e =
+    let (draft, read, passed) = and_then-Ok (sketch_of_text limits given text) checked sketch e in
+    let (bridges_apart, rest) = refuse-Ok (first_taken [] draft.bridges) name_taken _ sketch passed in
+    let (stations_apart, numbered) = refuse-Ok (first_taken draft.bridges draft.stations) name_taken (with_names draft) sketch rest in
+    let (edges, joined_are, checks) = and_then-Ok (joined draft.bridges draft.stations 0 draft.links) (with_edges draft) sketch numbered in
+    ap (λ (s : SketchDomain). s.limits) (sym (with_these_edges draft edges sketch checks)) ∙ draft_limits limits given text draft read
+
 -- so the streams of an input are placed where there is room
 pub sketches_are_placed : PlacedWhereThereIsRoom → SketchesArePlacedByRoom
-sketches_are_placed law given input sketched cycle placed are e is_open placed_at =
+sketches_are_placed law limits given input sketched cycle placed ways are e is_open placed_at =
     let (parts, two, e1) = and_then-Ok (two_parts (parts_of input)) _ sketched e in
-    let (sketch, of_domain, e2) = and_then-Ok (or_line sketch_line (sketch_domain_of_text given parts.0)) _ sketched e1 in
+    let (sketch, of_domain, e2) = and_then-Ok (or_line sketch_line (sketch_domain_of_text limits given parts.0)) _ sketched e1 in
     let (texts, of_streams, e3) = and_then-Ok (or_line flows_line (sketch_streams_of_text parts.1)) _ sketched e2 in
     let (streams, settled, e4) = and_then-Ok (or_line unsettled_line (settled_of sketch texts)) _ sketched e3 in
     let made : Sketched = record { domain = sketch; streams = streams } in
     let same : made ≡ sketched = cc in
-    let is_sketch = read_is_sketch given parts.0 sketch are (or_line-Ok sketch_line (sketch_domain_of_text given parts.0) sketch of_domain) in
+    let found = or_line-Ok sketch_line (sketch_domain_of_text limits given parts.0) sketch of_domain in
+    let is_sketch = read_is_sketch limits given parts.0 sketch are found in
+    let as_said : MayBeWays sketch.limits = subst MayBeWays (sym (read_limits limits given parts.0 sketch found)) ways in
+    let may_be : MayBeWays sketched.domain.limits = subst (λ (s : Sketched). MayBeWays s.domain.limits) same as_said in
     let is : IsSketch sketched.domain = subst (λ (s : Sketched). IsSketch s.domain) same is_sketch in
-    law sketched.domain parts.1 texts sketched.streams cycle placed is is_open
+    law sketched.domain parts.1 texts sketched.streams cycle placed is may_be is_open
     (or_line-Ok flows_line (sketch_streams_of_text parts.1) texts of_streams)
     (subst (λ (s : Sketched). settled_of s.domain texts ≡ Ok s.streams) same (or_line-Ok unsettled_line (settled_of sketch texts) streams settled))
     placed_at.domain placed_at.placed_are

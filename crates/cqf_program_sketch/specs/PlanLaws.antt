@@ -3,6 +3,7 @@ use Rattle.std.specs.Prelude.{ℕ, ◌≡◌, ◌+◌, ◌*◌, ◌%◌, ◌≤�
 use Rattle.std.specs.Option.{ForSome}
 use Rattle.cqf_laws_traffic.specs.Traffic.{needed, offers_named}
 use Rattle.cqf_model.specs.declared.frames.Offer.{Offer}
+use Rattle.cqf_model.specs.declared.limits.Limits.{Limits}
 use Rattle.cqf_model.specs.Domain.{Domain, cycle_of}
 use Rattle.cqf_model.specs.History.{Recorded, held_in, pace_of}
 use Rattle.cqf_model.specs.Paces.{is_turn}
@@ -16,7 +17,7 @@ use Rattle.cqf_program_plans.specs.LatencyOutput.{latency_of_plan}
 use Rattle.cqf_program_plans.specs.LatencyText.{is_not_sure, latencies_of, latency_text}
 use Rattle.cqf_program_offers.specs.OffersOutput.{asked_in, sender_of}
 use Rattle.cqf_program_placing.specs.Placing.{PlacedStreams, is_chosen_on, turns_on}
-use Rattle.cqf_program_placing.specs.Room.{ArePlacedByRoom}
+use Rattle.cqf_program_placing.specs.Room.{ArePlacedByRoom, MayBeWays}
 use Rattle.cqf_program_placing.specs.Settled.{SettledStream}
 use Rattle.cqf_program_placing.specs.Turns.{MayBeFirst, every_in}
 use Rattle.cqf_program_sketch.specs.Choosing.{IsPlanned}
@@ -75,9 +76,10 @@ ChosenStreamsComeInTurns =
     Contains (offers_named flow.0.0.name (offers_before until seed (map (sender_of d) flows))) x →
     is_turn (pace_of (asked_in flow)) 0 (cycle_of d x.at.0) ≡ true
 
--- the streams of an input that is a sketch are placed where there is room, on each cycle time that is open to it
+-- the streams of an input that is a sketch, whose branches may be ways, are placed where there is room, on each cycle time that is open to it
 abbrev pub SketchesArePlacedByRoom : Type 0
 SketchesArePlacedByRoom =
-    (given : Option (List ℕ)) (input : List ℕ) (sketched : Sketched) (cycle_time : ℕ) (placed : PlacedStreams) → IfSome given AreCandidates →
-    sketch_input given input ≡ Ok sketched → IsOpenCycle sketched.domain cycle_time →
+    (limits : Limits) (given : Option (List ℕ)) (input : List ℕ) (sketched : Sketched) (cycle_time : ℕ) (placed : PlacedStreams) → MayBeWays limits →
+    IfSome given AreCandidates →
+    sketch_input limits given input ≡ Ok sketched → IsOpenCycle sketched.domain cycle_time →
     ArePlacedAt sketched.domain sketched.streams cycle_time placed → ArePlacedByRoom sketched.streams placed

@@ -1,5 +1,6 @@
 -- What the command `plan` gives for its input (profile): a plant, or a table of the candidates for its cycle time; or the line of the input's
 -- first fault.
+use Rattle.cqf_model.specs.declared.limits.Limits.{Limits}
 use Rattle.std.specs.Prelude.{ℕ, ◌≡◌, ◌⊎◌, ◌++◌, Bool, true, false, List, [], codes, length, Option, Result, Ok, Err}
 use Rattle.cqf_lists.specs.Results.{and_then}
 use Rattle.cqf_model.specs.declared.history.Refused.TheVariants as refused
@@ -42,9 +43,9 @@ pub record Sketched : Type 0 where
 
 -- that of an input, where candidates for the cycle time may be given; or the line of the first fault: of the parts, of the domain, of the
 -- streams, and of what no cycle time changes
-abbrev pub sketch_input : Option (List ℕ) → List ℕ → Result Sketched (List ℕ)
-sketch_input given input = and_then (two_parts (parts_of input)) (λ parts.
-    and_then (or_line sketch_line (sketch_domain_of_text given parts.0)) (λ domain.
+abbrev pub sketch_input : Limits → Option (List ℕ) → List ℕ → Result Sketched (List ℕ)
+sketch_input limits given input = and_then (two_parts (parts_of input)) (λ parts.
+    and_then (or_line sketch_line (sketch_domain_of_text limits given parts.0)) (λ domain.
     and_then (or_line flows_line (sketch_streams_of_text parts.1)) (λ streams.
     and_then (or_line unsettled_line (settled_of domain streams)) (λ settled.
     Ok (record { domain = domain; streams = settled })))))
@@ -81,11 +82,11 @@ IsPlannedOf table (Ok sketched) found = IsToldOf table sketched found
 IsPlannedOf table (Err line) found = Err line ≡ found
 
 -- what is told of an input
-abbrev pub IsPlanOf : Bool → Option (List ℕ) → List ℕ → Result (List ℕ) (List ℕ) → Type 0
-IsPlanOf table given input found = IsPlannedOf table (sketch_input given input) found
+abbrev pub IsPlanOf : Limits → Bool → Option (List ℕ) → List ℕ → Result (List ℕ) (List ℕ) → Type 0
+IsPlanOf limits table given input found = IsPlannedOf table (sketch_input limits given input) found
 
 -- it is refused, with status 1 and the line that tells why, or the run lacks memory
-pub record IsPlanRefusal (table : Bool) (given : Option (List ℕ)) (input : List ℕ) (stop : Stop) : Type 0 where
+pub record IsPlanRefusal (limits : Limits) (table : Bool) (given : Option (List ℕ)) (input : List ℕ) (stop : Stop) : Type 0 where
   pub statuses : (stop.status ≡ 1) ⊎ (stop.status ≡ 3)
-  pub line : stop.status ≡ 1 → IsPlanOf table given input (Err stop.text.items)
+  pub line : stop.status ≡ 1 → IsPlanOf limits table given input (Err stop.text.items)
   pub memory : stop.status ≡ 3 → stop.text.items ≡ []

@@ -18,7 +18,7 @@ use crate::choosing::{Choice, choose};
 use crate::plans::{flows_placed, line_of_best};
 use crate::table::text_of_candidates;
 use crate::trying::{Tried, judge_all};
-use cqf_model::Refused;
+use cqf_model::{Limits, Refused};
 use cqf_plants::write_plant;
 use cqf_program_offers::flows_stop;
 use cqf_program_placing::{PlanFault, Settled, Unsettled, settle};
@@ -42,13 +42,19 @@ fn sketch_stop(alloc: Global, fault: SketchFault) -> Stop
     }
 }
 
-/// The domain of a sketch's part. `Err` with status 1 and the line of its first fault, and with status 3 for want of memory.
-fn sketch_part(alloc: Global, text: &[u8], given: Option<Vec<u32>>) -> Result<SketchDomain, Stop>
+/// The domain of a sketch's part that is read within some limits. `Err` with status 1 and the line of its first fault, and with status 3
+/// for want of memory.
+fn sketch_part(
+    alloc: Global,
+    limits: Limits,
+    text: &[u8],
+    given: Option<Vec<u32>>,
+) -> Result<SketchDomain, Stop>
     requires { IfSome given (λ cycles. AreCandidates cycles.items) }
-    ensures ok { let said = option_map (λ cycles. cycles.items) given in IfOk result (λ sketch. sketch_domain_of_text said text.now ≡ Ok sketch) }
-    ensures err { let said = option_map (λ cycles. cycles.items) given in IfErr result (IsRefused (or_line sketch_line (sketch_domain_of_text said text.now))) }
+    ensures ok { let said = option_map (λ cycles. cycles.items) given in IfOk result (λ sketch. sketch_domain_of_text limits said text.now ≡ Ok sketch) }
+    ensures err { let said = option_map (λ cycles. cycles.items) given in IfErr result (IsRefused (or_line sketch_line (sketch_domain_of_text limits said text.now))) }
 {
-    match SketchDomain::read(alloc, text, given) {
+    match SketchDomain::read(alloc, text, limits, given) {
         Ok(sketch) => Ok(sketch),
         Err(fault) => Err(sketch_stop(alloc, fault)),
     }
@@ -103,21 +109,22 @@ fn settled_part(
     }
 }
 
-/// The domain and the settled streams of the input. `Err` with status 1 and the line of the first fault: of its parts, of the domain, of the
-/// streams, or of what no cycle time changes; and with status 3 for want of memory.
+/// The domain and the settled streams of the input, read within some limits. `Err` with status 1 and the line of the first fault: of its
+/// parts, of the domain, of the streams, or of what no cycle time changes; and with status 3 for want of memory.
 fn read_sketch(
     alloc: Global,
+    limits: Limits,
     given: Option<Vec<u32>>,
     input: &[u8],
 ) -> Result<(SketchDomain, Vec<Settled>), Stop>
     requires { IfSome given (λ cycles. AreCandidates cycles.items) }
     ensures ok { let said = option_map (λ cycles. cycles.items) given in IfOk result (λ found.
-        sketch_input said input.now ≡ Ok (record { domain = found.0; streams = map settled_value found.1.items })) }
+        sketch_input limits said input.now ≡ Ok (record { domain = found.0; streams = map settled_value found.1.items })) }
     ensures settled { IfOk result (λ found. AreSettled found.0 (map settled_value found.1.items)) }
-    ensures err { let said = option_map (λ cycles. cycles.items) given in IfErr result (IsRefused (sketch_input said input.now)) }
+    ensures err { let said = option_map (λ cycles. cycles.items) given in IfErr result (IsRefused (sketch_input limits said input.now)) }
 {
     let (domain_text, streams_text) = two_parts(alloc, input)?;
-    let domain = sketch_part(alloc, domain_text, given)?;
+    let domain = sketch_part(alloc, limits, domain_text, given)?;
     let wanted = wanted_part(alloc, streams_text)?;
     let streams = settled_part(alloc, &domain, wanted)?;
     Ok((domain, streams))
@@ -198,8 +205,8 @@ fn told_of(
     }
 }
 
-/// The output of `plan` for an input, where candidates for the cycle time may be given, each in nanoseconds: the text of a plant, or of a
-/// table of the candidates (profile).
+/// The output of `plan` for an input that is read within some limits, where candidates for the cycle time may be given, each in
+/// nanoseconds: the text of a plant, or of a table of the candidates (profile).
 ///
 /// # Errors
 /// With status 1 and the line of the first fault: of the input's parts, of the domain, of the streams, or of what no cycle time changes; or
@@ -207,14 +214,15 @@ fn told_of(
 /// want of memory.
 pub fn plan_output(
     alloc: Global,
+    limits: Limits,
     table: bool,
     given: Option<Vec<u32>>,
     input: &[u8],
 ) -> Result<Vec<u8>, Stop>
     requires { IfSome given (λ cycles. AreCandidates cycles.items) }
-    ensures ok { IfOk result (λ text. IsPlanOf table (option_map (λ cycles. cycles.items) given) input.now (Ok text.items)) }
-    ensures err { IfErr result (IsPlanRefusal table (option_map (λ cycles. cycles.items) given) input.now) }
+    ensures ok { IfOk result (λ text. IsPlanOf limits table (option_map (λ cycles. cycles.items) given) input.now (Ok text.items)) }
+    ensures err { IfErr result (IsPlanRefusal limits table (option_map (λ cycles. cycles.items) given) input.now) }
 {
-    let (sketch, streams) = read_sketch(alloc, given, input)?;
+    let (sketch, streams) = read_sketch(alloc, limits, given, input)?;
     told_of(alloc, table, &sketch, streams.as_slice())
 }

@@ -1,6 +1,7 @@
 -- The summary that is made is that of the input's scenario.
 use Rattle.std.proofs.Common.{◌≡◌, ◌∙◌, ℕ, List, ap, length, map, sym}
 use Rattle.cqf_lists.proofs.EachBelow.{length-singles}
+use Rattle.cqf_model.specs.declared.limits.Limits.{Limits}
 use Rattle.cqf_model.specs.History.{table_at}
 use Rattle.cqf_model.specs.Traffic.{numbered}
 use Rattle.cqf_admission.specs.Asking.{asked_paced}
@@ -41,9 +42,9 @@ IsSummaryOf-noted cycles planned noted under_way summary is made streams those =
     }
 
 -- the text is the output
-pub IsSummaryOutput-made : (cycles : ℕ) (input : List ℕ) (planned : PlannedGiven) (summary : Summary) → IsPlannedGiven cycles input planned →
-    IsSummaryOf cycles planned summary → IsSummaryOutput cycles input (text_of_summary summary)
-IsSummaryOutput-made cycles input planned summary given of =
+pub IsSummaryOutput-made : (limits : Limits) (cycles : ℕ) (input : List ℕ) (planned : PlannedGiven) (summary : Summary) → IsPlannedGiven limits cycles input planned →
+    IsSummaryOf cycles planned summary → IsSummaryOutput limits cycles input (text_of_summary summary)
+IsSummaryOutput-made limits cycles input planned summary given of =
     let made = of given.streams given.planned in
     record {
       found = (scenario_given planned.given, given.streams);

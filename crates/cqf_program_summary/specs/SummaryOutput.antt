@@ -1,4 +1,5 @@
 -- What the command `summary` gives for its input (profile).
+use Rattle.cqf_model.specs.declared.limits.Limits.{Limits}
 use Rattle.std.specs.Prelude.{ℕ, ◌≡◌, List, Ok}
 use Rattle.cqf_model.specs.Book.{Contents}
 use Rattle.cqf_topology.specs.PlannedText.{PlannedText}
@@ -9,9 +10,9 @@ use Rattle.cqf_program_summary.specs.Summary.{summary_of}
 use Rattle.cqf_program_summary.specs.SummaryText.{text_of_summary}
 
 -- the output is the text of the summary by the one-thread book of the input's scenario
-pub record IsSummaryOutput (cycles : ℕ) (input output : List ℕ) : Type 0 where
+pub record IsSummaryOutput (limits : Limits) (cycles : ℕ) (input output : List ℕ) : Type 0 where
   pub found : Scenario × List PlannedText
-  pub holds : planned_scenario cycles input ≡ Ok found
+  pub holds : planned_scenario limits cycles input ≡ Ok found
   pub book : Contents
   pub is_book : IsBookOfScenario cycles found.0 book
   pub written : output ≡ text_of_summary (summary_of (run_of_scenario cycles found.0) found.1 book)

@@ -11,6 +11,7 @@ ghost use Rattle.cqf_program_summary.specs.SummaryText.{text_of_summary};
 
 use crate::gathering::sums_of_scenario;
 use crate::summary_outputs::SummaryOutput;
+use cqf_model::Limits;
 use cqf_program_press::Sheet;
 use cqf_program_runs::{PlannedGiven, read_planned_given};
 use cqf_program_stop::Stop;
@@ -29,18 +30,24 @@ fn output_of(alloc: Global, cycles: u32, planned: &PlannedGiven) -> Result<Summa
     Ok(SummaryOutput { sums, sheet })
 }
 
-/// The output of `summary` over so many cycles, 0 to 100,000, ready to be told: of each stream and listener how many frames are offered,
-/// how they end, how long those took that came, and the most that one can take (profile).
+/// The output of `summary` over so many cycles, 0 to 100,000, for an input that is read within some limits, ready to be told: of each
+/// stream and listener how many frames are offered, how they end, how long those took that came, and the most that one can take
+/// (profile).
 ///
 /// # Errors
 /// With status 1 and the line of the first fault of the input: of its parts, of the domain, the streams, the script, the
 /// offers, or the background frames; and with status 3 for want of memory.
-pub fn summary_output(alloc: Global, cycles: u32, input: &[u8]) -> Result<SummaryOutput, Stop>
+pub fn summary_output(
+    alloc: Global,
+    limits: Limits,
+    cycles: u32,
+    input: &[u8],
+) -> Result<SummaryOutput, Stop>
     requires { cycles ≤ most_cycles }
-    ensures ok { IfOk result (λ output. IsSummaryOutput cycles input.now (text_of_summary output)) }
-    ensures err { IfErr result (IsRefused (planned_scenario cycles input.now)) }
+    ensures ok { IfOk result (λ output. IsSummaryOutput limits cycles input.now (text_of_summary output)) }
+    ensures err { IfErr result (IsRefused (planned_scenario limits cycles input.now)) }
 {
-    let planned = read_planned_given(alloc, cycles, input)?;
+    let planned = read_planned_given(alloc, limits, cycles, input)?;
     match output_of(alloc, cycles, &planned) {
         Ok(output) => Ok(output),
         Err(_) => Err(Stop::memory(alloc)),

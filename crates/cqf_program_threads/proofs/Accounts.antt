@@ -3,6 +3,7 @@ use Rattle.std.proofs.Common.{◌≡◌, ◌≢◌, ◌⊎◌, ◌∙◌, ℕ, L
 use Rattle.std.specs.Global.{Global}
 use Rattle.std.specs.declared.vec.Vec.{Vec}
 use Rattle.std.proofs.lemmas.Simd.{map-map}
+use Rattle.cqf_model.specs.declared.limits.Limits.{Limits}
 use Rattle.cqf_model.specs.declared.frames.Background.{Background}
 use Rattle.cqf_model.specs.declared.frames.Offer.{Offer}
 use Rattle.cqf_model.specs.Domain.{Domain, IsAccepted}
@@ -37,11 +38,11 @@ asked_of : (lists : List (Vec Command Global)) → acts_of_each lists ≡ all_as
 asked_of lists = sym (map-map acts_asked (λ (commands : Vec Command Global). commands.items) lists)
 
 -- an account by pages of what was opened of an input is one of the input's scenario
-pub IsAccountOfInput-opened : (cycles : ℕ) (input : List ℕ) (made : Opened) (account : PagedAccount) (offers : List Offer) (frames : List Background)
-    → IsOpenedInput cycles input made → offers ≡ made.offers.items → frames ≡ made.background.items
+pub IsAccountOfInput-opened : (limits : Limits) (cycles : ℕ) (input : List ℕ) (made : Opened) (account : PagedAccount) (offers : List Offer) (frames : List Background)
+    → IsOpenedInput limits cycles input made → offers ≡ made.offers.items → frames ≡ made.background.items
     → IsPagedAccount made.domain made.admission.entries offers frames cycles (commands_in made.commands.items) account
-    → IsAccountOfInput cycles input made.domain account
-IsAccountOfInput-opened cycles input made account offers frames opened same_offers same_frames is =
+    → IsAccountOfInput limits cycles input made.domain account
+IsAccountOfInput-opened limits cycles input made account offers frames opened same_offers same_frames is =
     let s = opened.scenario in
     let o = opened.opened in
     let admins = commands_in made.commands.items in
@@ -59,11 +60,11 @@ IsAccountOfInput-opened cycles input made account offers frames opened same_offe
     }
 
 -- a fault that a run of what was opened of an input may tell is one of the input's scenario
-pub IsFaultOfInput-opened : (cycles : ℕ) (input : List ℕ) (made : Opened) (fault : ConductFault) (d : Domain) (entries : List Recorded)
-    (offers : List Offer) (frames : List Background) → IsOpenedInput cycles input made → d ≡ made.domain → entries ≡ made.admission.entries
+pub IsFaultOfInput-opened : (limits : Limits) (cycles : ℕ) (input : List ℕ) (made : Opened) (fault : ConductFault) (d : Domain) (entries : List Recorded)
+    (offers : List Offer) (frames : List Background) → IsOpenedInput limits cycles input made → d ≡ made.domain → entries ≡ made.admission.entries
     → offers ≡ made.offers.items → frames ≡ made.background.items
-    → IsConductFault d entries offers frames cycles (commands_in made.commands.items) fault → IsFaultOfInput cycles input fault
-IsFaultOfInput-opened cycles input made fault d entries offers frames opened same_domain same_entries same_offers same_frames may =
+    → IsConductFault d entries offers frames cycles (commands_in made.commands.items) fault → IsFaultOfInput limits cycles input fault
+IsFaultOfInput-opened limits cycles input made fault d entries offers frames opened same_domain same_entries same_offers same_frames may =
     let s = opened.scenario in
     let o = opened.opened in
     let admins = commands_in made.commands.items in
@@ -82,8 +83,8 @@ IsFaultOfInput-opened cycles input made fault d entries offers frames opened sam
     }
 
 -- the pages of such an account tell its book
-module _ (cycles : ℕ) (input : List ℕ) (d : Domain) (account : PagedAccount) (of : IsAccountOfInput cycles input d account) (law : PagesTellTheBook)
-    (accepted : IsAccepted d) where
+module _ (limits : Limits) (cycles : ℕ) (input : List ℕ) (d : Domain) (account : PagedAccount)
+    (of : IsAccountOfInput limits cycles input d account) (law : PagesTellTheBook) (accepted : IsAccepted d) where
   tells : TellTheBook d cycles (pages_of account.pages) of.is_account.book
   tells = law d cycles (pages_of account.pages) of.is_account.book accepted of.is_account.some of.is_account.its_pages
 
@@ -93,7 +94,7 @@ module _ (cycles : ℕ) (input : List ℕ) (d : Domain) (account : PagedAccount)
 
   -- the text of its history and of the book that they tell is the output
   pub IsThreadsOutput-written : (text : List ℕ) → text ≡ run_text d (entries_of account.history) (told_from d cycles (pages_of account.pages)) →
-      IsThreadsOutput cycles input text
+      IsThreadsOutput limits cycles input text
   IsThreadsOutput-written text written =
       let s = of.scenario in
       let entries = entries_of account.history in
@@ -111,8 +112,8 @@ module _ (cycles : ℕ) (input : List ℕ) (d : Domain) (account : PagedAccount)
       }
 
 -- an input that is refused ends it
-pub EndsThreads-refused : (cycles : ℕ) (input : List ℕ) (stop : Stop) → IsRefused (scenario_input cycles input) stop → EndsThreads cycles input stop
-EndsThreads-refused cycles input stop h = record {
+pub EndsThreads-refused : (limits : Limits) (cycles : ℕ) (input : List ℕ) (stop : Stop) → IsRefused (scenario_input limits cycles input) stop → EndsThreads limits cycles input stop
+EndsThreads-refused limits cycles input stop h = record {
   statuses = elim h.statuses [ inl one ↦ inl one | inr three ↦ inr (inl three) ];
   refused = h.line;
   fault = λ four. absurd (elim h.statuses [ inl one ↦ omega arith | inr three ↦ omega arith ]);
@@ -120,8 +121,8 @@ EndsThreads-refused cycles input stop h = record {
 }
 
 -- want of memory ends it
-pub EndsThreads-memory : (cycles : ℕ) (input : List ℕ) (stop : Stop) → stop.status ≡ 3 → stop.text.items ≡ [] → EndsThreads cycles input stop
-EndsThreads-memory cycles input stop three none = record {
+pub EndsThreads-memory : (limits : Limits) (cycles : ℕ) (input : List ℕ) (stop : Stop) → stop.status ≡ 3 → stop.text.items ≡ [] → EndsThreads limits cycles input stop
+EndsThreads-memory limits cycles input stop three none = record {
   statuses = inr (inl three);
   refused = λ one. absurd (omega arith);
   fault = λ four. absurd (omega arith);
@@ -129,9 +130,9 @@ EndsThreads-memory cycles input stop three none = record {
 }
 
 -- a fault of a run of the input's scenario ends it, where it isn't for memory
-EndsThreads-fault : (cycles : ℕ) (input : List ℕ) (fault : ConductFault) (stop : Stop) → IsFaultOfInput cycles input fault → fault ≢ Memory
-    → EndsWith 4 (fault_line (codes "run") (conduct_fault_text fault)) stop → EndsThreads cycles input stop
-EndsThreads-fault cycles input fault stop may other e = record {
+EndsThreads-fault : (limits : Limits) (cycles : ℕ) (input : List ℕ) (fault : ConductFault) (stop : Stop) → IsFaultOfInput limits cycles input fault → fault ≢ Memory
+    → EndsWith 4 (fault_line (codes "run") (conduct_fault_text fault)) stop → EndsThreads limits cycles input stop
+EndsThreads-fault limits cycles input fault stop may other e = record {
   statuses = elim e.statuses [ inl four ↦ inr (inr four) | inr three ↦ inr (inl three) ];
   refused = λ one. absurd (elim e.statuses [ inl four ↦ omega arith | inr three ↦ omega arith ]);
   fault = λ four. record {
@@ -155,13 +156,13 @@ memory_or_not ChannelLost = inr (λ e. (cc))
 memory_or_not Spawn = inr (λ e. (cc))
 
 -- whatever its fault, it ends
-pub EndsThreads-stopped : (cycles : ℕ) (input : List ℕ) (fault : ConductFault) (stop : Stop) → IsFaultOfInput cycles input fault
+pub EndsThreads-stopped : (limits : Limits) (cycles : ℕ) (input : List ℕ) (fault : ConductFault) (stop : Stop) → IsFaultOfInput limits cycles input fault
     → (fault ≢ Memory → EndsWith 4 (fault_line (codes "run") (conduct_fault_text fault)) stop) → (fault ≡ Memory → EndsWith 3 [] stop)
-    → EndsThreads cycles input stop
-EndsThreads-stopped cycles input fault stop may told memory = elim (memory_or_not fault) [
+    → EndsThreads limits cycles input stop
+EndsThreads-stopped limits cycles input fault stop may told memory = elim (memory_or_not fault) [
   | inl is ↦
       let e = memory is in
       let three : stop.status ≡ 3 = elim e.statuses [ inl three ↦ three | inr three ↦ three ] in
-      EndsThreads-memory cycles input stop three (e.memory three)
-  | inr other ↦ EndsThreads-fault cycles input fault stop may other (told other)
+      EndsThreads-memory limits cycles input stop three (e.memory three)
+  | inr other ↦ EndsThreads-fault limits cycles input fault stop may other (told other)
 ]

@@ -1,4 +1,5 @@
 -- What the command `run` with `--threads` gives for its input (profile): the history and the book of an account of a scenario.
+use Rattle.cqf_model.specs.declared.limits.Limits.{Limits}
 use Rattle.std.specs.Prelude.{ℕ, ◌≡◌, ◌≢◌, ◌⊎◌, List, [], Result, Ok, Err, codes}
 use Rattle.cqf_model.specs.Book.{Contents}
 use Rattle.cqf_model.specs.Domain.{Domain}
@@ -26,9 +27,9 @@ pub record IsAccountOfScenario (cycles : ℕ) (s : Scenario) (entries : List Rec
   pub is_account : IsAccountOf s.domain (opening_history s) s.offers s.background cycles (all_asked commands) entries book
 
 -- an account by pages of an input's scenario, and the domain of that
-pub record IsAccountOfInput (cycles : ℕ) (input : List ℕ) (d : Domain) (account : PagedAccount) : Type 0 where
+pub record IsAccountOfInput (limits : Limits) (cycles : ℕ) (input : List ℕ) (d : Domain) (account : PagedAccount) : Type 0 where
   pub scenario : Scenario
-  pub holds : scenario_input cycles input ≡ Ok scenario
+  pub holds : scenario_input limits cycles input ≡ Ok scenario
   pub domain : d ≡ scenario.domain
   pub commands : List (List Command)
   pub asked : AreCommandsBehind scenario.calls scenario.sealer (all_asked commands)
@@ -41,15 +42,15 @@ pub record IsFaultOfScenario (cycles : ℕ) (s : Scenario) (fault : ConductFault
   pub may : IsConductFault s.domain (opening_history s) s.offers s.background cycles commands fault
 
 -- one that a run of an input's scenario may tell
-pub record IsFaultOfInput (cycles : ℕ) (input : List ℕ) (fault : ConductFault) : Type 0 where
+pub record IsFaultOfInput (limits : Limits) (cycles : ℕ) (input : List ℕ) (fault : ConductFault) : Type 0 where
   pub scenario : Scenario
-  pub holds : scenario_input cycles input ≡ Ok scenario
+  pub holds : scenario_input limits cycles input ≡ Ok scenario
   pub of_scenario : IsFaultOfScenario cycles scenario fault
 
 -- the output is the text of the history of an account of the input's scenario, and of its book
-pub record IsThreadsOutput (cycles : ℕ) (input output : List ℕ) : Type 0 where
+pub record IsThreadsOutput (limits : Limits) (cycles : ℕ) (input output : List ℕ) : Type 0 where
   pub scenario : Scenario
-  pub holds : scenario_input cycles input ≡ Ok scenario
+  pub holds : scenario_input limits cycles input ≡ Ok scenario
   pub entries : List Recorded
   pub book : Contents
   pub of_scenario : IsAccountOfScenario cycles scenario entries book
@@ -67,8 +68,8 @@ pub record TellsFault (cycles : ℕ) (found : Result Scenario (List ℕ)) (line 
 
 -- how it ends without an account: with status 1 and the line of the input's first fault, or with status 4 and the line of the run's
 -- fault, or without memory
-pub record EndsThreads (cycles : ℕ) (input : List ℕ) (stop : Stop) : Type 0 where
+pub record EndsThreads (limits : Limits) (cycles : ℕ) (input : List ℕ) (stop : Stop) : Type 0 where
   pub statuses : (stop.status ≡ 1) ⊎ ((stop.status ≡ 3) ⊎ (stop.status ≡ 4))
-  pub refused : stop.status ≡ 1 → scenario_input cycles input ≡ Err stop.text.items
-  pub fault : stop.status ≡ 4 → TellsFault cycles (scenario_input cycles input) stop.text.items
+  pub refused : stop.status ≡ 1 → scenario_input limits cycles input ≡ Err stop.text.items
+  pub fault : stop.status ≡ 4 → TellsFault cycles (scenario_input limits cycles input) stop.text.items
   pub memory : stop.status ≡ 3 → stop.text.items ≡ []

@@ -17,6 +17,7 @@ use crate::threads_outputs::ThreadsOutput;
 use crate::{PagedBook, put_paged_book};
 use cqf_admission::Entry;
 use cqf_laws_account::pages_tell_the_book;
+use cqf_model::Limits;
 use cqf_program_press::{Press, Sheet, Sink, Told};
 use cqf_program_scenario::{Opened, read_opened};
 use cqf_program_stop::{FAULT, Stop};
@@ -51,14 +52,15 @@ fn fault_stop(alloc: Global, fault: ConductFault) -> Stop
 fn conduct_opened(
     rt: &(impl Threads + Wait + Sync),
     alloc: Global,
+    limits: Limits,
     cycles: u32,
     input: &[u8],
     opened: Opened,
 ) -> Result<(Domain, PagedAccount), ConductFault>
     requires short { cycles ≤ most_cycles }
-    requires opened { IsOpenedInput cycles input.now opened }
-    ensures ok { IfOk result (λ ran. IsAccountOfInput cycles input.now ran.0 ran.1) }
-    ensures err { IfErr result (IsFaultOfInput cycles input.now) }
+    requires opened { IsOpenedInput limits cycles input.now opened }
+    ensures ok { IfOk result (λ ran. IsAccountOfInput limits cycles input.now ran.0 ran.1) }
+    ensures err { IfErr result (IsFaultOfInput limits cycles input.now) }
 {
     let Opened {
         domain,
@@ -117,10 +119,10 @@ impl ThreadsOutput {
     }
 }
 
-/// The output of `run --threads` over so many cycles, 0 to 100,000, ready to be told. Each bridge of the domain and each
-/// administrator of the script runs on a thread of its own, and the calling thread closes the cycles. The calls of the script
-/// before its first Seal are made before; the later ones are made while the bridges run, each administrator's in order, and
-/// later Seals are passed over. It waits until all threads have ended.
+/// The output of `run --threads` over so many cycles, 0 to 100,000, for an input that is read within some limits, ready to be told. Each
+/// bridge of the domain and each administrator of the script runs on a thread of its own, and the calling thread closes the cycles. The
+/// calls of the script before its first Seal are made before; the later ones are made while the bridges run, each administrator's in
+/// order, and later Seals are passed over. It waits until all threads have ended.
 ///
 /// # Errors
 /// With status 1 and the line of the first fault of the input: of its parts, of the domain, the streams, the script, the
@@ -129,19 +131,20 @@ impl ThreadsOutput {
 pub fn threads_output(
     rt: &(impl Threads + Wait + Sync),
     alloc: Global,
+    limits: Limits,
     cycles: u32,
     input: &[u8],
 ) -> Result<ThreadsOutput, Stop>
     requires { cycles ≤ most_cycles }
-    ensures ok { IfOk result (λ output. IsThreadsOutput cycles input.now (text_of_account output)) }
-    ensures err { IfErr result (EndsThreads cycles input.now) }
+    ensures ok { IfOk result (λ output. IsThreadsOutput limits cycles input.now (text_of_account output)) }
+    ensures err { IfErr result (EndsThreads limits cycles input.now) }
 {
-    let opened = match read_opened(alloc, cycles, input) {
+    let opened = match read_opened(alloc, limits, cycles, input) {
         Ok(opened) => opened,
         Err(stop) => return Err(stop),
     };
     pages_tell_the_book();
-    let (domain, account) = match conduct_opened(rt, alloc, cycles, input, opened) {
+    let (domain, account) = match conduct_opened(rt, alloc, limits, cycles, input, opened) {
         Ok(ran) => ran,
         Err(fault) => return Err(fault_stop(alloc, fault)),
     };

@@ -1,7 +1,7 @@
 -- Values of a command, and the jobs that they rule out.
 use Rattle.std.specs.Prelude.{String}
 use Rattle.std.specs.declared.alloc.Global.{Global}
-use Rattle.std.proofs.Common.{◌≡◌, ◌≢◌, ◌∙◌, ◌+◌, ◌*◌, ℕ, true, refl, List, [], Option, Some, None, sym, ap, ap₂, subst}
+use Rattle.std.proofs.Common.{◌≡◌, ◌≢◌, ◌∙◌, ◌+◌, ◌*◌, ℕ, true, false, refl, List, [], Option, Some, None, sym, ap, ap₂, subst}
 use Rattle.std.proofs.Common.{slice_index, codes, arith, inl, inr, ◌⊎◌, Bool}
 use Rattle.clap.specs.Words.{App, Row, Text, first_of, fault_of, is_simple, is_simple_and_free, HasKind, HasMatchesOf, IsAmong, Kinds, kind_of, subcommand_of}
 use Rattle.clap.specs.Words.{Rule, rule_of, subcommand_rows_of}
@@ -20,7 +20,7 @@ use Rattle.cqf_program_words.specs.declared.words.Job.TheVariants.{Load, Offers,
 use Rattle.cqf_program_stop.specs.Stops.{EndsWith, line_of}
 use Rattle.cqf_program_stop.specs.declared.stops.Stop.{Stop}
 use Rattle.cqf_program_words.specs.Candidates.{AreNamed}
-use Rattle.cqf_program_words.specs.Words.{cqf_app, format_text, rate_text, IsJob, IsFreeIn, IsJobOf, IsNumberIn, AreGiven}
+use Rattle.cqf_program_words.specs.Words.{app_for, ask_for_large, cqf_app, format_text, rate_text, IsJob, IsFreeIn, IsJobOf, IsNumberIn, AreGiven}
 use Rattle.cqf_program_words.specs.Words.{Mean, AskForHelp, EndsBy, EndsWords, TellsNoCandidates, is_plan}
 
 -- an option whose parser was set goes by the rule that it went by, but for the parser
@@ -174,7 +174,7 @@ pub no_hops-cycles : (rows : List Row) → ((n : ℕ) → ¬ IsNumberIn 1 100000
 no_hops-cycles rows none = only_hops rows (λ cycles stream frame job. none cycles job.1)
 
 -- nor with something else than a frame
-pub no_hops-frame : (rows : List Row) → ((frame : Option ℕ) → ¬ IsFreeIn 1 1000000 frame (first_of (codes "frame") rows)) → (job : Job) →
+pub no_hops-frame : (rows : List Row) → ((frame : Option ℕ) → ¬ IsFreeIn 1 10000000 frame (first_of (codes "frame") rows)) → (job : Job) →
     ¬ IsJobOf job (codes "hops") rows
 no_hops-frame rows none = only_hops rows (λ cycles stream frame job. none frame job.3)
 
@@ -202,22 +202,22 @@ none_given word value same none (Some given) is =
     let P : Option Text → Type 0 = λ v. AreGiven (Some given) v in none given (subst P (sym same) is)
 
 -- where clap's error is one of the words' faults, and isn't for memory, they mean no job
-pub no_job-by_fault : (words : List Text) (kind : ErrorKind) → (kind ≡ OutOfMemory) ⊎ IsAmong kind (fault_of cqf_app words) → kind ≢ OutOfMemory → (job : Job) →
+pub no_job-by_fault : (words : List Text) (kind : ErrorKind) → (kind ≡ OutOfMemory) ⊎ IsAmong kind (fault_of (app_for words) words) → kind ≢ OutOfMemory → (job : Job) →
     ¬ Mean words job
 no_job-by_fault words kind (inl none) known job m = known none
 no_job-by_fault words kind (inr among) known job m = let P : Kinds → Type 0 = λ kinds. IsAmong kind kinds in subst P m.taken among
 
 -- an error that shows help comes of words that ask for it
-asked : (words : List Text) (kind : ErrorKind) → (kind ≡ OutOfMemory) ⊎ IsAmong kind (fault_of cqf_app words) → kind ≢ OutOfMemory →
+asked : (words : List Text) (kind : ErrorKind) → (kind ≡ OutOfMemory) ⊎ IsAmong kind (fault_of (app_for words) words) → kind ≢ OutOfMemory →
     (kind ≡ DisplayHelp) ⊎ (kind ≡ DisplayVersion) → AskForHelp words
 asked words kind (inl none) known shown = absurd (known none)
 asked words kind (inr among) known shown =
-    let P : ErrorKind → Type 0 = λ k. IsAmong k (fault_of cqf_app words) in
+    let P : ErrorKind → Type 0 = λ k. IsAmong k (fault_of (app_for words) words) in
     elim shown [ inl h ↦ inl (subst P h among) | inr v ↦ inr (subst P v among) ]
 
 -- an error that isn't for memory is one of the words' faults
-among_faults : (words : List Text) (kind : ErrorKind) → (kind ≡ OutOfMemory) ⊎ IsAmong kind (fault_of cqf_app words) → kind ≢ OutOfMemory →
-    IsAmong kind (fault_of cqf_app words)
+among_faults : (words : List Text) (kind : ErrorKind) → (kind ≡ OutOfMemory) ⊎ IsAmong kind (fault_of (app_for words) words) → kind ≢ OutOfMemory →
+    IsAmong kind (fault_of (app_for words) words)
 among_faults words kind (inl none) known = absurd (known none)
 among_faults words kind (inr among) known = among
 
@@ -226,7 +226,7 @@ not_three : (stop : Stop) → stop.status ≡ 0 → stop.status ≢ 3
 not_three stop zero three = omega arith
 
 -- a fault of the words ends the run by its kind
-pub EndsWords-by_fault : (words : List Text) (kind : ErrorKind) (stop : Stop) → (kind ≡ OutOfMemory) ⊎ IsAmong kind (fault_of cqf_app words) →
+pub EndsWords-by_fault : (words : List Text) (kind : ErrorKind) (stop : Stop) → (kind ≡ OutOfMemory) ⊎ IsAmong kind (fault_of (app_for words) words) →
     EndsBy kind stop → EndsWords words stop
 EndsWords-by_fault words kind stop h e = record {
   statuses = e.statuses;
@@ -236,20 +236,28 @@ EndsWords-by_fault words kind stop h e = record {
   memory = e.memory;
 }
 
--- the program's command is one whose faults clap states
-simple : is_simple_and_free cqf_app ≡ true
-simple = refl
+-- the program's command is one whose faults clap states, where plants may be large or not
+simple_and_free : (is_large : Bool) → is_simple_and_free (cqf_app is_large) ≡ true
+simple_and_free true = refl
+simple_and_free false = refl
+
+simple_app : (is_large : Bool) → is_simple (cqf_app is_large) ≡ true
+simple_app true = refl
+simple_app false = refl
+
+simple : (words : List Text) → is_simple_and_free (app_for words) ≡ true
+simple words = simple_and_free (ask_for_large words)
 
 -- the same of what clap says of an error, for a command that is the program's
-pub EndsWords-by_error : (app : App) (words : List Text) (error : Error) (stop : Stop) → app ≡ cqf_app →
+pub EndsWords-by_error : (app : App) (words : List Text) (error : Error) (stop : Stop) → app ≡ app_for words →
     (is_simple_and_free app ≡ true → HasKind (fault_of app words) error) → EndsBy (kind_of error) stop → EndsWords words stop
 EndsWords-by_error app words error stop same fails e =
     let P : App → Type 0 = λ a. HasKind (fault_of a words) error in
-    EndsWords-by_fault words (kind_of error) stop (subst P same (fails (ap is_simple_and_free same ∙ simple))) e
+    EndsWords-by_fault words (kind_of error) stop (subst P same (fails (ap is_simple_and_free same ∙ simple words))) e
 
 -- where clap takes the words, and no job is read of them, they mean none
-pub EndsWords-by_value : (words : List Text) (stop : Stop) → EndsBy InvalidValue stop → fault_of cqf_app words ≡ [] →
-    ((job : Job) → ¬ IsJob job (subcommand_of cqf_app words)) → EndsWords words stop
+pub EndsWords-by_value : (words : List Text) (stop : Stop) → EndsBy InvalidValue stop → fault_of (app_for words) words ≡ [] →
+    ((job : Job) → ¬ IsJob job (subcommand_of (app_for words) words)) → EndsWords words stop
 EndsWords-by_value words stop e taken none = record {
   statuses = e.statuses;
   no_job = λ known job m. none job m.read;
@@ -259,22 +267,22 @@ EndsWords-by_value words stop e taken none = record {
 }
 
 -- the rows of the command's matches, for a command that is the program's
-pub EndsWords-by_matches : (app : App) (words : List Text) (matches : ArgMatches) (stop : Stop) → app ≡ cqf_app →
+pub EndsWords-by_matches : (app : App) (words : List Text) (matches : ArgMatches) (stop : Stop) → app ≡ app_for words →
     (is_simple_and_free app ≡ true → fault_of app words ≡ []) → HasMatchesOf app words matches → EndsBy InvalidValue stop →
     ((job : Job) → ¬ IsJob job (subcommand_rows_of matches)) → EndsWords words stop
 EndsWords-by_matches app words matches stop same taken has e none =
-    let rows : subcommand_rows_of matches ≡ subcommand_of cqf_app words = (has (ap is_simple same ∙ refl)).1 ∙ ap (λ (a : App). subcommand_of a words) same in
+    let rows : subcommand_rows_of matches ≡ subcommand_of (app_for words) words = (has (ap is_simple same ∙ simple_app (ask_for_large words))).1 ∙ ap (λ (a : App). subcommand_of a words) same in
     let P : Option (Text × List Row) → Type 0 = λ r. (job : Job) → ¬ IsJob job r in
-    EndsWords-by_value words stop e (ap (λ (a : App). fault_of a words) (sym same) ∙ taken (ap is_simple_and_free same ∙ simple)) (subst P rows none)
+    EndsWords-by_value words stop e (ap (λ (a : App). fault_of a words) (sym same) ∙ taken (ap is_simple_and_free same ∙ simple words)) (subst P rows none)
 
 -- and the job that is read of them is what the words mean
-pub Mean-by_matches : (app : App) (words : List Text) (matches : ArgMatches) (job : Job) → app ≡ cqf_app →
+pub Mean-by_matches : (app : App) (words : List Text) (matches : ArgMatches) (job : Job) → app ≡ app_for words →
     (is_simple_and_free app ≡ true → fault_of app words ≡ []) → HasMatchesOf app words matches → IsJob job (subcommand_rows_of matches) → Mean words job
 Mean-by_matches app words matches job same taken has is_job =
-    let rows : subcommand_rows_of matches ≡ subcommand_of cqf_app words = (has (ap is_simple same ∙ refl)).1 ∙ ap (λ (a : App). subcommand_of a words) same in
+    let rows : subcommand_rows_of matches ≡ subcommand_of (app_for words) words = (has (ap is_simple same ∙ simple_app (ask_for_large words))).1 ∙ ap (λ (a : App). subcommand_of a words) same in
     let P : Option (Text × List Row) → Type 0 = λ r. IsJob job r in
     record {
-      taken = ap (λ (a : App). fault_of a words) (sym same) ∙ taken (ap is_simple_and_free same ∙ simple);
+      taken = ap (λ (a : App). fault_of a words) (sym same) ∙ taken (ap is_simple_and_free same ∙ simple words);
       read = subst P rows is_job;
     }
 
@@ -301,17 +309,17 @@ EndsWords-told words stop told e (inr three) memory = record {
 }
 
 -- where clap takes the words, its matches say whether they are for `plan`
-pub TellsNoCandidates-by_matches : (app : App) (words : List Text) (matches : ArgMatches) (stop : Stop) → app ≡ cqf_app → HasMatchesOf app words matches →
+pub TellsNoCandidates-by_matches : (app : App) (words : List Text) (matches : ArgMatches) (stop : Stop) → app ≡ app_for words → HasMatchesOf app words matches →
     (is_plan (subcommand_rows_of matches) ≡ true → EndsWith 2 (line_of (codes "cqf: words")) stop) → TellsNoCandidates words stop
 TellsNoCandidates-by_matches app words matches stop same has ends = λ taken plan two.
-    let rows : subcommand_rows_of matches ≡ subcommand_of cqf_app words = (has (ap is_simple same ∙ refl)).1 ∙ ap (λ (a : App). subcommand_of a words) same in
+    let rows : subcommand_rows_of matches ≡ subcommand_of (app_for words) words = (has (ap is_simple same ∙ simple_app (ask_for_large words))).1 ∙ ap (λ (a : App). subcommand_of a words) same in
     (ends (ap is_plan rows ∙ plan)).line_is two
 
 -- where clap refuses the words, it doesn't take them
-pub TellsNoCandidates-by_error : (app : App) (words : List Text) (error : Error) (stop : Stop) → app ≡ cqf_app →
+pub TellsNoCandidates-by_error : (app : App) (words : List Text) (error : Error) (stop : Stop) → app ≡ app_for words →
     (is_simple_and_free app ≡ true → HasKind (fault_of app words) error) → EndsBy (kind_of error) stop → TellsNoCandidates words stop
 TellsNoCandidates-by_error app words error stop same fails e = λ taken plan two.
     let P : App → Type 0 = λ a. HasKind (fault_of a words) error in
-    let among = among_faults words (kind_of error) (subst P same (fails (ap is_simple_and_free same ∙ simple))) (e.known (λ three. omega arith)) in
+    let among = among_faults words (kind_of error) (subst P same (fails (ap is_simple_and_free same ∙ simple words))) (e.known (λ three. omega arith)) in
     let Q : Kinds → Type 0 = λ kinds. IsAmong (kind_of error) kinds in
     absurd (subst Q taken among)

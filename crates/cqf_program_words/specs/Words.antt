@@ -1,5 +1,6 @@
 -- What the words of a command line mean (profile): clap's reading of them, for the command that is written out here.
 use Rattle.std.specs.Prelude.{ℕ, ◌≡◌, ◌≢◌, ◌⊎◌, ◌≤◌, Bool, true, false, List, [], ◌∷◌, Option, Some, None, codes, bytes_eq, option_map, string_bytes}
+use Rattle.std.specs.List.{list_any}
 use Rattle.std.specs.Str.Parse.{IsNumeral, digits_value, without_leading_plus}
 use Rattle.clap.specs.Words.{App, Row, Rule, Text, first_of, fault_of, new_app, new_rule, subcommand_of, with_rule, with_subcommand, IsAmong}
 use Rattle.clap.specs.Simple.{on_top}
@@ -17,7 +18,8 @@ use Rattle.cqf_program_words.specs.declared.words.Job.TheVariants.{Check, Compil
 use Rattle.cqf_program_words.specs.declared.words.Job.TheVariants.{Load, Offers, Plan, Port, Report, Run, Summary}
 use Rattle.cqf_program_stop.specs.Stops.{line_of}
 use Rattle.cqf_program_stop.specs.declared.stops.Stop.{Stop}
-use Rattle.cqf_model.specs.Limits.{last_until, most_cycles, profile}
+use Rattle.cqf_model.specs.declared.limits.Limits.{Limits}
+use Rattle.cqf_model.specs.Limits.{large, last_until, limits_where, most_cycles}
 use Rattle.cqf_program_words.specs.Candidates.{AreNamed}
 
 -- an option `--NAME N` that has to be given
@@ -52,13 +54,17 @@ free_number_rule name least most = record (free_rule name) { parser = Some (Unsi
 abbrev pub seed_rule : Rule
 seed_rule = free_number_rule (codes "seed") 0 4294967295
 
--- the option `--frame F`
-abbrev pub frame_rule : Rule
-frame_rule = free_number_rule (codes "frame") 1 profile.rows
+-- the option `--frame F`, where plants may be large or not: a number that an offer may have
+abbrev pub frame_rule : Bool → Rule
+frame_rule is_large = free_number_rule (codes "frame") 1 (limits_where is_large).rows
 
 -- a flag `--NAME`
 abbrev pub flag_rule : Text → Rule
 flag_rule name = record (new_rule name) { long = Some name; action = Some SetTrue }
+
+-- the flag `--large`
+abbrev pub large_rule : Rule
+large_rule = flag_rule (codes "large")
 
 -- `port --until N [--rate RATE]`
 abbrev pub port_app : App
@@ -68,57 +74,61 @@ port_app = with_rule (with_rule (new_app (codes "port")) (number_rule (codes "un
 abbrev pub line_app : App
 line_app = with_rule (new_app (codes "line")) (number_rule (codes "cycles") 1 most_cycles)
 
--- `compile [--format FORMAT]`
+-- a command with the flag `--large` behind its other options: one that reads a plant
+abbrev pub of_plants : App → App
+of_plants app = with_rule app large_rule
+
+-- `compile [--format FORMAT] [--large]`
 abbrev pub compile_app : App
-compile_app = with_rule (new_app (codes "compile")) format_rule
+compile_app = of_plants (with_rule (new_app (codes "compile")) format_rule)
 
--- `load`
+-- `load [--large]`
 abbrev pub load_app : App
-load_app = new_app (codes "load")
+load_app = of_plants (new_app (codes "load"))
 
--- `latency [--strict]`
+-- `latency [--strict] [--large]`
 abbrev pub latency_app : App
-latency_app = with_rule (new_app (codes "latency")) (flag_rule (codes "strict"))
+latency_app = of_plants (with_rule (new_app (codes "latency")) (flag_rule (codes "strict")))
 
--- `run --cycles N [--threads]`
+-- `run --cycles N [--threads] [--large]`
 abbrev pub run_app : App
-run_app = with_rule (with_rule (new_app (codes "run")) (number_rule (codes "cycles") 1 most_cycles)) (flag_rule (codes "threads"))
+run_app = of_plants (with_rule (with_rule (new_app (codes "run")) (number_rule (codes "cycles") 1 most_cycles)) (flag_rule (codes "threads")))
 
--- `report --cycles N`
+-- `report --cycles N [--large]`
 abbrev pub report_app : App
-report_app = with_rule (new_app (codes "report")) (number_rule (codes "cycles") 1 most_cycles)
+report_app = of_plants (with_rule (new_app (codes "report")) (number_rule (codes "cycles") 1 most_cycles))
 
--- `deliveries --cycles N`
+-- `deliveries --cycles N [--large]`
 abbrev pub deliveries_app : App
-deliveries_app = with_rule (new_app (codes "deliveries")) (number_rule (codes "cycles") 1 most_cycles)
+deliveries_app = of_plants (with_rule (new_app (codes "deliveries")) (number_rule (codes "cycles") 1 most_cycles))
 
--- `check --cycles N`
+-- `check --cycles N [--large]`
 abbrev pub check_app : App
-check_app = with_rule (new_app (codes "check")) (number_rule (codes "cycles") 1 most_cycles)
+check_app = of_plants (with_rule (new_app (codes "check")) (number_rule (codes "cycles") 1 most_cycles))
 
--- `summary --cycles N`
+-- `summary --cycles N [--large]`
 abbrev pub summary_app : App
-summary_app = with_rule (new_app (codes "summary")) (number_rule (codes "cycles") 1 most_cycles)
+summary_app = of_plants (with_rule (new_app (codes "summary")) (number_rule (codes "cycles") 1 most_cycles))
 
--- `offers --cycles N [--seed S]`
+-- `offers --cycles N [--seed S] [--large]`
 abbrev pub offers_app : App
-offers_app = with_rule (with_rule (new_app (codes "offers")) (number_rule (codes "cycles") 1 most_cycles)) seed_rule
+offers_app = of_plants (with_rule (with_rule (new_app (codes "offers")) (number_rule (codes "cycles") 1 most_cycles)) seed_rule)
 
--- `hops --cycles N [--stream NAME] [--frame F]`
-abbrev pub hops_app : App
-hops_app =
-    with_rule (with_rule (with_rule (new_app (codes "hops")) (number_rule (codes "cycles") 1 most_cycles)) (free_rule (codes "stream"))) frame_rule
+-- `hops --cycles N [--stream NAME] [--frame F] [--large]`, where plants may be large or not
+abbrev pub hops_app : Bool → App
+hops_app is_large = of_plants (with_rule
+    (with_rule (with_rule (new_app (codes "hops")) (number_rule (codes "cycles") 1 most_cycles)) (free_rule (codes "stream"))) (frame_rule is_large))
 
--- `plan [--table] [--cycle WORD]`
+-- `plan [--table] [--cycle WORD] [--large]`
 abbrev pub plan_app : App
-plan_app = with_rule (with_rule (new_app (codes "plan")) (flag_rule (codes "table"))) (free_rule (codes "cycle"))
+plan_app = of_plants (with_rule (with_rule (new_app (codes "plan")) (flag_rule (codes "table"))) (free_rule (codes "cycle")))
 
 -- the program's name, and settings: the words come without the program's name, and one of the commands has to be given
 abbrev pub named_app : App
 named_app = on_top (λ s. record s { no_binary_name = true; subcommand_required = true }) (new_app (codes "cqf"))
 
 -- the commands that take no domain, those that run no scenario, those that tell nothing of deliveries, those that judge deliveries
--- too, those that read what is offered, and all of the program's
+-- too, those that read what is offered, and all of the program's, where plants may be large or not
 abbrev pub app_without_domain : App
 app_without_domain = with_subcommand (with_subcommand named_app port_app.top) line_app.top
 
@@ -131,11 +141,26 @@ app_without_deliveries = with_subcommand (with_subcommand first_app run_app.top)
 abbrev pub app_of_runs : App
 app_of_runs = with_subcommand (with_subcommand app_without_deliveries deliveries_app.top) check_app.top
 
-abbrev pub app_of_scenarios : App
-app_of_scenarios = with_subcommand (with_subcommand app_of_runs summary_app.top) hops_app.top
+abbrev pub app_of_scenarios : Bool → App
+app_of_scenarios is_large = with_subcommand (with_subcommand app_of_runs summary_app.top) (hops_app is_large).top
 
-abbrev pub cqf_app : App
-cqf_app = with_subcommand (with_subcommand app_of_scenarios offers_app.top) plan_app.top
+abbrev pub cqf_app : Bool → App
+cqf_app is_large = with_subcommand (with_subcommand (app_of_scenarios is_large) offers_app.top) plan_app.top
+
+-- whether words ask for large plants: one of them is `--large`
+abbrev pub is_large_word : Text → Bool
+is_large_word word = bytes_eq word (codes "--large")
+
+abbrev pub ask_for_large : List Text → Bool
+ask_for_large words = list_any is_large_word words
+
+-- the limits within which their plants are read
+abbrev pub limits_of : List Text → Limits
+limits_of words = limits_where (ask_for_large words)
+
+-- the commands as these words may use them
+abbrev pub app_for : List Text → App
+app_for words = cqf_app (ask_for_large words)
 
 -- the text of a value writes a number from least to most: digits, and a plus may stand first
 abbrev pub IsNumberIn : ℕ → ℕ → ℕ → Option Text → Type 0
@@ -202,7 +227,7 @@ IsJobOf (Offers cycles seed) name rows = (name ≡ codes "offers")
 IsJobOf (Hops cycles stream frame) name rows = (name ≡ codes "hops")
     × IsNumberIn 1 most_cycles cycles (first_of (codes "cycles") rows)
     × (option_map string_bytes stream ≡ first_of (codes "stream") rows)
-    × IsFreeIn 1 profile.rows frame (first_of (codes "frame") rows)
+    × IsFreeIn 1 large.rows frame (first_of (codes "frame") rows)
 IsJobOf (Plan table given) name rows = (name ≡ codes "plan")
     × IsFlagGiven table (first_of (codes "table") rows)
     × AreGiven given (first_of (codes "cycle") rows)
@@ -220,12 +245,12 @@ IsJob job (Some command) = IsJobOf job command.0 command.1
 
 -- the words mean the job: clap takes them, and the command and the values that it reads are the job's
 pub record Mean (words : List Text) (job : Job) : Type 0 where
-  pub taken : fault_of cqf_app words ≡ []
-  pub read : IsJob job (subcommand_of cqf_app words)
+  pub taken : fault_of (app_for words) words ≡ []
+  pub read : IsJob job (subcommand_of (app_for words) words)
 
 -- the words ask for help
 abbrev pub AskForHelp : List Text → Type 0
-AskForHelp words = IsAmong DisplayHelp (fault_of cqf_app words) ⊎ IsAmong DisplayVersion (fault_of cqf_app words)
+AskForHelp words = IsAmong DisplayHelp (fault_of (app_for words) words) ⊎ IsAmong DisplayVersion (fault_of (app_for words) words)
 
 -- a kind of error that shows no help
 abbrev pub ShowsNoHelp : ErrorKind → Type 0
@@ -233,8 +258,8 @@ ShowsNoHelp kind = (kind ≢ DisplayHelp) × (kind ≢ DisplayVersion)
 
 -- the words are a mistake: clap refuses them, and not for a request for help; or it takes them, and no job is read of them
 abbrev pub AreMistaken : List Text → Type 0
-AreMistaken words = ((kind : ErrorKind) × IsAmong kind (fault_of cqf_app words) × ShowsNoHelp kind)
-    ⊎ ((fault_of cqf_app words ≡ []) × ((job : Job) → ¬ IsJob job (subcommand_of cqf_app words)))
+AreMistaken words = ((kind : ErrorKind) × IsAmong kind (fault_of (app_for words) words) × ShowsNoHelp kind)
+    ⊎ ((fault_of (app_for words) words ≡ []) × ((job : Job) → ¬ IsJob job (subcommand_of (app_for words) words)))
 
 -- how an error of clap's ends: a request for help with status 0, a mistake with status 2. Without memory the status is
 -- 3, and there is no text
@@ -261,5 +286,5 @@ is_plan (Some command) = bytes_eq command.0 (codes "plan")
 
 -- where clap takes the words, for `plan`, and they are a mistake, the word for candidates names none: the line is the program's own
 abbrev pub TellsNoCandidates : List Text → Stop → Type 0
-TellsNoCandidates words stop = fault_of cqf_app words ≡ [] → is_plan (subcommand_of cqf_app words) ≡ true → stop.status ≡ 2
+TellsNoCandidates words stop = fault_of (app_for words) words ≡ [] → is_plan (subcommand_of (app_for words) words) ≡ true → stop.status ≡ 2
     → stop.text.items ≡ line_of (codes "cqf: words")

@@ -1,10 +1,10 @@
 //! The commands with their options, as `clap` has them.
 ghost use Rattle.std.specs.Prelude.{◌≡◌, ◌<◌, IfOk, codes, false, true};
 ghost use Rattle.clap.specs.declared.builder.command.Command.TheViews.{out-Command};
-ghost use Rattle.clap.specs.Words.{app_of, rule_of};
+ghost use Rattle.clap.specs.Words.{app_of, new_app, rule_of, with_rule};
 ghost use Rattle.cqf_program_words.specs.Words.{app_without_deliveries, app_without_domain, check_app, cqf_app};
 ghost use Rattle.cqf_program_words.specs.Words.{compile_app, deliveries_app, first_app, latency_app, line_app, load_app};
-ghost use Rattle.cqf_program_words.specs.Words.{named_app, port_app, report_app, run_app, default_rule, flag_rule};
+ghost use Rattle.cqf_program_words.specs.Words.{named_app, port_app, report_app, run_app, default_rule, flag_rule, large_rule};
 ghost use Rattle.cqf_program_words.specs.Words.{format_rule, number_rule, rate_rule};
 ghost use Rattle.cqf_program_words.specs.Words.{app_of_runs, app_of_scenarios, free_rule, frame_rule, hops_app, offers_app, plan_app, summary_app};
 ghost use Rattle.cqf_program_words.specs.Words.{seed_rule, wanted_rule};
@@ -107,13 +107,45 @@ fn stream_option<'a>(alloc: Global) -> Arg<'a>
     free_option(alloc, "stream", "NAME", "only frames of this stream")
 }
 
-/// The option `--frame F`.
-fn frame_option<'a>(alloc: Global) -> Arg<'a>
-    ensures rule { rule_of result ≡ frame_rule }
+/// The option `--frame F` of plants that may be large.
+fn large_frame_option<'a>(alloc: Global) -> Arg<'a>
+    ensures rule { rule_of result ≡ frame_rule true }
+    ensures own { result.global ≡ false }
+{
+    let help = "only this frame, 1 to 10000000";
+    free_option(alloc, "frame", "F", help).value_parser(value_parser!(u64).range(1..10_000_001))
+}
+
+/// The option `--frame F` of plants of the profile.
+fn small_frame_option<'a>(alloc: Global) -> Arg<'a>
+    ensures rule { rule_of result ≡ frame_rule false }
     ensures own { result.global ≡ false }
 {
     let help = "only this frame, 1 to 1000000";
     free_option(alloc, "frame", "F", help).value_parser(value_parser!(u64).range(1..1_000_001))
+}
+
+/// The option `--frame F`, where plants may be large or not.
+fn frame_option<'a>(alloc: Global, is_large: bool) -> Arg<'a>
+    ensures rule { rule_of result ≡ frame_rule is_large }
+    ensures own { result.global ≡ false }
+{
+    if is_large {
+        large_frame_option(alloc)
+    } else {
+        small_frame_option(alloc)
+    }
+}
+
+/// The flag `--large`.
+fn large_flag<'a>(alloc: Global) -> Arg<'a>
+    ensures rule { rule_of result ≡ large_rule }
+    ensures own { result.global ≡ false }
+{
+    Arg::new(alloc, "large")
+        .long("large")
+        .action(ArgAction::SetTrue)
+        .help("a plant of up to 1024 bridges, 4096 links and 16384 streams")
 }
 
 /// The option `--cycle WORD`.
@@ -190,7 +222,7 @@ fn line_command<'a>(alloc: Global) -> Result<Command<'a>, AllocError>
         .arg(cycles_option(alloc))
 }
 
-/// `compile [--format FORMAT]`.
+/// `compile [--format FORMAT] [--large]`.
 fn compile_command<'a>(alloc: Global) -> Result<Command<'a>, AllocError>
     ensures app { IfOk result (λ command. app_of command ≡ compile_app) }
     ensures local { IfOk result (λ command. (out-Command command).has_globals ≡ false) }
@@ -198,20 +230,22 @@ fn compile_command<'a>(alloc: Global) -> Result<Command<'a>, AllocError>
     Command::new(alloc, "compile")
         .about("the gate lists and stream gates of a domain and its streams")
         .after_help(COMPILE_INPUT)
-        .arg(format_option(alloc))
+        .arg(format_option(alloc))?
+        .arg(large_flag(alloc))
 }
 
-/// `load`.
-fn load_command<'a>(alloc: Global) -> Command<'a>
-    ensures app { app_of result ≡ load_app }
-    ensures local { (out-Command result).has_globals ≡ false }
+/// `load [--large]`.
+fn load_command<'a>(alloc: Global) -> Result<Command<'a>, AllocError>
+    ensures app { IfOk result (λ command. app_of command ≡ load_app) }
+    ensures local { IfOk result (λ command. (out-Command command).has_globals ≡ false) }
 {
     Command::new(alloc, "load")
         .about("what each link holds and has left")
         .after_help(LOAD_INPUT)
+        .arg(large_flag(alloc))
 }
 
-/// `latency [--strict]`.
+/// `latency [--strict] [--large]`.
 fn latency_command<'a>(alloc: Global) -> Result<Command<'a>, AllocError>
     ensures app { IfOk result (λ command. app_of command ≡ latency_app) }
     ensures local { IfOk result (λ command. (out-Command command).has_globals ≡ false) }
@@ -219,10 +253,11 @@ fn latency_command<'a>(alloc: Global) -> Result<Command<'a>, AllocError>
     Command::new(alloc, "latency")
         .about("how long the frames of each stream take to each listener")
         .after_help(LATENCY_INPUT)
-        .arg(strict_flag(alloc))
+        .arg(strict_flag(alloc))?
+        .arg(large_flag(alloc))
 }
 
-/// `run --cycles N [--threads]`.
+/// `run --cycles N [--threads] [--large]`.
 fn run_command<'a>(alloc: Global) -> Result<Command<'a>, AllocError>
     ensures app { IfOk result (λ command. app_of command ≡ run_app) }
     ensures local { IfOk result (λ command. (out-Command command).has_globals ≡ false) }
@@ -231,10 +266,11 @@ fn run_command<'a>(alloc: Global) -> Result<Command<'a>, AllocError>
         .about("the history and the book of a domain, its streams, a script and offers")
         .after_help(RUN_INPUT)
         .arg(cycles_option(alloc))?
-        .arg(threads_flag(alloc))
+        .arg(threads_flag(alloc))?
+        .arg(large_flag(alloc))
 }
 
-/// `report --cycles N`.
+/// `report --cycles N [--large]`.
 fn report_command<'a>(alloc: Global) -> Result<Command<'a>, AllocError>
     ensures app { IfOk result (λ command. app_of command ≡ report_app) }
     ensures local { IfOk result (λ command. (out-Command command).has_globals ≡ false) }
@@ -242,10 +278,11 @@ fn report_command<'a>(alloc: Global) -> Result<Command<'a>, AllocError>
     Command::new(alloc, "report")
         .about("what each link carries in a run")
         .after_help(REPORT_INPUT)
-        .arg(cycles_option(alloc))
+        .arg(cycles_option(alloc))?
+        .arg(large_flag(alloc))
 }
 
-/// `deliveries --cycles N`.
+/// `deliveries --cycles N [--large]`.
 fn deliveries_command<'a>(alloc: Global) -> Result<Command<'a>, AllocError>
     ensures app { IfOk result (λ command. app_of command ≡ deliveries_app) }
     ensures local { IfOk result (λ command. (out-Command command).has_globals ≡ false) }
@@ -253,10 +290,11 @@ fn deliveries_command<'a>(alloc: Global) -> Result<Command<'a>, AllocError>
     Command::new(alloc, "deliveries")
         .about("what becomes of each offered frame of a run, at each listener")
         .after_help(DELIVERIES_INPUT)
-        .arg(cycles_option(alloc))
+        .arg(cycles_option(alloc))?
+        .arg(large_flag(alloc))
 }
 
-/// `check --cycles N`.
+/// `check --cycles N [--large]`.
 fn check_command<'a>(alloc: Global) -> Result<Command<'a>, AllocError>
     ensures app { IfOk result (λ command. app_of command ≡ check_app) }
     ensures local { IfOk result (λ command. (out-Command command).has_globals ≡ false) }
@@ -264,10 +302,11 @@ fn check_command<'a>(alloc: Global) -> Result<Command<'a>, AllocError>
     Command::new(alloc, "check")
         .about("whether all offered frames of a run come to their listeners, in time")
         .after_help(CHECK_INPUT)
-        .arg(cycles_option(alloc))
+        .arg(cycles_option(alloc))?
+        .arg(large_flag(alloc))
 }
 
-/// `summary --cycles N`.
+/// `summary --cycles N [--large]`.
 fn summary_command<'a>(alloc: Global) -> Result<Command<'a>, AllocError>
     ensures app { IfOk result (λ command. app_of command ≡ summary_app) }
     ensures local { IfOk result (λ command. (out-Command command).has_globals ≡ false) }
@@ -275,10 +314,11 @@ fn summary_command<'a>(alloc: Global) -> Result<Command<'a>, AllocError>
     Command::new(alloc, "summary")
         .about("how the frames of each stream of a run fare to each of its listeners")
         .after_help(SUMMARY_INPUT)
-        .arg(cycles_option(alloc))
+        .arg(cycles_option(alloc))?
+        .arg(large_flag(alloc))
 }
 
-/// `offers --cycles N [--seed S]`.
+/// `offers --cycles N [--seed S] [--large]`.
 fn offers_command<'a>(alloc: Global) -> Result<Command<'a>, AllocError>
     ensures app { IfOk result (λ command. app_of command ≡ offers_app) }
     ensures local { IfOk result (λ command. (out-Command command).has_globals ≡ false) }
@@ -287,23 +327,34 @@ fn offers_command<'a>(alloc: Global) -> Result<Command<'a>, AllocError>
         .about("what the streams of a plant offer")
         .after_help(OFFERS_INPUT)
         .arg(cycles_option(alloc))?
-        .arg(seed_option(alloc))
+        .arg(seed_option(alloc))?
+        .arg(large_flag(alloc))
 }
 
-/// `hops --cycles N [--stream NAME] [--frame F]`.
-fn hops_command<'a>(alloc: Global) -> Result<Command<'a>, AllocError>
-    ensures app { IfOk result (λ command. app_of command ≡ hops_app) }
+/// `hops --cycles N [--stream NAME]`, to which its other options are to be added.
+fn begun_hops_command<'a>(alloc: Global) -> Result<Command<'a>, AllocError>
+    ensures app { IfOk result (λ command. app_of command ≡
+        with_rule (with_rule (new_app (codes "hops")) (number_rule (codes "cycles") 1 most_cycles)) (free_rule (codes "stream"))) }
     ensures local { IfOk result (λ command. (out-Command command).has_globals ≡ false) }
 {
     Command::new(alloc, "hops")
         .about("the book of a run by frame: when each is on which link")
         .after_help(HOPS_INPUT)
         .arg(cycles_option(alloc))?
-        .arg(stream_option(alloc))?
-        .arg(frame_option(alloc))
+        .arg(stream_option(alloc))
 }
 
-/// `plan [--table] [--cycle WORD]`.
+/// `hops --cycles N [--stream NAME] [--frame F] [--large]`.
+fn hops_command<'a>(alloc: Global, is_large: bool) -> Result<Command<'a>, AllocError>
+    ensures app { IfOk result (λ command. app_of command ≡ hops_app is_large) }
+    ensures local { IfOk result (λ command. (out-Command command).has_globals ≡ false) }
+{
+    begun_hops_command(alloc)?
+        .arg(frame_option(alloc, is_large))?
+        .arg(large_flag(alloc))
+}
+
+/// `plan [--table] [--cycle WORD] [--large]`.
 fn plan_command<'a>(alloc: Global) -> Result<Command<'a>, AllocError>
     ensures app { IfOk result (λ command. app_of command ≡ plan_app) }
     ensures local { IfOk result (λ command. (out-Command command).has_globals ≡ false) }
@@ -312,7 +363,8 @@ fn plan_command<'a>(alloc: Global) -> Result<Command<'a>, AllocError>
         .about("a plant for a sketch: its cycle time, and the way of each stream")
         .after_help(PLAN_INPUT)
         .arg(table_flag(alloc))?
-        .arg(cycle_option(alloc))
+        .arg(cycle_option(alloc))?
+        .arg(large_flag(alloc))
 }
 
 /// The program without its commands. Its name stands in the usage of each command.
@@ -346,10 +398,11 @@ fn first_commands<'a>(alloc: Global) -> Result<Command<'a>, AllocError>
     ensures local { IfOk result (λ command. (out-Command command).has_globals ≡ false) }
 {
     let compile = compile_command(alloc)?;
+    let load = load_command(alloc)?;
     let latency = latency_command(alloc)?;
     commands_without_domain(alloc)?
         .subcommand(compile)?
-        .subcommand(load_command(alloc))?
+        .subcommand(load)?
         .subcommand(latency)
 }
 
@@ -375,26 +428,26 @@ fn commands_of_runs<'a>(alloc: Global) -> Result<Command<'a>, AllocError>
         .subcommand(check)
 }
 
-/// The commands that read a scenario, and those before them.
-fn commands_of_scenarios<'a>(alloc: Global) -> Result<Command<'a>, AllocError>
-    ensures app { IfOk result (λ command. app_of command ≡ app_of_scenarios) }
+/// The commands that read a scenario, and those before them, where plants may be large or not.
+fn commands_of_scenarios<'a>(alloc: Global, is_large: bool) -> Result<Command<'a>, AllocError>
+    ensures app { IfOk result (λ command. app_of command ≡ app_of_scenarios is_large) }
     ensures local { IfOk result (λ command. (out-Command command).has_globals ≡ false) }
 {
     let summary = summary_command(alloc)?;
-    let hops = hops_command(alloc)?;
+    let hops = hops_command(alloc, is_large)?;
     commands_of_runs(alloc)?
         .subcommand(summary)?
         .subcommand(hops)
 }
 
-/// The program's commands.
-pub(crate) fn commands<'a>(alloc: Global) -> Result<Command<'a>, AllocError>
-    ensures app { IfOk result (λ command. app_of command ≡ cqf_app) }
+/// The program's commands, where plants may be large or not.
+pub(crate) fn commands<'a>(alloc: Global, is_large: bool) -> Result<Command<'a>, AllocError>
+    ensures app { IfOk result (λ command. app_of command ≡ cqf_app is_large) }
     ensures local { IfOk result (λ command. (out-Command command).has_globals ≡ false) }
 {
     let offers = offers_command(alloc)?;
     let plan = plan_command(alloc)?;
-    commands_of_scenarios(alloc)?
+    commands_of_scenarios(alloc, is_large)?
         .subcommand(offers)?
         .subcommand(plan)
 }

@@ -52,12 +52,12 @@ pub(crate) const LOAD_INPUT: &str = plant_input!(
     r"
 
 The output has a line for each link: its rate in Mb/s, its budget, what the
-streams hold of it and what is left, the greatest reservation that still fits,
-how many streams go by it, and the share of the budget that is held, in percent.
-Budget, held and left are octets a cycle on the wire, and of what is reserved,
-not of what is sent: a cost is that of a reservation that is sent in frames of
-64 octets, the dearest way. A plan that is over is told too: left is then
-below 0."
+streams hold of it and what is left, the greatest reservation in each cycle that
+still fits, how many streams go by it, and the share of the budget that is held,
+in percent. Budget, held and left are octets a cycle on the wire, where streams
+pause those of the fullest cycle, and of what is reserved, not of what is sent:
+a cost is that of a reservation that is sent in frames of 64 octets, the dearest
+way. A plan that is over is told too: left is then below 0."
 );
 
 /// What the help of `latency` says of standard input and of its output.
@@ -132,8 +132,9 @@ listener, the instant at which the frame is whole there, how long after its
 offer that is, the stream's deadline, all in ns, and what becomes of it:
 delivered; late, where that is longer than the deadline; or under-way, where it
 hasn't started on its last link within N cycles. A frame that is dropped at its
-edge has one line, with the reason and no listener. Offers of cycles that aren't
-run have no line, nor have background frames.";
+edge, as one is that comes while its stream pauses, has one line, with the
+reason and no listener. Offers of cycles that aren't run have no line, nor have
+background frames.";
 
 /// What the help of `check` says of standard input and of its statuses.
 pub(crate) const CHECK_INPUT: &str =

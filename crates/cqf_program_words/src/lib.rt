@@ -3,9 +3,12 @@
 //! - [`read_words`] gives the [`Job`] that some words mean, and else the end of the run: clap's text, with status 2 for a
 //!   mistake and 0 for a request for help.
 //!
+//! - [`ask_for_large`] says whether words ask for large plants, and [`limits_of`] gives the limits within which their plants are read.
+//!
 //! - [`stop_of_file`], [`stop_of_line`] and [`stop_of_long_line`] end a run with a line that shows a text that may hold anything.
 //!
-//! - [`split_operands`] tells the files that some words name from the other words; [`check_files`] refuses standard input that is named twice.
+//! - [`split_operands`] tells the files that some words name from the other words; [`check_files`] refuses standard input that is named
+//!   twice.
 //!
 //! `specs/Words.antt` has the commands and their options as a value, and what it is that words `Mean` a job, are a mistake
 //! or ask for help.
@@ -44,4 +47,4 @@ pub use composing::{
 pub use naming::candidates_named;
 pub use operands::{Operands, STANDARD, check_files, operands_of, split_operands};
 pub use shown::{stop_of_file, stop_of_line, stop_of_long_line};
-pub use words::{Format, Job, read_words};
+pub use words::{Format, Job, ask_for_large, limits_of, read_words};

@@ -9,7 +9,9 @@ ghost use Rattle.cqf_program_words.specs.Words.{AreGiven, IsFlagGiven, IsFreeIn,
 ghost use Rattle.cqf_program_words.specs.declared.candidates.Candidates.{Candidates};
 ghost use Rattle.cqf_program_words.specs.Shown.{ShowsWords, are_printable};
 ghost use Rattle.cqf_program_words.specs.Words.{EndsWords, TellsNoCandidates, takes_domain};
-ghost use Rattle.cqf_model.specs.Limits.{most_cycles, profile};
+ghost use Rattle.std.specs.List.{list_any};
+ghost use Rattle.cqf_model.specs.Limits.{large, most_cycles};
+ghost use Rattle.cqf_program_words.specs.Words.{ask_for_large, is_large_word, limits_of};
 
 use crate::candidates::Candidates;
 use crate::commands::commands;
@@ -17,7 +19,7 @@ use crate::endings::{no_job, stop_of};
 use crate::naming::candidates_named;
 use crate::shown::stop_of_words;
 use clap::ArgMatches;
-use cqf_model::{LAST_UNTIL, MOST_CYCLES, PROFILE};
+use cqf_model::{LARGE, LAST_UNTIL, Limits, MOST_CYCLES};
 use cqf_program_stop::Stop;
 use cqf_units::Rate;
 use std::alloc::{AllocError, Global};
@@ -248,10 +250,10 @@ fn stream_of(alloc: Global, values: &ArgMatches<'_>) -> Result<Option<String>, A
 
 /// The number of a frame of the command with these values, which may have none; `None` where something else is given.
 fn frame_of(values: &ArgMatches<'_>) -> Option<Option<u32>>
-    ensures { MatchOption result ((frame : Option ℕ) → ¬ IsFreeIn 1 profile.rows frame (first_of (codes "frame") (rows_of (found_of values.now))))
-        (λ frame. IsFreeIn 1 profile.rows frame (first_of (codes "frame") (rows_of (found_of values.now)))) }
+    ensures { MatchOption result ((frame : Option ℕ) → ¬ IsFreeIn 1 large.rows frame (first_of (codes "frame") (rows_of (found_of values.now))))
+        (λ frame. IsFreeIn 1 large.rows frame (first_of (codes "frame") (rows_of (found_of values.now)))) }
 {
-    free_number_in(text_of(values, "frame"), 1, u64::from(PROFILE.rows))
+    free_number_in(text_of(values, "frame"), 1, u64::from(LARGE.rows))
 }
 
 /// The job of the command `hops` with its values. The error is want of memory.
@@ -373,13 +375,41 @@ fn job_of(alloc: Global, matches: &ArgMatches<'_>) -> Result<Option<Job>, AllocE
     }
 }
 
+/// Whether the word asks for large plants.
+fn is_large_word(word: &str) -> bool
+    ensures { result ≡ is_large_word word.now }
+{
+    word == "--large"
+}
+
+/// The same of some words: whether one of them does.
+fn is_one_large(words: &[&str]) -> bool
+    ensures { result ≡ list_any (λ word. is_large_word word.now) words.now }
+{
+    words.iter().any(|word| is_large_word(word))
+}
+
+/// Whether the words ask for large plants: one of them is `--large`.
+pub fn ask_for_large(words: &[&str]) -> bool
+    ensures { result ≡ ask_for_large (map (λ word. word.now) words.now) }
+{
+    is_one_large(words)
+}
+
+/// The limits within which the plants of the words are read: those of large plants where the words ask for them, else those of the profile.
+pub fn limits_of(words: &[&str]) -> Limits
+    ensures { result ≡ limits_of (map (λ word. word.now) words.now) }
+{
+    Limits::where_large(ask_for_large(words))
+}
+
 /// The job that the words mean. `Err` as [`read_words`] has it, but with clap's text also where that echoes unprintable characters.
 fn read_plainly<'a>(alloc: Global, words: &'a [&'a str]) -> Result<Job, Stop>
     ensures ok { IfOk result (Mean (map (λ word. word.now) words.now)) }
     ensures err { IfErr result (EndsWords (map (λ word. word.now) words.now)) }
     ensures line { IfErr result (TellsNoCandidates (map (λ word. word.now) words.now)) }
 {
-    let Ok(mut command) = commands(alloc) else {
+    let Ok(mut command) = commands(alloc, ask_for_large(words)) else {
         return Err(Stop::memory(alloc));
     };
     match command.try_get_matches_from_mut(words) {

@@ -2,6 +2,7 @@
 ghost use Rattle.std.specs.Prelude.{◌≡◌, false};
 ghost use Rattle.cqf_program_engine.specs.Run.{IsWithin, is_threaded};
 
+use cqf_model::PROFILE;
 use cqf_program_engine::answer;
 use cqf_program_stop::{NO_MEMORY, Stop};
 use cqf_program_words::{Format, Job};
@@ -33,10 +34,10 @@ fn answered(rt: &(impl Threads + Sync), alloc: Global, job: &Job, input: &str, t
 {
     let input = input.as_bytes();
     mark(alloc);
-    let first = answer(rt, alloc, job, input);
+    let first = answer(rt, alloc, PROFILE, job, input);
     mark(alloc);
     if is_wanting(&first) {
-        return twice(true, is_text(&answer(rt, alloc, job, input), text));
+        return twice(true, is_text(&answer(rt, alloc, PROFILE, job, input), text));
     }
     once(is_text(&first, text))
 }

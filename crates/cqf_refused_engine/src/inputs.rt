@@ -1,7 +1,7 @@
 //! Bytes that are read.
 ghost use Rattle.std.specs.Prelude.{⊤};
 
-use cqf_program_engine::{Heard, Source, read_input};
+use cqf_program_engine::{Heard, MOST_BYTES, Source, read_input};
 use cqf_program_stop::{NO_MEMORY, Stop};
 use cqf_refusing::{Told, mark, once, twice};
 use std::alloc::Global;
@@ -40,7 +40,7 @@ fn is_heard(heard: &Heard<Ones>, read: &Result<(), Stop>, count: usize) -> bool 
 /// Whether a fresh reader's bytes are heard.
 fn is_heard_again(alloc: Global, count: usize) -> bool {
     let mut input = Heard::new(alloc, Ones { left: count });
-    let read = read_input(alloc, &mut input);
+    let read = read_input(alloc, MOST_BYTES, &mut input);
     is_heard(&input, &read, count)
 }
 
@@ -56,7 +56,7 @@ fn is_wanting(read: &Result<(), Stop>) -> bool {
 fn heard(alloc: Global, count: usize) -> Told {
     let mut input = Heard::new(alloc, Ones { left: count });
     mark(alloc);
-    let first = read_input(alloc, &mut input);
+    let first = read_input(alloc, MOST_BYTES, &mut input);
     mark(alloc);
     if is_wanting(&first) {
         let stands = input.bytes().len() <= count && input.bytes().iter().all(|byte| *byte == 1);

@@ -3,7 +3,10 @@ use Rattle.std.proofs.Common.{◌≡◌, ◌∙◌, ◌≤◌, ℕ, All, false, 
 use Rattle.std.proofs.Common.{length, map, nat_lt, option_map, ap, refl, sym, arith}
 use Rattle.std.specs.Prelude.{◌||◌, find}
 use Rattle.std.proofs.lemmas.Bool.Decides.{nat_tests}
+use Rattle.std.proofs.Math.Nat.{min-le_right}
 use Rattle.cqf_lists.specs.Results.{refuse}
+use Rattle.cqf_model.specs.declared.limits.Limits.{Limits}
+use Rattle.cqf_model.specs.Limits.{bridges_within, links_within, most_bridges, most_stations, stations_within}
 use Rattle.cqf_model.specs.declared.topology.Node.{Node}
 use Rattle.cqf_model.specs.declared.topology.Node.TheVariants.{Bridge, Station}
 use Rattle.cqf_topology.specs.DomainText.{first_taken, if_so}
@@ -71,9 +74,9 @@ pub record PassesSketch (text : SketchText) (edges : List Edge) : Type 0 where
   pub some_open : is_guard_too_long text ≡ false
   pub no_delay : find (has_long_delay text.guard) edges ≡ None
   pub no_gap : find (has_long_gap text.guard) edges ≡ None
-  pub few_bridges : length text.bridges ≤ 32
-  pub few_stations : length text.stations ≤ 64
-  pub few_links : plant_count edges ≤ 64
+  pub few_bridges : length text.bridges ≤ bridges_within text.limits
+  pub few_stations : length text.stations ≤ stations_within text.limits
+  pub few_links : plant_count edges ≤ links_within text.limits
 
 -- a domain that is told has passed
 pub passes_sketch : (text : SketchText) (edges : List Edge) (d : SketchDomain) → with_edges text edges ≡ Ok d → PassesSketch text edges
@@ -84,7 +87,8 @@ passes_sketch text edges d e =
     let f = refuse-Ok (first_long_delay text.guard edges) (λ (element : ℕ). Domain (domain.DelayTooLong element)) _ d c.1 in
     let g = refuse-Ok (first_long_gap text.guard edges) (λ (element : ℕ). Domain (domain.GapTooLong element)) _ d f.1 in
     let h = refuse-Ok (if_so (is_too_many text edges)) (λ (u : Unit {0}). Domain domain.TooMany) (Ok (sketch_with text edges)) d g.1 in
-    let few = counted (length text.bridges) (length text.stations) (plant_count edges) (not_so (is_too_many text edges) h.0) in
+    let few = counted (bridges_within text.limits) (stations_within text.limits) (links_within text.limits) (length text.bridges) (length text.stations)
+    (plant_count edges) (not_so (is_too_many text edges) h.0) in
     record {
       no_twice = unmapped (element_at edges) _ a.0;
       no_again = unmapped (from_at (talkers_of edges)) _ (unmapped (station_named text.stations) _ b.0);
@@ -96,14 +100,16 @@ passes_sketch text edges d e =
       few_links = few.2;
     }
   where
-    counted : (b s l : ℕ) → (nat_lt 32 b || nat_lt 64 s || nat_lt 64 l) ≡ false → (b ≤ 32) × (s ≤ 64) × (l ≤ 64)
-    counted b s l e = (grind (arith, nat_tests), grind (arith, nat_tests), grind (arith, nat_tests))
+    counted : (bridges stations links b s l : ℕ) → (nat_lt bridges b || nat_lt stations s || nat_lt links l) ≡ false →
+        (b ≤ bridges) × (s ≤ stations) × (l ≤ links)
+    counted bridges stations links b s l e = (grind (arith, nat_tests), grind (arith, nat_tests), grind (arith, nat_tests))
 
 -- ends among few nodes
-pub inside_few : (bridges stations : ℕ) (edges : List Edge) → bridges ≤ 32 → stations ≤ 64 → All (EdgeInside bridges stations) edges → All (EdgeInside 32 64) edges
-inside_few bridges stations edges few_bridges few_stations all k d within =
+pub inside_few : (limits : Limits) (bridges stations : ℕ) (edges : List Edge) → bridges ≤ bridges_within limits → stations ≤ stations_within limits →
+    All (EdgeInside bridges stations) edges → All (EdgeInside most_bridges most_stations) edges
+inside_few limits bridges stations edges few_bridges few_stations all k d within =
     let inside = all k d within in record { from_inside = wider _ inside.from_inside; to_inside = wider _ inside.to_inside }
   where
-    wider : (node : Node) → NodeInside bridges stations node → NodeInside 32 64 node
-    wider (Bridge b) h = omega (arith, h, few_bridges)
-    wider (Station s) h = omega (arith, h, few_stations)
+    wider : (node : Node) → NodeInside bridges stations node → NodeInside most_bridges most_stations node
+    wider (Bridge b) h = omega (arith, h, few_bridges, min-le_right limits.bridges most_bridges)
+    wider (Station s) h = omega (arith, h, few_stations, min-le_right limits.stations most_stations)

@@ -13,6 +13,7 @@ use Rattle.std.proofs.lemmas.Option.{slice_get-get_or}
 use Rattle.cqf_lists.proofs.Members.{all_from_members, any_member, contains_at, contains_from_filter, contains_from_map, find_member, find_some}
 use Rattle.cqf_lists.proofs.Pairs.{pairs_from_map, pairs_map, pairs_weaker}
 use Rattle.cqf_units.specs.Timing.{nanos_of_octet}
+use Rattle.cqf_model.specs.declared.limits.Limits.{Limits}
 use Rattle.cqf_model.specs.declared.topology.Link.{Link}
 use Rattle.cqf_model.specs.declared.topology.Node.{Node}
 use Rattle.cqf_model.specs.declared.topology.Node.TheVariants.{Bridge, Station}
@@ -178,7 +179,7 @@ module _ (text : SketchText) (edges : List Edge) (readable : IsReadableSketch te
       subst (IsAcceptedLink (domain_at (sketch_with text edges) cycle_time)) is (edge_accepted cycle_time edge there)
 
   -- no link of the plant stands twice
-  plant_once : NoLinkTwice (map link_of (plant_of edges))
+  pub plant_once : NoLinkTwice (map link_of (plant_of edges))
   plant_once =
       pairs_map (λ (a b : Link). ¬ ((a.from ≡ b.from) × (a.to ≡ b.to))) link_of (plant_of edges)
       (pairs_weaker (λ (x z : Edge). ends_of x ≢ ends_of z) (λ (x z : Edge). ¬ ((number_of x.from ≡ number_of z.from) × (x.to ≡ z.to))) (plant_of edges)
@@ -245,11 +246,11 @@ module _ (text : SketchText) (edges : List Edge) (readable : IsReadableSketch te
   }
 
 -- sketches of equal parts
-pub same_sketch : (candidates candidates' : List ℕ) (guard guard' : ℕ) (bridges bridges' stations stations' : List (List ℕ)) (links links' : List Link)
-    (talkers talkers' : List TalkerLink) → candidates ≡ candidates' → guard ≡ guard' → bridges ≡ bridges' → stations ≡ stations' → links ≡ links' →
+pub same_sketch : (limits limits' : Limits) (candidates candidates' : List ℕ) (guard guard' : ℕ) (bridges bridges' stations stations' : List (List ℕ)) (links links' : List Link)
+    (talkers talkers' : List TalkerLink) → limits ≡ limits' → candidates ≡ candidates' → guard ≡ guard' → bridges ≡ bridges' → stations ≡ stations' → links ≡ links' →
     talkers ≡ talkers'
     → ◌≡◌ {A = SketchDomain}
-    (record { candidates = candidates; guard = guard; bridges = bridges; stations = stations; links = links; talkers = talkers })
-    (record { candidates = candidates'; guard = guard'; bridges = bridges'; stations = stations'; links = links'; talkers = talkers' })
-same_sketch candidates candidates' guard guard' bridges bridges' stations stations' links links' talkers talkers' c g b s l t =
-    λ i. record { candidates = c i; guard = g i; bridges = b i; stations = s i; links = l i; talkers = t i }
+    (record { limits = limits; candidates = candidates; guard = guard; bridges = bridges; stations = stations; links = links; talkers = talkers })
+    (record { limits = limits'; candidates = candidates'; guard = guard'; bridges = bridges'; stations = stations'; links = links'; talkers = talkers' })
+same_sketch limits limits' candidates candidates' guard guard' bridges bridges' stations stations' links links' talkers talkers' m c g b s l t =
+    λ i. record { limits = m i; candidates = c i; guard = g i; bridges = b i; stations = s i; links = l i; talkers = t i }

@@ -1,7 +1,7 @@
 -- What is read of a sketch's text is in its ranges and forms.
 use Rattle.std.proofs.Common.{◌≡◌, ◌≤◌, ℕ, All, IsTrue, Bool, true, false, ◌&&◌, List, [], ◌∷◌}
 use Rattle.std.proofs.Common.{Option, Some, None, Result, Ok, Err, cond, length, nat_le, ok_or, option_map}
-use Rattle.std.proofs.Common.{refl, subst, arith}
+use Rattle.std.proofs.Common.{ap, refl, subst, sym, arith}
 use Rattle.std.specs.Prelude.{IfSome}
 use Rattle.std.proofs.lemmas.Bool.{and_parts}
 use Rattle.std.proofs.lemmas.Bool.Decides.{nat_tests}
@@ -9,6 +9,7 @@ use Rattle.std.proofs.lemmas.List.Elements.{All-cons, All-nil}
 use Rattle.toml.specs.Data.{Data, Items, Members, as_array, as_integer, as_table}
 use Rattle.cqf_lists.specs.Results.{and_then}
 use Rattle.cqf_units.specs.Name.{is_name}
+use Rattle.cqf_model.specs.declared.limits.Limits.{Limits}
 use Rattle.cqf_model.specs.Limits.{longest_cycle}
 use Rattle.cqf_topology_fields.specs.declared.keys.Key.TheVariants.{Cycle, Guard, Bridges, Stations, Links, From, To, Rate, Delay}
 use Rattle.cqf_topology_fields.specs.declared.faults.TomlFault.{TomlFault}
@@ -114,9 +115,9 @@ links_range table links h =
     let (items, is, array) = and_then-Ok (or_sketch (read_at Links as_array table)) links_of_array links h in array_range items links array
 
 -- what a domain's table says
-table_readable : (given : Option (List ℕ)) (table : Members) (text : SketchText) → IfSome given AreCandidates → sketch_from given table ≡ Ok text →
-    IsReadableSketch text
-table_readable given table text are h =
+table_readable : (limits : Limits) (given : Option (List ℕ)) (table : Members) (text : SketchText) → IfSome given AreCandidates →
+    sketch_from limits given table ≡ Ok text → IsReadableSketch text
+table_readable limits given table text are h =
     let (candidates, candidates_are, h1) = and_then-Ok (or_sketch (candidates_read given table)) _ text h in
     let (guard, guard_is, h2) = and_then-Ok (or_sketch (read_at Guard (number_from 1 10000000) table)) _ text h1 in
     let (bridges, bridges_are, h3) = and_then-Ok (or_sketch (and_then (names_at Bridges table) (if_some Bridges))) _ text h2 in
@@ -124,7 +125,7 @@ table_readable given table text are h =
     let (links, links_are, h5) = and_then-Ok (links_read table) _ text h4 in
     let (names, named, some) = and_then-Ok (names_at Bridges table) (if_some Bridges) bridges (or_sketch_read _ bridges bridges_are) in
     let some_is = if_some-Ok Bridges names bridges some in
-    let made : SketchText = record { candidates = candidates; guard = guard; bridges = bridges; stations = stations; links = links } in
+    let made : SketchText = record { limits = limits; candidates = candidates; guard = guard; bridges = bridges; stations = stations; links = links } in
     let same : made ≡ text = cc in
     subst IsReadableSketch same (record {
       are_candidates = candidates_range given table candidates are (or_sketch_read _ candidates candidates_are);
@@ -135,12 +136,30 @@ table_readable given table text are h =
       delays_most = links_range table links links_are;
     })
 
+-- and within which limits
+table_limits : (limits : Limits) (given : Option (List ℕ)) (table : Members) (text : SketchText) → sketch_from limits given table ≡ Ok text →
+    text.limits ≡ limits
+table_limits limits given table text h =
+    let (candidates, candidates_are, h1) = and_then-Ok (or_sketch (candidates_read given table)) _ text h in
+    let (guard, guard_is, h2) = and_then-Ok (or_sketch (read_at Guard (number_from 1 10000000) table)) _ text h1 in
+    let (bridges, bridges_are, h3) = and_then-Ok (or_sketch (and_then (names_at Bridges table) (if_some Bridges))) _ text h2 in
+    let (stations, stations_are, h4) = and_then-Ok (or_sketch (names_at Stations table)) _ text h3 in
+    let (links, links_are, h5) = and_then-Ok (links_read table) _ text h4 in
+    let made : SketchText = record { limits = limits; candidates = candidates; guard = guard; bridges = bridges; stations = stations; links = links } in
+    let same : made ≡ text = cc in ap (λ (t : SketchText). t.limits) (sym same)
+
+pub draft_limits : (limits : Limits) (given : Option (List ℕ)) (text : List ℕ) (draft : SketchText) → sketch_of_text limits given text ≡ Ok draft →
+    draft.limits ≡ limits
+draft_limits limits given text draft h =
+    let (table, whole, from) = and_then-Ok (or_sketch (whole_document (sketch_keys given) Links link_keys text)) (sketch_from limits given) draft h in
+    table_limits limits given table draft from
+
 -- what a sketch's text says
-pub sketch_readable : (given : Option (List ℕ)) (text : List ℕ) (draft : SketchText) → IfSome given AreCandidates → sketch_of_text given text ≡ Ok draft →
-    IsReadableSketch draft
-sketch_readable given text draft are h =
-    let (table, whole, from) = and_then-Ok (or_sketch (whole_document (sketch_keys given) Links link_keys text)) (sketch_from given) draft h in
-    table_readable given table draft are from
+pub sketch_readable : (limits : Limits) (given : Option (List ℕ)) (text : List ℕ) (draft : SketchText) → IfSome given AreCandidates →
+    sketch_of_text limits given text ≡ Ok draft → IsReadableSketch draft
+sketch_readable limits given text draft are h =
+    let (table, whole, from) = and_then-Ok (or_sketch (whole_document (sketch_keys given) Links link_keys text)) (sketch_from limits given) draft h in
+    table_readable limits given table draft are from
 
 -- candidates that are given, as the list of them
 pub given_candidates : {A : Type 0} (items : A → List ℕ) (given : Option A) → IfSome given (λ cycles. AreCandidates (items cycles)) →

@@ -5,7 +5,8 @@ use Rattle.std.specs.List.{list_all, list_any}
 use Rattle.cqf_lists.specs.Results.{and_then, refuse}
 use Rattle.cqf_units.specs.Name.{is_name}
 use Rattle.cqf_model.specs.Domain.{Domain}
-use Rattle.cqf_model.specs.Limits.{longest_cycle, profile}
+use Rattle.cqf_model.specs.declared.limits.Limits.{Limits}
+use Rattle.cqf_model.specs.Limits.{bridges_within, links_within, longest_cycle, stations_within}
 use Rattle.cqf_model.specs.declared.topology.Link.{Link}
 use Rattle.cqf_model.specs.declared.topology.Node.{Node}
 use Rattle.cqf_model.specs.declared.topology.Node.TheVariants.{Bridge, Station}
@@ -18,9 +19,10 @@ use Rattle.cqf_sketch.specs.declared.faults.SketchFault.TheVariants as fault
 use Rattle.cqf_sketch.specs.Edges.{Edge, first_again, first_long_delay, first_long_gap, first_twice, is_talkers, joined, plant_count, talkers_of}
 use Rattle.cqf_sketch.specs.SketchText.{SketchText, sketch_of_text}
 
--- a sketch's domain: candidates for the cycle time, in the order of wish, the guard time, names by number, the plant's links by
+-- a sketch's domain: its limits, candidates for the cycle time, in the order of wish, the guard time, names by number, the plant's links by
 -- number, and the talkers' links
 pub record SketchDomain : Type 0 where
+  pub limits : Limits
   pub candidates : List ℕ
   pub guard : ℕ
   pub bridges : List (List ℕ)
@@ -28,9 +30,9 @@ pub record SketchDomain : Type 0 where
   pub links : List Link
   pub talkers : List TalkerLink
 
--- the plant's domain with a cycle time, within the limits that plants have where none are set
+-- the plant's domain with a cycle time, within the sketch's limits
 abbrev pub domain_at : SketchDomain → ℕ → Domain
-domain_at sketch cycle_time = domain_with profile cycle_time sketch.guard sketch.bridges sketch.stations sketch.links
+domain_at sketch cycle_time = domain_with sketch.limits cycle_time sketch.guard sketch.bridges sketch.stations sketch.links
 
 -- what a cycle may take, in nanoseconds
 pub record IsCycleTime (cycle_time : ℕ) : Type 0 where
@@ -96,7 +98,9 @@ second_talker text edges = option_map (station_named text.stations) (first_again
 
 -- there are more bridges, stations or links of the plant than a domain may have
 abbrev pub is_too_many : SketchText → List Edge → Bool
-is_too_many text edges = nat_lt 32 (length text.bridges) || nat_lt 64 (length text.stations) || nat_lt 64 (plant_count edges)
+is_too_many text edges =
+    nat_lt (bridges_within text.limits) (length text.bridges) || nat_lt (stations_within text.limits) (length text.stations)
+    || nat_lt (links_within text.limits) (plant_count edges)
 
 -- the guard time reaches each candidate, and so the greatest
 abbrev pub is_guard_too_long : SketchText → Bool
@@ -105,6 +109,7 @@ is_guard_too_long text = list_all (λ cycle. nat_le cycle text.guard) text.candi
 -- the domain that the text says, with these edges
 abbrev pub sketch_with : SketchText → List Edge → SketchDomain
 sketch_with text edges = record {
+  limits = text.limits;
   candidates = text.candidates;
   guard = text.guard;
   bridges = text.bridges;
@@ -139,9 +144,9 @@ checked text =
     refuse (first_taken text.bridges text.stations) name_taken (
     with_names text))
 
--- the domain that a sketch's text means, or its first fault
-abbrev pub sketch_domain_of_text : Option (List ℕ) → List ℕ → Result SketchDomain SketchFault
-sketch_domain_of_text given text = and_then (sketch_of_text given text) checked
+-- the domain that a sketch's text means within some limits, or its first fault
+abbrev pub sketch_domain_of_text : Limits → Option (List ℕ) → List ℕ → Result SketchDomain SketchFault
+sketch_domain_of_text limits given text = and_then (sketch_of_text limits given text) checked
 
 -- a node is one of so many bridges and stations, and so are both ends of an edge
 abbrev pub NodeInside : ℕ → ℕ → Node → Type 0

@@ -2,6 +2,7 @@
 use Rattle.std.specs.Prelude.{ℕ, List, [], ◌∷◌, ◌&&◌, Bool, false, if◌then◌else◌, codes, length, nat_le, Option, Some, None, ok_or, Result, Ok, Err}
 use Rattle.toml.specs.Data.{Data, Items, Members, as_array, as_bool, as_table, get_member}
 use Rattle.cqf_lists.specs.Results.{and_then}
+use Rattle.cqf_model.specs.declared.limits.Limits.{Limits}
 use Rattle.cqf_topology_fields.specs.declared.keys.Key.{Key}
 use Rattle.cqf_topology_fields.specs.declared.keys.Key.TheVariants.{Cycle, Guard, Bridges, Stations, Links, From, To, Rate, Delay}
 use Rattle.cqf_topology_fields.specs.declared.faults.TomlFault.{TomlFault}
@@ -15,8 +16,9 @@ use Rattle.cqf_sketch.specs.declared.faults.SketchFault.TheVariants.{BadDuplex}
 use Rattle.cqf_sketch.specs.Faults.{or_sketch, sketch_fault}
 
 -- what a sketch's domain says: the candidates for its cycle time, in the order of wish, times in nanoseconds, names, and links by
--- the names of their ends
+-- the names of their ends; and the limits within which it is read
 pub record SketchText : Type 0 where
+  pub limits : Limits
   pub candidates : List ℕ
   pub guard : ℕ
   pub bridges : List (List ℕ)
@@ -90,15 +92,15 @@ abbrev pub links_read : Members → Result (List DraftLink) SketchFault
 links_read table = and_then (or_sketch (read_at Links as_array table)) links_of_array
 
 -- a domain's table
-abbrev pub sketch_from : Option (List ℕ) → Members → Result SketchText SketchFault
-sketch_from given table =
+abbrev pub sketch_from : Limits → Option (List ℕ) → Members → Result SketchText SketchFault
+sketch_from limits given table =
     and_then (or_sketch (candidates_read given table)) (λ candidates.
     and_then (or_sketch (read_at Guard (number_from 1 10000000) table)) (λ guard.
     and_then (or_sketch (and_then (names_at Bridges table) (if_some Bridges))) (λ bridges.
     and_then (or_sketch (names_at Stations table)) (λ stations.
     and_then (links_read table) (λ links.
-    Ok (record { candidates = candidates; guard = guard; bridges = bridges; stations = stations; links = links }))))))
+    Ok (record { limits = limits; candidates = candidates; guard = guard; bridges = bridges; stations = stations; links = links }))))))
 
 -- what a sketch's domain says, or its first fault in being read
-abbrev pub sketch_of_text : Option (List ℕ) → List ℕ → Result SketchText SketchFault
-sketch_of_text given text = and_then (or_sketch (whole_document (sketch_keys given) Links link_keys text)) (sketch_from given)
+abbrev pub sketch_of_text : Limits → Option (List ℕ) → List ℕ → Result SketchText SketchFault
+sketch_of_text limits given text = and_then (or_sketch (whole_document (sketch_keys given) Links link_keys text)) (sketch_from limits given)

@@ -158,7 +158,10 @@ fn is_guard_too_long(draft: &Draft) -> bool
 fn is_too_many(draft: &Draft, edges: &[JoinedEdge]) -> bool
     ensures { result ≡ is_too_many draft.now edges.now }
 {
-    draft.bridges().len() > 32 || draft.stations().len() > 64 || plant_count(edges) > 64
+    let limits = draft.limits();
+    draft.bridges().len() > limits.bridges_within()
+        || draft.stations().len() > limits.stations_within()
+        || plant_count(edges) > limits.links_within()
 }
 
 /// The checks of a sketch's domain whose links are numbered, but those of its names and ends: the first that it fails.

@@ -1,5 +1,6 @@
 //! The domain of a sketch.
 ghost use Rattle.std.specs.Prelude.{◌≡◌, All, IfOk, IfSome, find, map, nat_lt, option_map};
+ghost use Rattle.cqf_model.specs.Limits.{most_bridges, most_stations};
 ghost use Rattle.cqf_sketch.specs.Edges.{talkers_of};
 ghost use Rattle.cqf_topology_fields.specs.Fields.{Gives};
 ghost use Rattle.cqf_sketch.specs.SketchDomain.{AreCandidates, AreCheckedEdges, HasNumberedNames, HasTalkerLinks, IsOpenCycle, IsReadableSketch, domain_at, open_cycle};
@@ -10,7 +11,7 @@ use crate::checks::check;
 use crate::draft::{Draft, read_draft};
 use crate::ends::{JoinedEdge, join_edges};
 use cqf_model::{Limits, Link};
-use cqf_topology::{Domain, DomainFault, NameList, numbered_names};
+use cqf_topology::{Domain, DomainFault, LinkList, NameList, numbered_names};
 use cqf_units::{Memory, Name, Rate};
 use std::alloc::Global;
 use std::marker::Model;
@@ -27,15 +28,16 @@ pub struct TalkerLink {
     pub delay: u32,
 }
 
-/// The domain of a sketch: candidates for its cycle time, in the order of wish, its guard time, its bridges and stations by name
+/// The domain of a sketch: its limits, candidates for its cycle time, in the order of wish, its guard time, its bridges and stations by name
 /// and by number, the plant's directed links by number, and the talkers' links.
 #[derive(Debug, Drop)]
 pub struct SketchDomain {
+    limits: Limits,
     candidates: Vec<u32>,
     guard: u32,
     bridges: NameList,
     stations: NameList,
-    links: Vec<Link>,
+    links: LinkList,
     talkers: Vec<TalkerLink>,
 }
 
@@ -45,6 +47,7 @@ impl Model for SketchDomain {
     ghost Value = { SketchValue };
 
     ghost view = { λ d. record {
+      limits = d.limits;
       candidates = d.candidates.items;
       guard = d.guard;
       bridges = d.bridges.keys;
@@ -54,6 +57,7 @@ impl Model for SketchDomain {
     } };
 
     ghost invariant = { λ d. IsSketch (record {
+      limits = d.limits;
       candidates = d.candidates.items;
       guard = d.guard;
       bridges = d.bridges.keys;
@@ -77,7 +81,7 @@ fn first_above(candidates: &[u32], guard: u32) -> Option<u32>
 
 /// The plant's links, where nodes are few.
 fn links_of(alloc: Global, edges: &[JoinedEdge]) -> Result<Vec<Link>, Memory>
-    requires { All (EdgeInside 32 64) edges.now }
+    requires { All (EdgeInside most_bridges most_stations) edges.now }
     ensures { IfOk result (λ links. links.items ≡ map link_of (plant_of edges.now)) }
 {
     let mut links = Vec::new(alloc);
@@ -91,7 +95,7 @@ fn links_of(alloc: Global, edges: &[JoinedEdge]) -> Result<Vec<Link>, Memory>
 
 /// The talkers' links, where nodes are few.
 fn talker_links(alloc: Global, edges: &[JoinedEdge]) -> Result<Vec<TalkerLink>, Memory>
-    requires { All (EdgeInside 32 64) edges.now }
+    requires { All (EdgeInside most_bridges most_stations) edges.now }
     ensures { IfOk result (λ talkers. talkers.items ≡ map talker_of (talkers_of edges.now)) }
 {
     let mut talkers = Vec::new(alloc);
@@ -113,7 +117,7 @@ fn checked_edges(
     requires { HasNumberedNames draft.now bridges.now.keys stations.now.keys }
     ensures given { Gives (SketchFault.Domain DomainFault.Memory) (λ edges. sketch_with draft.now edges.items) result (with_names draft.now) }
     ensures checked { IfOk result (λ edges. AreCheckedEdges draft.now edges.items) }
-    ensures few { IfOk result (λ edges. All (EdgeInside 32 64) edges.items) }
+    ensures few { IfOk result (λ edges. All (EdgeInside most_bridges most_stations) edges.items) }
 {
     let edges = join_edges(alloc, bridges, stations, draft.links())?;
     check(alloc, draft, edges.as_slice())?;
@@ -132,10 +136,12 @@ impl SketchDomain {
         ensures { Gives (SketchFault.Domain DomainFault.Memory) (λ domain. domain) result (with_names draft.now) }
     {
         let edges = checked_edges(alloc, draft, &bridges, &stations)?;
-        let links = links_of(alloc, edges.as_slice())?;
+        let listed = links_of(alloc, edges.as_slice())?;
+        let links = LinkList::new(alloc, listed)?;
         let talkers = talker_links(alloc, edges.as_slice())?;
         let candidates = Vec::from_slice(alloc, draft.candidates())?;
         Ok(SketchDomain {
+            limits: draft.limits(),
             candidates,
             guard: draft.guard(),
             bridges,
@@ -156,9 +162,9 @@ impl SketchDomain {
         SketchDomain::of_names(alloc, draft, bridges, stations)
     }
 
-    /// The domain that a sketch's text means, or the first fault of the text (profile). Where candidates for the cycle time are
-    /// given, 1 to 1,000 of them and each from 10,000 to 10,000,000 ns, the text's `cycle` isn't read. Keys that mean nothing here
-    /// are passed over.
+    /// The domain that a sketch's text means within some limits, or the first fault of the text (profile). Where candidates for the cycle
+    /// time are given, 1 to 1,000 of them and each from 10,000 to 10,000,000 ns, the text's `cycle` isn't read. Keys that mean nothing
+    /// here are passed over.
     ///
     /// # Errors
     /// What is wrong in being read, as of [`read_draft`]; and then, each over the whole before the next: `NameTaken`, of the first name,
@@ -166,18 +172,19 @@ impl SketchDomain {
     /// other than that, and no bridge where `from` is a station; `LinkTwice`, of the first link that leads as an earlier one does, also
     /// back; `TwoTalkerLinks`, of the first station that gets a second; `GuardTooLong`, where the guard time reaches the greatest
     /// candidate; `DelayTooLong` and `GapTooLong`, of the first link of the plant whose delay isn't below the guard time, and on which
-    /// the gap behind a frame takes longer; and `TooMany`, where there are more than 32 bridges, 64 stations or 64 links of the plant.
+    /// the gap behind a frame takes longer; and `TooMany`, where there are more bridges, stations or links of the plant than may be.
     /// `Memory` where a growth is refused.
     pub fn read(
         alloc: Global,
         text: &[u8],
+        limits: Limits,
         given: Option<Vec<u32>>,
     ) -> Result<SketchDomain, SketchFault>
         requires { IfSome given (λ cycles. AreCandidates cycles.items) }
         ensures { Gives (SketchFault.Domain DomainFault.Memory) (λ domain. domain) result
-            (sketch_domain_of_text (option_map (λ cycles. cycles.items) given) text.now) }
+            (sketch_domain_of_text limits (option_map (λ cycles. cycles.items) given) text.now) }
     {
-        let draft = read_draft(alloc, text, given)?;
+        let draft = read_draft(alloc, text, limits, given)?;
         SketchDomain::of_draft(alloc, &draft)
     }
 
@@ -190,11 +197,11 @@ impl SketchDomain {
         requires { IsOpenCycle self.now cycle_time }
         ensures { IfOk result (λ domain. domain ≡ domain_at self.now cycle_time) }
     {
-        let links = Vec::from_slice(alloc, self.links.as_slice())?;
+        let links = self.links.try_copy(alloc)?;
         let bridges = self.bridges.try_copy(alloc)?;
         let stations = self.stations.try_copy(alloc)?;
         Ok(Domain::of_parts(
-            Limits::of_profile(),
+            self.limits,
             cycle_time,
             self.guard,
             bridges,

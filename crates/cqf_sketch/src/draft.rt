@@ -10,7 +10,7 @@ ghost use Rattle.cqf_sketch.specs.SketchText.{candidates_read, duplex_at, link_r
 
 use crate::SketchFault;
 use crate::cycles::candidates_at;
-use cqf_model::LONGEST_CYCLE;
+use cqf_model::{LONGEST_CYCLE, Limits};
 use cqf_topology::{DomainFault, rate_at};
 use cqf_topology_fields::{
     Key, TomlFault, are_all_tables, array_at, name_at, names_at, number_at, read_document, value_at,
@@ -40,6 +40,7 @@ pub struct DraftLink {
 /// A sketch's domain as its text says it: times in nanoseconds, and links by the names of their ends.
 #[derive(Debug, Drop)]
 pub struct Draft {
+    limits: Limits,
     candidates: Vec<u32>,
     guard: u32,
     bridges: Vec<Name>,
@@ -52,10 +53,17 @@ impl Model for Draft {
 
     ghost Value = { SketchText };
 
-    ghost view = { λ d. record { candidates = d.candidates.items; guard = d.guard; bridges = d.bridges.items; stations = d.stations.items; links = d.links.items } };
+    ghost view = { λ d. record { limits = d.limits; candidates = d.candidates.items; guard = d.guard; bridges = d.bridges.items; stations = d.stations.items; links = d.links.items } };
 }
 
 impl Draft {
+    /// The limits within which it is read.
+    pub fn limits(&self) -> Limits
+        ensures { result ≡ self.now.limits }
+    {
+        self.limits
+    }
+
     /// The candidates for the cycle time, in the order of wish.
     pub fn candidates(&self) -> &[u32]
         ensures { result.now ≡ self.now.candidates }
@@ -211,9 +219,14 @@ fn read_candidates(
 }
 
 /// A domain's table.
-fn read_table(alloc: Global, table: &Table, given: Option<Vec<u32>>) -> Result<Draft, SketchFault>
+fn read_table(
+    alloc: Global,
+    table: &Table,
+    limits: Limits,
+    given: Option<Vec<u32>>,
+) -> Result<Draft, SketchFault>
     ensures { Gives (SketchFault.Domain DomainFault.Memory) (λ draft. draft) result
-        (sketch_from (option_map (λ cycles. cycles.items) given) (table_view table.now)) }
+        (sketch_from limits (option_map (λ cycles. cycles.items) given) (table_view table.now)) }
 {
     let candidates = read_candidates(alloc, table, given)?;
     let guard = number_at(table, Key::Guard, 1, LONGEST_CYCLE)?;
@@ -221,6 +234,7 @@ fn read_table(alloc: Global, table: &Table, given: Option<Vec<u32>>) -> Result<D
     let stations = names_at(alloc, table, Key::Stations)?;
     let links = read_links(alloc, table)?;
     Ok(Draft {
+        limits,
         candidates,
         guard,
         bridges,
@@ -236,17 +250,22 @@ fn owed_keys(keys: &[Key; 5], given: bool) -> &[Key]
     if given { &keys[1..] } else { &keys[..] }
 }
 
-/// What the text of a sketch's domain says, or its first fault in being read (profile). Where candidates for the cycle time are
-/// given, the text's `cycle` isn't read. Keys that mean nothing here are passed over.
+/// What the text of a sketch's domain says that is read within some limits, or its first fault in being read (profile). Where candidates
+/// for the cycle time are given, the text's `cycle` isn't read. Keys that mean nothing here are passed over.
 ///
 /// # Errors
 /// `NotToml`, `Missing` and `BadValue` as of a plant's domain, where `cycle` may be an array of 1 to 1,000 cycle times, and
 /// `BadDuplex`, behind a link's other keys, where something else than a boolean stands at `duplex`; `Memory` where a growth is refused.
-pub fn read_draft(alloc: Global, text: &[u8], given: Option<Vec<u32>>) -> Result<Draft, SketchFault>
+pub fn read_draft(
+    alloc: Global,
+    text: &[u8],
+    limits: Limits,
+    given: Option<Vec<u32>>,
+) -> Result<Draft, SketchFault>
     ensures { Gives (SketchFault.Domain DomainFault.Memory) (λ draft. draft) result
-        (sketch_of_text (option_map (λ cycles. cycles.items) given) text.now) }
+        (sketch_of_text limits (option_map (λ cycles. cycles.items) given) text.now) }
 {
     let keys = owed_keys(&KEYS, given.is_some());
     let table = read_document(alloc, text, keys, Key::Links, &LINK_KEYS)?;
-    read_table(alloc, &table, given)
+    read_table(alloc, &table, limits, given)
 }

@@ -1,5 +1,6 @@
 //! Links one direction each, by the numbers of their ends.
 ghost use Rattle.std.specs.Prelude.{◌≡◌, ◌++◌, OnOk};
+ghost use Rattle.cqf_model.specs.Limits.{most_bridges, most_stations};
 ghost use Rattle.cqf_topology_fields.specs.Fields.{Gives};
 ghost use Rattle.cqf_topology.specs.JoinedLink.{node_of};
 ghost use Rattle.cqf_sketch.specs.SketchDomain.{EdgeInside, NodeInside, link_of, number_of, talker_of};
@@ -109,7 +110,7 @@ impl JoinedEdge {
 
     /// It as a link of the plant.
     pub(crate) fn link(self) -> Link
-        requires { EdgeInside 32 64 self }
+        requires { EdgeInside most_bridges most_stations self }
         ensures { result ≡ link_of self }
     {
         Link {
@@ -122,7 +123,7 @@ impl JoinedEdge {
 
     /// It as a talker's link.
     pub(crate) fn talker(self) -> TalkerLink
-        requires { EdgeInside 32 64 self }
+        requires { EdgeInside most_bridges most_stations self }
         ensures { result ≡ talker_of self }
     {
         TalkerLink {
@@ -176,7 +177,7 @@ impl JoinedEdge {
 
 /// The number of a node, where there are few.
 fn small_number(end: End) -> u16
-    requires { NodeInside 32 64 (node_of end) }
+    requires { NodeInside most_bridges most_stations (node_of end) }
     ensures { result ≡ number_of (node_of end) }
 {
     match end {
@@ -187,7 +188,7 @@ fn small_number(end: End) -> u16
 
 /// The node, where there are few.
 fn small_node(end: End) -> Node
-    requires { NodeInside 32 64 (node_of end) }
+    requires { NodeInside most_bridges most_stations (node_of end) }
     ensures { result ≡ node_of end }
 {
     match end {

@@ -1,4 +1,5 @@
 //! Domains of sketches read, or refused.
+use cqf_model::PROFILE;
 use cqf_sketch::{SketchDomain, SketchFault};
 use std::alloc::Global;
 
@@ -27,7 +28,7 @@ fn answers(alloc: Global, old: &str, new: &str, wanted: &str) -> bool {
     let Ok(changed) = SKETCH.replacen(alloc, old, new, 1) else {
         return false;
     };
-    match SketchDomain::read(alloc, changed.as_bytes(), None) {
+    match SketchDomain::read(alloc, changed.as_bytes(), PROFILE, None) {
         Ok(_domain) => wanted == "read",
         Err(fault) => prints(alloc, fault, wanted),
     }
@@ -74,7 +75,7 @@ fn a_changed_sketch_is_refused_by_its_first_fault(rt: HostRuntime) {
 /// Of a link both ways the plant has each that leaves a bridge, and the others are talkers' links.
 #[test]
 fn links_are_numbered_there_before_back(rt: HostRuntime) {
-    match SketchDomain::read(rt.alloc(), SKETCH.as_bytes(), None) {
+    match SketchDomain::read(rt.alloc(), SKETCH.as_bytes(), PROFILE, None) {
         Ok(domain) => {
             assert!(rt; domain.candidates() == [250_000, 125_000].as_slice());
             assert!(rt; domain.links().len() == 3);
@@ -89,7 +90,7 @@ fn links_are_numbered_there_before_back(rt: HostRuntime) {
 
 /// Whether the plant of a sketch with the first cycle time that is open has this one.
 fn opens_at(alloc: Global, text: &str, cycle: u64) -> bool {
-    let Ok(sketch) = SketchDomain::read(alloc, text.as_bytes(), None) else {
+    let Ok(sketch) = SketchDomain::read(alloc, text.as_bytes(), PROFILE, None) else {
         return false;
     };
     match sketch.at(alloc, sketch.open_cycle()) {

@@ -1,4 +1,5 @@
 pub mod HeldEnds
+mod LinkEnds
 pub mod FirstNamed
 pub mod Refusals
 pub mod Accepted

@@ -25,7 +25,7 @@ leads-there from to_from to to_to h e =
     (λ i. same i && same_node to (sym e i)) ∙ same_node_itself to
 
 -- and only there
-leads-only : (from to_from : ℕ) (to to_to : Node) → ((from == to_from) && same_node to to_to) ≡ true → (from ≡ to_from) × (to ≡ to_to)
+pub leads-only : (from to_from : ℕ) (to to_to : Node) → ((from == to_from) && same_node to to_to) ≡ true → (from ≡ to_from) × (to ≡ to_to)
 leads-only from to_from to to_to h =
     let parts = and_parts (from == to_from) (same_node to to_to) h in
     let first : (from == to_from) ≡ true = parts.0 in

@@ -1,6 +1,7 @@
 pub mod DomainText
 pub mod JoinedLink
 pub mod Names
+pub mod Links
 pub mod StreamsText
 pub mod PacedText
 pub mod Faults

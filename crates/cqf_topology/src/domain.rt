@@ -1,6 +1,6 @@
 //! A domain of bridges and stations.
-ghost use Rattle.std.specs.Prelude.{◌≡◌, ◌<◌, ◌==◌, ◌&&◌, length, slice_get, position, Some, IfOk};
-ghost use Rattle.cqf_model.specs.Domain.{IsAccepted, node_named, link_between, same_node};
+ghost use Rattle.std.specs.Prelude.{◌≡◌, ◌<◌, length, slice_get, Some, IfOk};
+ghost use Rattle.cqf_model.specs.Domain.{IsAccepted, node_named, link_between};
 ghost use Rattle.cqf_topology_fields.specs.Fields.{Gives};
 ghost use Rattle.cqf_topology.specs.DomainText.{IsDomain, IsOnlyLink, IsReadable, HasBridges, HasNames, IsNumberedDomain};
 ghost use Rattle.cqf_topology.specs.DomainText.{with_links, with_these, checked, domain_of_text, domain_within, domain_with};
@@ -11,6 +11,7 @@ use crate::joined::{
     JoinedLink, end_of_name, find_long_delay, find_long_gap, find_twice, join_links, links_of,
     node_of_end, numbered_names,
 };
+use crate::link_list::LinkList;
 use crate::names::NameList;
 use cqf_model::{Limits, Link, Node};
 use cqf_units::{Memory, Name, Nanos};
@@ -26,7 +27,7 @@ pub struct Domain {
     guard: u32,
     bridges: NameList,
     stations: NameList,
-    links: Vec<Link>,
+    links: LinkList,
 }
 
 impl Model for Domain {
@@ -136,7 +137,8 @@ impl Domain {
         requires { HasNames draft.now bridges.keys stations.keys }
         ensures { Gives DomainFault.Memory (λ domain. domain) result (checked draft.now) }
     {
-        let links = checked_links(alloc, draft, &bridges, &stations)?;
+        let listed = checked_links(alloc, draft, &bridges, &stations)?;
+        let links = LinkList::new(alloc, listed)?;
         Ok(Domain {
             limits: draft.limits(),
             cycle_time: draft.cycle_time(),
@@ -155,7 +157,7 @@ impl Domain {
         guard: u32,
         bridges: NameList,
         stations: NameList,
-        links: Vec<Link>,
+        links: LinkList,
     ) -> Domain
         requires { IsDomain (domain_with limits cycle_time guard bridges.keys stations.keys links.items) }
         ensures { result ≡ domain_with limits cycle_time guard bridges.keys stations.keys links.items }
@@ -248,7 +250,7 @@ impl Domain {
         requires { link < length self.now.links }
         ensures { slice_get self.now.links link ≡ Some result }
     {
-        self.links[usize::from(link)]
+        self.links.as_slice()[usize::from(link)]
     }
 
     /// The node of this name, or `None` where the domain has none.
@@ -271,7 +273,7 @@ impl Domain {
         ensures number { result ≡ link_between self.now from to }
         ensures only { IsOnlyLink self.now from to result }
     {
-        let link = place_of_link(self.links.as_slice(), from, to)?;
+        let link = self.links.number_of(from, to)?;
         Some(link as u16)
     }
 
@@ -279,7 +281,7 @@ impl Domain {
     pub fn try_copy(&self, alloc: Global) -> Result<Domain, Memory>
         ensures { IfOk result (λ copy. copy ≡ self.now) }
     {
-        let links = Vec::from_slice(alloc, self.links.as_slice())?;
+        let links = self.links.try_copy(alloc)?;
         let bridges = self.bridges.try_copy(alloc)?;
         let stations = self.stations.try_copy(alloc)?;
         Ok(Domain {
@@ -291,18 +293,4 @@ impl Domain {
             links,
         })
     }
-}
-
-/// Whether the link leads from the bridge to the node.
-fn leads(link: &Link, from: u16, to: Node) -> bool
-    ensures { result ≡ ((link.now.from == from) && same_node link.now.to to) }
-{
-    link.from == from && link.to == to
-}
-
-/// The place of the link from the bridge to the node.
-fn place_of_link(links: &[Link], from: u16, to: Node) -> Option<usize>
-    ensures { result ≡ position (λ link. (link.from == from) && same_node link.to to) links.now }
-{
-    links.iter().position(|link| leads(link, from, to))
 }

@@ -75,7 +75,3 @@ frames_of until (Some t) = blocks_before until t * t.frames
 
 abbrev pub frames_before : ℕ → List Sender → ℕ
 frames_before until senders = sum_by (λ (s : Sender). frames_of until s.traffic) senders
-
--- the most that are offered so
-abbrev pub most_offers : ℕ
-most_offers = 1000000

@@ -1,13 +1,10 @@
 //! How many frames stand on the grids of streams.
 ghost use Rattle.std.specs.Prelude.{◌≡◌, ◌<◌, ◌^◌, nat_le};
-ghost use Rattle.cqf_traffic_offers.specs.Offering.{blocks_before, frames_before, frames_of, most_offers};
+ghost use Rattle.cqf_traffic_offers.specs.Offering.{blocks_before, frames_before, frames_of};
 
 use crate::Sender;
 use cqf_traffic::Traffic;
 use cqf_units::Nanos;
-
-/// The most offers of a run (profile).
-const MOST_OFFERS: u128 = 1_000_000;
 
 /// How many blocks stand on the grid before an instant.
 pub(crate) fn blocks_before(end: Nanos, traffic: Traffic) -> u64
@@ -29,14 +26,14 @@ fn frames_of(end: Nanos, traffic: Option<Traffic>) -> u128
     }
 }
 
-/// Whether senders have no more than 1,000,000 frames together before an instant, none of them late (profile).
-pub fn are_few(end: Nanos, senders: &[Sender]) -> bool
-    ensures { result ≡ nat_le (frames_before end.0 senders.now) most_offers }
+/// Whether senders have no more frames together before an instant than so many, none of them late (profile).
+pub fn are_few(end: Nanos, senders: &[Sender], most: u32) -> bool
+    ensures { result ≡ nat_le (frames_before end.0 senders.now) most }
 {
     let mut frames = 0;
     for sender in senders {
         let more = frames + frames_of(end, sender.traffic);
-        frames = more.min(MOST_OFFERS + 1);
+        frames = more.min(u128::from(most) + 1);
     }
-    frames <= MOST_OFFERS
+    frames <= u128::from(most)
 }

@@ -1,4 +1,4 @@
-use Rattle.std.proofs.Common.{◌<◌, ◌∙◌, ◌+◌, ℕ, List, arith, get_or, length, set, subst, sym, take}
+use Rattle.std.proofs.Common.{◌<◌, ◌∙◌, ◌+◌, ℕ, List, arith, length, set, subst, sym, take}
 use Rattle.std.proofs.lemmas.List.{length-map, take_all}
 use Rattle.std.proofs.lemmas.List.Elements.{All-get_or}
 use Rattle.cqf_model.specs.declared.topology.Hop.{Hop}

@@ -7,7 +7,7 @@ use Rattle.cqf_bridge.proofs.checking.are_batches.Goals as goal
 
 pub is_batch_of-requires-clause-inside : goal.is_batch_of-requires-clause-inside
 is_batch_of-requires-clause-inside c =
-    let are = c.are_of_links.ensures.yes c.if-not-are_of_links.false ∙ c.as_slice.ensures.value ∙ c.incoming_links-links.ensures in
+    let are = c.are_of_links.ensures.yes c.if-not-are_of_links.false ∙ c.requires.incoming in
     let held = subst (Contains c.args.batches.now) (sym c.batch-item.is)
     (Contains-get_or c.args.batches.now c.loop-batch.batch-index c.batch-item.result c.loop-batch-test.true) in
     enters_inside c.args.domain.now c.batch-item.result.link c.args.number
@@ -27,6 +27,6 @@ loop-batch-preserved c =
 
 pub returns-clause-yes : goal.returns-clause-yes
 returns-clause-yes c =
-    let are = c.are_of_links.ensures.yes c.if-not-are_of_links.false ∙ c.as_slice.ensures.value ∙ c.incoming_links-links.ensures in
+    let are = c.are_of_links.ensures.yes c.if-not-are_of_links.false ∙ c.requires.incoming in
     λ _. are_batches_of c.args.domain.now c.args.number c.args.cycle.0 c.args.table.now.rows c.args.batches.now are
     c.loop-batch.batch-index c.loop-batch-test.false c.loop-batch.invariant

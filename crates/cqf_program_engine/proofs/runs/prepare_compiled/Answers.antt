@@ -10,5 +10,5 @@ use Rattle.cqf_program_engine.proofs.runs.prepare_compiled.Goals as goal
 pub returns-in_ok-tc_output-in-Tc-clause-ok : goal.returns-in_ok-tc_output-in-Tc-clause-ok
 returns-in_ok-tc_output-in-Tc-clause-ok c =
     let output = c.in_ok-tc_output-in-Tc.field-0 in
-    subst (λ (format : Format). HasText (IsOutput (Compile format) c.args.input.now) (prepared.Script output)) (sym c.in-Tc.is)
+    subst (λ (format : Format). HasText (IsOutput c.args.limits (Compile format) c.args.input.now) (prepared.Script output)) (sym c.in-Tc.is)
     (text_of_tc output, refl, c.in_ok-tc_output-in-Tc.ensures.ok)

@@ -1,7 +1,8 @@
-use Rattle.std.proofs.Common.{Bool, List, ℕ, map, subst}
+use Rattle.std.proofs.Common.{◌≤◌, Bool, List, ℕ, length, map, subst, subst₂}
 use Rattle.std.proofs.lemmas.Result.{IfErr-weaker, IfOk-weaker}
 use Rattle.cqf_program_engine.specs.Edge.{reading}
 use Rattle.cqf_program_engine.specs.Run.{IsAsking, IsEnd, IsOutput}
+use Rattle.cqf_model.specs.declared.limits.Limits.{Limits}
 use Rattle.cqf_program_engine.proofs.RunLemmas.{HasRun-given, IsStopped-by_given, IsStopped-by_words, IsWithin-means}
 use Rattle.cqf_program_engine.proofs.runs.run_given.Goals as goal
 
@@ -12,14 +13,16 @@ returns-in-Err-clause-err g c = IsStopped-by_words (map (λ word. word.now) c.ar
     c.in-Err.ensures.own c.in-Err.ensures.line
 
 pub returns-clause-ok : goal.returns-clause-ok
-returns-clause-ok g c = IfOk-weaker c.output_of.result _ _
+returns-clause-ok g c =
+    let short = subst (λ (most : ℕ). length c.read_input.new.input.bytes ≤ most) c.most_bytes.ensures.value c.in_default.ensures.short in
+    IfOk-weaker c.output_of.result _ _
     (λ output told. (
       told.0,
       told.1,
       HasRun-given (map (λ word. word.now) c.args.words.now)
           (reading g.R.Read.remaining c.args.input.now c.read_input.new.input) told.0 c.in-Ok.job
-          c.requires.given c.in_default.ensures.sound c.in_default.ensures.end c.in_default.ensures.short c.in-Ok.ensures.ok
-          (subst (λ (input : List ℕ). IsOutput c.in-Ok.job input told.0) c.bytes.ensures told.2),
+          c.requires.given c.in_default.ensures.sound c.in_default.ensures.end short c.in-Ok.ensures.ok
+          (subst₂ (λ (limits : Limits) (input : List ℕ). IsOutput limits c.in-Ok.job input told.0) c.limits_of.ensures c.bytes.ensures told.2),
     ))
     c.output_of.ensures.ok
 
@@ -27,9 +30,11 @@ pub output_of-requires-after_bounds : goal.output_of-requires-after_bounds
 output_of-requires-after_bounds g c = λ _ _. IsWithin-means (map (λ word. word.now) c.args.words.now) c.in-Ok.job c.in-Ok.ensures.ok
 
 pub returns-clause-err : goal.returns-clause-err
-returns-clause-err g c = IfErr-weaker c.output_of.result _ _
+returns-clause-err g c =
+    let short = subst (λ (most : ℕ). length c.read_input.new.input.bytes ≤ most) c.most_bytes.ensures.value c.in_default.ensures.short in
+    IfErr-weaker c.output_of.result _ _
     (λ stop h. IsStopped-by_given (map (λ word. word.now) c.args.words.now)
     (reading g.R.Read.remaining c.args.input.now c.read_input.new.input) c.in-Ok.job stop
-    c.requires.given c.in_default.ensures.sound c.in_default.ensures.end c.in_default.ensures.short c.in-Ok.ensures.ok
-    (subst (λ (input : List ℕ). IsEnd c.in-Ok.job input stop) c.bytes.ensures h))
+    c.requires.given c.in_default.ensures.sound c.in_default.ensures.end short c.in-Ok.ensures.ok
+    (subst₂ (λ (limits : Limits) (input : List ℕ). IsEnd limits c.in-Ok.job input stop) c.limits_of.ensures c.bytes.ensures h))
     c.output_of.ensures.err

@@ -1,10 +1,11 @@
 use Rattle.std.proofs.Common.{◌≡◌, ◌≤◌, ◌∙◌, List, [], ℕ, ap, length, map, subst, Bor}
+use Rattle.std.proofs.lemmas.Result.{IfErr-weaker, IfOk-weaker}
 use Rattle.std.specs.List.{slice_split}
 use Rattle.std.specs.Str.{IsUtf8}
 use Rattle.cqf_program_engine.specs.Run.{is_space, most_line, words_of}
 use Rattle.cqf_program_words.specs.Shown.{ShowsLine}
-use Rattle.cqf_program_words.specs.Words.{EndsWords}
-use Rattle.cqf_program_engine.proofs.RunLemmas.{HasCause-by_line, IsWithin-means, TellsCandidates-of}
+use Rattle.cqf_program_words.specs.Words.{EndsWords, limits_of}
+use Rattle.cqf_program_engine.proofs.RunLemmas.{HasCause-by_line, HasCause-by_line_end, IsDone-by_line, IsWithin-means, TellsCandidates-of}
 use Rattle.cqf_program_engine.proofs.runs.run_line.Goals as goal
 
 pub returns-in-Err-clause-err : goal.returns-in-Err-clause-err
@@ -21,3 +22,33 @@ returns-in-Err-clause-err g c =
 
 pub output_of-requires-after_bounds : goal.output_of-requires-after_bounds
 output_of-requires-after_bounds g c = λ _ _. IsWithin-means (map (λ word. word.now) c.as_slice.result.now) c.in-Ok-read_line.job c.in-Ok-read_line.ensures.ok
+
+pub returns-clause-ok : goal.returns-clause-ok
+returns-clause-ok g c =
+    let line = c.in-Ok.ensures.cases.0 ∙ c.split_first_line.ensures.line in
+    let texts : List (Bor (List ℕ)) → List (List ℕ) = map (λ word. word.now) in
+    let split = c.in-Ok-split_words.ensures ∙ ap (slice_split is_space) line in
+    let same : map (λ word. word.now) c.as_slice.result.now ≡ words_of [] c.args.bytes.now = ap texts c.as_slice.ensures.value ∙ split in
+    let again : map (λ word. word.now) c.as_slice-2.result.now ≡ words_of [] c.args.bytes.now = ap texts c.as_slice-2.ensures.value ∙ split in
+    IfOk-weaker c.output_of.result _ _
+    (λ output told. (
+      told.0,
+      told.1,
+      IsDone-by_line c.args.bytes.now _ told.0 (map (λ word. word.now) c.as_slice.result.now) _ c.in-Ok-read_line.job c.requires
+          (record { text = subst IsUtf8 c.split_first_line.ensures.line c.in-Ok.ensures.cases.1; short = subst (λ (text : List ℕ). length text ≤ most_line) line c.if-line-gt-MOST_LINE.false })
+          same (c.limits_of.ensures ∙ ap limits_of again) c.split_first_line.ensures.rest c.in-Ok-read_line.ensures.ok told.2,
+    ))
+    c.output_of.ensures.ok
+
+pub returns-clause-err : goal.returns-clause-err
+returns-clause-err g c =
+    let line = c.in-Ok.ensures.cases.0 ∙ c.split_first_line.ensures.line in
+    let texts : List (Bor (List ℕ)) → List (List ℕ) = map (λ word. word.now) in
+    let split = c.in-Ok-split_words.ensures ∙ ap (slice_split is_space) line in
+    let same : map (λ word. word.now) c.as_slice.result.now ≡ words_of [] c.args.bytes.now = ap texts c.as_slice.ensures.value ∙ split in
+    let again : map (λ word. word.now) c.as_slice-2.result.now ≡ words_of [] c.args.bytes.now = ap texts c.as_slice-2.ensures.value ∙ split in
+    IfErr-weaker c.output_of.result _ _
+    (λ stop h. HasCause-by_line_end c.args.bytes.now _ (map (λ word. word.now) c.as_slice.result.now) _ c.in-Ok-read_line.job stop c.requires
+    (record { text = subst IsUtf8 c.split_first_line.ensures.line c.in-Ok.ensures.cases.1; short = subst (λ (text : List ℕ). length text ≤ most_line) line c.if-line-gt-MOST_LINE.false })
+    same (c.limits_of.ensures ∙ ap limits_of again) c.split_first_line.ensures.rest c.in-Ok-read_line.ensures.ok h)
+    c.output_of.ensures.err

@@ -1,4 +1,4 @@
-use Rattle.std.proofs.Common.{◌≡◌, ◌+◌, ◌<◌, ◌≢◌, ◌∙◌, ℕ, List, All, arith, ap, length, subst, sym}
+use Rattle.std.proofs.Common.{◌+◌, ◌<◌, ◌≢◌, ◌∙◌, ℕ, List, All, arith, ap, length, subst, sym}
 use Rattle.std.specs.Prelude.{AllPairs, slice_index_or}
 use Rattle.cqf_admission_trees.specs.Sums.{part_on}
 use Rattle.cqf_model.specs.declared.topology.Hop.{Hop}

@@ -1,10 +1,11 @@
--- The streams so far are put.
-use Rattle.std.proofs.Common.{take}
+-- The lines of the streams up to the next place are put.
+use Rattle.std.proofs.Common.{get_or, length, take}
 use Rattle.std.specs.List.{flat_map}
 use Rattle.cqf_program_press.specs.Press.{Puts}
 use Rattle.cqf_program_plans.specs.TcBridge.{stream_gates}
 use Rattle.cqf_program_plans.proofs.tc_bridges.put_streams.Given as goal
 
-abbrev pub invariant-loop-row : goal.invariant-loop-row
-invariant-loop-row g l = Puts g.W.Write.contents l.initial.press l.press
-    (flat_map (stream_gates l.domain l.bridge) (take l.row-index l.rows))
+abbrev pub invariant-loop-place : goal.invariant-loop-place
+invariant-loop-place g l =
+    Puts g.W.Write.contents l.initial.press l.press
+    (flat_map (stream_gates l.domain l.bridge) (take (get_or l.places l.place-index (length l.rows)) l.rows))

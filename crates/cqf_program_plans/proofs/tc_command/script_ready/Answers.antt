@@ -1,5 +1,7 @@
-use Rattle.std.proofs.Common.{ℕ, ◌∙◌, ap}
+use Rattle.std.proofs.Common.{ℕ, ◌∙◌, List, ap, subst}
+use Rattle.cqf_model.specs.declared.topology.Row.{Row}
 use Rattle.cqf_model.specs.GateList.{port_list}
+use Rattle.cqf_program_plans.specs.TcRows.{AreByBridge, places_in}
 use Rattle.cqf_program_plans.specs.TcWords.{gate_words, tx_words}
 use Rattle.cqf_program_plans.proofs.tc_command.script_ready.Goals as goal
 
@@ -8,6 +10,7 @@ invariant_of-result c =
     let d = c.args.domain in
     record {
       paced = c.requires;
+      by_bridge = subst (λ (rows : List Row). AreByBridge d rows (places_in c.in_ok-places.places.items)) c.as_slice.ensures.value c.in_ok-places.ensures;
       words = record {
         of_ports = c.in_ok-port_words.ensures.words
             ∙ ap tx_words

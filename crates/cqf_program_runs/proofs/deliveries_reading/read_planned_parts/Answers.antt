@@ -18,7 +18,7 @@ returns-clause-ok c =
     let requests = c.in_ok-requests.requests.items in
     record {
       streams = found.streams;
-      holds = planned-Ok c.args.cycles texts d found.streams c.in_ok-domain.ensures.ok found.holds requests (scenario_given given) found.planned.asked
+      holds = planned-Ok c.args.limits c.args.cycles texts d found.streams c.in_ok-domain.ensures.ok found.holds requests (scenario_given given) found.planned.asked
           c.in_ok-given.ensures.ok;
       planned = record { asked = ap (λ (rs : List PacedRequest). map asked_paced rs) c.in_ok-given.ensures.same ∙ found.planned.asked; ends = found.planned.ends };
       may = c.in_ok-given.ensures.good;
@@ -29,8 +29,8 @@ pub returns-in_err-given-clause-err : goal.returns-in_err-given-clause-err
 returns-in_err-given-clause-err c =
     let texts = texts_of c.args.parts in
     let found = c.in_ok-requests.ensures.ok in
-    passed-on c.from_residual-in_err-given.result c.in_err-given.field-0.0 (IsRefused (planned_scenario_of c.args.cycles texts))
+    passed-on c.from_residual-in_err-given.result c.in_err-given.field-0.0 (IsRefused (planned_scenario_of c.args.limits c.args.cycles texts))
     c.from_residual-in_err-given.ensures.1
-    (planned-refused c.args.cycles texts c.in_ok-domain.domain found.streams c.in_ok-domain.ensures.ok found.holds c.in_ok-requests.requests.items
+    (planned-refused c.args.limits c.args.cycles texts c.in_ok-domain.domain found.streams c.in_ok-domain.ensures.ok found.holds c.in_ok-requests.requests.items
     c.in_err-given.field-0.0
     found.planned.asked c.in_err-given.ensures.err)

@@ -14,7 +14,7 @@ pub returns-in-Ok-clause-ok : goal.returns-in-Ok-clause-ok
 returns-in-Ok-clause-ok g c =
     let made = c.in_ok-made.ensures.ok in
     let s = made.scenario in
-    IsReportOutput-told c.args.cycles c.args.input.now c.in-Ok.text.items s c.in_ok-made.made.log.administration.domain
+    IsReportOutput-told c.args.limits c.args.cycles c.args.input.now c.in-Ok.text.items s c.in_ok-made.made.log.administration.domain
     c.in_ok-made.made.log.administration.entries
     c.as_slice.result.now made.holds made.administered.domain made.administered.entries (c.as_slice.ensures.value ∙ made.administered.offers)
     (c.in-Ok.ensures s.background (subst (λ (d : Domain). AreBackground d s.background) (sym made.administered.domain) made.administered.may.background))

@@ -9,12 +9,14 @@ use Rattle.cqf_program_scenario.proofs.given.read_parts.Goals as goal
 pub returns-clause-ok : goal.returns-clause-ok
 returns-clause-ok c =
     let texts = texts_of c.args.parts in
-    let here = scenario_of-is c.args.cycles texts c.in_ok-domain.domain c.in_ok-requests.requests.items c.in_ok-domain.ensures.ok c.in_ok-requests.ensures.ok in
+    let here = scenario_of-is c.args.limits c.args.cycles texts c.in_ok-domain.domain c.in_ok-requests.requests.items c.in_ok-domain.ensures.ok
+    c.in_ok-requests.ensures.ok in
     IfOk-weaker c.read_behind.result _ _ (λ given read. here ∙ read) c.read_behind.ensures.ok
 
 pub returns-clause-err : goal.returns-clause-err
 returns-clause-err c =
     let texts = texts_of c.args.parts in
-    let here = scenario_of-is c.args.cycles texts c.in_ok-domain.domain c.in_ok-requests.requests.items c.in_ok-domain.ensures.ok c.in_ok-requests.ensures.ok in
+    let here = scenario_of-is c.args.limits c.args.cycles texts c.in_ok-domain.domain c.in_ok-requests.requests.items c.in_ok-domain.ensures.ok
+    c.in_ok-requests.ensures.ok in
     IfErr-weaker c.read_behind.result _ _ (λ stop refused. subst (λ (found : Result Scenario (List ℕ)). IsRefused found stop) (sym here) refused)
     c.read_behind.ensures.err

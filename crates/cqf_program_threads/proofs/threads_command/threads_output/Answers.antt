@@ -8,18 +8,18 @@ use Rattle.cqf_program_threads.proofs.threads_command.threads_output.Goals as go
 -- on the pages the transmissions stand link by link
 pub new-book-requires : goal.new-book-requires
 new-book-requires g c =
-    pages_by_link c.args.cycles c.args.input.now c.in-Ok-conduct_opened.ran.0 c.in-Ok-conduct_opened.ran.1 c.in-Ok-conduct_opened.ensures.ok
+    pages_by_link c.args.limits c.args.cycles c.args.input.now c.in-Ok-conduct_opened.ran.0 c.in-Ok-conduct_opened.ran.1 c.in-Ok-conduct_opened.ensures.ok
     c.pages_tell_the_book.ensures c.know.ensures.accepted
 
 -- and they tell the output
 pub returns-in-Ok-new-clause-ok : goal.returns-in-Ok-new-clause-ok
 returns-in-Ok-new-clause-ok g c =
     let account = c.in-Ok-conduct_opened.ran.1 in
-    IsThreadsOutput-written c.args.cycles c.args.input.now c.in-Ok-conduct_opened.ran.0 account c.in-Ok-conduct_opened.ensures.ok
+    IsThreadsOutput-written c.args.limits c.args.cycles c.args.input.now c.in-Ok-conduct_opened.ran.0 account c.in-Ok-conduct_opened.ensures.ok
     c.pages_tell_the_book.ensures c.know.ensures.accepted _
     (ap (λ (book : ByPages). run_text book.domain (entries_of account.history) (contents_told book)) c.new-book.ensures)
 
 -- without memory for a sheet nothing is told
 pub returns-in-Err-new-clause-err : goal.returns-in-Err-new-clause-err
 returns-in-Err-new-clause-err g c =
-    EndsThreads-memory c.args.cycles c.args.input.now c.memory.result c.memory.ensures.status c.memory.ensures.text
+    EndsThreads-memory c.args.limits c.args.cycles c.args.input.now c.memory.result c.memory.ensures.status c.memory.ensures.text

@@ -11,8 +11,8 @@ returns-clause-app c =
     c.in_ok-subcommand.ensures.shape c.in_ok-compile.ensures.local
     ∙ ap₂ with_subcommand c.in_ok-commands_without_domain.ensures.app (ap (λ (a : App). a.top) c.in_ok-compile.ensures.app) in
     let with_load : app_of c.in_ok-subcommand-2.field-0 ≡ with_subcommand (with_subcommand app_without_domain compile_app.top) load_app.top =
-    c.in_ok-subcommand-2.ensures.shape c.load_command.ensures.local
-    ∙ ap₂ with_subcommand with_compile (ap (λ (a : App). a.top) c.load_command.ensures.app) in
+    c.in_ok-subcommand-2.ensures.shape c.in_ok-load.ensures.local
+    ∙ ap₂ with_subcommand with_compile (ap (λ (a : App). a.top) c.in_ok-load.ensures.app) in
     IfOk-weaker c.subcommand-3.result _ _
     (λ command added. added.shape c.in_ok-latency.ensures.local
     ∙ ap₂ with_subcommand with_load (ap (λ (a : App). a.top) c.in_ok-latency.ensures.app))

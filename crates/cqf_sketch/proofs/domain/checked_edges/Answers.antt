@@ -30,6 +30,6 @@ returns-clause-few c =
     let edges = c.in_ok-edges.edges.items in
     let checked = returns-clause-checked c in
     let passed = passes_sketch text edges (sketch_with text edges) checked.passed in
-    inside_few (length text.bridges) (length text.stations) edges passed.few_bridges passed.few_stations
+    inside_few text.limits (length text.bridges) (length text.stations) edges passed.few_bridges passed.few_stations
     (all_inside (length text.bridges) (length text.stations) edges
     (all_joined text.bridges text.stations 0 text.links edges c.requires.readable.delays_most checked.joined_are))

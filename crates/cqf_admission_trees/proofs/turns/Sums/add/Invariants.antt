@@ -1,11 +1,11 @@
 -- The number has come to the sums of the hops so far.
-use Rattle.std.proofs.Common.{◌≡◌, ◌*◌, ◌+◌, length, take}
-use Rattle.cqf_model.specs.Limits.{most_every}
+use Rattle.std.proofs.Common.{◌+◌, take}
+use Rattle.cqf_admission_trees.specs.Turns.{AreKept}
 use Rattle.cqf_admission_trees.proofs.TurnLemmas.{AreFor}
 use Rattle.cqf_admission_trees.proofs.turns.Sums.add.Given as goal
 
 abbrev pub invariant-loop-hop : goal.invariant-loop-hop
 invariant-loop-hop l = record {
-  whole : length l.self-inside.sums.items ≡ l.self-inside.links * most_every;
+  kept : AreKept (record { links = l.self-inside.links; sums = l.self-inside.sums.items }) l.self-inside.greatest.items;
   so_far : AreFor (λ x y. x + y) l.fn.self (take l.hop-index l.tree) l.pace l.number (record { links = l.self-inside.links; sums = l.self-inside.sums.items });
 }

@@ -1,6 +1,11 @@
-use Rattle.std.proofs.Common.{◌∙◌, ap, fold, max}
-use Rattle.cqf_admission_trees.proofs.TurnLemmas.{most_of_link}
+use Rattle.std.proofs.Common.{◌<◌, ◌∙◌, ap, subst, sym}
+use Rattle.cqf_admission_trees.specs.Turns.{Turned, most_of}
+use Rattle.cqf_admission_trees.proofs.TurnLemmas.{greatest_is}
 use Rattle.cqf_admission_trees.proofs.turns.Sums.most_of.Goals as goal
 
 pub returns : goal.returns
-returns c = c.most_of_all.ensures ∙ ap (fold max 0) c.turns_of.ensures.value ∙ most_of_link c.args.self.now c.args.link c.turns_of.ensures.long
+returns c =
+    c.index.ensures
+    ∙ greatest_is (record { links = c.self.inside.links; sums = c.self.inside.sums.items }) c.self.inside.greatest.items c.self.invariant c.from.result c.args.link
+    c.index.result.now (subst (λ (turned : Turned). c.args.link < turned.links) (sym c.self.view_is) c.requires) c.from.ensures
+    ∙ ap (λ (turned : Turned). most_of turned c.args.link) c.self.view_is

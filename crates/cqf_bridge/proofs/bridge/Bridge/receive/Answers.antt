@@ -18,9 +18,9 @@ receive_frames-received-requires-clause-waiting c =
           i.ports.items;
       background = i.background.items;
     } in
-    let next = next_to_receive b c.args.cycle.0 c.args.table.now.cycle c.self.invariant.bridge c.if-cycle-self.false c.if-self-2.false
+    let next = next_to_receive b c.args.cycle.0 c.args.table.now.cycle c.self.invariant.has_gates.bridge c.if-cycle-self.false c.if-self-2.false
     (sym c.cycle.ensures ∙ c.if-cycle.false) in
-    waits_for_cycle b i.gates c.self.invariant c.if-self.false c.args.cycle.0 c.args.table.now.cycle next
+    waits_for_cycle b i.gates c.self.invariant.has_gates c.if-self.false c.args.cycle.0 c.args.table.now.cycle next
 
 pub receive_frames-received-requires-clause-before :
     goal.receive_frames-received-requires-clause-before
@@ -36,9 +36,9 @@ receive_frames-received-requires-clause-before c =
           i.ports.items;
       background = i.background.items;
     } in
-    let next = next_to_receive b c.args.cycle.0 c.args.table.now.cycle c.self.invariant.bridge c.if-cycle-self.false c.if-self-2.false
+    let next = next_to_receive b c.args.cycle.0 c.args.table.now.cycle c.self.invariant.has_gates.bridge c.if-cycle-self.false c.if-self-2.false
     (sym c.cycle.ensures ∙ c.if-cycle.false) in
-    gates_before b i.gates c.self.invariant c.if-self.false c.args.cycle.0 c.args.table.now.cycle next
+    gates_before b i.gates c.self.invariant.has_gates c.if-self.false c.args.cycle.0 c.args.table.now.cycle next
 
 pub invariant_of-self : goal.invariant_of-self
 invariant_of-self c =
@@ -53,16 +53,20 @@ invariant_of-self c =
           i.ports.items;
       background = i.background.items;
     } in
-    let next = next_to_receive b c.args.cycle.0 c.args.table.now.cycle c.self.invariant.bridge c.if-cycle-self.false c.if-self-2.false
+    let next = next_to_receive b c.args.cycle.0 c.args.table.now.cycle c.self.invariant.has_gates.bridge c.if-cycle-self.false c.if-self-2.false
     (sym c.cycle.ensures ∙ c.if-cycle.false) in
     let run = c.requires.offers.0 in
     let of_run : IsRunOfBridge b.domain b.number c.args.cycle.0 c.args.table.now.rows c.args.offers.now run =
     subst (λ (x : BridgeState). IsRunOfBridge x.domain x.number c.args.cycle.0 c.args.table.now.rows c.args.offers.now run) (sym c.self.view_is)
     c.requires.offers.1 in
-    bridge_received b i.gates c.self.invariant c.if-self.false c.args.cycle.0 c.args.table.now.cycle next c.args.table.now.rows
-    c.args.offers.now c.args.batches.now
-    c.receive_frames-received.new.gates c.receive_frames-received.new.ports.items c.in-Ok.drops.items c.in-Ok.ensures.kept run of_run
-    (c.in-Ok.ensures.takes run of_run)
+    record {
+      has_gates =
+          bridge_received b i.gates c.self.invariant.has_gates c.if-self.false c.args.cycle.0 c.args.table.now.cycle next c.args.table.now.rows
+          c.args.offers.now c.args.batches.now
+          c.receive_frames-received.new.gates c.receive_frames-received.new.ports.items c.in-Ok.drops.items c.in-Ok.ensures.kept run of_run
+          (c.in-Ok.ensures.takes run of_run);
+      entering = c.self.invariant.entering;
+    }
 
 pub returns-in-Ok-clause-receives : goal.returns-in-Ok-clause-receives
 returns-in-Ok-clause-receives c =
@@ -77,14 +81,14 @@ returns-in-Ok-clause-receives c =
           i.ports.items;
       background = i.background.items;
     } in
-    let next = next_to_receive b c.args.cycle.0 c.args.table.now.cycle c.self.invariant.bridge c.if-cycle-self.false c.if-self-2.false
+    let next = next_to_receive b c.args.cycle.0 c.args.table.now.cycle c.self.invariant.has_gates.bridge c.if-cycle-self.false c.if-self-2.false
     (sym c.cycle.ensures ∙ c.if-cycle.false) in
     let after : BridgeState = record b { received = b.received + 1; ports = c.receive_frames-received.new.ports.items } in
     λ run of_old.
     let of_run : IsRunOfBridge b.domain b.number c.args.cycle.0 c.args.table.now.rows c.args.offers.now run =
     subst (λ (x : BridgeState). IsRunOfBridge x.domain x.number c.args.cycle.0 c.args.table.now.rows c.args.offers.now run) (sym c.self.view_is) of_old in
     subst (λ (x : BridgeState). ReceivesCycle run x after c.args.cycle.0 c.args.batches.now c.in-Ok.drops.items) c.self.view_is
-    (cycle_received b i.gates c.self.invariant c.if-self.false c.args.cycle.0 c.args.table.now.cycle next c.args.table.now.rows
+    (cycle_received b i.gates c.self.invariant.has_gates c.if-self.false c.args.cycle.0 c.args.table.now.cycle next c.args.table.now.rows
     c.args.offers.now c.args.batches.now
     c.receive_frames-received.new.gates c.receive_frames-received.new.ports.items c.in-Ok.drops.items c.in-Ok.ensures.kept run of_run
     (c.in-Ok.ensures.takes run of_run))
@@ -103,7 +107,7 @@ returns-in-Err-clause-fault c =
       background = i.background.items;
     } in
     let handed : Handed = record { table_cycle = c.args.table.now.cycle; rows = c.args.table.now.rows; batches = c.args.batches.now } in
-    let next = next_to_receive b c.args.cycle.0 c.args.table.now.cycle c.self.invariant.bridge c.if-cycle-self.false c.if-self-2.false
+    let next = next_to_receive b c.args.cycle.0 c.args.table.now.cycle c.self.invariant.has_gates.bridge c.if-cycle-self.false c.if-self-2.false
     (sym c.cycle.ensures ∙ c.if-cycle.false) in
     let can : CanReceive b c.args.cycle.0 handed =
     record { may = record { not_spent = c.if-self.false; next = next }; batches = c.are_batches.ensures.yes c.if-not-are_batches.false } in
@@ -128,6 +132,9 @@ receive_frames-received-requires-clause-early c =
           i.ports.items;
       background = i.background.items;
     } in
-    let next = next_to_receive b c.args.cycle.0 c.args.table.now.cycle c.self.invariant.bridge c.if-cycle-self.false c.if-self-2.false
+    let next = next_to_receive b c.args.cycle.0 c.args.table.now.cycle c.self.invariant.has_gates.bridge c.if-cycle-self.false c.if-self-2.false
     (sym c.cycle.ensures ∙ c.if-cycle.false) in
-    early_to_receive b i.gates c.self.invariant c.if-self.false c.args.cycle.0 c.args.table.now.cycle next
+    early_to_receive b i.gates c.self.invariant.has_gates c.if-self.false c.args.cycle.0 c.args.table.now.cycle next
+
+pub are_batches-requires-clause-incoming : goal.are_batches-requires-clause-incoming
+are_batches-requires-clause-incoming c = c.as_slice-incoming.ensures.value ∙ c.self.invariant.entering

@@ -1,6 +1,5 @@
-use Rattle.std.proofs.Common.{◌∙◌, subst, sym}
-use Rattle.cqf_model.specs.declared.limits.Limits.{Limits}
-use Rattle.cqf_topology.specs.DomainText.{IsDomain, domain_with}
+use Rattle.std.proofs.Common.{subst, sym}
+use Rattle.cqf_topology.specs.DomainText.{IsDomain}
 use Rattle.cqf_topology.proofs.Copies.{same-domain}
 use Rattle.cqf_sketch.specs.SketchDomain.{IsOpenCycle}
 use Rattle.cqf_sketch.proofs.domain.SketchDomain.at.Goals as goal
@@ -9,9 +8,7 @@ pub of_parts-requires : goal.of_parts-requires
 of_parts-requires c =
     let cycle = c.args.cycle_time in
     let sketch = c.self.inside in
-    let own = subst (λ (limits : Limits). IsDomain (domain_with limits cycle sketch.guard sketch.bridges.keys sketch.stations.keys sketch.links.items))
-    (sym c.of_profile.ensures) (c.self.invariant.domains cycle (subst (λ sketch. IsOpenCycle sketch cycle) (sym c.self.view_is) c.requires)) in
+    let own = c.self.invariant.domains cycle (subst (λ sketch. IsOpenCycle sketch cycle) (sym c.self.view_is) c.requires) in
     subst IsDomain
-    (sym (same-domain c.of_profile.result cycle sketch.guard _ _ _ _ _ _ c.in_ok-bridges.ensures c.in_ok-stations.ensures
-    (c.in_ok-links.ensures.items ∙ c.as_slice.ensures.value)))
+    (sym (same-domain sketch.limits cycle sketch.guard _ _ _ _ _ _ c.in_ok-bridges.ensures c.in_ok-stations.ensures c.in_ok-links.ensures))
     own

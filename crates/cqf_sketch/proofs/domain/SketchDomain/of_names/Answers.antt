@@ -3,7 +3,8 @@ use Rattle.cqf_sketch.specs.Edges.{Edge, talkers_of}
 use Rattle.cqf_sketch.specs.SketchDomain.{IsSketch, link_of, plant_of, sketch_with, talker_of}
 use Rattle.cqf_sketch.proofs.CheckedLemmas.{passes_sketch}
 use Rattle.cqf_sketch.proofs.InsideLemmas.{all_joined}
-use Rattle.cqf_sketch.proofs.OpenLemmas.{passed_is_sketch, same_sketch}
+use Rattle.cqf_topology.specs.DomainText.{NoLinkTwice}
+use Rattle.cqf_sketch.proofs.OpenLemmas.{passed_is_sketch, plant_once, same_sketch}
 use Rattle.cqf_sketch.proofs.domain.SketchDomain.of_names.Goals as goal
 
 pub invariant_of-result : goal.invariant_of-result
@@ -13,8 +14,19 @@ invariant_of-result c =
     let names = c.requires in
     let checked = c.in_ok-edges.ensures.checked in
     subst IsSketch
-    (sym (same_sketch _ _ _ _ _ _ _ _ _ _ _ _ (c.in_ok-candidates.ensures.items ∙ c.candidates.ensures) c.guard.ensures names.bridges_are names.stations_are
-    (c.in_ok-links.ensures ∙ ap (λ (es : List Edge). map link_of (plant_of es)) c.as_slice.ensures.value)
+    (sym (same_sketch _ _ _ _ _ _ _ _ _ _ _ _ _ _ c.limits.ensures (c.in_ok-candidates.ensures.items ∙ c.candidates.ensures) c.guard.ensures names.bridges_are names.stations_are
+    (c.in_ok-links.ensures ∙ c.in_ok-listed.ensures ∙ ap (λ (es : List Edge). map link_of (plant_of es)) c.as_slice.ensures.value)
     (c.in_ok-talkers.ensures ∙ ap (λ (es : List Edge). map talker_of (talkers_of es)) c.as_slice-2.ensures.value)))
     (passed_is_sketch text edges names.readable (passes_sketch text edges (sketch_with text edges) checked.passed)
     (all_joined text.bridges text.stations 0 text.links edges names.readable.delays_most checked.joined_are) names.bridges_apart names.stations_apart)
+
+-- no link of the plant stands twice
+pub new-requires : goal.new-requires
+new-requires c =
+    let text = c.args.draft.now in
+    let edges = c.in_ok-edges.edges.items in
+    let names = c.requires in
+    let checked = c.in_ok-edges.ensures.checked in
+    subst NoLinkTwice (sym (c.in_ok-listed.ensures ∙ ap (λ (es : List Edge). map link_of (plant_of es)) c.as_slice.ensures.value))
+    (plant_once text edges names.readable (passes_sketch text edges (sketch_with text edges) checked.passed)
+    (all_joined text.bridges text.stations 0 text.links edges names.readable.delays_most checked.joined_are))

@@ -7,11 +7,11 @@ pub invariant_of-result : goal.invariant_of-result
 invariant_of-result c =
     subst IsDomain
     (sym (same-domain c.self.inside.limits c.self.inside.cycle_time c.self.inside.guard _ _ _ _ _ _ c.in_ok-bridges.ensures c.in_ok-stations.ensures
-    (c.in_ok-links.ensures.items ∙ c.as_slice.ensures.value)))
+    c.in_ok-links.ensures))
     c.self.invariant
 
 pub returns : goal.returns
 returns c =
     same-domain c.self.inside.limits c.self.inside.cycle_time c.self.inside.guard _ _ _ _ _ _ c.in_ok-bridges.ensures c.in_ok-stations.ensures
-    (c.in_ok-links.ensures.items ∙ c.as_slice.ensures.value)
+    c.in_ok-links.ensures
     ∙ c.self.view_is

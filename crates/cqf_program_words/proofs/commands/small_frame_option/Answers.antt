@@ -3,7 +3,7 @@ use Rattle.clap.specs.declared.builder.value_parser.ValueParser.{ValueParser}
 use Rattle.clap.specs.declared.builder.value_parser.ValueParser.TheVariants as vp
 use Rattle.cqf_program_words.specs.Words.{free_rule}
 use Rattle.cqf_program_words.proofs.WordLemmas.{with_parser}
-use Rattle.cqf_program_words.proofs.commands.frame_option.Goals as goal
+use Rattle.cqf_program_words.proofs.commands.small_frame_option.Goals as goal
 
 pub returns-clause-rule : goal.returns-clause-rule
 returns-clause-rule c =

@@ -1,0 +1,86 @@
+//! Links by number.
+ghost use Rattle.std.specs.Prelude.{◌≡◌, ◌<◌, ◌==◌, ◌&&◌, IfOk, IfSome, length, position};
+ghost use Rattle.cqf_model.specs.Domain.{same_node};
+ghost use Rattle.cqf_topology.specs.DomainText.{NoLinkTwice};
+ghost use Rattle.cqf_topology.specs.Links.{AreEndsOf};
+
+use cqf_model::{Link, Node};
+use cqf_units::Memory;
+use indexmap::IndexSet;
+use std::alloc::Global;
+use std::marker::Model;
+
+/// Links, of which no two have the same ends, numbered from 0 in their order. One is found by its ends, in a time that doesn't grow with
+/// how many there are.
+#[derive(Debug, Drop)]
+pub struct LinkList {
+    links: Vec<Link>,
+    /// The ends of each, by its number.
+    ends: IndexSet<(u16, Node)>,
+}
+
+impl Model for LinkList {
+    ghost use Rattle.std.specs.Prelude.{◌≡◌, map};
+    ghost use Rattle.cqf_topology.specs.JoinedLink.{ends_of};
+    ghost use Rattle.cqf_topology.specs.Links.{Linked};
+
+    ghost Value = { Linked };
+
+    ghost view = { λ l. record { items = l.links.items } };
+
+    ghost invariant = { λ l. l.ends.keys ≡ map ends_of l.links.items };
+}
+
+/// The ends of links, of which no two have the same.
+fn ends_of(alloc: Global, links: &[Link]) -> Result<IndexSet<(u16, Node)>, Memory>
+    requires { NoLinkTwice links.now }
+    ensures { IfOk result (λ ends. AreEndsOf links.now ends.keys) }
+{
+    let mut ends = IndexSet::with_capacity(alloc, links.len())?;
+    for link in links {
+        ends.insert((link.from, link.to))?;
+    }
+    Ok(ends)
+}
+
+impl LinkList {
+    /// These links by their places, unless memory runs out.
+    pub fn new(alloc: Global, links: Vec<Link>) -> Result<LinkList, Memory>
+        requires { NoLinkTwice links.items }
+        ensures { IfOk result (λ list. list.items ≡ links.items) }
+    {
+        let ends = ends_of(alloc, links.as_slice())?;
+        Ok(LinkList { links, ends })
+    }
+
+    /// How many links there are.
+    pub fn len(&self) -> usize
+        ensures { result ≡ length self.now.items }
+    {
+        self.links.len()
+    }
+
+    /// All links, by number.
+    pub fn as_slice(&self) -> &[Link]
+        ensures { result.now ≡ self.now.items }
+    {
+        self.links.as_slice()
+    }
+
+    /// The number of the link from a bridge to a node.
+    pub fn number_of(&self, from: u16, to: Node) -> Option<usize>
+        ensures number { result ≡ position (λ link. (link.from == from) && same_node link.to to) self.now.items }
+        ensures within { IfSome result (λ number. number < length self.now.items) }
+    {
+        self.ends.get_index_of(&(from, to))
+    }
+
+    /// The same links again, unless memory runs out.
+    pub fn try_copy(&self, alloc: Global) -> Result<LinkList, Memory>
+        ensures { IfOk result (λ copy. copy.items ≡ self.now.items) }
+    {
+        let links = Vec::from_slice(alloc, self.links.as_slice())?;
+        let ends = self.ends.clone()?;
+        Ok(LinkList { links, ends })
+    }
+}
