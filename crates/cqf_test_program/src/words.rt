@@ -398,16 +398,22 @@ const HELP: &[(&[&str], &str)] = &[
         &["run", "--help"],
         "The output is the history of the calls, a line of %%, and the book of every\n",
     ),
-    (&["report", "--help"], "Usage: cqf report --cycles <N>\n"),
+    (
+        &["report", "--help"],
+        "Usage: cqf report [OPTIONS] --cycles <N>\n",
+    ),
     (
         &["deliveries", "--help"],
-        "Usage: cqf deliveries --cycles <N>\n",
+        "Usage: cqf deliveries [OPTIONS] --cycles <N>\n",
     ),
     (
         &["deliveries", "--help"],
         "cqf deliveries --cycles 5 plant.toml calls.txt offers.csv\n",
     ),
-    (&["check", "--help"], "Usage: cqf check --cycles <N>\n"),
+    (
+        &["check", "--help"],
+        "Usage: cqf check [OPTIONS] --cycles <N>\n",
+    ),
     (
         &["check", "--help"],
         "cqf: check: unfinished, under way U, not run O\n",
@@ -415,7 +421,10 @@ const HELP: &[(&[&str], &str)] = &[
     (&["load", "--help"], "cqf load plant.toml\n"),
     (&["latency", "--help"], "Usage: cqf latency [OPTIONS]\n"),
     (&["latency", "--help"], "cqf latency --strict plant.toml\n"),
-    (&["summary", "--help"], "Usage: cqf summary --cycles <N>\n"),
+    (
+        &["summary", "--help"],
+        "Usage: cqf summary [OPTIONS] --cycles <N>\n",
+    ),
     (
         &["summary", "--help"],
         "cqf summary --cycles 5 plant.toml calls.txt offers.csv\n",
