@@ -16,7 +16,7 @@ ghost use Rattle.cqf_model.specs.Limits.{most_cycles};
 use crate::threads_outputs::ThreadsOutput;
 use crate::{PagedBook, put_paged_book};
 use cqf_admission::Entry;
-use cqf_laws_account::pages_tell_the_book;
+use cqf_laws_account::tapes_tell_the_book;
 use cqf_model::Limits;
 use cqf_program_press::{Press, Sheet, Sink, Told};
 use cqf_program_scenario::{Opened, read_opened};
@@ -143,7 +143,7 @@ pub fn threads_output(
         Ok(opened) => opened,
         Err(stop) => return Err(stop),
     };
-    pages_tell_the_book();
+    tapes_tell_the_book();
     let (domain, account) = match conduct_opened(rt, alloc, limits, cycles, input, opened) {
         Ok(ran) => ran,
         Err(fault) => return Err(fault_stop(alloc, fault)),
