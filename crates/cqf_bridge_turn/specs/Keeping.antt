@@ -1,7 +1,6 @@
 -- What a bridge did in a cycle, kept on its reel.
 use Rattle.std.specs.Prelude.{ℕ, ◌≡◌, ◌≢◌, ◌++◌, List, AllPairs, Contains, map}
 use Rattle.std.specs.List.{flat_map}
-use Rattle.cqf_model.specs.declared.frames.Dropped.{Dropped}
 use Rattle.cqf_model.specs.declared.frames.Started.{Started}
 use Rattle.cqf_bridge.specs.Batch.{LinkBatch}
 use Rattle.cqf_laws_bridge.specs.Cycles.{starts_of_batch}
@@ -36,8 +35,3 @@ pub record KeepsSent (batches : List LinkBatch) (background : List Started) (bef
   pub background_too : (link : ℕ) → Contains (links_of before.tapes.items) link →
       background_at after.tapes.items link ≡ background_at before.tapes.items link ++ marks_on link background
   pub drops : after.drops.items ≡ before.drops.items
-
--- and what the bridge dropped
-pub record KeepsDrops (drops : List Dropped) (before after : Reel) : Type 0 where
-  pub tapes : after.tapes.items ≡ before.tapes.items
-  pub more : after.drops.items ≡ before.drops.items ++ drops

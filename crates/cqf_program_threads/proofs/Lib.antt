@@ -1,4 +1,2 @@
-mod Stretches
-mod Places
 mod PageLines
 mod Accounts

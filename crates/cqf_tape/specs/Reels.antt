@@ -63,6 +63,11 @@ pub record KeepsBackground (starts : List Started) (before after : List Tape) : 
   pub starts_stay : (link : ℕ) → starts_at after link ≡ starts_at before link
   pub more : (link : ℕ) → Contains (links_of before) link → background_at after link ≡ background_at before link ++ marks_on link starts
 
+-- drops stand behind what a reel had, and nothing else is changed
+pub record KeepsDrops (drops : List Dropped) (before after : Reel) : Type 0 where
+  pub tapes : after.tapes.items ≡ before.tapes.items
+  pub more : after.drops.items ≡ before.drops.items ++ drops
+
 -- a reel with nothing on it, for the links that leave a bridge
 pub record IsNewReel (d : Domain) (bridge : ℕ) (reel : Reel) : Type 0 where
   pub links : links_of reel.tapes.items ≡ links_leaving d bridge

@@ -1,6 +1,6 @@
 //! What one bridge sends and drops.
 ghost use Rattle.std.specs.Prelude.{◌≡◌, ◌<◌, ◌++◌, [], All, IfOk, OnOk, length};
-ghost use Rattle.cqf_tape.specs.Reels.{IsBlank, IsNewReel, KeepsBackground, with_link};
+ghost use Rattle.cqf_tape.specs.Reels.{IsBlank, IsNewReel, KeepsBackground, KeepsDrops, with_link};
 ghost use Rattle.cqf_tape.specs.Tapes.{links_of};
 
 use crate::tape::Tape;
@@ -75,8 +75,7 @@ impl Reel {
 
     /// Keeps what the bridge dropped, behind what it dropped before. `Memory` where a growth is refused.
     pub fn keep_drops(&mut self, drops: &[Dropped]) -> Result<(), Memory>
-        ensures drops { OnOk result (self.new.drops.items ≡ self.old.drops.items ++ drops.now) }
-        ensures tapes { self.new.tapes.items ≡ self.old.tapes.items }
+        ensures { OnOk result (KeepsDrops drops.now self.old self.new) }
     {
         self.drops.extend_from_slice(drops)?;
         Ok(())

@@ -6,12 +6,13 @@ use Rattle.cqf_model.specs.Domain.{Domain}
 use Rattle.cqf_model.specs.Run.{Run}
 use Rattle.cqf_admission.specs.Tables.{CycleTable}
 use Rattle.cqf_bridge_turn.specs.Agenda.{AgendaOf, background_at, offers_listed_at}
-use Rattle.cqf_bridge_turn.specs.Keeping.{KeepsDrops, KeepsSent}
+use Rattle.cqf_bridge_turn.specs.Keeping.{KeepsSent}
 use Rattle.cqf_bridge.specs.Batch.{LinkBatch}
 use Rattle.cqf_bridge.specs.BridgeState.{AreBackedOf, BridgeState, SendsCycle, links_from}
 use Rattle.cqf_bridge.specs.PortRecord.{PortRecord}
 use Rattle.cqf_bridge.specs.Receiving.{CanReceive, IsRunOfBridge, ReceivesCycle}
 use Rattle.cqf_tape.specs.declared.reel.Reel.{Reel}
+use Rattle.cqf_tape.specs.Reels.{KeepsDrops}
 use Rattle.cqf_tape.specs.Tapes.{links_of}
 use Rattle.cqf_worker_loops.specs.declared.carried.Carried.{Carried}
 use Rattle.cqf_worker_loops.specs.declared.carried.Carried.TheVariants.{Item}
