@@ -76,7 +76,7 @@ pub record IsNewReel (d : Domain) (bridge : ℕ) (reel : Reel) : Type 0 where
 
 -- the rows of a table by number, and none where there is no such row
 abbrev pub row_at : {X : Type 0} → List (Vec X Global) → ℕ → List X
-row_at rows bridge = option_map_or (λ (row : Vec X Global). row.items) (slice_get rows bridge) []
+row_at {X} rows bridge = option_map_or (λ (row : Vec X Global). row.items) (slice_get rows bridge) []
 
 -- the last tape of a bridge is taken from among its tapes, and those of other bridges stay
 pub record TakesLast (bridge : ℕ) (before after : List (Vec Tape Global)) (tape : Tape) : Type 0 where
