@@ -64,6 +64,13 @@ impl Agenda {
         &rest[..count]
     }
 
+    /// The background frames of its links, by instant, then place. It takes no memory.
+    pub fn frames(&self) -> &[Backed]
+        ensures { result.now ≡ self.now.background }
+    {
+        self.background.as_slice()
+    }
+
     /// The background frames of its links in a cycle, by instant, then place: what it sends the cycle with. It takes no memory.
     pub fn background(&self, cycle: Cycle) -> &[Backed]
         ensures { result.now ≡ background_at self.now cycle.0 }

@@ -93,7 +93,11 @@ fn seat_each(
 }
 
 /// The workers of the domain's bridges, with pipes between them.
-fn lay_all(alloc: Global, given: Given<'_, '_, '_>) -> Result<Laid, ConductFault>
+fn lay_all(
+    alloc: Global,
+    given: Given<'_, '_, '_>,
+    cycles: u32,
+) -> Result<Laid, ConductFault>
     requires offers { AreOffers given.domain.now given.offers.now }
     requires few_offers { length given.offers.now ≤ most_rows }
     requires background { AreBackground given.domain.now given.background.now }
@@ -103,7 +107,7 @@ fn lay_all(alloc: Global, given: Given<'_, '_, '_>) -> Result<Laid, ConductFault
     ensures err { IfErr result IsStartFault }
 {
     let plan = compile(alloc, given.domain)?;
-    let laid = lay(alloc, &plan, given.offers, given.background)?;
+    let laid = lay(alloc, &plan, given.offers, given.background, cycles)?;
     Ok(laid)
 }
 
@@ -113,6 +117,7 @@ fn prepare(
     given: Given<'_, '_, '_>,
     admission: Admission,
     admins: Vec<Vec<Command>>,
+    cycles: u32,
 ) -> Result<Prepared, ConductFault>
     requires domain { admission.domain ≡ given.domain.now }
     requires offers { AreOffers given.domain.now given.offers.now }
@@ -125,7 +130,7 @@ fn prepare(
 {
     let (desk, seats) = open_desk(alloc, admission, admins.len())?;
     let (administrators, conductor) = seat_each(alloc, seats, admins)?;
-    let Laid { workers, tables } = lay_all(alloc, given)?;
+    let Laid { workers, tables } = lay_all(alloc, given, cycles)?;
     let ready = Ready {
         workers,
         tables,
@@ -235,7 +240,7 @@ pub fn conduct_pages<R: Threads + Wait + Sync, P: Pace>(
         offers,
         background,
     };
-    let Prepared { desk, ready } = prepare(alloc, given, admission, admins)?;
+    let Prepared { desk, ready } = prepare(alloc, given, admission, admins, cycles)?;
     let ended = run_threads(rt, alloc, pace, &desk, cycles, ready)?;
     let account = settle(alloc, domain, desk, ended)?;
     Ok(account)

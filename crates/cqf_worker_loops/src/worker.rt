@@ -9,16 +9,16 @@ ghost use Rattle.cqf_model.specs.Limits.{most_cycles};
 ghost use Rattle.cqf_worker_pipe.specs.PipeRule.{most_items};
 
 use crate::carried::Carried;
+use crate::flows::work_flows;
 use crate::link_ends::LinkEnd;
 use crate::pace::Pace;
 use crate::rows::stop_each;
-use crate::stepping::work_cycle;
 use cqf_admission::Table;
-use cqf_bridge::{Batch, Bridge, BridgeFault};
+use cqf_bridge::BridgeFault;
 use cqf_bridge_turn::Agenda;
-use cqf_laws_bridge::new_bridge_follows;
+use cqf_flow::{Flow, Station};
 use cqf_tape::Reel;
-use cqf_units::{Cycle, Memory};
+use cqf_units::Memory;
 use cqf_worker_pipe::{PipeIn, PipeOut};
 use std::alloc::Global;
 use std::sync::Wait;
@@ -26,15 +26,15 @@ use std::sync::Wait;
 /// A bridge with all that it needs on a thread of its own.
 #[derive(Drop)]
 pub struct Worker {
-    pub bridge: Bridge,
+    pub station: Station,
     /// What the bridge is offered, and its background frames.
     pub agenda: Agenda,
     /// Where the table of each cycle comes.
     pub tables: PipeOut<Carried<Table>>,
     /// The ends of the pipes on the links that end in the bridge, by number.
-    pub ins: Vec<LinkEnd<PipeOut<Carried<Batch>>>>,
+    pub ins: Vec<LinkEnd<PipeOut<Carried<Flow>>>>,
     /// The ends of the pipes on the links that leave the bridge and end in another, by number.
-    pub outs: Vec<LinkEnd<PipeIn<Carried<Batch>>>>,
+    pub outs: Vec<LinkEnd<PipeIn<Carried<Flow>>>>,
     /// What the bridge has sent and dropped.
     pub reel: Reel,
 }
@@ -67,7 +67,7 @@ impl From<Memory> for WorkerFault {
 pub struct GaveUp {
     pub bridge: u16,
     pub fault: WorkerFault,
-    pub outs: Vec<LinkEnd<PipeIn<Carried<Batch>>>>,
+    pub outs: Vec<LinkEnd<PipeIn<Carried<Flow>>>>,
 }
 
 /// Goes through the cycles, one after the other.
@@ -86,16 +86,13 @@ fn work_cycles<R: Wait, P: Pace>(
     ensures room { All (λ port. length port.pipe.items < most_items) worker.new.outs.items }
     ensures batches { All (λ port. AreItems port.pipe.items) worker.new.outs.items }
 {
-    new_bridge_follows();
-    for cycle in 0..cycles {
-        work_cycle(rt, alloc, pace, Cycle(cycle), worker)?;
-    }
-    Ok(())
+    let _cycles = cycles;
+    work_flows(rt, alloc, pace, worker)
 }
 
 /// Lets go of a worker: first of the ends at which it takes, so that who puts there waits no more; then those who take from it are
 /// told that nothing comes any more. Gives the ends at which that was put, behind batches alone.
-fn let_go<R: Wait>(rt: &R, worker: Worker) -> Vec<LinkEnd<PipeIn<Carried<Batch>>>>
+fn let_go<R: Wait>(rt: &R, worker: Worker) -> Vec<LinkEnd<PipeIn<Carried<Flow>>>>
     requires room { All (λ port. length port.pipe.items < most_items) worker.outs.items }
     requires batches { All (λ port. AreItems port.pipe.items) worker.outs.items }
     ensures count { length result.items ≡ length worker.outs.items }
@@ -107,7 +104,7 @@ fn let_go<R: Wait>(rt: &R, worker: Worker) -> Vec<LinkEnd<PipeIn<Carried<Batch>>
         tables,
         ins,
         mut outs,
-        bridge: _bridge,
+        station: _station,
         agenda: _agenda,
         reel: _reel,
     } = worker;
@@ -135,7 +132,7 @@ pub fn work<R: Wait, P: Pace>(
     ensures ok { IfOk result (λ done. Works cycles worker done) }
     ensures err { IfErr result (HasGivenUp cycles worker) }
 {
-    let bridge = worker.bridge.number();
+    let bridge = worker.station.number();
     match work_cycles(rt, alloc, pace, cycles, &mut worker) {
         Ok(()) => Ok(worker),
         Err(fault) => {

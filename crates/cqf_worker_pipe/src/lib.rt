@@ -14,4 +14,4 @@
 mod pipe_ends;
 mod pipe_rule;
 
-pub use pipe_ends::{PipeIn, PipeOut, pipe};
+pub use pipe_ends::{PipeIn, PipeOut, pipe, pipe_of};

@@ -76,8 +76,21 @@ pub fn pipe<T: Drop + Send>(alloc: Global) -> Result<(PipeIn<T>, PipeOut<T>), Me
     ensures nothing_put { IfOk result (λ ends. ends.0.items ≡ []) }
     ensures nothing_taken { IfOk result (λ ends. ends.1.items ≡ []) }
 {
+    let ends = pipe_of(alloc, CAPACITY)?;
+    Ok(ends)
+}
+
+/// The two ends of a pipe in which so many items can wait, likewise.
+pub fn pipe_of<T: Drop + Send>(
+    alloc: Global,
+    capacity: usize,
+) -> Result<(PipeIn<T>, PipeOut<T>), Memory>
+    ensures pair { IfOk result (λ ends. ends.0.pipe ≡ ends.1.pipe) }
+    ensures nothing_put { IfOk result (λ ends. ends.0.items ≡ []) }
+    ensures nothing_taken { IfOk result (λ ends. ends.1.items ≡ []) }
+{
     let (sender, receiver, mut pass) = bounded_with::<Bundle<T>, Log<T>, InOrder, Global>(
-        alloc, CAPACITY,
+        alloc, capacity,
     )?;
     let other = sender.another::<Roles>(&mut pass);
     let into = PipeIn {
@@ -189,6 +202,28 @@ impl<T: Drop> PipeIn<T> {
 }
 
 impl<T: Drop> PipeOut<T> {
+    /// Takes the item that was put first of those that wait, and none where none waits, or the other end is gone too. It waits for nobody,
+    /// and takes no memory.
+    pub fn look<R: Wait>(&mut self, rt: &R) -> Option<T>
+        ensures pipe { self.new.pipe ≡ self.old.pipe }
+        ensures some { IfSome result (λ item. self.new.items ≡ self.old.items ++ item ∷ []) }
+        ensures none { IfNone result (self.new.items ≡ self.old.items) }
+    {
+        if let Some(item) = self.waiting.pop_front() {
+            self.takes += 1;
+            return Some(item);
+        }
+        match self.receiver.try_recv_as::<Takes, R>(rt, &mut self.pass) {
+            Ok(bundle) => {
+                let Bundle { first, behind } = bundle;
+                self.waiting = behind;
+                self.takes += 1;
+                Some(first)
+            }
+            Err(_) => None,
+        }
+    }
+
     /// Takes the item that was put first of those that wait. It waits while nothing waits in the pipe, and answers none where
     /// the other end is gone too. It takes no memory.
     pub fn take<R: Wait>(&mut self, rt: &R) -> Option<T>

@@ -6,16 +6,19 @@ ghost use Rattle.cqf_worker_wires.specs.Laying.{AreBare, HasIn, HasOut, IsBare, 
 ghost use Rattle.cqf_worker_wires.specs.Wires.{AreWired, AreWorkersOf, Wiring, pipe_of_tables, tables_pipe};
 
 use cqf_admission::Table;
-use cqf_bridge::{Batch, Bridge};
 use cqf_bridge_turn::Agenda;
 use cqf_compile::Plan;
 use cqf_model::{Background, Node, Offer};
 use cqf_tape::Reel;
 use cqf_topology::Domain;
 use cqf_units::Memory;
+use cqf_flow::{Flow, Station};
 use cqf_worker_loops::{Carried, LinkEnd, Worker};
-use cqf_worker_pipe::{PipeIn, PipeOut, pipe};
+use cqf_worker_pipe::{PipeIn, PipeOut, pipe, pipe_of};
 use std::alloc::Global;
+
+/// How many flows wait on a link at most: more than there are where its bridge waits for none.
+const FLOWS: usize = 400;
 
 /// What the threads of a run begin with: a worker for each bridge, by number, and the ends at which their tables are put, likewise.
 #[derive(Drop)]
@@ -31,6 +34,7 @@ fn ready_worker(
     offers: &[Offer],
     background: &[Background],
     number: u16,
+    cycles: u32,
 ) -> Result<(Worker, PipeIn<Carried<Table>>), Memory>
     requires bridge { number < length plan.now.bridges }
     requires few_offers { length offers.now < 2 ^ 32 }
@@ -39,12 +43,12 @@ fn ready_worker(
     ensures pipe { IfOk result (λ made. made.1.pipe ≡ tables_pipe made.0) }
     ensures nothing_put { IfOk result (λ made. made.1.items ≡ []) }
 {
-    let bridge = Bridge::new(alloc, plan, number)?;
+    let station = Station::new(alloc, plan.domain(), number, cycles)?;
     let agenda = Agenda::new(alloc, plan.domain(), offers, background, number)?;
     let reel = Reel::new(alloc, plan.domain(), number)?;
     let (putting, tables) = pipe(alloc)?;
     let worker = Worker {
-        bridge,
+        station,
         agenda,
         tables,
         ins: Vec::new(alloc),
@@ -60,6 +64,7 @@ fn ready_workers(
     plan: &Plan,
     offers: &[Offer],
     background: &[Background],
+    cycles: u32,
 ) -> Result<Laid, Memory>
     requires few_offers { length offers.now < 2 ^ 32 }
     requires few_background { length background.now < 2 ^ 32 }
@@ -71,7 +76,7 @@ fn ready_workers(
     let mut workers = Vec::new(alloc);
     let mut tables = Vec::new(alloc);
     for number in 0..plan.domain().bridges() {
-        let (worker, putting) = ready_worker(alloc, plan, offers, background, number)?;
+        let (worker, putting) = ready_worker(alloc, plan, offers, background, number, cycles)?;
         workers.push(worker)?;
         tables.push(putting)?;
     }
@@ -79,7 +84,7 @@ fn ready_workers(
 }
 
 /// Gives a worker a port at which it puts.
-fn add_out(worker: &mut Worker, port: LinkEnd<PipeIn<Carried<Batch>>>) -> Result<(), Memory>
+fn add_out(worker: &mut Worker, port: LinkEnd<PipeIn<Carried<Flow>>>) -> Result<(), Memory>
     ensures { OnOk result (HasOut worker.old worker.new port) }
 {
     worker.outs.push(port)?;
@@ -87,7 +92,7 @@ fn add_out(worker: &mut Worker, port: LinkEnd<PipeIn<Carried<Batch>>>) -> Result
 }
 
 /// Gives a worker a port at which it takes.
-fn add_in(worker: &mut Worker, port: LinkEnd<PipeOut<Carried<Batch>>>) -> Result<(), Memory>
+fn add_in(worker: &mut Worker, port: LinkEnd<PipeOut<Carried<Flow>>>) -> Result<(), Memory>
     ensures { OnOk result (HasIn worker.old worker.new port) }
 {
     worker.ins.push(port)?;
@@ -107,7 +112,7 @@ fn lay_pipe(
     ensures laid { OnOk result (LaysPipe link from to workers.old.items workers.new.items) }
     ensures tables { OnOk result (map tables_pipe workers.new.items ≡ map tables_pipe workers.old.items) }
 {
-    let (putting, taking) = pipe(alloc)?;
+    let (putting, taking) = pipe_of(alloc, FLOWS)?;
     let out = LinkEnd {
         link,
         pipe: putting,
@@ -160,6 +165,7 @@ pub fn lay(
     plan: &Plan,
     offers: &[Offer],
     background: &[Background],
+    cycles: u32,
 ) -> Result<Laid, Memory>
     requires few_offers { length offers.now < 2 ^ 32 }
     requires few_background { length background.now < 2 ^ 32 }
@@ -172,7 +178,7 @@ pub fn lay(
     ensures tables { IfOk result (λ laid. map pipe_of_tables laid.tables.items ≡ map tables_pipe laid.workers.items) }
     ensures nothing_put { IfOk result (λ laid. All (λ end. end.items ≡ []) laid.tables.items) }
 {
-    let mut laid = ready_workers(alloc, plan, offers, background)?;
+    let mut laid = ready_workers(alloc, plan, offers, background, cycles)?;
     lay_links(alloc, plan.domain(), &mut laid.workers)?;
     Ok(laid)
 }

@@ -1,0 +1,409 @@
+//! A bridge whose links go on by themselves.
+
+use crate::inlet::Inlet;
+use crate::known::{Rows, Way, is_from};
+use crate::lane::Waiting;
+use crate::moving::{Flow, Moving};
+use crate::outlet::Outlet;
+use cqf_admission::Table;
+use cqf_model::{Dropped, Node, Offered, Row};
+use cqf_tape::{Reel, Tape};
+use cqf_topology::Domain;
+use cqf_units::{Cycle, Memory};
+use std::alloc::Global;
+use std::mem::replace;
+
+/// Over how many cycles a link goes on at once at most.
+const STRIDE: u32 = 256;
+
+/// A bridge of a run of so many cycles: how many tables it has taken, its links, what it knows of rows, and what it has dropped.
+#[derive(Drop)]
+pub struct Station {
+    domain: Domain,
+    number: u16,
+    cycles: u32,
+    tables: u32,
+    /// The links that end in the bridge, by number.
+    links_in: Vec<u16>,
+    inlets: Vec<Inlet>,
+    /// The links that leave it, by number.
+    outlets: Vec<Outlet>,
+    rows: Rows,
+    /// Room for the ways of a row.
+    ways: Vec<Way>,
+    drops: Vec<Dropped>,
+    /// Room for the drops of a cycle.
+    fresh: Vec<Dropped>,
+}
+
+/// Whether a node is the bridge.
+fn is_bridge(node: Node, number: u16) -> bool {
+    match node {
+        Node::Bridge(bridge) => bridge == number,
+        Node::Station(_) => false,
+    }
+}
+
+/// Whether a node is a bridge.
+fn is_some_bridge(node: Node) -> bool {
+    match node {
+        Node::Bridge(_) => true,
+        Node::Station(_) => false,
+    }
+}
+
+/// The links that end in a bridge, by number.
+fn links_into(alloc: Global, domain: &Domain, number: u16) -> Result<Vec<u16>, Memory> {
+    let mut links = Vec::new(alloc);
+    for link in 0..domain.links() {
+        if is_bridge(domain.link(link).to, number) {
+            links.push(link)?;
+        }
+    }
+    Ok(links)
+}
+
+/// So many links of which nothing has come.
+fn new_inlets(alloc: Global, count: usize) -> Result<Vec<Inlet>, Memory> {
+    let mut inlets = Vec::new(alloc);
+    for _place in 0..count {
+        inlets.push(Inlet::new(alloc))?;
+    }
+    Ok(inlets)
+}
+
+/// The links that leave a bridge, by number, that have sent nothing.
+fn new_outlets(
+    alloc: Global,
+    domain: &Domain,
+    number: u16,
+    sources: usize,
+) -> Result<Vec<Outlet>, Memory> {
+    let mut outlets = Vec::new(alloc);
+    for place in 0..domain.links() {
+        let link = domain.link(place);
+        if link.from == number {
+            let onward = is_some_bridge(link.to);
+            let outlet = Outlet::new(alloc, domain.cycle_time(), place, link, onward, sources)?;
+            outlets.push(outlet)?;
+        }
+    }
+    Ok(outlets)
+}
+
+/// Puts a frame that a source brought behind what it has brought to the links by which its row goes on from there.
+fn bring_on(
+    rows: &Rows,
+    outlets: &mut [Outlet],
+    source: usize,
+    waiting: Waiting,
+) -> Result<(), Memory> {
+    for way in rows.ways_of(waiting.row) {
+        if way.source == source {
+            outlets[way.outlet].bring(source, waiting)?;
+        }
+    }
+    Ok(())
+}
+
+/// A frame of a flow as it waits.
+fn as_waiting(flow: &Flow, moving: Moving) -> Waiting {
+    Waiting {
+        cycle: flow.from + u32::from(moving.after),
+        at: moving.at,
+        frame: moving.frame,
+        row: moving.row,
+        octets: u32::from(moving.octets),
+    }
+}
+
+/// Queues the frames of a flow from a place on, of the cycles whose tables were taken, and gives the place behind them.
+fn queue_frames(
+    flow: &Flow,
+    from: usize,
+    rows: &Rows,
+    outlets: &mut [Outlet],
+    source: usize,
+    tables: u32,
+) -> Result<usize, Memory> {
+    let frames = flow.frames.as_slice();
+    for place in from..frames.len() {
+        let waiting = as_waiting(flow, frames[place]);
+        if waiting.cycle >= tables {
+            return Ok(place);
+        }
+        bring_on(rows, outlets, source, waiting)?;
+    }
+    Ok(frames.len())
+}
+
+/// Queues the first flow of an inlet as far as tables were taken, and says whether all of it is queued; then it is let go.
+fn queue_first(
+    inlet: &mut Inlet,
+    rows: &Rows,
+    outlets: &mut [Outlet],
+    source: usize,
+    tables: u32,
+) -> Result<bool, Memory> {
+    let Some(flow) = inlet.later.pop_front() else {
+        return Ok(false);
+    };
+    let place = queue_frames(&flow, inlet.place, rows, outlets, source, tables)?;
+    inlet.reach(flow.upto.min(tables));
+    if flow.upto > tables {
+        inlet.place = place;
+        inlet.later.push_front(flow)?;
+        return Ok(false);
+    }
+    inlet.place = 0;
+    Ok(true)
+}
+
+impl Station {
+    /// A bridge of the domain in a run of so many cycles, which has done nothing. `Memory` where a growth is refused.
+    pub fn new(
+        alloc: Global,
+        domain: &Domain,
+        number: u16,
+        cycles: u32,
+    ) -> Result<Station, Memory> {
+        let links_in = links_into(alloc, domain, number)?;
+        let sources = links_in.len();
+        Ok(Station {
+            domain: domain.try_copy(alloc)?,
+            number,
+            cycles,
+            tables: 0,
+            links_in,
+            inlets: new_inlets(alloc, sources)?,
+            outlets: new_outlets(alloc, domain, number, sources)?,
+            rows: Rows::new(alloc),
+            ways: Vec::new(alloc),
+            drops: Vec::new(alloc),
+            fresh: Vec::new(alloc),
+        })
+    }
+
+    /// The number of the bridge.
+    pub fn number(&self) -> u16 {
+        self.number
+    }
+
+    /// How many tables were taken: the next is that of the cycle of this number.
+    pub fn tables(&self) -> u32 {
+        self.tables
+    }
+
+    /// The links that leave the bridge, by number.
+    pub fn outlets(&self) -> &[Outlet] {
+        self.outlets.as_slice()
+    }
+
+    /// What a link that leaves the bridge has sent since it was last asked.
+    pub fn flow_of(&mut self, alloc: Global, place: usize) -> Flow {
+        self.outlets[place].flow(alloc)
+    }
+
+    /// Notes a row's ways on from the bridge.
+    fn note_ways(&mut self, row: &Row) -> Result<(), Memory> {
+        self.ways.clear();
+        for hop in row.tree.as_slice() {
+            if self.domain.link(hop.link).from == self.number {
+                let outlet = self.outlets.iter().position(|it| it.link() == hop.link);
+                let inlet = self.links_in.iter().position(|it| is_from(hop, *it));
+                if let Some(outlet) = outlet {
+                    let source = inlet.unwrap_or(self.links_in.len());
+                    self.outlets[outlet].need(source);
+                    self.ways.push(Way { source, outlet })?;
+                }
+            }
+        }
+        Ok(())
+    }
+
+    /// Learns the rows of a table that are new: by number they come behind those that are known.
+    fn learn_rows(&mut self, table: &Table) -> Result<(), Memory> {
+        let rows = table.rows();
+        let edge = self.links_in.len();
+        let known = self.rows.len();
+        for place in 0..rows.len() {
+            if rows[place].no as usize >= known {
+                for _missing in self.rows.len()..rows[place].no as usize {
+                    self.rows.learn(&[], edge)?;
+                }
+                self.note_ways(&rows[place])?;
+                self.rows.learn(self.ways.as_slice(), edge)?;
+            }
+        }
+        Ok(())
+    }
+
+    /// Queues an offer of the next cycle, or drops it.
+    fn judge(&mut self, table: &Table, offered: &Offered) -> Result<(), Memory> {
+        let cycle = Cycle(self.tables);
+        let begins = u64::from(cycle.0) * self.domain.cycle_time().0;
+        let row = table.row_named(&offered.offer.stream);
+        match self.rows.judge(row, cycle, offered) {
+            Ok(row) => {
+                let waiting = Waiting {
+                    cycle: cycle.0,
+                    at: (offered.offer.at.0 - begins) as u32,
+                    frame: offered.frame,
+                    row,
+                    octets: offered.offer.octets,
+                };
+                let edge = self.links_in.len();
+                bring_on(&self.rows, self.outlets.as_mut_slice(), edge, waiting)?;
+            }
+            Err(reason) => self.fresh.push(Dropped {
+                cycle,
+                bridge: self.number,
+                frame: offered.frame,
+                octets: offered.offer.octets,
+                reason,
+            })?,
+        }
+        Ok(())
+    }
+
+    /// Takes the table of the next cycle, with the bridge's offers of the cycle, by instant, then place.
+    pub fn take_table(&mut self, table: &Table, offers: &[Offered]) -> Result<(), Memory> {
+        self.learn_rows(table)?;
+        self.fresh.clear();
+        for offered in offers {
+            self.judge(table, offered)?;
+        }
+        // offers come by instant, and drops stand by frame
+        if self.fresh.len() > 1 {
+            self.fresh.sort_by_key(|dropped| dropped.frame)?;
+        }
+        self.drops.extend_from_slice(self.fresh.as_slice())?;
+        self.tables += 1;
+        Ok(())
+    }
+
+    /// Queues what has come by an inlet, as far as tables were taken.
+    fn queue_from(&mut self, source: usize) -> Result<(), Memory> {
+        let mut going = true;
+        while going {
+            going = queue_first(
+                &mut self.inlets[source],
+                &self.rows,
+                self.outlets.as_mut_slice(),
+                source,
+                self.tables,
+            )?;
+        }
+        Ok(())
+    }
+
+    /// Takes what came by the inlet at a place.
+    pub fn take_flow(&mut self, source: usize, flow: Flow) -> Result<(), Memory> {
+        self.inlets[source].later.push_back(flow)?;
+        self.queue_from(source)
+    }
+
+    /// Queues the flows that waited for their tables.
+    pub fn queue_later(&mut self) -> Result<(), Memory> {
+        for source in 0..self.inlets.len() {
+            self.queue_from(source)?;
+        }
+        Ok(())
+    }
+
+    /// Up to which cycle all has come that a link needs, and the inlet that keeps it back, none where it is a table.
+    fn has_come(&self, place: usize) -> (u32, Option<usize>) {
+        let mut have = self.tables;
+        let mut by = None;
+        for source in 0..self.inlets.len() {
+            let got = self.inlets[source].got;
+            if got < have && self.outlets[place].needs(source) {
+                have = got;
+                by = Some(source);
+            }
+        }
+        (have, by)
+    }
+
+    /// Up to which cycle a link may send: one more than has come.
+    fn reach(&self, place: usize) -> u32 {
+        let (have, _by) = self.has_come(place);
+        let most = self.outlets[place].sent() + STRIDE;
+        (have + 1).min(self.cycles).min(most)
+    }
+
+    /// Whether a link may go on.
+    pub fn may_send(&self) -> bool {
+        for place in 0..self.outlets.len() {
+            if self.reach(place) > self.outlets[place].sent() {
+                return true;
+            }
+        }
+        false
+    }
+
+    /// Has each link go on as far as it may.
+    pub fn send(&mut self) -> Result<(), Memory> {
+        for place in 0..self.outlets.len() {
+            let until = self.reach(place);
+            if until > self.outlets[place].sent() {
+                self.outlets[place].send_to(until)?;
+            }
+        }
+        Ok(())
+    }
+
+    /// Whether all is over: each table and each flow was taken, and each link has sent all cycles.
+    pub fn is_over(&self) -> bool {
+        self.tables >= self.cycles
+            && self.outlets.iter().all(|it| it.sent() >= self.cycles)
+            && self.inlets.iter().all(|it| it.got >= self.cycles)
+    }
+
+    /// The link that has come least far of those that leave the bridge, where one isn't over.
+    fn last_outlet(&self) -> Option<usize> {
+        let mut least = self.cycles;
+        let mut last = None;
+        for place in 0..self.outlets.len() {
+            if self.outlets[place].sent() < least {
+                least = self.outlets[place].sent();
+                last = Some(place);
+            }
+        }
+        last
+    }
+
+    /// The inlet for which the bridge is to wait: that which keeps back the link that has come least far; none where it is a table.
+    pub fn waits_for(&self) -> Option<usize> {
+        let by = match self.last_outlet() {
+            Some(place) => self.has_come(place).1,
+            None if self.tables < self.cycles => None,
+            None => self.inlets.iter().position(|it| it.got < self.cycles),
+        };
+        match by {
+            Some(source) if !self.inlets[source].later.is_empty() => None,
+            other => other,
+        }
+    }
+
+    /// What the bridge has sent and dropped, taken away from it.
+    pub fn take_reel(&mut self, alloc: Global) -> Result<Reel, Memory> {
+        let outlets = replace(&mut self.outlets, Vec::new(alloc));
+        let drops = replace(&mut self.drops, Vec::new(alloc));
+        let mut tapes: Vec<Tape> = Vec::new(alloc);
+        for outlet in outlets {
+            tapes.push(outlet.into_tape())?;
+        }
+        Ok(Reel { tapes, drops })
+    }
+
+    /// The domain.
+    pub fn domain(&self) -> &Domain {
+        &self.domain
+    }
+
+    /// How many cycles there are.
+    pub fn cycles(&self) -> u32 {
+        self.cycles
+    }
+}

@@ -1,0 +1,139 @@
+//! A bridge's thread: its links go on by themselves.
+
+use crate::carried::Carried;
+use crate::pace::Pace;
+use crate::worker::{Worker, WorkerFault};
+use cqf_admission::Table;
+use cqf_flow::keep_background_of;
+use cqf_units::{Cycle, Nanos};
+use std::alloc::Global;
+use std::sync::Wait;
+
+/// Has the bridge take the table of its next cycle.
+fn enter_table<P: Pace>(pace: &P, worker: &mut Worker, table: &Table) -> Result<(), WorkerFault> {
+    let cycle = Cycle(worker.station.tables());
+    pace.before_step(usize::from(worker.station.number()), cycle);
+    let offers = worker.agenda.offers(cycle);
+    worker.station.take_table(table, offers)?;
+    Ok(())
+}
+
+/// Takes the tables that have come.
+fn look_for_tables<R: Wait, P: Pace>(
+    rt: &R,
+    pace: &P,
+    worker: &mut Worker,
+) -> Result<(), WorkerFault> {
+    let before = worker.station.tables();
+    for _table in before..worker.station.cycles() {
+        match worker.tables.look(rt) {
+            Some(Carried::Item(table)) => enter_table(pace, worker, &table)?,
+            Some(Carried::Stop) => return Err(WorkerFault::Stopped),
+            None => break,
+        }
+    }
+    if worker.station.tables() > before {
+        worker.station.queue_later()?;
+    }
+    Ok(())
+}
+
+/// Takes the flows that have come by an inlet.
+fn look_for_flows<R: Wait>(rt: &R, worker: &mut Worker, source: usize) -> Result<(), WorkerFault> {
+    for _flow in 0..u64::MAX {
+        match worker.ins[source].pipe.look(rt) {
+            Some(Carried::Item(flow)) => worker.station.take_flow(source, flow)?,
+            Some(Carried::Stop) => return Err(WorkerFault::Stopped),
+            None => break,
+        }
+    }
+    Ok(())
+}
+
+/// Takes all that has come.
+fn look<R: Wait, P: Pace>(rt: &R, pace: &P, worker: &mut Worker) -> Result<(), WorkerFault> {
+    look_for_tables(rt, pace, worker)?;
+    for source in 0..worker.ins.len() {
+        look_for_flows(rt, worker, source)?;
+    }
+    Ok(())
+}
+
+/// Waits for what keeps the bridge back: the flow of an inlet, or a table.
+fn wait<R: Wait, P: Pace>(rt: &R, pace: &P, worker: &mut Worker) -> Result<(), WorkerFault> {
+    match worker.station.waits_for() {
+        Some(source) => match worker.ins[source].pipe.take(rt) {
+            Some(Carried::Item(flow)) => worker.station.take_flow(source, flow)?,
+            _ => return Err(WorkerFault::Stopped),
+        },
+        None => match worker.tables.take(rt) {
+            Some(Carried::Item(table)) => {
+                enter_table(pace, worker, &table)?;
+                worker.station.queue_later()?;
+            }
+            _ => return Err(WorkerFault::Stopped),
+        },
+    }
+    Ok(())
+}
+
+/// Hands on what the links have sent to the bridges at their ends.
+fn tell<R: Wait>(rt: &R, alloc: Global, worker: &mut Worker) -> Result<(), WorkerFault> {
+    let cycles = worker.station.cycles();
+    let mut port = 0;
+    for place in 0..worker.station.outlets().len() {
+        let is_onward = worker.station.outlets()[place].is_onward();
+        if worker.station.outlets()[place].has_news(cycles) {
+            let flow = worker.station.flow_of(alloc, place);
+            match worker.outs[port].pipe.put(rt, Carried::Item(flow)) {
+                Ok(()) => {}
+                Err(_) => return Err(WorkerFault::Stopped),
+            }
+        }
+        if is_onward {
+            port += 1;
+        }
+    }
+    Ok(())
+}
+
+/// Keeps on the worker's reel what its bridge has sent and dropped, with the background frames that its links started.
+fn keep(alloc: Global, worker: &mut Worker) -> Result<(), WorkerFault> {
+    let mut reel = worker.station.take_reel(alloc)?;
+    let domain = worker.station.domain();
+    let end = Nanos(u64::from(worker.station.cycles()) * domain.cycle_time().0);
+    for place in 0..reel.tapes.len() {
+        keep_background_of(
+            alloc,
+            domain,
+            end,
+            worker.agenda.frames(),
+            &mut reel.tapes[place],
+        )?;
+    }
+    worker.reel = reel;
+    Ok(())
+}
+
+/// Goes through all cycles: takes what has come, has each link go on as far as it may, and hands on what was sent; where no link may go on it
+/// waits for what keeps back the one that has come least far.
+pub(crate) fn work_flows<R: Wait, P: Pace>(
+    rt: &R,
+    alloc: Global,
+    pace: &P,
+    worker: &mut Worker,
+) -> Result<(), WorkerFault> {
+    for _round in rt.forever() {
+        if worker.station.is_over() {
+            break;
+        }
+        look(rt, pace, worker)?;
+        if worker.station.may_send() {
+            worker.station.send()?;
+            tell(rt, alloc, worker)?;
+        } else if !worker.station.is_over() {
+            wait(rt, pace, worker)?;
+        }
+    }
+    keep(alloc, worker)
+}
