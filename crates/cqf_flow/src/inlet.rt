@@ -1,4 +1,5 @@
 //! A link that ends in the bridge.
+ghost use Rattle.std.specs.Prelude.{◌≡◌, [], max};
 
 use crate::moving::Flow;
 use std::alloc::Global;
@@ -16,7 +17,11 @@ pub(crate) struct Inlet {
 
 impl Inlet {
     /// A link of which nothing has come.
-    pub(crate) fn new(alloc: Global) -> Inlet {
+    pub(crate) fn new(alloc: Global) -> Inlet
+        ensures got { result.got ≡ 0 }
+        ensures later { result.later.items ≡ [] }
+        ensures place { result.place ≡ 0 }
+    {
         Inlet {
             got: 0,
             later: VecDeque::new(alloc),
@@ -25,7 +30,11 @@ impl Inlet {
     }
 
     /// Notes up to which cycle it is queued.
-    pub(crate) fn reach(&mut self, upto: u32) {
+    pub(crate) fn reach(&mut self, upto: u32)
+        ensures got { self.new.got ≡ max self.old.got upto }
+        ensures later { self.new.later ≡ self.old.later }
+        ensures place { self.new.place ≡ self.old.place }
+    {
         self.got = self.got.max(upto);
     }
 }

@@ -1,4 +1,6 @@
 //! A link that leaves the bridge.
+ghost use Rattle.std.specs.Prelude.{◌≡◌, ◌<◌, OnOk, false, length, slice_index_or};
+ghost use Rattle.cqf_flow.specs.Standing.{Brings, SendsAlone};
 
 use crate::lane::{Lane, Waiting, comes_before};
 use crate::moving::{Flow, Moving};
@@ -69,17 +71,23 @@ impl Outlet {
     }
 
     /// The number of the link.
-    pub fn link(&self) -> u16 {
+    pub fn link(&self) -> u16
+        ensures { result ≡ self.now.tape.link }
+    {
         self.tape.link
     }
 
     /// Up to which cycle it has sent.
-    pub fn sent(&self) -> u32 {
+    pub fn sent(&self) -> u32
+        ensures { result ≡ self.now.sent }
+    {
         self.sent
     }
 
     /// Whether it ends in another bridge.
-    pub fn is_onward(&self) -> bool {
+    pub fn is_onward(&self) -> bool
+        ensures { result ≡ self.now.onward }
+    {
         self.onward
     }
 
@@ -98,12 +106,18 @@ impl Outlet {
     }
 
     /// Whether a row leads here from an inlet.
-    pub(crate) fn needs(&self, source: usize) -> bool {
+    pub(crate) fn needs(&self, source: usize) -> bool
+        requires { source < length self.now.needs.items }
+        ensures { result ≡ slice_index_or self.now.needs.items source false }
+    {
         self.needs[source]
     }
 
     /// Puts a frame behind what a source has brought.
-    pub(crate) fn bring(&mut self, source: usize, waiting: Waiting) -> Result<(), Memory> {
+    pub(crate) fn bring(&mut self, source: usize, waiting: Waiting) -> Result<(), Memory>
+        requires { source < length self.old.lanes.items }
+        ensures { OnOk result (Brings source waiting self.old self.new) }
+    {
         self.lanes[source].bring(waiting)
     }
 
@@ -155,7 +169,10 @@ impl Outlet {
     }
 
     /// Sends up to a cycle: what came in the cycles before the last of these.
-    pub(crate) fn send_to(&mut self, until: u32) -> Result<(), Memory> {
+    pub(crate) fn send_to(&mut self, until: u32) -> Result<(), Memory>
+        requires { self.old.sent < until }
+        ensures { OnOk result (SendsAlone until self.old self.new) }
+    {
         let mut standing = Standing {
             cycle: 0,
             offset: 0,
@@ -185,7 +202,9 @@ impl Outlet {
     }
 
     /// What it has sent.
-    pub(crate) fn into_tape(self) -> Tape {
+    pub(crate) fn into_tape(self) -> Tape
+        ensures { result ≡ self.tape }
+    {
         self.tape
     }
 }

@@ -1,4 +1,6 @@
 //! A bridge whose links go on by themselves.
+ghost use Rattle.std.specs.Prelude.{◌≡◌, ◌<◌, IfOk, OnOk, [], length, map};
+ghost use Rattle.cqf_flow.specs.Standing.{GoesOnAlone, HandsOn, QueuesLater, StandsSo, TakesFlow, TakesTable, nothing_yet};
 
 use crate::inlet::Inlet;
 use crate::known::{Rows, Way, is_from};
@@ -166,7 +168,12 @@ impl Station {
         domain: &Domain,
         number: u16,
         cycles: u32,
-    ) -> Result<Station, Memory> {
+    ) -> Result<Station, Memory>
+        ensures number { IfOk result (λ station. station.number ≡ number) }
+        ensures cycles { IfOk result (λ station. station.cycles ≡ cycles) }
+        ensures drops { IfOk result (λ station. station.drops.items ≡ []) }
+        ensures stands { IfOk result (StandsSo domain.now nothing_yet (λ l. [])) }
+    {
         let links_in = links_into(alloc, domain, number)?;
         let sources = links_in.len();
         Ok(Station {
@@ -185,23 +192,39 @@ impl Station {
     }
 
     /// The number of the bridge.
-    pub fn number(&self) -> u16 {
+    pub fn number(&self) -> u16
+        ensures { result ≡ self.now.number }
+    {
         self.number
     }
 
     /// How many tables were taken: the next is that of the cycle of this number.
-    pub fn tables(&self) -> u32 {
+    pub fn tables(&self) -> u32
+        ensures { result ≡ self.now.tables }
+    {
         self.tables
     }
 
     /// The links that leave the bridge, by number.
-    pub fn outlets(&self) -> &[Outlet] {
+    pub fn outlets(&self) -> &[Outlet]
+        ensures { result.now ≡ self.now.outlets.items }
+    {
         self.outlets.as_slice()
     }
 
     /// What a link that leaves the bridge has sent since it was last asked.
-    pub fn flow_of(&mut self, alloc: Global, place: usize) -> Flow {
+    pub fn flow_of(&mut self, alloc: Global, place: usize) -> Flow
+        requires { place < length self.old.outlets.items }
+        ensures { HandsOn place self.old self.new result }
+    {
         self.outlets[place].flow(alloc)
+    }
+
+    /// Has an inlet that no link needed so far count as queued up to the next table: nothing that goes on came by it.
+    fn begin_need(&mut self, source: usize) {
+        if source < self.inlets.len() && !self.outlets.iter().any(|it| it.needs(source)) {
+            self.inlets[source].reach(self.tables);
+        }
     }
 
     /// Notes a row's ways on from the bridge.
@@ -213,6 +236,7 @@ impl Station {
                 let inlet = self.links_in.iter().position(|it| is_from(hop, *it));
                 if let Some(outlet) = outlet {
                     let source = inlet.unwrap_or(self.links_in.len());
+                    self.begin_need(source);
                     self.outlets[outlet].need(source);
                     self.ways.push(Way { source, outlet })?;
                 }
@@ -267,7 +291,10 @@ impl Station {
     }
 
     /// Takes the table of the next cycle, with the bridge's offers of the cycle, by instant, then place.
-    pub fn take_table(&mut self, table: &Table, offers: &[Offered]) -> Result<(), Memory> {
+    pub fn take_table(&mut self, table: &Table, offers: &[Offered]) -> Result<(), Memory>
+        requires { self.old.tables < self.old.cycles }
+        ensures { OnOk result (TakesTable table.now.rows offers.now self.old self.new) }
+    {
         self.learn_rows(table)?;
         self.fresh.clear();
         for offered in offers {
@@ -298,13 +325,18 @@ impl Station {
     }
 
     /// Takes what came by the inlet at a place.
-    pub fn take_flow(&mut self, source: usize, flow: Flow) -> Result<(), Memory> {
+    pub fn take_flow(&mut self, source: usize, flow: Flow) -> Result<(), Memory>
+        requires { source < length self.old.inlets.items }
+        ensures { OnOk result (TakesFlow source flow self.old self.new) }
+    {
         self.inlets[source].later.push_back(flow)?;
         self.queue_from(source)
     }
 
     /// Queues the flows that waited for their tables.
-    pub fn queue_later(&mut self) -> Result<(), Memory> {
+    pub fn queue_later(&mut self) -> Result<(), Memory>
+        ensures { OnOk result (QueuesLater self.old self.new) }
+    {
         for source in 0..self.inlets.len() {
             self.queue_from(source)?;
         }
@@ -343,7 +375,9 @@ impl Station {
     }
 
     /// Has each link go on as far as it may.
-    pub fn send(&mut self) -> Result<(), Memory> {
+    pub fn send(&mut self) -> Result<(), Memory>
+        ensures { OnOk result (GoesOnAlone self.old self.new) }
+    {
         for place in 0..self.outlets.len() {
             let until = self.reach(place);
             if until > self.outlets[place].sent() {
@@ -387,7 +421,10 @@ impl Station {
     }
 
     /// What the bridge has sent and dropped, taken away from it.
-    pub fn take_reel(&mut self, alloc: Global) -> Result<Reel, Memory> {
+    pub fn take_reel(&mut self, alloc: Global) -> Result<Reel, Memory>
+        ensures tapes { IfOk result (λ reel. reel.tapes.items ≡ map (λ outlet. outlet.tape) self.old.outlets.items) }
+        ensures drops { IfOk result (λ reel. reel.drops ≡ self.old.drops) }
+    {
         let outlets = replace(&mut self.outlets, Vec::new(alloc));
         let drops = replace(&mut self.drops, Vec::new(alloc));
         let mut tapes: Vec<Tape> = Vec::new(alloc);
@@ -398,12 +435,16 @@ impl Station {
     }
 
     /// The domain.
-    pub fn domain(&self) -> &Domain {
+    pub fn domain(&self) -> &Domain
+        ensures { result.now ≡ self.now.domain }
+    {
         &self.domain
     }
 
     /// How many cycles there are.
-    pub fn cycles(&self) -> u32 {
+    pub fn cycles(&self) -> u32
+        ensures { result ≡ self.now.cycles }
+    {
         self.cycles
     }
 }

@@ -128,10 +128,13 @@ pub(crate) fn work_flows<R: Wait, P: Pace>(
             break;
         }
         look(rt, pace, worker)?;
-        if worker.station.may_send() {
+        let may_send = worker.station.may_send();
+        if may_send {
             worker.station.send()?;
-            tell(rt, alloc, worker)?;
-        } else if !worker.station.is_over() {
+        }
+        // a link to which a row has just come to lead has news though it may not go on
+        tell(rt, alloc, worker)?;
+        if !may_send && !worker.station.is_over() {
             wait(rt, pace, worker)?;
         }
     }
