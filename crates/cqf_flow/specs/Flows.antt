@@ -1,5 +1,5 @@
 -- What links send, as flows carry it (profile).
-use Rattle.std.specs.Prelude.{ℕ, ◌≡◌, ◌+◌, ◌*◌, ◌-◌, ◌≤◌, List, [], ◌∷◌, length, map, slice_index_or}
+use Rattle.std.specs.Prelude.{ℕ, ◌≡◌, ◌+◌, ◌*◌, ◌-◌, ◌≤◌, ◌<◌, List, [], ◌∷◌, length, map, slice_index_or}
 use Rattle.cqf_lists.specs.Lists.{each_below}
 use Rattle.cqf_model.specs.declared.frames.Sent.{Sent}
 use Rattle.cqf_model.specs.Domain.{Domain}
@@ -21,10 +21,11 @@ moving_in d m first cycle sent = record {
 abbrev pub each_between : {A : Type 0} → (ℕ → List A) → ℕ → ℕ → List A
 each_between f from upto = each_below (λ k. f (from + k)) (upto - from)
 
--- a flow carries what a link sends in the cycles from one on up to the flow's end
+-- a flow carries what a link sends in the cycles from one on up to the flow's end, and counts these from one that is none behind the first frame's
 pub record IsFlowOf (d : Domain) (m : ℕ) (sends : List (List Sent)) (begin : ℕ) (flow : Flow) : Type 0 where
   pub behind : begin ≤ flow.upto
   pub within : flow.upto ≤ length sends
+  pub counts : (cycle : ℕ) → begin ≤ cycle → cycle < flow.upto → (slice_index_or sends cycle [] ≡ [] → ⊥) → flow.from ≤ cycle
   pub carries : flow.frames.items
       ≡ each_between (λ cycle. map (moving_in d m flow.from cycle) (slice_index_or sends cycle [])) begin flow.upto
 

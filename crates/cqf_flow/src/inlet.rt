@@ -29,6 +29,11 @@ impl Inlet {
         }
     }
 
+    /// Whether a flow waits for tables.
+    pub(crate) fn waits(&self) -> bool {
+        !self.later.is_empty()
+    }
+
     /// Notes up to which cycle it is queued.
     pub(crate) fn reach(&mut self, upto: u32)
         ensures got { self.new.got ≡ max self.old.got upto }

@@ -12,6 +12,8 @@ struct Known {
     many: usize,
     /// Whether its frames may be offered here.
     edge: bool,
+    /// The first cycle in whose table it was.
+    since: u32,
     /// The cycle, from 1, of which octets are counted, and how many were covered in it.
     counted: u64,
     used: u32,
@@ -46,25 +48,29 @@ impl Rows {
         self.known.len()
     }
 
-    /// Learns the next row, with its ways on from the bridge; `edge` is the place of the edge among the sources.
-    pub(crate) fn learn(&mut self, ways: &[Way], edge: usize) -> Result<(), Memory> {
+    /// Learns the next row, with its ways on from the bridge, and the cycle in whose table it is; `edge` is the place of the edge among the
+    /// sources.
+    pub(crate) fn learn(&mut self, ways: &[Way], edge: usize, since: u32) -> Result<(), Memory> {
         let first = self.ways.len();
         self.ways.extend_from_slice(ways)?;
         self.known.push(Known {
             first,
             many: ways.len(),
             edge: ways.iter().any(|way| way.source == edge),
+            since,
             counted: 0,
             used: 0,
         })?;
         Ok(())
     }
 
-    /// The ways on of a row.
-    pub(crate) fn ways_of(&self, row: u32) -> &[Way] {
+    /// The ways on of a row's frame of a cycle: none where the row is of a later table.
+    pub(crate) fn ways_of(&self, row: u32, cycle: u32) -> &[Way] {
         match self.known.get(row as usize) {
-            Some(known) => &self.ways.as_slice()[known.first..known.first + known.many],
-            None => &[],
+            Some(known) if known.since <= cycle => {
+                &self.ways.as_slice()[known.first..known.first + known.many]
+            }
+            _ => &[],
         }
     }
 
@@ -106,12 +112,12 @@ impl Rows {
         } else {
             0
         };
-        let sum = before.saturating_add(octets);
-        if sum > most {
+        let sum = u64::from(before) + u64::from(octets);
+        if sum > u64::from(most) {
             return Err(Reason::Octets);
         }
         known.counted = number;
-        known.used = sum;
+        known.used = sum as u32;
         Ok(())
     }
 }

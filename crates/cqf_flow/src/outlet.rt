@@ -1,6 +1,6 @@
 //! A link that leaves the bridge.
-ghost use Rattle.std.specs.Prelude.{◌≡◌, ◌<◌, OnOk, false, length, slice_index_or};
-ghost use Rattle.cqf_flow.specs.Standing.{Brings, SendsAlone};
+ghost use Rattle.std.specs.Prelude.{◌≡◌, ◌<◌, ◌^◌, OnOk, false, length, slice_index_or};
+ghost use Rattle.cqf_flow.specs.Standing.{Brings, SendsAlone, has_room_at, time_to};
 
 use crate::lane::{Lane, Waiting, comes_before};
 use crate::moving::{Flow, Moving};
@@ -10,12 +10,16 @@ use cqf_units::{Memory, Nanos, octet_time};
 use std::alloc::Global;
 use std::mem::replace;
 
+/// Over how many cycles a link goes on at once at most, and from the first of those with a frame that is to be handed on: so frames that can't
+/// be handed on yet are few, and a flow's cycles can be counted in 16 bits.
+const STRIDE: u32 = 256;
+
 /// A link that leaves the bridge: what its sources have brought to it, how far it has sent, and what of that it has yet to hand on.
 #[derive(Debug, Drop)]
 pub struct Outlet {
-    octet_time: u64,
-    delay: u64,
-    cycle_time: u64,
+    octet_time: u32,
+    delay: u32,
+    cycle_time: u32,
     /// Whether it ends in another bridge.
     onward: bool,
     /// By place of source, the edge behind the inlets.
@@ -39,6 +43,17 @@ struct Standing {
     offset: u64,
 }
 
+impl Standing {
+    /// Where it stands as it begins to send in a cycle, or goes on in it.
+    fn within(self, cycle: u32) -> Standing {
+        if self.cycle == cycle {
+            self
+        } else {
+            Standing { cycle, offset: 0 }
+        }
+    }
+}
+
 impl Outlet {
     /// The link of a number, that has sent nothing, with so many sources besides the edge.
     pub(crate) fn new(
@@ -55,9 +70,9 @@ impl Outlet {
         }
         let needs = vec![in alloc; false; sources]?;
         Ok(Outlet {
-            octet_time: octet_time(link.rate),
-            delay: u64::from(link.delay),
-            cycle_time: cycle_time.0,
+            octet_time: octet_time(link.rate) as u32,
+            delay: link.delay,
+            cycle_time: cycle_time.0 as u32,
             onward,
             lanes,
             needs,
@@ -84,6 +99,13 @@ impl Outlet {
         self.sent
     }
 
+    /// Up to which cycle it has handed on what it sent.
+    pub fn told(&self) -> u32
+        ensures { result ≡ self.now.told }
+    {
+        self.told
+    }
+
     /// Whether it ends in another bridge.
     pub fn is_onward(&self) -> bool
         ensures { result ≡ self.now.onward }
@@ -95,6 +117,20 @@ impl Outlet {
     /// it is over.
     pub fn has_news(&self, cycles: u32) -> bool {
         self.onward && self.sent > self.told && (self.used || self.sent == cycles)
+    }
+
+    /// Whether it has sent all of so many cycles, and has handed them on where it ends in another bridge.
+    pub(crate) fn is_over(&self, cycles: u32) -> bool {
+        self.sent >= cycles && (!self.onward || self.told >= cycles)
+    }
+
+    /// Up to which cycle it may send as yet, whatever has come.
+    pub(crate) fn most(&self) -> u32 {
+        if self.pending.is_empty() {
+            self.sent + STRIDE
+        } else {
+            self.base + STRIDE
+        }
     }
 
     /// Notes that a row leads here from a source.
@@ -136,35 +172,55 @@ impl Outlet {
         next
     }
 
+    /// How many nanoseconds from its start a frame takes until it is whole at the link's end.
+    fn time_of(&self, octets: u32) -> u64
+        ensures { result ≡ time_to self.now octets }
+    {
+        u64::from(self.octet_time) * (u64::from(octets) + 8) + u64::from(self.delay)
+    }
+
+    /// Whether a frame is whole within the cycle, if it is sent next. What the gates of a run let pass always is.
+    fn has_room(&self, offset: u64, octets: u32) -> bool
+        requires { offset < 2 ^ 40 }
+        ensures { result ≡ has_room_at self.now offset octets }
+    {
+        octets <= u32::from(u16::MAX) && offset + self.time_of(octets) < u64::from(self.cycle_time)
+    }
+
+    /// Puts a frame that it sends behind what is to be handed on.
+    fn hand(&mut self, standing: Standing, frame: Waiting) -> Result<(), Memory> {
+        if self.pending.is_empty() {
+            self.base = standing.cycle;
+        }
+        self.pending.push(Moving {
+            at: (standing.offset + self.time_of(frame.octets)) as u32,
+            frame: frame.frame,
+            row: frame.row,
+            octets: frame.octets as u16,
+            after: (standing.cycle - self.base) as u16,
+        })?;
+        Ok(())
+    }
+
     /// Sends a frame in the cycle behind its own, behind what was sent in that, and gives where the link stands then.
-    fn send_one(&mut self, standing: Standing, frame: Waiting) -> Result<Standing, Memory> {
-        let cycle = frame.cycle + 1;
-        let offset = if standing.cycle == cycle {
-            standing.offset
-        } else {
-            0
-        };
-        let start = u64::from(cycle) * self.cycle_time + offset;
+    fn send_one(&mut self, before: Standing, frame: Waiting) -> Result<Standing, Memory> {
+        let standing = before.within(frame.cycle + 1);
+        if !self.has_room(standing.offset, frame.octets) {
+            return Ok(standing);
+        }
+        let begins = u64::from(standing.cycle) * u64::from(self.cycle_time);
         self.tape.keep(Mark {
-            start: Nanos(start),
+            start: Nanos(begins + standing.offset),
             frame: frame.frame,
             octets: frame.octets,
         })?;
         if self.onward {
-            if self.pending.is_empty() {
-                self.base = cycle;
-            }
-            self.pending.push(Moving {
-                at: (offset + self.octet_time * u64::from(frame.octets + 8) + self.delay) as u32,
-                frame: frame.frame,
-                row: frame.row,
-                octets: frame.octets as u16,
-                after: (cycle - self.base) as u16,
-            })?;
+            self.hand(standing, frame)?;
         }
+        let taken = u64::from(self.octet_time) * (u64::from(frame.octets) + 20);
         Ok(Standing {
-            cycle,
-            offset: offset + self.octet_time * u64::from(frame.octets + 20),
+            cycle: standing.cycle,
+            offset: standing.offset + taken,
         })
     }
 
@@ -192,13 +248,20 @@ impl Outlet {
     }
 
     /// What was sent since the last flow, as one. It takes no memory.
-    pub fn flow(&mut self, alloc: Global) -> Flow {
+    pub(crate) fn flow(&mut self, alloc: Global) -> Flow {
         self.told = self.sent;
         Flow {
             from: self.base,
             upto: self.sent,
             frames: replace(&mut self.pending, Vec::new(alloc)),
         }
+    }
+
+    /// Has the last flow back, which couldn't be handed on: it stands as before that was asked for, when it had handed on up to a cycle.
+    pub(crate) fn keep_back(&mut self, told: u32, flow: Flow) {
+        self.told = told;
+        self.base = flow.from;
+        self.pending = flow.frames;
     }
 
     /// What it has sent.

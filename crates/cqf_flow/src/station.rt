@@ -1,6 +1,6 @@
 //! A bridge whose links go on by themselves.
 ghost use Rattle.std.specs.Prelude.{◌≡◌, ◌<◌, IfOk, OnOk, [], length, map};
-ghost use Rattle.cqf_flow.specs.Standing.{GoesOnAlone, HandsOn, QueuesLater, StandsSo, TakesFlow, TakesTable, nothing_yet};
+ghost use Rattle.cqf_flow.specs.Standing.{AreOfCycle, GoesOnAlone, HandsOn, KeepsBack, StandsSo, TakesFlow, TakesTable, nothing_yet};
 
 use crate::inlet::Inlet;
 use crate::known::{Rows, Way, is_from};
@@ -8,15 +8,15 @@ use crate::lane::Waiting;
 use crate::moving::{Flow, Moving};
 use crate::outlet::Outlet;
 use cqf_admission::Table;
-use cqf_model::{Dropped, Node, Offered, Row};
+use cqf_model::{Dropped, Hop, Node, Offered, Row};
 use cqf_tape::{Reel, Tape};
 use cqf_topology::Domain;
 use cqf_units::{Cycle, Memory};
 use std::alloc::Global;
 use std::mem::replace;
 
-/// Over how many cycles a link goes on at once at most.
-const STRIDE: u32 = 256;
+/// How many cycles beyond that up to which all links have sent a bridge takes tables of: so cycles aren't closed far ahead of what is sent.
+const AHEAD: u32 = 64;
 
 /// A bridge of a run of so many cycles: how many tables it has taken, its links, what it knows of rows, and what it has dropped.
 #[derive(Drop)]
@@ -100,7 +100,7 @@ fn bring_on(
     source: usize,
     waiting: Waiting,
 ) -> Result<(), Memory> {
-    for way in rows.ways_of(waiting.row) {
+    for way in rows.ways_of(waiting.row, waiting.cycle) {
         if way.source == source {
             outlets[way.outlet].bring(source, waiting)?;
         }
@@ -111,7 +111,7 @@ fn bring_on(
 /// A frame of a flow as it waits.
 fn as_waiting(flow: &Flow, moving: Moving) -> Waiting {
     Waiting {
-        cycle: flow.from + u32::from(moving.after),
+        cycle: flow.from.saturating_add(u32::from(moving.after)),
         at: moving.at,
         frame: moving.frame,
         row: moving.row,
@@ -220,6 +220,14 @@ impl Station {
         self.outlets[place].flow(alloc)
     }
 
+    /// Has the last flow of a link back, which couldn't be handed on; before that it had handed on up to a cycle.
+    pub fn keep_back(&mut self, place: usize, told: u32, flow: Flow)
+        requires { place < length self.old.outlets.items }
+        ensures { KeepsBack place told flow self.old self.new }
+    {
+        self.outlets[place].keep_back(told, flow);
+    }
+
     /// Has an inlet that no link needed so far count as queued up to the next table: nothing that goes on came by it.
     fn begin_need(&mut self, source: usize) {
         if source < self.inlets.len() && !self.outlets.iter().any(|it| it.needs(source)) {
@@ -227,37 +235,39 @@ impl Station {
         }
     }
 
-    /// Notes a row's ways on from the bridge.
-    fn note_ways(&mut self, row: &Row) -> Result<(), Memory> {
-        self.ways.clear();
-        for hop in row.tree.as_slice() {
-            if self.domain.link(hop.link).from == self.number {
-                let outlet = self.outlets.iter().position(|it| it.link() == hop.link);
-                let inlet = self.links_in.iter().position(|it| is_from(hop, *it));
-                if let Some(outlet) = outlet {
-                    let source = inlet.unwrap_or(self.links_in.len());
-                    self.begin_need(source);
-                    self.outlets[outlet].need(source);
-                    self.ways.push(Way { source, outlet })?;
-                }
-            }
+    /// Notes the way on from the bridge by a hop, where its link leaves it.
+    fn note_way(&mut self, hop: &Hop) -> Result<(), Memory> {
+        let outlet = self.outlets.iter().position(|it| it.link() == hop.link);
+        let inlet = self.links_in.iter().position(|it| is_from(hop, *it));
+        if let Some(outlet) = outlet {
+            let source = inlet.unwrap_or(self.links_in.len());
+            self.begin_need(source);
+            self.outlets[outlet].need(source);
+            self.ways.push(Way { source, outlet })?;
         }
         Ok(())
     }
 
-    /// Learns the rows of a table that are new: by number they come behind those that are known.
+    /// Learns a row of the next table.
+    fn learn_row(&mut self, row: &Row) -> Result<(), Memory> {
+        let edge = self.links_in.len();
+        for _missing in self.rows.len()..row.no as usize {
+            self.rows.learn(&[], edge, self.tables)?;
+        }
+        self.ways.clear();
+        for hop in row.tree.as_slice() {
+            self.note_way(hop)?;
+        }
+        self.rows.learn(self.ways.as_slice(), edge, self.tables)
+    }
+
+    /// Learns the rows of the next table that are new: by number they come behind those that are known.
     fn learn_rows(&mut self, table: &Table) -> Result<(), Memory> {
         let rows = table.rows();
-        let edge = self.links_in.len();
         let known = self.rows.len();
-        for place in 0..rows.len() {
-            if rows[place].no as usize >= known {
-                for _missing in self.rows.len()..rows[place].no as usize {
-                    self.rows.learn(&[], edge)?;
-                }
-                self.note_ways(&rows[place])?;
-                self.rows.learn(self.ways.as_slice(), edge)?;
-            }
+        let first = rows.partition_point(|row| (row.no as usize) < known);
+        for place in first..rows.len() {
+            self.learn_row(&rows[place])?;
         }
         Ok(())
     }
@@ -290,9 +300,19 @@ impl Station {
         Ok(())
     }
 
+    /// Whether it takes a table as yet: there is one more, and no link is far behind it.
+    pub fn wants_table(&self) -> bool {
+        self.tables < self.cycles
+            && self
+                .outlets
+                .iter()
+                .all(|it| self.tables < it.sent().saturating_add(AHEAD))
+    }
+
     /// Takes the table of the next cycle, with the bridge's offers of the cycle, by instant, then place.
     pub fn take_table(&mut self, table: &Table, offers: &[Offered]) -> Result<(), Memory>
-        requires { self.old.tables < self.old.cycles }
+        requires early { self.old.tables < self.old.cycles }
+        requires offers { AreOfCycle self.old.domain self.old.tables offers.now }
         ensures { OnOk result (TakesTable table.now.rows offers.now self.old self.new) }
     {
         self.learn_rows(table)?;
@@ -306,7 +326,7 @@ impl Station {
         }
         self.drops.extend_from_slice(self.fresh.as_slice())?;
         self.tables += 1;
-        Ok(())
+        self.queue_later()
     }
 
     /// Queues what has come by an inlet, as far as tables were taken.
@@ -333,35 +353,39 @@ impl Station {
         self.queue_from(source)
     }
 
-    /// Queues the flows that waited for their tables.
-    pub fn queue_later(&mut self) -> Result<(), Memory>
-        ensures { OnOk result (QueuesLater self.old self.new) }
-    {
+    /// Queues the flows that waited for the table that was taken last.
+    fn queue_later(&mut self) -> Result<(), Memory> {
         for source in 0..self.inlets.len() {
-            self.queue_from(source)?;
+            if self.inlets[source].waits() {
+                self.queue_from(source)?;
+            }
         }
         Ok(())
     }
 
-    /// Up to which cycle all has come that a link needs, and the inlet that keeps it back, none where it is a table.
-    fn has_come(&self, place: usize) -> (u32, Option<usize>) {
+    /// Up to which cycle all has come that a link needs.
+    fn has_come(&self, place: usize) -> u32
+        requires { place < length self.now.outlets.items }
+    {
         let mut have = self.tables;
-        let mut by = None;
         for source in 0..self.inlets.len() {
             let got = self.inlets[source].got;
             if got < have && self.outlets[place].needs(source) {
                 have = got;
-                by = Some(source);
             }
         }
-        (have, by)
+        have
     }
 
     /// Up to which cycle a link may send: one more than has come.
-    fn reach(&self, place: usize) -> u32 {
-        let (have, _by) = self.has_come(place);
-        let most = self.outlets[place].sent() + STRIDE;
-        (have + 1).min(self.cycles).min(most)
+    fn reach(&self, place: usize) -> u32
+        requires { place < length self.now.outlets.items }
+    {
+        let most = self.outlets[place].most();
+        self.has_come(place)
+            .saturating_add(1)
+            .min(self.cycles)
+            .min(most)
     }
 
     /// Whether a link may go on.
@@ -387,37 +411,11 @@ impl Station {
         Ok(())
     }
 
-    /// Whether all is over: each table and each flow was taken, and each link has sent all cycles.
+    /// Whether all is over: each table and each flow was taken, and each link has sent all cycles and handed them on.
     pub fn is_over(&self) -> bool {
         self.tables >= self.cycles
-            && self.outlets.iter().all(|it| it.sent() >= self.cycles)
+            && self.outlets.iter().all(|it| it.is_over(self.cycles))
             && self.inlets.iter().all(|it| it.got >= self.cycles)
-    }
-
-    /// The link that has come least far of those that leave the bridge, where one isn't over.
-    fn last_outlet(&self) -> Option<usize> {
-        let mut least = self.cycles;
-        let mut last = None;
-        for place in 0..self.outlets.len() {
-            if self.outlets[place].sent() < least {
-                least = self.outlets[place].sent();
-                last = Some(place);
-            }
-        }
-        last
-    }
-
-    /// The inlet for which the bridge is to wait: that which keeps back the link that has come least far; none where it is a table.
-    pub fn waits_for(&self) -> Option<usize> {
-        let by = match self.last_outlet() {
-            Some(place) => self.has_come(place).1,
-            None if self.tables < self.cycles => None,
-            None => self.inlets.iter().position(|it| it.got < self.cycles),
-        };
-        match by {
-            Some(source) if !self.inlets[source].later.is_empty() => None,
-            other => other,
-        }
     }
 
     /// What the bridge has sent and dropped, taken away from it.

@@ -70,12 +70,12 @@ fn laid(alloc: Global, plan: &Plan, offers: &[Offer]) -> Told {
         return Told::NotReady;
     }
     mark(alloc);
-    let first = lay(alloc, plan, offers, &[]);
+    let first = lay(alloc, plan, offers, &[], 5);
     mark(alloc);
     if first.is_ok() {
         return once(is_laid(&first));
     }
-    twice(true, is_laid(&lay(alloc, plan, offers, &[])))
+    twice(true, is_laid(&lay(alloc, plan, offers, &[], 5)))
 }
 
 pub(crate) fn lay_told(alloc: Global) -> Told {
@@ -93,7 +93,7 @@ fn workers_of(alloc: Global, plan: &Plan) -> Option<Laid>
     ensures wired { IfSome result (λ laid. (wiring : Wiring) × AreWired wiring laid.workers.items) }
     ensures tables { IfSome result (λ laid. map pipe_of_tables laid.tables.items ≡ map tables_pipe laid.workers.items) }
 {
-    match lay(alloc, plan, &[], &[]) {
+    match lay(alloc, plan, &[], &[], 5) {
         Ok(laid) => Some(laid),
         Err(_) => None,
     }

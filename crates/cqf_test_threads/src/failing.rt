@@ -193,7 +193,7 @@ fn fails_on<R: Threads + Wait + Sync>(rt: &R, alloc: Global, given: Given<'_, '_
     requires offers { AreOffers given.plan.now given.offers.now }
     requires few_offers { length given.offers.now ≤ 1000000 }
 {
-    match lay(alloc, given.plan, given.offers, &[]) {
+    match lay(alloc, given.plan, given.offers, &[], CYCLES) {
         Ok(Laid { workers, tables }) => {
             let are_given = give_tables(rt, alloc, given.tables, given.mixed, tables);
             let fault = fault_of(rt, alloc, workers);

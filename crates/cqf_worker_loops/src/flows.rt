@@ -6,6 +6,7 @@ use crate::worker::{Worker, WorkerFault};
 use cqf_admission::Table;
 use cqf_flow::keep_background_of;
 use cqf_units::{Cycle, Nanos};
+use cqf_worker_pipe::{Found, NotPut};
 use std::alloc::Global;
 use std::sync::Wait;
 
@@ -18,33 +19,32 @@ fn enter_table<P: Pace>(pace: &P, worker: &mut Worker, table: &Table) -> Result<
     Ok(())
 }
 
-/// Takes the tables that have come.
+/// Takes the tables that have come, as far as the bridge takes them as yet.
 fn look_for_tables<R: Wait, P: Pace>(
     rt: &R,
     pace: &P,
     worker: &mut Worker,
 ) -> Result<(), WorkerFault> {
-    let before = worker.station.tables();
-    for _table in before..worker.station.cycles() {
-        match worker.tables.look(rt) {
-            Some(Carried::Item(table)) => enter_table(pace, worker, &table)?,
-            Some(Carried::Stop) => return Err(WorkerFault::Stopped),
-            None => break,
+    for _table in worker.station.tables()..worker.station.cycles() {
+        if !worker.station.wants_table() {
+            break;
         }
-    }
-    if worker.station.tables() > before {
-        worker.station.queue_later()?;
+        match worker.tables.look(rt) {
+            Found::Item(Carried::Item(table)) => enter_table(pace, worker, &table)?,
+            Found::Nothing => break,
+            _ => return Err(WorkerFault::Stopped),
+        }
     }
     Ok(())
 }
 
-/// Takes the flows that have come by an inlet.
+/// Takes the flows that have come by an inlet, until none is left.
 fn look_for_flows<R: Wait>(rt: &R, worker: &mut Worker, source: usize) -> Result<(), WorkerFault> {
     for _flow in 0..u64::MAX {
         match worker.ins[source].pipe.look(rt) {
-            Some(Carried::Item(flow)) => worker.station.take_flow(source, flow)?,
-            Some(Carried::Stop) => return Err(WorkerFault::Stopped),
-            None => break,
+            Found::Item(Carried::Item(flow)) => worker.station.take_flow(source, flow)?,
+            Found::Nothing => break,
+            _ => return Err(WorkerFault::Stopped),
         }
     }
     Ok(())
@@ -59,36 +59,35 @@ fn look<R: Wait, P: Pace>(rt: &R, pace: &P, worker: &mut Worker) -> Result<(), W
     Ok(())
 }
 
-/// Waits for what keeps the bridge back: the flow of an inlet, or a table.
-fn wait<R: Wait, P: Pace>(rt: &R, pace: &P, worker: &mut Worker) -> Result<(), WorkerFault> {
-    match worker.station.waits_for() {
-        Some(source) => match worker.ins[source].pipe.take(rt) {
-            Some(Carried::Item(flow)) => worker.station.take_flow(source, flow)?,
-            _ => return Err(WorkerFault::Stopped),
-        },
-        None => match worker.tables.take(rt) {
-            Some(Carried::Item(table)) => {
-                enter_table(pace, worker, &table)?;
-                worker.station.queue_later()?;
-            }
-            _ => return Err(WorkerFault::Stopped),
-        },
+/// Hands on what a link has sent to the bridge at its end, by the port at a place. Where its pipe is full it is kept for later: the bell rings
+/// when there is room.
+fn tell_on<R: Wait>(
+    rt: &R,
+    alloc: Global,
+    worker: &mut Worker,
+    place: usize,
+    port: usize,
+) -> Result<(), WorkerFault> {
+    let told = worker.station.outlets()[place].told();
+    let flow = worker.station.flow_of(alloc, place);
+    match worker.outs[port].pipe.try_put(rt, Carried::Item(flow)) {
+        Ok(()) => Ok(()),
+        Err(NotPut::Full(Carried::Item(back))) => {
+            worker.station.keep_back(place, told, back);
+            Ok(())
+        }
+        Err(_) => Err(WorkerFault::Stopped),
     }
-    Ok(())
 }
 
-/// Hands on what the links have sent to the bridges at their ends.
+/// Hands on what the links have sent to the bridges at their ends, as far as there is room in their pipes.
 fn tell<R: Wait>(rt: &R, alloc: Global, worker: &mut Worker) -> Result<(), WorkerFault> {
     let cycles = worker.station.cycles();
     let mut port = 0;
     for place in 0..worker.station.outlets().len() {
         let is_onward = worker.station.outlets()[place].is_onward();
         if worker.station.outlets()[place].has_news(cycles) {
-            let flow = worker.station.flow_of(alloc, place);
-            match worker.outs[port].pipe.put(rt, Carried::Item(flow)) {
-                Ok(()) => {}
-                Err(_) => return Err(WorkerFault::Stopped),
-            }
+            tell_on(rt, alloc, worker, place, port)?;
         }
         if is_onward {
             port += 1;
@@ -115,8 +114,9 @@ fn keep(alloc: Global, worker: &mut Worker) -> Result<(), WorkerFault> {
     Ok(())
 }
 
-/// Goes through all cycles: takes what has come, has each link go on as far as it may, and hands on what was sent; where no link may go on it
-/// waits for what keeps back the one that has come least far.
+/// Goes through all cycles: takes what has come, has each link go on as far as it may, and hands on what was sent; where no link may go on
+/// with all that has come it waits at its bell. That is rung for each table and each flow, and where there is room for what it couldn't hand
+/// on, and it waits nowhere else.
 pub(crate) fn work_flows<R: Wait, P: Pace>(
     rt: &R,
     alloc: Global,
@@ -124,9 +124,6 @@ pub(crate) fn work_flows<R: Wait, P: Pace>(
     worker: &mut Worker,
 ) -> Result<(), WorkerFault> {
     for _round in rt.forever() {
-        if worker.station.is_over() {
-            break;
-        }
         look(rt, pace, worker)?;
         let may_send = worker.station.may_send();
         if may_send {
@@ -134,8 +131,11 @@ pub(crate) fn work_flows<R: Wait, P: Pace>(
         }
         // a link to which a row has just come to lead has news though it may not go on
         tell(rt, alloc, worker)?;
-        if !may_send && !worker.station.is_over() {
-            wait(rt, pace, worker)?;
+        if worker.station.is_over() {
+            break;
+        }
+        if !may_send {
+            worker.bell.wait(rt);
         }
     }
     keep(alloc, worker)

@@ -19,7 +19,7 @@ use cqf_bridge_turn::Agenda;
 use cqf_flow::{Flow, Station};
 use cqf_tape::Reel;
 use cqf_units::Memory;
-use cqf_worker_pipe::{PipeIn, PipeOut};
+use cqf_worker_pipe::{Bell, PipeIn, PipeOut};
 use std::alloc::Global;
 use std::sync::Wait;
 
@@ -27,6 +27,8 @@ use std::sync::Wait;
 #[derive(Drop)]
 pub struct Worker {
     pub station: Station,
+    /// Where it waits: it is rung for each table and each flow that comes, and for room in a pipe that was full.
+    pub bell: Bell,
     /// What the bridge is offered, and its background frames.
     pub agenda: Agenda,
     /// Where the table of each cycle comes.
@@ -90,8 +92,8 @@ fn work_cycles<R: Wait, P: Pace>(
     work_flows(rt, alloc, pace, worker)
 }
 
-/// Lets go of a worker: first of the ends at which it takes, so that who puts there waits no more; then those who take from it are
-/// told that nothing comes any more. Gives the ends at which that was put, behind batches alone.
+/// Lets go of a worker: first of the ends at which it takes, so that who puts there, or waits for room, waits no more; then those who take
+/// from it are told that nothing comes any more. Gives the ends at which that was put, behind flows alone.
 fn let_go<R: Wait>(rt: &R, worker: Worker) -> Vec<LinkEnd<PipeIn<Carried<Flow>>>>
     requires room { All (λ port. length port.pipe.items < most_items) worker.outs.items }
     requires batches { All (λ port. AreItems port.pipe.items) worker.outs.items }
@@ -105,6 +107,7 @@ fn let_go<R: Wait>(rt: &R, worker: Worker) -> Vec<LinkEnd<PipeIn<Carried<Flow>>>
         ins,
         mut outs,
         station: _station,
+        bell: _bell,
         agenda: _agenda,
         reel: _reel,
     } = worker;

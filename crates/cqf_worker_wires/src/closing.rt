@@ -18,9 +18,9 @@ ghost use Rattle.cqf_worker_wires.specs.Wires.{
 };
 
 use cqf_admission::Table;
+use cqf_flow::Flow;
 use cqf_tape::Reel;
 use cqf_units::Memory;
-use cqf_flow::Flow;
 use cqf_worker_loops::{Carried, LinkEnd, Worker};
 use cqf_worker_pipe::{PipeIn, PipeOut};
 use std::alloc::Global;
@@ -70,6 +70,7 @@ fn add_parts(parts: &mut Parts, worker: Worker) -> Result<(), Memory>
 {
     let Worker {
         station: _station,
+        bell: _bell,
         agenda: _agenda,
         tables,
         ins,

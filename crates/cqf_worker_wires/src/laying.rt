@@ -8,17 +8,14 @@ ghost use Rattle.cqf_worker_wires.specs.Wires.{AreWired, AreWorkersOf, Wiring, p
 use cqf_admission::Table;
 use cqf_bridge_turn::Agenda;
 use cqf_compile::Plan;
+use cqf_flow::{Flow, Station};
 use cqf_model::{Background, Node, Offer};
 use cqf_tape::Reel;
 use cqf_topology::Domain;
 use cqf_units::Memory;
-use cqf_flow::{Flow, Station};
 use cqf_worker_loops::{Carried, LinkEnd, Worker};
-use cqf_worker_pipe::{PipeIn, PipeOut, pipe, pipe_of};
+use cqf_worker_pipe::{Bell, PipeIn, PipeOut, pipe_between, pipe_to};
 use std::alloc::Global;
-
-/// How many flows wait on a link at most: more than there are where its bridge waits for none.
-const FLOWS: usize = 400;
 
 /// What the threads of a run begin with: a worker for each bridge, by number, and the ends at which their tables are put, likewise.
 #[derive(Drop)]
@@ -46,9 +43,11 @@ fn ready_worker(
     let station = Station::new(alloc, plan.domain(), number, cycles)?;
     let agenda = Agenda::new(alloc, plan.domain(), offers, background, number)?;
     let reel = Reel::new(alloc, plan.domain(), number)?;
-    let (putting, tables) = pipe(alloc)?;
+    let bell = Bell::new(alloc)?;
+    let (putting, tables) = pipe_to(alloc, &bell)?;
     let worker = Worker {
         station,
+        bell,
         agenda,
         tables,
         ins: Vec::new(alloc),
@@ -112,7 +111,9 @@ fn lay_pipe(
     ensures laid { OnOk result (LaysPipe link from to workers.old.items workers.new.items) }
     ensures tables { OnOk result (map tables_pipe workers.new.items ≡ map tables_pipe workers.old.items) }
 {
-    let (putting, taking) = pipe_of(alloc, FLOWS)?;
+    let putter = &workers[usize::from(from)].bell;
+    let taker = &workers[usize::from(to)].bell;
+    let (putting, taking) = pipe_between(alloc, putter, taker)?;
     let out = LinkEnd {
         link,
         pipe: putting,

@@ -1,6 +1,6 @@
 use Rattle.std.proofs.Common.{rules}
 use Rattle.cqf_worker_pipe.proofs.PipeSteps.{begins, forks}
-use Rattle.cqf_worker_pipe.proofs.pipe_ends.pipe.Goals as goal
+use Rattle.cqf_worker_pipe.proofs.pipe_ends.pipe_with.Goals as goal
 
 -- the rule holds of a pipe in which nothing was put
 pub bounded_with-requires-clause-rule : goal.bounded_with-requires-clause-rule
