@@ -155,7 +155,7 @@ sends_of d l cycle offset [] = []
 sends_of d l cycle offset (w ∷ ws) =
     if has_room_on d l offset w.octets
     then record { start = record { 0 = cycle * d.cycle_time + offset }; frame = w.frame; stream = w.row; octets = w.octets }
-        ∷ sends_of d l cycle (offset + octet_time_of d l * wire_of w.octets) ws
+    ∷ sends_of d l cycle (offset + octet_time_of d l * wire_of w.octets) ws
     else sends_of d l cycle offset ws
 
 -- a link has gone on from a cycle to the next by what came to its bridge in that: the links from which a row leads to it had brought the cycle,

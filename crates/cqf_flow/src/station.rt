@@ -163,12 +163,7 @@ fn queue_first(
 
 impl Station {
     /// A bridge of the domain in a run of so many cycles, which has done nothing. `Memory` where a growth is refused.
-    pub fn new(
-        alloc: Global,
-        domain: &Domain,
-        number: u16,
-        cycles: u32,
-    ) -> Result<Station, Memory>
+    pub fn new(alloc: Global, domain: &Domain, number: u16, cycles: u32) -> Result<Station, Memory>
         ensures number { IfOk result (λ station. station.number ≡ number) }
         ensures cycles { IfOk result (λ station. station.cycles ≡ cycles) }
         ensures drops { IfOk result (λ station. station.drops.items ≡ []) }

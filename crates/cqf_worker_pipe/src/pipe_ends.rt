@@ -260,7 +260,10 @@ impl<T: Drop> PipeIn<T> {
             first: item,
             behind: VecDeque::new(self.alloc),
         };
-        match self.sender.try_send_as::<Puts, R>(rt, &mut self.pass, bundle) {
+        match self
+            .sender
+            .try_send_as::<Puts, R>(rt, &mut self.pass, bundle)
+        {
             Ok(()) => {
                 self.puts += 1;
                 ring(&self.bell);
