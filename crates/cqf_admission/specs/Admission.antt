@@ -1,5 +1,6 @@
 -- What an administration is to those who call it, and what its calls do (profile).
 use Rattle.std.specs.Prelude.{ℕ, ◌≡◌, ◌+◌, ◌-◌, ◌≤◌, ◌<◌, ◌↔◌, ◌++◌, [], ◌∷◌, Bool, true, false, List, Result, Ok, Err, filter, length, map, string_bytes}
+use Rattle.std.specs.Arc.{arc_value}
 use Rattle.cqf_model.specs.declared.history.Receipt.{Receipt}
 use Rattle.cqf_model.specs.declared.history.Refused.{Refused}
 use Rattle.cqf_model.specs.declared.history.Refused.TheVariants.{BadName, BadOctets, BadPace, UnknownNode, BrokenPath, LoopingPath, NotATree, NameHeld, TooManyStreams}
@@ -32,7 +33,7 @@ held_of a = held_in a.domain a.entries (seals a.entries)
 -- an entry as the definitions have it
 abbrev pub act_of : Call → Act
 act_of (Admit request) = Admits (asked_of request)
-act_of (AdmitPaced request) = Admits (asked_paced request)
+act_of (AdmitPaced request) = Admits (asked_paced (arc_value request))
 act_of (Withdraw name) = Withdraws (string_bytes name)
 act_of Seal = Seals
 

@@ -1,5 +1,8 @@
 -- What a request asks for.
+use Rattle.std.specs.Arc.{arc_value}
 use Rattle.std.specs.Prelude.{ℕ, List, string_bytes}
+use Rattle.std.specs.declared.alloc.Global.{Global}
+use Rattle.std.specs.declared.sync.Arc.{Arc}
 use Rattle.cqf_topology.specs.declared.streams.Request.{Request}
 use Rattle.cqf_topology.specs.declared.paced.PacedRequest.{PacedRequest}
 use Rattle.cqf_topology.specs.PacedText.{PacedText}
@@ -17,6 +20,10 @@ asked_of request = asked_with (string_bytes request.name) request.octets 1 0 (br
 -- and one that has a pace: a stream that is offered in one of so many cycles, of which the first has this number
 abbrev pub asked_paced : PacedRequest → Asked
 asked_paced request = asked_with (string_bytes request.name) request.octets request.every request.phase (branches_of request.paths.items)
+
+-- and as calls share it
+abbrev pub asked_shared : Arc PacedRequest Global → Asked
+asked_shared request = asked_paced (arc_value request)
 
 -- what a request's text asks for
 abbrev pub asked_by : PacedText → Asked

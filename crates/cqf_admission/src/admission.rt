@@ -1,4 +1,5 @@
 //! The admission of streams.
+ghost use Rattle.std.specs.Arc.{arc_value};
 ghost use Rattle.std.specs.Prelude.{◌≡◌, ◌≤◌, ◌<◌, [], map, length, IfOk};
 ghost use Rattle.cqf_model.specs.Domain.{budget};
 ghost use Rattle.cqf_model.specs.History.{Admits, Asked, Withdraws, IsLegalHistory, held_in, seals, streams_of};
@@ -9,7 +10,7 @@ ghost use Rattle.cqf_admission.specs.Admission.{Answers, Closes, act_of, calls, 
 ghost use Rattle.cqf_admission.specs.Costs.{left_in_turns, most_cost};
 ghost use Rattle.cqf_admission_trees.specs.Turns.{IsGoodPace};
 
-use crate::entries::{Call, Entry, SealFault, copied_entries, enter, reply_of};
+use crate::entries::{Call, Entry, SealFault, copied_entries, enter, reply_of, shared_request};
 use crate::judged::{Judged, judge, judge_paced};
 use crate::state::{GoodForm, State};
 use crate::table::Table;
@@ -21,6 +22,7 @@ use cqf_topology::{Domain, PacedRequest, Request};
 use cqf_units::{Cycle, Memory, Octets};
 use std::alloc::Global;
 use std::marker::Model;
+use std::sync::Arc;
 
 /// An admission controller over a domain, with its history of calls (profile).
 #[derive(Debug, Drop)]
@@ -135,7 +137,23 @@ impl Admission {
         if self.state.is_full(self.history.len()) {
             return Err(Refused::HistoryFull);
         }
-        let asked = request.try_copy(self.alloc)?;
+        let asked = shared_request(self.alloc, request)?;
+        self.admit_shared(seat, &asked)
+    }
+
+    /// Asks for such a stream likewise, by a request that the history shares with the caller: it isn't copied.
+    pub fn admit_shared(
+        &mut self,
+        seat: u16,
+        request: &Arc<PacedRequest>,
+    ) -> Result<Receipt, Refused>
+        ensures answers { Answers self.old self.new seat (Admits (asked_paced (arc_value request.now))) result }
+        ensures held { HoldsOneMore self.old self.new (asked_paced (arc_value request.now)) result }
+    {
+        if self.state.is_full(self.history.len()) {
+            return Err(Refused::HistoryFull);
+        }
+        let asked = Arc::try_clone(request)?;
         if count_places(request.paths.as_slice()).is_none() {
             return Err(Refused::Memory);
         }

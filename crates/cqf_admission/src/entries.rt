@@ -1,11 +1,14 @@
 //! The entries of a history.
+ghost use Rattle.std.specs.Arc.{arc_value};
 ghost use Rattle.std.specs.Prelude.{◌≡◌, ◌<◌, ◌++◌, [], ◌∷◌, map, vec_len, vec_capacity, IfOk};
 ghost use Rattle.cqf_admission.specs.Admission.{act_of, recorded_of, reply_of};
+ghost use Rattle.cqf_admission.specs.Asking.{asked_paced};
 
 use cqf_model::{Receipt, Refused, Reply};
 use cqf_topology::{PacedRequest, Request};
 use cqf_units::Memory;
 use std::alloc::Global;
+use std::sync::Arc;
 use thiserror::Error;
 
 /// What an administrator calls for beside Seals.
@@ -13,8 +16,8 @@ use thiserror::Error;
 pub enum Command {
     /// To admit a stream that is offered in each cycle.
     Admit(Request),
-    /// To admit one that is offered in some.
-    AdmitPaced(PacedRequest),
+    /// To admit one that is offered in some. Calls for one stream share its request.
+    AdmitPaced(Arc<PacedRequest>),
     /// To withdraw the stream of a name.
     Withdraw(String),
 }
@@ -24,8 +27,8 @@ pub enum Command {
 pub enum Call {
     /// To admit a stream that is offered in each cycle.
     Admit(Request),
-    /// To admit one that is offered in some.
-    AdmitPaced(PacedRequest),
+    /// To admit one that is offered in some. Calls for one stream share its request.
+    AdmitPaced(Arc<PacedRequest>),
     /// To withdraw the stream of a name.
     Withdraw(String),
     /// To close the next cycle to changes.
@@ -73,6 +76,13 @@ pub(crate) fn reply_of(answer: Result<Receipt, Refused>) -> Reply
     }
 }
 
+/// A copy of a request that calls for its stream can share, unless memory runs out.
+pub fn shared_request(alloc: Global, request: &PacedRequest) -> Result<Arc<PacedRequest>, Memory>
+    ensures { IfOk result (λ copy. asked_paced (arc_value copy) ≡ asked_paced request.now) }
+{
+    Ok(Arc::new(alloc, request.try_copy(alloc)?)?)
+}
+
 /// Adds an entry to a history behind the others, where there is room.
 pub(crate) fn enter(history: &mut Vec<Entry>, seat: u16, call: Call, reply: Reply)
     requires { vec_len history.old < vec_capacity history.old }
@@ -87,7 +97,7 @@ fn copied_call(alloc: Global, call: &Call) -> Result<Call, Memory>
 {
     match call {
         Call::Admit(request) => Ok(Call::Admit(request.try_copy(alloc)?)),
-        Call::AdmitPaced(request) => Ok(Call::AdmitPaced(request.try_copy(alloc)?)),
+        Call::AdmitPaced(request) => Ok(Call::AdmitPaced(Arc::try_clone(request)?)),
         Call::Withdraw(name) => Ok(Call::Withdraw(String::from_str(alloc, name.as_str())?)),
         Call::Seal => Ok(Call::Seal),
     }

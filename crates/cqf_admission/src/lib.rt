@@ -40,7 +40,7 @@ pub use cqf_admission_requests::What;
 pub use cqf_model::{
     LEAST_OCTETS, MOST_CALLS, MOST_OCTETS, MOST_SEALS, MOST_STREAMS, Receipt, Refused, Reply, Row,
 };
-pub use entries::{Call, Command, Entry, SealFault};
+pub use entries::{Call, Command, Entry, SealFault, shared_request};
 pub use judged::{Judged, judge, judge_paced};
 pub use ledger::Ledger;
 pub use logs::Logged;

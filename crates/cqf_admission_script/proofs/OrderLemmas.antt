@@ -6,8 +6,10 @@ use Rattle.std.proofs.lemmas.Option.{slice_get-get_or, slice_get-map}
 use Rattle.std.proofs.lemmas.List.{get_or-map}
 use Rattle.std.proofs.lemmas.Grind.{common_steps}
 use Rattle.std.specs.Prelude.{nat_le, option_map, slice_get, slice_index_or}
+use Rattle.std.specs.declared.alloc.Global.{Global}
+use Rattle.std.specs.declared.sync.Arc.{Arc}
 use Rattle.cqf_topology.specs.declared.paced.PacedRequest.{PacedRequest}
-use Rattle.cqf_admission.specs.Asking.{asked_paced}
+use Rattle.cqf_admission.specs.Asking.{asked_paced, asked_shared}
 use Rattle.cqf_admission_script.specs.declared.faults.ScriptFault.TheVariants.{UnknownStream, TooMany}
 use Rattle.cqf_admission_script.specs.declared.lines.Wish.TheVariants.{Admit}
 use Rattle.cqf_admission_script.specs.Lines.{Written}
@@ -43,11 +45,11 @@ admits requests name place is =
     nobody : Asked
     nobody = record { name = []; octets = 0; every = 1; phase = 0; paths = [] }
 
--- the request at a place, as it was read there
-pub request_read : (requests : List PacedRequest) (place : ℕ) (request : PacedRequest) → place < length requests → request ≡ slice_index_or requests place request →
-    request_at (map asked_paced requests) place ≡ asked_paced request
-request_read requests place request inside is =
-    get_or-map asked_paced requests place request (record { name = []; octets = 0; every = 1; phase = 0; paths = [] }) inside ∙ ap asked_paced (sym is)
+-- the request at a place, as calls share it there
+pub shared_read : (requests : List (Arc PacedRequest Global)) (place : ℕ) (request : Arc PacedRequest Global) → place < length requests →
+    request ≡ slice_index_or requests place request → request_at (map asked_shared requests) place ≡ asked_shared request
+shared_read requests place request inside is =
+    get_or-map asked_shared requests place request (record { name = []; octets = 0; every = 1; phase = 0; paths = [] }) inside ∙ ap asked_shared (sym is)
 
 -- no request has the name
 pub unknown_stream : (requests : List PacedRequest) (number called : ℕ) (order : Written) → place_named requests order.name ≡ None → order.wish ≡ Admit →

@@ -1,8 +1,9 @@
 //! The calls of a script.
+ghost use Rattle.std.specs.Arc.{arc_value};
 ghost use Rattle.std.specs.Prelude.{ℕ, ◌≡◌, ◌+◌, ◌<◌, ◌≤◌, ◌^◌, All, IfOk, List, length, map};
 ghost use Rattle.cqf_text.specs.Lines.{lines_of};
 ghost use Rattle.cqf_topology_fields.specs.Fields.{Gives};
-ghost use Rattle.cqf_admission.specs.Asking.{asked_of, asked_paced};
+ghost use Rattle.cqf_admission.specs.Asking.{asked_of, asked_paced, asked_shared};
 ghost use Rattle.cqf_admission_requests.specs.declared.orders.Ordered.{Ordered as AnOrdered};
 ghost use Rattle.cqf_model.specs.History.{Admits, Asked};
 ghost use Rattle.cqf_admission.specs.Admission.{act_of};
@@ -15,12 +16,13 @@ ghost use Rattle.cqf_admission_script.specs.Script.{called_behind, called_of, sc
 
 use crate::ScriptFault;
 use crate::lines::{Order, Wish, is_seal_line, read_order};
-use cqf_admission::{Call, MOST_CALLS};
+use cqf_admission::{Call, MOST_CALLS, shared_request};
 use cqf_admission_requests::{Names, Ordered, What, word_of};
 use cqf_text::split_line;
 use cqf_topology::{PacedRequest, Request};
 use cqf_units::Memory;
 use std::alloc::Global;
+use std::sync::Arc;
 
 /// Where a line stands: its number, from 1, and how many Seals and other calls stand before it.
 #[derive(Clone, Copy)]
@@ -195,28 +197,29 @@ pub fn read_orders(
     Ok(orders)
 }
 
-/// The call for a request's stream.
-fn admission_of(request: PacedRequest) -> Call
-    ensures { act_of result ≡ Admits (asked_paced request) }
+/// Some requests, each copied once, so that calls for its stream can share it, unless memory runs out.
+fn all_shared(alloc: Global, requests: &[PacedRequest]) -> Result<Vec<Arc<PacedRequest>>, Memory>
+    ensures { IfOk result (λ copies. map asked_shared copies.items ≡ map asked_paced requests.now) }
 {
-    if request.every == 1 && request.phase == 0 {
-        return Call::Admit(request.into_request());
+    let mut copies = Vec::with_capacity(alloc, requests.len())?;
+    for request in requests {
+        copies.push(shared_request(alloc, request)?)?;
     }
-    Call::AdmitPaced(request)
+    Ok(copies)
 }
 
-/// The call that is ordered, with a copy of its request or its name.
+/// The call that is ordered, with a share of its request or a copy of its name.
 fn call_of(
     alloc: Global,
     text: &[u8],
-    requests: &[PacedRequest],
+    requests: &[Arc<PacedRequest>],
     order: Ordered,
 ) -> Result<(u16, Call), Memory>
-    requires { StandsIn (map asked_paced requests.now) text.now order.what }
-    ensures { IfOk result (λ call. called_of call ≡ ordered_in (map asked_paced requests.now) text.now order) }
+    requires { StandsIn (map asked_shared requests.now) text.now order.what }
+    ensures { IfOk result (λ call. called_of call ≡ ordered_in (map asked_shared requests.now) text.now order) }
 {
     let call = match order.what {
-        What::Admit(place) => admission_of(requests[place].try_copy(alloc)?),
+        What::Admit(place) => Call::AdmitPaced(Arc::try_clone(&requests[place])?),
         What::Withdraw { from, octets } => {
             Call::Withdraw(String::from_str(alloc, word_of(text, from, octets))?)
         }
@@ -225,8 +228,8 @@ fn call_of(
     Ok((order.seat, call))
 }
 
-/// The calls that are ordered, each with its seat, and with a copy of its request or its name. What the orders name stands among
-/// these requests and in this text. The time grows with the orders and with what is copied.
+/// The calls that are ordered, each with its seat, and with a share of its request or a copy of its name. What the orders name stands
+/// among these requests, each of which is copied once, and in this text. The time grows with the orders and with what is copied.
 ///
 /// # Errors
 /// Where a growth is refused.
@@ -239,9 +242,10 @@ pub fn calls_of(
     requires { All (λ (ordered : AnOrdered). StandsIn (map asked_paced requests.now) text.now ordered.what) orders.now }
     ensures { IfOk result (λ calls. map called_of calls.items ≡ map (ordered_in (map asked_paced requests.now) text.now) orders.now) }
 {
+    let shared = all_shared(alloc, requests)?;
     let mut calls = Vec::new(alloc);
     for order in orders {
-        let call = call_of(alloc, text, requests, *order)?;
+        let call = call_of(alloc, text, shared.as_slice(), *order)?;
         calls.push(call)?;
     }
     Ok(calls)
@@ -277,6 +281,33 @@ pub fn read_paced_script(
     Ok(calls)
 }
 
+/// The same call, for a stream that is offered in each cycle by a request without a pace, unless memory runs out.
+fn plain_call(alloc: Global, call: Call) -> Result<Call, Memory>
+    ensures { IfOk result (λ plain. act_of plain ≡ act_of call) }
+{
+    match call {
+        Call::AdmitPaced(request) => {
+            if request.every != 1 || request.phase != 0 {
+                return Ok(Call::AdmitPaced(request));
+            }
+            let own = request.try_copy(alloc)?;
+            Ok(Call::Admit(own.into_request()))
+        }
+        other => Ok(other),
+    }
+}
+
+/// The same calls, so.
+fn plain_calls(alloc: Global, calls: Vec<(u16, Call)>) -> Result<Vec<(u16, Call)>, Memory>
+    ensures { IfOk result (λ plain. map called_of plain.items ≡ map called_of calls.items) }
+{
+    let mut plain = Vec::with_capacity(alloc, calls.len())?;
+    for call in calls {
+        plain.push((call.0, plain_call(alloc, call.1)?))?;
+    }
+    Ok(plain)
+}
+
 /// The calls of a script for so many cycles, with the seat of each, where these streams may be admitted.
 ///
 /// Each line is `N admit NAME`, `N withdraw NAME` or `seal`, with single spaces: `N` is one digit from 0 to 7, the
@@ -298,5 +329,6 @@ pub fn read_script(
     ensures few { IfOk result (λ calls. AreFew cycles (map called_of calls.items)) }
 {
     let requests = all_in_each_cycle(alloc, requests)?;
-    read_paced_script(alloc, text, requests.as_slice(), cycles)
+    let calls = read_paced_script(alloc, text, requests.as_slice(), cycles)?;
+    Ok(plain_calls(alloc, calls)?)
 }

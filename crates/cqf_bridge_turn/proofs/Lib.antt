@@ -1,3 +1,4 @@
 mod Cutting
 mod InCycles
 mod Paged
+mod Kept

@@ -4,20 +4,16 @@ use Rattle.std.specs.Prelude.{◌∷◌, [], Some, slice_get}
 use Rattle.std.proofs.lemmas.List.{map-append, take_more}
 use Rattle.std.proofs.lemmas.Option.{get_or_from_slice_get, slice_get_within}
 use Rattle.cqf_model.specs.declared.frames.Sent.{Sent}
-use Rattle.cqf_model.specs.declared.frames.Started.{Started}
-use Rattle.cqf_model.specs.Book.{started}
 
--- a batch's frames, and one more
-pub batch_more : (cycle link place : ℕ) (frames : List Sent) (sent : Sent) (front list after : List Started) → slice_get frames place ≡ Some sent →
-    list ≡ front ++ map (started cycle link) (take place frames) → after ≡ list ++ started cycle link sent ∷ [] →
-    after ≡ front ++ map (started cycle link) (take (place + 1) frames)
-batch_more cycle link place frames sent front list after there so pushed =
-    let f = started cycle link in
+-- what is made of a batch's frames, and of one more
+pub batch_more : {Y : Type 0} (f : Sent → Y) (place : ℕ) (frames : List Sent) (sent : Sent) (front list after : List Y) → slice_get frames place ≡ Some sent →
+    list ≡ front ++ map f (take place frames) → after ≡ list ++ f sent ∷ [] → after ≡ front ++ map f (take (place + 1) frames)
+batch_more {Y} f place frames sent front list after there so pushed =
     let more : take (place + 1) frames ≡ take place frames ++ sent ∷ [] =
     take_more frames place sent (slice_get_within frames place sent there)
     ∙ ap (λ (x : Sent). take place frames ++ x ∷ []) (get_or_from_slice_get frames place sent sent there) in
     pushed
-    ∙ ap (λ (xs : List Started). xs ++ f sent ∷ []) so
+    ∙ ap (λ (xs : List Y). xs ++ f sent ∷ []) so
     ∙ append_assoc front (map f (take place frames)) (f sent ∷ [])
-    ∙ ap (λ (xs : List Started). front ++ xs) (sym (map-append f (take place frames) (sent ∷ [])))
+    ∙ ap (λ (xs : List Y). front ++ xs) (sym (map-append f (take place frames) (sent ∷ [])))
     ∙ ap (λ (xs : List Sent). front ++ map f xs) (sym more)

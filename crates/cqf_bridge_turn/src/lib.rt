@@ -6,12 +6,14 @@
 //!
 //! Whoever drives a bridge has its batches until they go on their way: [`starts_of`] lists what started before they do. Once the
 //! bridge has received the cycle too, [`page_with`] makes the page of these starts, of the drops, and of the background frames that
-//! the bridge started.
+//! the bridge started. Who keeps no pages has a reel for them: [`keep_sent`].
 #![tactic(auto)]
 
 mod agenda;
+mod keeping;
 mod paging;
 mod picking;
 
 pub use agenda::Agenda;
+pub use keeping::keep_sent;
 pub use paging::{page_with, starts_of};

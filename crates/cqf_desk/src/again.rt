@@ -63,7 +63,7 @@ pub(crate) fn make(admission: &mut Admission, entry: &Entry) -> Made
     match &entry.call {
         Call::Admit(request) => answered(admission.admit(entry.seat, request), entry.reply),
         Call::AdmitPaced(request) => answered(
-            admission.admit_paced(entry.seat, request),
+            admission.admit_shared(entry.seat, request),
             entry.reply,
         ),
         Call::Withdraw(name) => answered(

@@ -1,4 +1,5 @@
 //! The desk.
+ghost use Rattle.std.specs.Arc.{arc_value};
 ghost use Rattle.std.specs.Prelude.{ℕ, ◌≡◌, ◌↔◌, IfErr, IfOk, IsErrOf};
 ghost use Rattle.cqf_model.specs.History.{Admits, Withdraws};
 ghost use Rattle.cqf_admission.specs.Asking.{asked_of, asked_paced};
@@ -14,7 +15,7 @@ use cqf_topology::{PacedRequest, Request};
 use cqf_units::Memory;
 use std::alloc::Global;
 use std::marker::Model;
-use std::sync::{Mutex, Wait};
+use std::sync::{Arc, Mutex, Wait};
 
 /// An admission behind a lock, at which threads ask with seats of their own (profile). A seat that seals follows its
 /// history, so that mostly the desk is closed without a look at that seat's tables.
@@ -70,20 +71,21 @@ impl Desk {
         seat.admit(&mut self.admission.lock(rt), asked, request)
     }
 
-    /// Asks for a stream that is offered in some cycles, likewise by [`Admission::admit_paced`].
-    pub fn admit_paced<R: Wait>(
+    /// Asks for a stream that is offered in some cycles, likewise by [`Admission::admit_shared`]: the history and the seat share the
+    /// request with the caller, and copy nothing.
+    pub fn admit_shared<R: Wait>(
         &self,
         rt: &R,
         seat: &mut Seat,
-        request: &PacedRequest,
+        request: &Arc<PacedRequest>,
     ) -> Result<Receipt, Refused>
-        ensures keeps { Keeps seat.old seat.new (Admits (asked_paced request.now)) result }
-        ensures answered { IsAnsweredSomewhere seat.old.number (Admits (asked_paced request.now)) result }
+        ensures keeps { Keeps seat.old seat.new (Admits (asked_paced (arc_value request.now))) result }
+        ensures answered { IsAnsweredSomewhere seat.old.number (Admits (asked_paced (arc_value request.now))) result }
     {
-        let Ok(asked) = request.try_copy(self.alloc) else {
+        let Ok(asked) = Arc::try_clone(request) else {
             return unasked(&self.admission.lock(rt));
         };
-        seat.admit_paced(&mut self.admission.lock(rt), asked, request)
+        seat.admit_shared(&mut self.admission.lock(rt), asked, request)
     }
 
     /// Withdraws the stream of a name, likewise by [`Admission::withdraw`].

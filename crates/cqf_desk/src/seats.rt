@@ -1,4 +1,5 @@
 //! The seats of a desk.
+ghost use Rattle.std.specs.Arc.{arc_value};
 ghost use Rattle.std.specs.Prelude.{◌≡◌, ◌↔◌, ◌-◌, ◌≤◌, ◌<◌, ◌++◌, [], ◌∷◌, true, false, length, map, option_copied};
 ghost use Rattle.std.specs.Prelude.{slice_get, string_bytes, vec_len, vec_capacity, Err};
 ghost use Rattle.cqf_model.specs.History.{Admits, IsLegalHistory, Withdraws};
@@ -15,6 +16,7 @@ use cqf_admission::{
 use cqf_topology::{PacedRequest, Request};
 use std::alloc::Global;
 use std::marker::Model;
+use std::sync::Arc;
 
 /// A seat of a desk: a number, the calls that were made with it, in order, with the answers that they got, and the tables
 /// of its Seals (profile). A seat that seals follows the history: at each Seal all calls up to it have been made once more
@@ -120,24 +122,24 @@ impl Seat {
         answer
     }
 
-    /// Makes a request with a pace likewise.
-    pub(crate) fn admit_paced(
+    /// Makes a request with a pace likewise, and shares it.
+    pub(crate) fn admit_shared(
         &mut self,
         admission: &mut Admission,
-        asked: PacedRequest,
-        request: &PacedRequest,
+        asked: Arc<PacedRequest>,
+        request: &Arc<PacedRequest>,
     ) -> Result<Receipt, Refused>
-        requires { asked_paced asked ≡ asked_paced request.now }
+        requires { arc_value asked ≡ arc_value request.now }
         ensures legal { IsLegalHistory admission.old.domain admission.old.entries }
-        ensures answered { IsAnswered admission.old admission.new self.old.number (Admits (asked_paced request.now)) result }
-        ensures keeps { Keeps self.old self.new (Admits (asked_paced request.now)) result }
+        ensures answered { IsAnswered admission.old admission.new self.old.number (Admits (asked_paced (arc_value request.now))) result }
+        ensures keeps { Keeps self.old self.new (Admits (asked_paced (arc_value request.now))) result }
     {
         // its history is legal
         let _legal = admission.history();
         if self.calls.reserve(1).is_err() {
             return unasked(admission);
         }
-        let answer = admission.admit_paced(self.number, request);
+        let answer = admission.admit_shared(self.number, request);
         keep(
             &mut self.calls,
             self.number,

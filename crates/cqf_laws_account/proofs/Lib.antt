@@ -6,3 +6,6 @@ mod Together
 mod Sealed
 mod Seats
 mod Paged
+mod ByTwo
+mod Taped
+mod Kept

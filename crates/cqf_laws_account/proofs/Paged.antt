@@ -1,6 +1,6 @@
 -- A book is told from its pages, on which starts stand link by link.
 use Rattle.std.proofs.Common.{◌≡◌, ℕ, ◌<◌, List, length, sym, ap, ◌∙◌, arith, inl, inr, refl, filter, subst, Contains, eq-eqb, ne_eqb}
-use Rattle.std.specs.Prelude.{Option, None, [], if◌then◌else◌}
+use Rattle.std.specs.Prelude.{Option, None, [], if◌then◌else◌, true}
 use Rattle.std.proofs.lemmas.Bool.{cases_Bool, cond-false, cond-true}
 use Rattle.std.proofs.lemmas.Option.{slice_get_cases, slice_get_within}
 use Rattle.cqf_lists.specs.Lists.{each_below}
@@ -10,16 +10,25 @@ use Rattle.cqf_lists.proofs.Picked.{filter_one}
 use Rattle.cqf_model.specs.declared.frames.Page.{Page}
 use Rattle.cqf_model.specs.declared.frames.Started.{Started}
 use Rattle.cqf_model.specs.Book.{Contents, background_in, page_of, page_starts, starts_in}
-use Rattle.cqf_model.specs.Domain.{Domain, IsAccepted, bridge_of, leaves}
+use Rattle.cqf_model.specs.Domain.{Domain, IsAccepted, leaves}
 use Rattle.cqf_model.specs.Run.{Run}
-use Rattle.cqf_model.proofs.Links.{bridge_within}
-use Rattle.cqf_laws_cycle.specs.PageLaws.{BookIsItsPages, IsSomeBook, PageSaysTheBackground, PageSaysWhatItsLinksSend, book_of_pages, is_on_link, on_links_of}
+use Rattle.cqf_laws_cycle.specs.PageLaws.{BookIsItsPages, IsSomeBook, PageSaysTheBackground, PageSaysWhatItsLinksSend, is_on_link, on_links_of}
 use Rattle.cqf_laws_cycle.proofs.PageParts.{same_pages}
 use Rattle.cqf_laws_account.specs.Gathered.{ArePagesOf}
 use Rattle.cqf_laws_account.specs.Paged.{AreByLink, ArePagesByLink, TellTheBook, contents_on, contents_there}
 use Rattle.cqf_laws_account.proofs.Ordered.{background_by_two, starts_by_two}
 
--- lists whose elements bear their link stand link by link
+-- of lists whose elements bear their link, a link that leaves the bridge has its own
+pub on_its_link : (d : Domain) (bridge : ℕ) (lists : ℕ → List Started) → ((link : ℕ) (x : Started) → Contains (lists link) x → x.link ≡ link) →
+    (link : ℕ) → link < length d.links → leaves d link bridge ≡ true → filter (is_on_link link) (on_links_of d bridge lists) ≡ lists link
+on_its_link d bridge lists bears link inside here =
+    let leaving = λ (link : ℕ). if leaves d link bridge then lists link else [] in
+    filter_one (is_on_link link) leaving (length d.links) link inside (λ l x differ h.
+    ne_eqb x.link link (λ same. differ (sym (bears l x (contains_if (leaves d l bridge) (lists l) x h)) ∙ same)))
+    ∙ ap (filter (is_on_link link)) (cond-true (leaves d link bridge) (lists link) [] here)
+    ∙ filter_each (is_on_link link) (lists link) (λ x h. eq-eqb x.link link (bears link x h))
+
+-- so they stand link by link
 stand_by_link : (d : Domain) (bridge : ℕ) (lists : ℕ → List Started) → ((link : ℕ) (x : Started) → Contains (lists link) x → x.link ≡ link) →
     AreByLink d bridge (on_links_of d bridge lists)
 stand_by_link d bridge lists bears =
@@ -29,12 +38,8 @@ stand_by_link d bridge lists bears =
     same_below leaving (λ link. if leaves d link bridge then kept link else []) links (λ link inside.
     elim (cases_Bool (leaves d link bridge)) [
       | inl here ↦
-          let own : leaving link ≡ lists link = cond-true (leaves d link bridge) (lists link) [] here in
-          own
-          ∙ sym (filter_each (is_on_link link) (lists link) (λ x h. eq-eqb x.link link (bears link x h)))
-          ∙ ap (filter (is_on_link link)) (sym own)
-          ∙ sym (filter_one (is_on_link link) leaving links link inside (λ l x differ h.
-          ne_eqb x.link link (λ same. differ (sym (bears l x (contains_if (leaves d l bridge) (lists l) x h)) ∙ same))))
+          cond-true (leaves d link bridge) (lists link) [] here
+          ∙ sym (on_its_link d bridge lists bears link inside here)
           ∙ sym (cond-true (leaves d link bridge) (kept link) [] here)
       | inr elsewhere ↦ cond-false (leaves d link bridge) (lists link) [] elsewhere ∙ sym (cond-false (leaves d link bridge) (kept link) [] elsewhere)
     ])

@@ -11,7 +11,7 @@ use Rattle.cqf_model.specs.declared.topology.Link.{Link}
 use Rattle.cqf_model.specs.declared.topology.Node.{Node}
 use Rattle.cqf_model.specs.declared.topology.Node.TheVariants.{Bridge, Station}
 use Rattle.cqf_model.specs.declared.topology.Row.{Row}
-use Rattle.cqf_model.specs.Book.{Contents, IsBook}
+use Rattle.cqf_model.specs.Book.{Contents, IsBook, page_of}
 use Rattle.cqf_model.specs.Domain.{Domain, bridge_of, end_of, enters, node_is}
 use Rattle.cqf_model.specs.History.{Recorded, seals, table_at, tables_of}
 use Rattle.cqf_model.specs.HistoryBook.{IsBookOfHistory, run_of_history}
@@ -24,13 +24,18 @@ use Rattle.cqf_laws_cycle.specs.PageLaws.{IsSomeBook}
 use Rattle.cqf_bridge.specs.Batch.{LinkBatch}
 use Rattle.cqf_bridge.specs.Receiving.{ReceivesCycle, links_into}
 use Rattle.cqf_book.specs.Shares.{IsBookOfPages}
+use Rattle.cqf_tape.specs.declared.reel.Reel.{Reel}
+use Rattle.cqf_tape.specs.declared.tapes.Tapes.{Tapes}
+use Rattle.cqf_tape.specs.Reels.{AreGatheredFrom}
 use Rattle.cqf_laws_bridge.specs.CourseLaws.{PagesAreOfTheBook}
 use Rattle.cqf_laws_bridge.specs.Courses.{AreUnderWay, Course, HasWorked, IsGiven, Traffic, taken_in}
 use Rattle.cqf_laws_bridge.proofs.LinkNumbers.{link_into}
 use Rattle.cqf_laws_account.specs.Apart.{HavePosted, HaveWorkedApart, taken_apart, together}
 use Rattle.cqf_laws_account.specs.Gathered.{ArePagesOf, GatheredPagesAreTheBook, contents_of_page}
 use Rattle.cqf_laws_account.specs.Paged.{HasThePages}
+use Rattle.cqf_laws_account.specs.Taped.{HasTheTapes, HaveKept}
 use Rattle.cqf_laws_account.proofs.Gathering.{leaves_one}
+use Rattle.cqf_laws_account.proofs.Kept.{AreLawsOfPages, HaveKeptTheBook, tapes_of_book}
 
 -- what was taken from a link that ends in a bridge is by the lists of the bridge
 taken_by_node : (own : ℕ → Course) (node : Node) (l bridge : ℕ) → node_is node bridge ≡ true → taken_apart own (Some node) l ≡ (own bridge).taken l
@@ -125,8 +130,8 @@ module _ (t : Traffic) (entries : List Recorded) (own : ℕ → Course) (apart :
     links = λ l inside. fed l;
   }
 
-  module _ (given : IsGiven t entries) (laws : PagesAreOfTheBook) (gathers : GatheredPagesAreTheBook) (exists : BookExists) (count : ThereAreSoManyTables)
-      (cycles : ℕ) (closed : cycles ≤ seals entries) where
+  module _ (given : IsGiven t entries) (laws : PagesAreOfTheBook) (exists : BookExists) (count : ThereAreSoManyTables) (cycles : ℕ)
+      (closed : cycles ≤ seals entries) where
     -- the run of so many cycles, and its book
     abbrev run : Run
     run = run_of_history t.domain entries t.offers t.background cycles
@@ -148,6 +153,12 @@ module _ (t : Traffic) (entries : List Recorded) (own : ℕ → Course) (apart :
       is_book = subst (λ (n : ℕ). IsBook run (compiled_lists t.domain) n some_book.0) (count t.domain entries cycles) some_book.1;
     }
 
+    -- what a bridge's lists say of a cycle is its page
+    is_its_page : (bridge cycle : ℕ) (page : Contents) → bridge < length t.domain.bridges → cycle < cycles →
+        slice_get ((own bridge).pages bridge) cycle ≡ Some page → page ≡ page_of t.domain bridge cycle some_book.0
+    is_its_page bridge cycle page inside within there =
+        laws t entries (together t.domain own) cycles bridge cycle some_book.0 page given under_way of_history inside within there
+
     -- the pages are its pages
     are_pages : (pages : ℕ → List Page) → HavePosted t cycles own pages → ArePagesOf t.domain cycles pages some_book.0
     are_pages pages have = record {
@@ -157,14 +168,14 @@ module _ (t : Traffic) (entries : List Recorded) (own : ℕ → Course) (apart :
           let same : slice_get ((own bridge).pages bridge) cycle ≡ Some (contents_of_page page) =
           ap (λ (xs : List Contents). slice_get xs cycle) (sym (have.same bridge inside))
           ∙ slice_get-map contents_of_page (pages bridge) cycle ∙ ap (option_map contents_of_page) there in
-          laws t entries (together t.domain own) cycles bridge cycle some_book.0 (contents_of_page page) given under_way of_history inside within same;
+          is_its_page bridge cycle (contents_of_page page) inside within same;
     }
 
     -- so they are gathered to it
-    pub gathered_history : (pages : ℕ → List Page) (gathered : Contents) → HavePosted t cycles own pages →
+    pub gathered_history : GatheredPagesAreTheBook → (pages : ℕ → List Page) (gathered : Contents) → HavePosted t cycles own pages →
         IsBookOfPages pages (length t.domain.bridges) gathered →
         IsBookOfHistory t.domain entries t.offers t.background cycles gathered
-    gathered_history pages gathered have is =
+    gathered_history gathers pages gathered have is =
         subst (λ (b : Contents). IsBookOfHistory t.domain entries t.offers t.background cycles b)
         (sym (gathers t.domain cycles pages some_book.0 gathered given.accepted is_some (are_pages pages have) is)) of_history
 
@@ -172,3 +183,27 @@ module _ (t : Traffic) (entries : List Recorded) (own : ℕ → Course) (apart :
     pub posted_history : (pages : ℕ → List Page) → HavePosted t cycles own pages →
         (book : Contents) × HasThePages t.domain entries t.offers t.background cycles pages book
     posted_history pages have = (some_book.0, record { of_history = of_history; some = is_some; pages_of = are_pages pages have })
+
+    -- and reels that have kept what the lists say come to its tapes
+    pub kept_history : AreLawsOfPages → (reels : List Reel) (tapes : Tapes) → HaveKept t cycles own reels → AreGatheredFrom t.domain reels tapes →
+        (book : Contents) × HasTheTapes t.domain entries t.offers t.background cycles tapes book
+    kept_history pages_say reels tapes have gathered =
+        let kept : HaveKeptTheBook t.domain cycles some_book.0 (λ bridge. (own bridge).pages bridge) reels = record {
+          each_bridge = have.each_bridge;
+          are = λ bridge inside. record {
+            many = have.many bridge inside;
+            each = λ cycle page there.
+                let within : cycle < cycles =
+                omega (arith, slice_get_within ((own bridge).pages bridge) cycle page there, have.many bridge inside) in
+                is_its_page bridge cycle page inside within there;
+          };
+          kept = have.kept;
+        } in (
+          some_book.0,
+          record {
+            of_history = of_history;
+            some = is_some;
+            tapes_of = tapes_of_book pages_say t.domain cycles some_book.0 given.accepted is_some (λ bridge. (own bridge).pages bridge) reels kept tapes
+                gathered;
+          },
+        )

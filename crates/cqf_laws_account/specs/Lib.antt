@@ -3,3 +3,4 @@ pub mod Apart
 pub mod Sealing
 pub mod Seated
 pub mod Paged
+pub mod Taped

@@ -9,6 +9,8 @@
 //!   their pages are gathered to is the one-thread book ([`bridges_apart_give_the_book`]).
 //! - Such bridges' pages are those of the one-thread book ([`bridges_apart_post_the_pages`]); and the pages of a book tell it, cycle by cycle
 //!   and link by link, with nothing to be sorted ([`pages_tell_the_book`]).
+//! - The tapes that such bridges keep are those of the one-thread book ([`bridges_apart_keep_the_tapes`]); and the tapes of a book tell it,
+//!   cycle by cycle and link by link, with nothing to be sorted ([`tapes_tell_the_book`]).
 //! - Where one seat of a desk makes all Seals, the tables that it closes are those of the history ([`one_seat_closes_all_tables`]);
 //!   and the history of a desk has just what was asked of its seats ([`seats_give_the_history`]).
 //!
@@ -23,6 +25,7 @@ ghost use Rattle.cqf_laws_account.specs.Gathered.{GatheredPagesAreTheBook};
 ghost use Rattle.cqf_laws_account.specs.Paged.{BridgesApartPostThePages, PagesTellTheBook};
 ghost use Rattle.cqf_laws_account.specs.Sealing.{OneSeatClosesAllTables};
 ghost use Rattle.cqf_laws_account.specs.Seated.{ConductorHasTheTables, SeatsGiveTheHistory};
+ghost use Rattle.cqf_laws_account.specs.Taped.{BridgesApartKeepTheTapes, TapesTellTheBook};
 
 /// Pages on which stands what a book has of their bridges and cycles give that very book, when they are gathered and put in its
 /// order (profile).
@@ -75,8 +78,25 @@ pub fn pages_tell_the_book()
 pub fn bridges_apart_post_the_pages()
     ensures { BridgesApartPostThePages }
 {
-    gathered_pages_are_the_book();
     cqf_laws_bridge::pages_are_of_the_book();
     cqf_laws_network::book_exists();
     cqf_laws_history::tables_are_orderly();
 }
+
+/// Where each bridge did its part by lists of its own, the tables that it took are the first of one history's Seals, and what it took
+/// from a link is the beginning of what was put on it, the tapes on which the bridges kept what they sent and dropped are those of the
+/// one-thread book of that history, however the bridges took turns (IEEE 802.1Q, Annex T, and the profile).
+pub fn bridges_apart_keep_the_tapes()
+    ensures { BridgesApartKeepTheTapes }
+{
+    cqf_laws_cycle::page_is_of_its_bridge();
+    cqf_laws_bridge::pages_are_of_the_book();
+    cqf_laws_network::book_exists();
+    cqf_laws_history::tables_are_orderly();
+}
+
+/// The tapes of a book tell it: cycle by cycle the starts link by link, each from the link's tape, whose instants don't go back, and the drops
+/// bridge by bridge (profile).
+pub fn tapes_tell_the_book()
+    ensures { TapesTellTheBook }
+{}

@@ -48,7 +48,7 @@ fn apply(admission: &mut Admission, seat: u16, call: &Call) -> Result<(), Memory
     state_follows_history();
     match call {
         Call::Admit(request) => entered(admission.admit(seat, request)),
-        Call::AdmitPaced(request) => entered(admission.admit_paced(seat, request)),
+        Call::AdmitPaced(request) => entered(admission.admit_shared(seat, request)),
         Call::Withdraw(name) => entered(admission.withdraw(seat, name.as_str())),
         Call::Seal => close(admission, seat),
     }

@@ -10,8 +10,8 @@ use Rattle.cqf_model.specs.Domain.{Domain, IsAccepted}
 use Rattle.cqf_model.specs.Headline.{IsAccountOf}
 use Rattle.cqf_model.specs.History.{Act, Recorded}
 use Rattle.cqf_admission.specs.declared.entries.Command.{Command}
-use Rattle.cqf_book.specs.Pages.{pages_of}
-use Rattle.cqf_laws_account.specs.Paged.{ArePagesByLink, PagesTellTheBook, TellTheBook, told_from}
+use Rattle.cqf_laws_account.specs.Taped.{TapesTell, TapesTellTheBook}
+use Rattle.cqf_tape.specs.Tapes.{MayBeTold, told_from}
 use Rattle.cqf_program_runs.specs.RunOutput.{run_text}
 use Rattle.cqf_program_scenario.specs.Opening.{IsOpenedInput, opening_history}
 use Rattle.cqf_program_scenario.specs.Parted.{acts_of_each}
@@ -37,7 +37,7 @@ commands_in lists = map (λ (commands : Vec Command Global). commands.items) lis
 asked_of : (lists : List (Vec Command Global)) → acts_of_each lists ≡ all_asked (commands_in lists)
 asked_of lists = sym (map-map acts_asked (λ (commands : Vec Command Global). commands.items) lists)
 
--- an account by pages of what was opened of an input is one of the input's scenario
+-- an account by tapes of what was opened of an input is one of the input's scenario
 pub IsAccountOfInput-opened : (limits : Limits) (cycles : ℕ) (input : List ℕ) (made : Opened) (account : PagedAccount) (offers : List Offer) (frames : List Background)
     → IsOpenedInput limits cycles input made → offers ≡ made.offers.items → frames ≡ made.background.items
     → IsPagedAccount made.domain made.admission.entries offers frames cycles (commands_in made.commands.items) account
@@ -82,18 +82,18 @@ IsFaultOfInput-opened limits cycles input made fault d entries offers frames ope
       };
     }
 
--- the pages of such an account tell its book
+-- the tapes of such an account tell its book
 module _ (limits : Limits) (cycles : ℕ) (input : List ℕ) (d : Domain) (account : PagedAccount)
-    (of : IsAccountOfInput limits cycles input d account) (law : PagesTellTheBook) (accepted : IsAccepted d) where
-  tells : TellTheBook d cycles (pages_of account.pages) of.is_account.book
-  tells = law d cycles (pages_of account.pages) of.is_account.book accepted of.is_account.some of.is_account.its_pages
+    (of : IsAccountOfInput limits cycles input d account) (law : TapesTellTheBook) (accepted : IsAccepted d) where
+  tells : TapesTell d cycles account.pages of.is_account.book
+  tells = law d cycles account.pages of.is_account.book accepted of.is_account.some of.is_account.its_pages
 
-  -- on them the transmissions stand link by link
-  pub pages_by_link : ArePagesByLink d (pages_of account.pages)
-  pages_by_link = tells.by_link
+  -- with nothing to be sorted
+  pub may_be_told : MayBeTold d account.pages
+  may_be_told = tells.may
 
   -- the text of its history and of the book that they tell is the output
-  pub IsThreadsOutput-written : (text : List ℕ) → text ≡ run_text d (entries_of account.history) (told_from d cycles (pages_of account.pages)) →
+  pub IsThreadsOutput-written : (text : List ℕ) → text ≡ run_text d (entries_of account.history) (told_from d cycles account.pages) →
       IsThreadsOutput limits cycles input text
   IsThreadsOutput-written text written =
       let s = of.scenario in

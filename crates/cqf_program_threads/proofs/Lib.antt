@@ -1,4 +1,4 @@
-mod Stretches
 mod Places
+mod Marks
 mod PageLines
 mod Accounts

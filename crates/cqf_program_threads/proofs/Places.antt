@@ -1,114 +1,98 @@
--- On each bridge's page, a place behind the starts on the links so far.
-use Rattle.std.proofs.Common.{◌≡◌, ◌≢◌, ℕ, suc, ◌<◌, ◌++◌, List, [], length, get_or, replicate, set, filter, sym, ap}
-use Rattle.std.proofs.Common.{◌∙◌, ◌-◌, ◌≤◌, arith, inl, inr, append-nil, drop, subst, take}
-use Rattle.std.specs.Prelude.{Option, Some, true, slice_get}
-use Rattle.std.specs.Option.{option_map_or}
-use Rattle.std.proofs.lemmas.Bool.{cases_Bool, cases_eq, cond-false}
-use Rattle.std.proofs.lemmas.List.{get_or-replicate, get_or-set_other, get_or-set_same, length-replicate, length-set}
-use Rattle.cqf_model.specs.declared.frames.Started.{Started}
-use Rattle.cqf_model.specs.declared.topology.Link.{Link}
-use Rattle.cqf_model.specs.Domain.{Domain, IsAccepted, bridge_of, leaves}
-use Rattle.cqf_model.proofs.Links.{bridge_within, leaves_its_bridge}
-use Rattle.cqf_model.proofs.Represented.{few_bridges}
-use Rattle.cqf_laws_cycle.specs.PageLaws.{is_on_link}
-use Rattle.cqf_laws_account.specs.Paged.{AreByLink}
-use Rattle.cqf_laws_account.proofs.Gathering.{leaves_one}
-use Rattle.cqf_program_threads.specs.declared.paged.Kind.{Kind}
-use Rattle.cqf_program_threads.specs.PagedBooks.{ByPages, IsStretch, stands_on}
-use Rattle.cqf_program_threads.proofs.Stretches.{front_of, next_place, place_within, stretch_is}
+-- Of each of some tapes, a place that goes on cycle by cycle.
+use Rattle.std.proofs.Common.{◌≡◌, ℕ, ◌+◌, ◌<◌, ◌≤◌, ◌∙◌, List, length, replicate, set, ap, arith, inl, inr, subst, sym}
+use Rattle.std.specs.Prelude.{slice_index}
+use Rattle.std.proofs.lemmas.Bool.{cases_eq}
+use Rattle.std.proofs.lemmas.List.{get_or-replicate, get_or-set_other, get_or-set_same, length-map, length-replicate, length-set}
+use Rattle.cqf_lists.proofs.EachBelow.{length-singles}
+use Rattle.cqf_model.specs.Domain.{Domain, IsAccepted}
+use Rattle.cqf_model.proofs.Represented.{few_bridges, few_links}
+use Rattle.cqf_tape.specs.declared.tapes.Kind.{Kind}
+use Rattle.cqf_tape.specs.declared.tapes.Tapes.{Tapes}
+use Rattle.cqf_tape.specs.Tapes.{IsDropsEndBefore, IsEndBefore, MayBeTold, StandByNumber, drops_at, first_links, link_of_tape, links_of, marks_at}
+use Rattle.cqf_tape.specs.Telling.{AreDropPlaces, ArePlaces}
 
--- by bridge the place behind the starts on so many links, on the bridge's page
-pub record ArePlaces (d : Domain) (pages : ℕ → List Started) (link : ℕ) (places : List ℕ) : Type 0 where
-  pub many : length places ≡ 1024
-  pub each : (bridge : ℕ) → bridge < length d.bridges → get_or places bridge 0 ≡ length (front_of d bridge (pages bridge) link)
+-- of so many places those before one have gone on, and the others haven't
+pub record HaveGoneOn (before after : ℕ → ℕ → Type 0) (count at : ℕ) (places : List ℕ) : Type 0 where
+  pub many : count ≤ length places
+  pub gone : (k : ℕ) → k < at → after k (slice_index places k)
+  pub rest : (k : ℕ) → at ≤ k → k < count → before k (slice_index places k)
 
--- those of a book's pages of a kind in a cycle
-abbrev pub ArePlacesIn : ByPages → Kind → ℕ → ℕ → List ℕ → Type 0
-ArePlacesIn book kind cycle link places = ArePlaces book.domain (λ bridge. stands_on book kind bridge cycle) link places
-
-module _ (d : Domain) (pages : ℕ → List Started) where
-  -- at first it's the page's begin
-  pub first_places : IsAccepted d → (places : List ℕ) → places ≡ replicate 1024 0 → ArePlaces d pages 0 places
-  first_places accepted places are = record {
-    many = ap length are ∙ length-replicate {A = ℕ} 1024 0;
-    each = λ bridge inside.
-        ap (λ (xs : List ℕ). get_or xs bridge 0) are ∙ get_or-replicate {A = ℕ} 1024 bridge 0 0 (omega (arith, inside, few_bridges d accepted));
+module _ (before after : ℕ → ℕ → Type 0) (count : ℕ) (places : List ℕ) where
+  -- at first none has
+  pub none_gone : count ≤ length places → ((k : ℕ) → k < count → before k (slice_index places k)) → HaveGoneOn before after count 0 places
+  none_gone many are = record {
+    many = many;
+    gone = λ k below. absurd (omega (arith, below));
+    rest = λ k _ below. are k below;
   }
 
-  -- a link brings nothing to another bridge's page
-  elsewhere : (link bridge : ℕ) → bridge ≢ bridge_of d link → front_of d bridge (pages bridge) (suc link) ≡ front_of d bridge (pages bridge) link
-  elsewhere link bridge other =
-      let front = front_of d bridge (pages bridge) link in
-      elim (cases_Bool (leaves d link bridge)) [
-        | inl here ↦ absurd (other (sym (leaves_one d link bridge here)))
-        | inr apart ↦
-            ap (λ (xs : List Started). front ++ xs) (cond-false (leaves d link bridge) (filter (is_on_link link) (pages bridge)) [] apart) ∙ append-nil front
-      ]
+  -- one more goes on
+  pub one_gone : (at end : ℕ) → at < count → HaveGoneOn before after count at places → after at end →
+      HaveGoneOn before after count (at + 1) (set places at end)
+  one_gone at end inside so_far is = record {
+    many = omega (arith, so_far.many, length-set places at end);
+    gone = λ k below. elim (cases_eq k at) [
+      | inl here ↦
+          subst (λ (n : ℕ). after n (slice_index (set places at end) n)) (sym here)
+          (subst (after at) (sym (get_or-set_same places at end 0 (omega (arith, inside, so_far.many)))) is)
+      | inr other ↦
+          subst (after k) (sym (get_or-set_other places at k end 0 other)) (so_far.gone k (omega (arith, below, other)))
+    ];
+    rest = λ k behind below.
+        subst (before k) (sym (get_or-set_other places at k end 0 (λ e. absurd (omega (arith, behind, e))))) (so_far.rest k (omega (arith, behind)) below);
+  }
 
-  module _ (accepted : IsAccepted d) (link own : ℕ) (inside : link < length d.links) (is_own : bridge_of d link ≡ own) (places : List ℕ)
-      (are : ArePlaces d pages link places) where
-    -- the bridge that the link leaves
-    pub own_within : own < length d.bridges
-    own_within = subst (λ (b : ℕ). b < length d.bridges) is_own (bridge_within d link accepted inside)
+-- where a cycle's marks end by link, and its drops by bridge
+abbrev pub ends_by_link : Domain → Kind → Tapes → ℕ → ℕ → ℕ → Type 0
+ends_by_link d kind tapes cycle link place = IsEndBefore d cycle (marks_at kind tapes link) place
 
-    leaves_own : leaves d link own ≡ true
-    leaves_own = subst (λ (b : ℕ). leaves d link b ≡ true) is_own (leaves_its_bridge d link inside)
+abbrev pub ends_by_bridge : Tapes → ℕ → ℕ → ℕ → Type 0
+ends_by_bridge tapes cycle bridge place = IsDropsEndBefore cycle (drops_at tapes bridge) place
 
-    -- it has a place
-    pub own_has_place : own < length places
-    own_has_place = omega (arith, own_within, few_bridges d accepted, are.many)
+-- of so many links, or bridges, the places are behind the cycle, and of the others before it
+abbrev pub AreBehindLinks : Domain → Kind → Tapes → ℕ → ℕ → List ℕ → Type 0
+AreBehindLinks d kind tapes cycle link places =
+    HaveGoneOn (ends_by_link d kind tapes cycle) (ends_by_link d kind tapes (cycle + 1)) (length d.links) link places
 
-    module _ (starts : List Started) (same : starts ≡ pages own) (by_link : AreByLink d own starts) where
-      -- which is on its page
-      pub place_on_page : get_or places own 0 ≤ length starts
-      place_on_page =
-          let front : length (front_of d own starts link) ≤ length starts = place_within d own starts by_link link inside in
-          let at : get_or places own 0 ≡ length (front_of d own starts link) =
-          are.each own own_within ∙ ap (λ (xs : List Started). length (front_of d own xs link)) (sym same) in
-          omega (arith, front, at)
+abbrev pub AreBehindBridges : Domain → Tapes → ℕ → ℕ → List ℕ → Type 0
+AreBehindBridges d tapes cycle bridge places =
+    HaveGoneOn (ends_by_bridge tapes cycle) (ends_by_bridge tapes (cycle + 1)) (length d.bridges) bridge places
 
-      module _ (end : ℕ) (is : IsStretch link starts (get_or places own 0) end) where
-        -- the stretch begins behind the starts on the links before
-        begins : IsStretch link starts (length (front_of d own starts link)) end
-        begins =
-            subst (λ (n : ℕ). IsStretch link starts n end)
-            (are.each own own_within ∙ ap (λ (xs : List Started). length (front_of d own xs link)) (sym same)) is
+module _ (d : Domain) (kind : Kind) (tapes : Tapes) (places : List ℕ) where
+  -- before the first cycle nothing is told
+  pub first_places : IsAccepted d → places ≡ replicate 4096 0 → ArePlaces d kind tapes 0 places
+  first_places accepted are = record {
+    many = omega (arith, few_links d accepted, ap length are, length-replicate {A = ℕ} 4096 0);
+    ends = λ link inside.
+        subst (IsEndBefore d 0 (marks_at kind tapes link))
+        (sym (ap (λ (xs : List ℕ). slice_index xs link) are ∙ get_or-replicate {A = ℕ} 4096 link 0 0 (omega (arith, inside, few_links d accepted))))
+        (record { within = omega arith; before = λ k m _ below. absurd (omega (arith, below)); behind = λ k m _ _. omega arith });
+  }
 
-        -- behind the link the place on its bridge's page is behind its starts
-        pub next_places : ArePlaces d pages (suc link) (set places own end)
-        next_places = record {
-          many = length-set places own end ∙ are.many;
-          each = λ bridge below. elim (cases_eq bridge own) [
-            | inl is_it ↦
-                subst (λ (b : ℕ). get_or (set places own end) b 0 ≡ length (front_of d b (pages b) (suc link))) (sym is_it)
-                (get_or-set_same places own end 0 own_has_place
-                ∙ next_place d own starts by_link link inside leaves_own end begins
-                ∙ ap (λ (xs : List Started). length (front_of d own xs (suc link))) same)
-            | inr other ↦
-                get_or-set_other places own bridge end 0 other
-                ∙ are.each bridge below
-                ∙ ap length (sym (elsewhere link bridge (λ e. other (e ∙ is_own))))
-          ];
-        }
+  -- before a cycle no place has gone on
+  pub links_begin : (cycle : ℕ) → ArePlaces d kind tapes cycle places → AreBehindLinks d kind tapes cycle 0 places
+  links_begin cycle are = none_gone (ends_by_link d kind tapes cycle) (ends_by_link d kind tapes (cycle + 1)) (length d.links) places are.many are.ends
 
-        -- and what stands in the stretch is what is on the link
-        pub on_the_link : take (end - get_or places own 0) (drop (get_or places own 0) starts) ≡ filter (is_on_link link) (pages (bridge_of d link))
-        on_the_link =
-            ap (λ (n : ℕ). take (end - n) (drop n starts))
-            (are.each own own_within ∙ ap (λ (xs : List Started). length (front_of d own xs link)) (sym same))
-            ∙ stretch_is d own starts by_link link inside leaves_own end begins
-            ∙ ap (filter (is_on_link link)) (same ∙ ap pages (sym is_own))
+module _ (d : Domain) (tapes : Tapes) (places : List ℕ) where
+  -- and no drop
+  pub first_drop_places : IsAccepted d → places ≡ replicate 1024 0 → AreDropPlaces d tapes 0 places
+  first_drop_places accepted are = record {
+    many = omega (arith, few_bridges d accepted, ap length are, length-replicate {A = ℕ} 1024 0);
+    ends = λ bridge inside.
+        subst (IsDropsEndBefore 0 (drops_at tapes bridge))
+        (sym (ap (λ (xs : List ℕ). slice_index xs bridge) are ∙ get_or-replicate {A = ℕ} 1024 bridge 0 0 (omega (arith, inside, few_bridges d accepted))))
+        (record { within = omega arith; before = λ k x _ below. absurd (omega (arith, below)); behind = λ k x _ _. omega arith });
+  }
 
--- of a domain that is another's, what is known of that
-module _ (d same : Domain) (is : same ≡ d) where
-  pub accepted_too : IsAccepted same → IsAccepted d
-  accepted_too accepted = subst IsAccepted is accepted
+  pub bridges_begin : (cycle : ℕ) → AreDropPlaces d tapes cycle places → AreBehindBridges d tapes cycle 0 places
+  bridges_begin cycle are = none_gone (ends_by_bridge tapes cycle) (ends_by_bridge tapes (cycle + 1)) (length d.bridges) places are.many are.ends
 
-  -- it has as many links
-  pub inside_too : (link links : ℕ) → link < links → links ≡ length same.links → link < length d.links
-  inside_too link links below all = subst (λ (e : Domain). link < length e.links) is (omega (arith, below, all))
+module _ (d : Domain) (tapes : Tapes) (may : MayBeTold d tapes) where
+  -- there is a tape for each link
+  pub as_many_tapes : length tapes.links.items ≡ length d.links
+  as_many_tapes =
+      sym (length-map tapes.links.items link_of_tape) ∙ ap length may.each_link ∙ length-singles (λ (link : ℕ). link) (length d.links)
 
-  -- and they leave the bridges that they name
-  pub from_too : (l : ℕ) (link : Link) → slice_get same.links l ≡ Some link → bridge_of d l ≡ link.from
-  from_too l link there =
-      ap (λ (e : Domain). bridge_of e l) (sym is) ∙ ap (λ (o : Option Link). option_map_or (λ (it : Link). it.from) o 0) there
+  -- by number
+  pub by_number : StandByNumber tapes
+  by_number = may.each_link ∙ ap first_links (sym as_many_tapes)

@@ -26,7 +26,7 @@ pub record IsAccountOfScenario (cycles : ℕ) (s : Scenario) (entries : List Rec
   pub asked : AreCommandsBehind s.calls s.sealer (all_asked commands)
   pub is_account : IsAccountOf s.domain (opening_history s) s.offers s.background cycles (all_asked commands) entries book
 
--- an account by pages of an input's scenario, and the domain of that
+-- an account by tapes of an input's scenario, and the domain of that
 pub record IsAccountOfInput (limits : Limits) (cycles : ℕ) (input : List ℕ) (d : Domain) (account : PagedAccount) : Type 0 where
   pub scenario : Scenario
   pub holds : scenario_input limits cycles input ≡ Ok scenario

@@ -1,13 +1,13 @@
-//! A book that is told from its pages, with nothing gathered and nothing sorted.
+//! A book that is told from its tapes, with nothing gathered and nothing sorted.
 //!
-//! - A [`PagedBook`] is the pages of so many cycles of a domain, on each of which the transmissions of either kind stand link by link.
+//! - A [`PagedBook`] is the tapes of so many cycles of a domain, on each of which the transmissions of either kind stand by instant.
 //! - [`put_paged_book`] puts the text of the book that they tell on a press, cycle by cycle and link by link, and asks for no memory.
 //!
-//! `specs/PagedBooks.antt` says which book it is (`contents_told`); that it is the book of which these are the pages is
-//! `cqf_laws_account::pages_tell_the_book`.
+//! `specs/PagedBooks.antt` says which book it is (`contents_told`); that it is the book of which these are the tapes is
+//! `cqf_laws_account::tapes_tell_the_book`.
 //!
 //! ```text
-//! put_paged_book(&mut press, &PagedBook::new(domain, 2, pages))
+//! put_paged_book(&mut press, &PagedBook::new(domain, 2, tapes))
 //!     puts "what,cycle,where,frame,octets,detail\nstart,1,a>s,1,64,125000\n"
 //! ```
 //!
@@ -15,7 +15,7 @@
 //!
 //! - [`threads_output`] is the command's output for its input, the history and the book of an account of the input's
 //!   scenario, or the end of the run with the line of the input's first fault or of the run's. [`ThreadsOutput::tell`] tells
-//!   it, the book from the pages that the bridges posted, and asks for no memory.
+//!   it, the book from the tapes that the bridges kept, and asks for no memory.
 //!
 //! `specs/ThreadsOutput.antt` says what it is that a text `IsThreadsOutput`, and how the command `EndsThreads`.
 //!

@@ -1,99 +1,132 @@
-//! A book that is put from its pages: cycle by cycle and link by link, each page once.
-ghost use Rattle.std.specs.Prelude.{◌≡◌, ◌-◌, ◌≤◌, drop, length, take};
+//! A book that is put from its tapes: cycle by cycle and link by link, each transmission once.
+ghost use Rattle.std.specs.Prelude.{◌≡◌, ◌+◌, ◌<◌, length};
+ghost use Rattle.cqf_model.specs.Limits.{most_cycles};
 ghost use Rattle.cqf_program_press.specs.Press.{Puts};
 ghost use Rattle.cqf_report.specs.Books.{lines_of_drops, lines_of_starts, text_of_book};
-ghost use Rattle.cqf_program_threads.specs.PagedBooks.{IsStretch, contents_told, drops_at_bridges, drops_in_cycles, starts_in_cycles, starts_on_links};
+ghost use Rattle.cqf_tape.specs.Tapes.{IsEndBefore, IsInOrder, MayBeTold, drops_at_bridges, drops_in_cycles};
+ghost use Rattle.cqf_tape.specs.Tapes.{told_in_cycles, told_on, told_on_links};
+ghost use Rattle.cqf_tape.specs.Telling.{AreDropPlaces, ArePlaces};
+ghost use Rattle.cqf_program_threads.specs.PagedBooks.{contents_told};
 
-use crate::paged::{Kind, PagedBook};
-use cqf_model::Started;
+use crate::paged::PagedBook;
 use cqf_program_press::{Press, Sink};
 use cqf_program_telling::{put_book_header, put_drops, put_starts};
+use cqf_tape::{Kind, Mark, Tapes, drops_end_of, end_of, started_on};
 use cqf_topology::Domain;
+use cqf_units::Cycle;
 
-/// Where the starts on a link end, of those from a place on: the first place of a start on another link, or that behind the last.
-fn end_on_link(starts: &[Started], place: usize, link: u16) -> usize
-    requires { place ≤ length starts.now }
-    ensures { IsStretch link starts.now place result }
-{
-    for end in place..starts.len() {
-        if starts[end].link != link {
-            return end;
-        }
-    }
-    starts.len()
+/// What is told: transmissions of a kind, which begin with a word, of the tapes of a domain.
+#[derive(Clone, Copy)]
+struct Part<'w, 'd, 't> {
+    what: &'w [u8],
+    kind: Kind,
+    domain: &'d Domain,
+    tapes: &'t Tapes,
 }
 
-/// Puts a line for each start on the link, of those from a place on, and gives the place behind them.
+/// Puts a line for each mark of a cycle on a link's tape, and gives the place where they end.
 fn put_on_link<W: Sink>(
     press: &mut Press<'_, W>,
-    what: &[u8],
-    domain: &Domain,
-    starts: &[Started],
-    place: usize,
+    part: Part<'_, '_, '_>,
+    cycle: Cycle,
     link: u16,
+    marks: &[Mark],
+    from: usize,
 ) -> usize
-    requires { place ≤ length starts.now }
-    ensures stretch { IsStretch link starts.now place result }
-    ensures puts { Puts W.contents press.old press.new (lines_of_starts what.now domain.now (take (result - place) (drop place starts.now))) }
+    requires early { cycle.0 < most_cycles }
+    requires order { IsInOrder marks.now }
+    requires before { IsEndBefore part.domain.now cycle.0 marks.now from }
+    ensures behind { IsEndBefore part.entry.domain.now (cycle.0 + 1) marks.now result }
+    ensures puts { Puts W.contents press.old press.new
+        (lines_of_starts part.entry.what.now part.entry.domain.now (told_on part.entry.domain.now cycle.0 link marks.now)) }
 {
-    let end = end_on_link(starts, place, link);
-    put_starts(press, what, domain, &starts[place..end]);
+    let end = end_of(part.domain, cycle, marks, from);
+    let own = &marks[from..end];
+    for mark in own {
+        let started = [started_on(cycle, link, *mark)];
+        put_starts(press, part.what, part.domain, &started);
+    }
     end
 }
 
-/// Puts a line for each start of a cycle, link by link. Of each bridge's page it goes on where the link before ended.
-fn put_starts_of_cycle<W: Sink>(
+/// Puts a line for each mark of a cycle, link by link. The places are those where the cycles before end.
+fn put_cycle<W: Sink>(
     press: &mut Press<'_, W>,
-    what: &[u8],
-    kind: Kind,
-    book: &PagedBook,
-    cycle: u32,
+    part: Part<'_, '_, '_>,
+    cycle: Cycle,
+    places: &mut [usize; 4096],
 )
-    ensures { Puts W.contents press.old press.new
-        (lines_of_starts what.now book.now.domain (starts_on_links book.now kind cycle (length book.now.domain.links))) }
+    requires early { cycle.0 < most_cycles }
+    requires tapes { MayBeTold part.domain.now part.tapes.now }
+    requires before { ArePlaces part.domain.now part.kind part.tapes.now cycle.0 places.old }
+    ensures behind { ArePlaces part.entry.domain.now part.entry.kind part.entry.tapes.now (cycle.0 + 1) places.new }
+    ensures puts { Puts W.contents press.old press.new (lines_of_starts part.entry.what.now part.entry.domain.now
+        (told_on_links part.entry.domain.now part.entry.kind part.entry.tapes.now cycle.0 (length part.entry.domain.now.links))) }
 {
-    let domain = book.domain();
-    domain.know();
-    let mut places = [0; 1024];
-    for link in 0..domain.links() {
-        let bridge = domain.link(link).from;
-        let starts = book.starts(kind, bridge, cycle);
-        let place = places[usize::from(bridge)];
-        let end = put_on_link(press, what, domain, starts, place, link);
-        places[usize::from(bridge)] = end;
+    for link in 0..part.domain.links() {
+        let marks = part.tapes.marks(part.kind, link);
+        let place = usize::from(link);
+        let from = places[place];
+        places[place] = put_on_link(press, part, cycle, link, marks, from);
     }
 }
 
-/// Puts a line for each start of a kind, cycle by cycle.
+/// Puts a line for each transmission of a kind, cycle by cycle.
 fn put_starts_of_kind<W: Sink>(press: &mut Press<'_, W>, what: &[u8], kind: Kind, book: &PagedBook)
     ensures { Puts W.contents press.old press.new
-        (lines_of_starts what.now book.now.domain (starts_in_cycles book.now kind book.now.cycles)) }
+        (lines_of_starts what.now book.now.domain (told_in_cycles book.now.domain kind book.now.tapes book.now.cycles)) }
 {
+    let part = Part {
+        what,
+        kind,
+        domain: book.domain(),
+        tapes: book.tapes(),
+    };
+    part.domain.know();
+    let mut places = [0; 4096];
     for cycle in 0..book.cycles() {
-        put_starts_of_cycle(press, what, kind, book, cycle);
+        put_cycle(press, part, Cycle(cycle), &mut places);
     }
 }
 
-/// Puts a line for each drop of a cycle, bridge by bridge.
-fn put_drops_of_cycle<W: Sink>(press: &mut Press<'_, W>, book: &PagedBook, cycle: u32)
-    ensures { Puts W.contents press.old press.new
-        (lines_of_drops book.now.domain (drops_at_bridges book.now cycle (length book.now.domain.bridges))) }
+/// Puts a line for each drop of a cycle, bridge by bridge. The places are those where the cycles before end.
+fn put_drops_of_cycle<W: Sink>(
+    press: &mut Press<'_, W>,
+    domain: &Domain,
+    tapes: &Tapes,
+    cycle: Cycle,
+    places: &mut [usize; 1024],
+)
+    requires tapes { MayBeTold domain.now tapes.now }
+    requires before { AreDropPlaces domain.now tapes.now cycle.0 places.old }
+    ensures behind { AreDropPlaces domain.now tapes.now (cycle.0 + 1) places.new }
+    ensures puts { Puts W.contents press.old press.new
+        (lines_of_drops domain.now (drops_at_bridges tapes.now cycle.0 (length domain.now.bridges))) }
 {
-    for bridge in 0..book.domain().bridges() {
-        put_drops(press, book.domain(), book.drops(bridge, cycle));
+    for bridge in 0..domain.bridges() {
+        let drops = tapes.drops(bridge);
+        let place = usize::from(bridge);
+        let from = places[place];
+        let end = drops_end_of(cycle, drops, from);
+        put_drops(press, domain, &drops[from..end]);
+        places[place] = end;
     }
 }
 
 /// Puts a line for each drop, cycle by cycle.
 fn put_all_drops<W: Sink>(press: &mut Press<'_, W>, book: &PagedBook)
-    ensures { Puts W.contents press.old press.new (lines_of_drops book.now.domain (drops_in_cycles book.now book.now.cycles)) }
+    ensures { Puts W.contents press.old press.new
+        (lines_of_drops book.now.domain (drops_in_cycles book.now.domain book.now.tapes book.now.cycles)) }
 {
+    let domain = book.domain();
+    domain.know();
+    let mut places = [0; 1024];
     for cycle in 0..book.cycles() {
-        put_drops_of_cycle(press, book, cycle);
+        put_drops_of_cycle(press, domain, book.tapes(), Cycle(cycle), &mut places);
     }
 }
 
-/// Puts the text of the book that pages tell, as `cqf_report::write_book` gives it: its header, the starts of streams' frames, those of
+/// Puts the text of the book that tapes tell, as `cqf_report::write_book` gives it: its header, the starts of streams' frames, those of
 /// background frames, and the drops (profile). It asks for no memory. The time grows with the lines, and with the cycles times the links.
 pub fn put_paged_book<W: Sink>(press: &mut Press<'_, W>, book: &PagedBook)
     ensures { Puts W.contents press.old press.new (text_of_book book.now.domain (contents_told book.now)) }

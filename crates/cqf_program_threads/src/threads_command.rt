@@ -16,7 +16,7 @@ ghost use Rattle.cqf_model.specs.Limits.{most_cycles};
 use crate::threads_outputs::ThreadsOutput;
 use crate::{PagedBook, put_paged_book};
 use cqf_admission::Entry;
-use cqf_laws_account::pages_tell_the_book;
+use cqf_laws_account::tapes_tell_the_book;
 use cqf_model::Limits;
 use cqf_program_press::{Press, Sheet, Sink, Told};
 use cqf_program_scenario::{Opened, read_opened};
@@ -48,7 +48,7 @@ fn fault_stop(alloc: Global, fault: ConductFault) -> Stop
     }
 }
 
-/// The domain of what was opened of the input, and the account of its run, by pages, or the run's fault.
+/// The domain of what was opened of the input, and the account of its run, by tapes, or the run's fault.
 fn conduct_opened(
     rt: &(impl Threads + Wait + Sync),
     alloc: Global,
@@ -85,7 +85,7 @@ fn conduct_opened(
     }
 }
 
-/// Puts a line `%%`, and the text of the book that pages tell behind it.
+/// Puts a line `%%`, and the text of the book that tapes tell behind it.
 fn put_rest<W: Sink>(press: &mut Press<'_, W>, book: &PagedBook)
     ensures { Puts W.contents press.old press.new (line_of (codes "%%") ++ text_of_book book.now.domain (contents_told book.now)) }
 {
@@ -93,7 +93,7 @@ fn put_rest<W: Sink>(press: &mut Press<'_, W>, book: &PagedBook)
     put_paged_book(press, book);
 }
 
-/// Puts the text of a history, and of the book that pages tell, with a line `%%` between them.
+/// Puts the text of a history, and of the book that tapes tell, with a line `%%` between them.
 fn put_account<W: Sink>(press: &mut Press<'_, W>, history: &[Entry], book: &PagedBook)
     ensures { Puts W.contents press.old press.new (run_text book.now.domain (map recorded_of history.now) (contents_told book.now)) }
 {
@@ -143,7 +143,7 @@ pub fn threads_output(
         Ok(opened) => opened,
         Err(stop) => return Err(stop),
     };
-    pages_tell_the_book();
+    tapes_tell_the_book();
     let (domain, account) = match conduct_opened(rt, alloc, limits, cycles, input, opened) {
         Ok(ran) => ran,
         Err(fault) => return Err(fault_stop(alloc, fault)),

@@ -1,13 +1,12 @@
 //! What bridges do cycle by cycle, and workers with the pipes between them.
-ghost use Rattle.std.specs.Prelude.{◌≡◌, IfSome, length, map};
-ghost use Rattle.cqf_book.specs.Shares.{new_shares};
+ghost use Rattle.std.specs.Prelude.{◌≡◌, IfSome, map};
 ghost use Rattle.cqf_worker_wires.specs.Wires.{AreWired, Wiring, pipe_of_tables, tables_pipe};
 
-use cqf_book::{CycleBook, Pages, Share};
 use cqf_bridge_turn::Agenda;
 use cqf_compile::Plan;
 use cqf_model::Offer;
 use cqf_refusing::{Told, mark, once, plan_of, twice};
+use cqf_tape::Reel;
 use cqf_test_fixtures::{are_offers, line, offers_of};
 use cqf_topology::Domain;
 use cqf_units::{Cycle, Memory};
@@ -57,23 +56,6 @@ pub(crate) fn agenda_told(alloc: Global) -> Told {
     }
 }
 
-/// The shares of a book of the plan's bridges.
-fn shares_of(alloc: Global, plan: &Plan) -> Option<Vec<Share>>
-    ensures { IfSome result (λ shares. shares.items ≡ new_shares (length plan.now.bridges)) }
-{
-    plan.domain().know();
-    let Ok(pages) = Pages::new(alloc, plan.domain().bridges(), 5) else {
-        return None;
-    };
-    match CycleBook::new(alloc, pages) {
-        Ok(made) => {
-            let (_book, shares) = made;
-            Some(shares)
-        }
-        Err(_) => None,
-    }
-}
-
 /// Whether three workers were laid.
 fn is_laid(laid: &Result<Laid, Memory>) -> bool {
     match laid {
@@ -82,24 +64,18 @@ fn is_laid(laid: &Result<Laid, Memory>) -> bool {
     }
 }
 
-/// Workers are laid with shares, or else with their twins.
+/// Workers are laid, or else laid again.
 fn laid(alloc: Global, plan: &Plan, offers: &[Offer]) -> Told {
     if offers.len() > 1_000_000 || !are_offers(plan.domain(), offers) {
         return Told::NotReady;
     }
-    let Some(shares) = shares_of(alloc, plan) else {
-        return Told::NotReady;
-    };
-    let Some(twins) = shares_of(alloc, plan) else {
-        return Told::NotReady;
-    };
     mark(alloc);
-    let first = lay(alloc, plan, offers, &[], shares);
+    let first = lay(alloc, plan, offers, &[]);
     mark(alloc);
     if first.is_ok() {
         return once(is_laid(&first));
     }
-    twice(true, is_laid(&lay(alloc, plan, offers, &[], twins)))
+    twice(true, is_laid(&lay(alloc, plan, offers, &[])))
 }
 
 pub(crate) fn lay_told(alloc: Global) -> Told {
@@ -117,17 +93,16 @@ fn workers_of(alloc: Global, plan: &Plan) -> Option<Laid>
     ensures wired { IfSome result (λ laid. (wiring : Wiring) × AreWired wiring laid.workers.items) }
     ensures tables { IfSome result (λ laid. map pipe_of_tables laid.tables.items ≡ map tables_pipe laid.workers.items) }
 {
-    let shares = shares_of(alloc, plan)?;
-    match lay(alloc, plan, &[], &[], shares) {
+    match lay(alloc, plan, &[], &[]) {
         Ok(laid) => Some(laid),
         Err(_) => None,
     }
 }
 
-/// Whether three shares came back.
-fn is_shut(closed: &Result<Vec<Share>, ClosingFault>) -> bool {
+/// Whether three reels came back.
+fn is_shut(closed: &Result<Vec<Reel>, ClosingFault>) -> bool {
     match closed {
-        Ok(shares) => shares.len() == 3 && shares.iter().all(|share| share.pages().is_empty()),
+        Ok(reels) => reels.len() == 3 && reels.iter().all(|reel| reel.drops.is_empty()),
         Err(_) => false,
     }
 }

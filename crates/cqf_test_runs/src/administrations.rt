@@ -44,7 +44,7 @@ impl Administration {
     fn takes(&mut self, seat: u16, call: &Call) -> bool {
         match call {
             Call::Admit(request) => self.admission.admit(seat, request).is_ok(),
-            Call::AdmitPaced(request) => self.admission.admit_paced(seat, request).is_ok(),
+            Call::AdmitPaced(request) => self.admission.admit_shared(seat, request).is_ok(),
             Call::Withdraw(name) => self.admission.withdraw(seat, name.as_str()).is_ok(),
             Call::Seal => self.closes(seat),
         }

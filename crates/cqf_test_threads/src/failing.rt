@@ -1,11 +1,9 @@
 //! A worker whose bridge fails lets the others go, by tables that no single history has.
 ghost use Rattle.std.specs.Prelude.{◌≡◌, ◌≤◌, [], All, length};
-ghost use Rattle.cqf_book.specs.Shares.{new_shares};
 ghost use Rattle.cqf_worker_loops.specs.Workers.{MayWork};
 ghost use Rattle.cqf_model.specs.Run.{AreOffers};
 
 use cqf_admission::{Admission, Table};
-use cqf_book::{CycleBook, Pages, Share};
 use cqf_bridge::BridgeFault;
 use cqf_compile::{Plan, compile};
 use cqf_model::Offer;
@@ -13,7 +11,7 @@ use cqf_test_fixtures::{Asked, Offering, are_offers, line, offers_of, request};
 use cqf_topology::Domain;
 use cqf_worker_loops::{Carried, Free, Worker};
 use cqf_worker_pipe::PipeIn;
-use cqf_worker_threads::{ConductFault, Faults, Task, join_workers, start_workers};
+use cqf_worker_threads::{ConductFault, Faults, join_workers, start_workers};
 use cqf_worker_wires::{Laid, lay};
 use std::alloc::Global;
 use std::collections::VecDeque;
@@ -159,7 +157,6 @@ fn give_tables<R: Wait>(
 fn fault_of<R: Threads + Wait + Sync>(
     rt: &R,
     alloc: Global,
-    book: &CycleBook,
     workers: Vec<Worker>,
 ) -> Option<ConductFault>
     requires { All MayWork workers.items }
@@ -170,11 +167,7 @@ fn fault_of<R: Threads + Wait + Sync>(
         move |scope| -> Option<ConductFault>
             requires { All MayWork workers.items }
         {
-            let task = Task {
-                book,
-                cycles: CYCLES,
-            };
-            match start_workers(alloc, scope, rt, &Free, task, workers) {
+            match start_workers(alloc, scope, rt, &Free, CYCLES, workers) {
                 Ok(working) => {
                     let mut faults = Faults::none();
                     let _done = join_workers(rt, alloc, working, &mut faults);
@@ -195,38 +188,17 @@ struct Given<'p, 'o, 't, 'm> {
     mixed: &'m [Table],
 }
 
-/// Whether the workers fail so, with a book and its shares.
-fn fails_by_book<R: Threads + Wait + Sync>(
-    rt: &R,
-    alloc: Global,
-    given: Given<'_, '_, '_, '_>,
-    book: &CycleBook,
-    shares: Vec<Share>,
-) -> bool
-    requires shares { shares.items ≡ new_shares (length given.plan.now.bridges) }
-    requires offers { AreOffers given.plan.now given.offers.now }
-    requires few_offers { length given.offers.now ≤ 1000000 }
-{
-    match lay(alloc, given.plan, given.offers, &[], shares) {
-        Ok(Laid { workers, tables }) => {
-            let are_given = give_tables(rt, alloc, given.tables, given.mixed, tables);
-            let fault = fault_of(rt, alloc, book, workers);
-            are_given & (fault == Some(FAULT))
-        }
-        Err(_) => false,
-    }
-}
-
-/// Whether they do with a book of their own.
+/// Whether the workers fail so.
 fn fails_on<R: Threads + Wait + Sync>(rt: &R, alloc: Global, given: Given<'_, '_, '_, '_>) -> bool
     requires offers { AreOffers given.plan.now given.offers.now }
     requires few_offers { length given.offers.now ≤ 1000000 }
 {
-    let Ok(pages) = Pages::new(alloc, given.plan.domain().bridges(), CYCLES) else {
-        return false;
-    };
-    match CycleBook::new(alloc, pages) {
-        Ok((book, shares)) => fails_by_book(rt, alloc, given, &book, shares),
+    match lay(alloc, given.plan, given.offers, &[]) {
+        Ok(Laid { workers, tables }) => {
+            let are_given = give_tables(rt, alloc, given.tables, given.mixed, tables);
+            let fault = fault_of(rt, alloc, workers);
+            are_given & (fault == Some(FAULT))
+        }
         Err(_) => false,
     }
 }

@@ -84,7 +84,7 @@ fn is_made_again(admission: &mut Admission, tables: &mut Vec<Table>, entry: &Ent
     match &entry.call {
         Call::Admit(request) => is_answered(admission.admit(entry.seat, request), entry.reply),
         Call::AdmitPaced(request) => {
-            is_answered(admission.admit_paced(entry.seat, request), entry.reply)
+            is_answered(admission.admit_shared(entry.seat, request), entry.reply)
         }
         Call::Withdraw(name) => is_answered(
             admission.withdraw(entry.seat, name.as_str()),

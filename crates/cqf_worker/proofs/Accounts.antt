@@ -12,13 +12,12 @@ use Rattle.cqf_model.specs.History.{Recorded, seals}
 use Rattle.cqf_model.specs.Run.{AreBackground, AreOffers}
 use Rattle.cqf_model.specs.Calls.{IsHistoryOf}
 use Rattle.cqf_admission.specs.declared.entries.Command.{Command}
-use Rattle.cqf_book.specs.Pages.{Posted, pages_of}
-use Rattle.cqf_book.specs.Shares.{Agree, IsBookOfPages}
+use Rattle.cqf_tape.specs.Reels.{AreReelsOf}
+use Rattle.cqf_tape.specs.Tapes.{told_from}
 use Rattle.cqf_desk.specs.Closing.{IsOfSeats}
 use Rattle.cqf_desk.specs.Desk.{Counter, Sitting, fresh_seats}
 use Rattle.cqf_desk.specs.declared.history.History.{History}
-use Rattle.cqf_laws_account.specs.Gathered.{GatheredPagesAreTheBook}
-use Rattle.cqf_laws_account.specs.Paged.{BridgesApartPostThePages, HasThePages}
+use Rattle.cqf_laws_account.specs.Taped.{BridgesApartKeepTheTapes, HasTheTapes, TapesTellTheBook}
 use Rattle.cqf_laws_account.specs.Sealing.{cycle_tables}
 use Rattle.cqf_laws_account.specs.Seated.{AreSeated, ClosesItsCycles, ConductorHasTheTables, SeatsGiveTheHistory}
 use Rattle.cqf_laws_shift.specs.BookOfHistory.{BookOfHistorySaysTheShift}
@@ -29,13 +28,13 @@ use Rattle.cqf_worker.specs.declared.conducting.Prepared.{Prepared}
 use Rattle.cqf_worker_threads.specs.declared.threads.Administrator.{Administrator}
 use Rattle.cqf_worker_threads.specs.declared.threads.Ended.{Ended}
 use Rattle.cqf_worker.specs.Account.{IsAccount, IsPagedAccount, IsOutcomeOf, all_asked, entries_of}
-use Rattle.cqf_worker_wires.specs.Closing.{share_at}
+use Rattle.cqf_worker_wires.specs.Closing.{reel_at}
 use Rattle.cqf_worker.specs.Conducting.{IsPrepared, IsSettled, all_seats, seat_of}
 use Rattle.cqf_worker_loops.specs.Handing.{TableEnd}
 use Rattle.cqf_worker_wires.specs.Laying.{traffic_of}
 use Rattle.cqf_worker_threads.specs.Running.{IsEnded, IsReadyWorker}
 use Rattle.cqf_worker_wires.specs.Wires.{AreWired, Wiring, pipe_of_tables, tables_pipe}
-use Rattle.cqf_worker.proofs.Apart.{no_pages, pages_are, still_tables, still_wired}
+use Rattle.cqf_worker.proofs.Apart.{still_reels, still_tables, still_wired, tapes_are}
 use Rattle.cqf_worker.proofs.Seating.{are_seated, asked_count, asks_no_seal, fresh_seat, seats_count}
 
 -- with a fresh seat nobody has called
@@ -50,7 +49,7 @@ no_calls_yet count administrators seats place a below =
     ap (λ (s : Sitting). s.calls) its
 
 module _ (d : Domain) (opening : List Recorded) (offers : List Offer) (background : List Background) (cycles : ℕ) (admins : List (List Command))
-    (p : Prepared) (is : IsPrepared d opening offers background cycles admins p) where
+    (p : Prepared) (is : IsPrepared d opening offers background admins p) where
   -- what is prepared is ready
   pub is_ready : cycles ≤ 100000 → IsReadyWorker cycles p.ready
   is_ready few = record {
@@ -71,13 +70,18 @@ module _ (d : Domain) (opening : List Recorded) (offers : List Offer) (backgroun
     pub tables_in_the_end : map pipe_of_tables e.sealed.tables.items ≡ map tables_pipe e.workers.items
     tables_in_the_end = ended.sealed.pipes ∙ is.laid.tables ∙ sym (still_tables cycles p.ready.workers.items e.workers.items ended.worked)
 
+    -- and the reels are of the bridges
+    pub reels_in_the_end : AreReelsOf d (map reel_at e.workers.items)
+    reels_in_the_end =
+        still_reels (traffic_of d offers background) cycles p.ready.workers.items e.workers.items is.laid.workers is.laid.many ended.worked
+
     -- the seats in the end, of which the conductor's is the sealing one
     pub seated_so : (s : AreSeated (all_asked admins) cycles (all_seats e)) × (s.conductor ≡ e.sealed.seat)
     seated_so =
         are_seated admins p.ready.administrators.items p.ready.conductor e.seats.items e.sealed.seat cycles p.ready.tables.items e.sealed.tables.items
         is.seated ended.called ended.sealed
 
-    module _ (account : PagedAccount) (settled : IsSettled p.desk p.book e account) where
+    module _ (account : PagedAccount) (settled : IsSettled d p.desk e account) where
       -- the history is of the seats, as many as were asked and one more
       of_seats : IsOfSeats opening d (length (all_asked admins) + 1) (all_seats e) (entries_of account.history)
       of_seats =
@@ -95,10 +99,6 @@ module _ (d : Domain) (opening : List Recorded) (offers : List Offer) (backgroun
           subst (ClosesItsCycles d (entries_of account.history) cycles) seated_so.1
           (law d opening (all_asked admins) cycles (all_seats e) (entries_of account.history) of_seats seated_so.0 (asks_no_seal admins) unsealed)
 
-      -- the pages say what the workers' shares do, over an empty book
-      of_shares : Agree (no_pages (length d.bridges) cycles) (map share_at e.workers.items) account.pages (length d.bridges)
-      of_shares = subst (λ (book : Posted). Agree book (map share_at e.workers.items) account.pages book.bridges) is.book settled.agree
-
       -- at the ends of the workers' pipes stand the tables of the history's cycles
       given_so : ClosesItsCycles d (entries_of account.history) cycles e.sealed.seat → (place : ℕ) (end : TableEnd) →
           place < length e.sealed.tables.items →
@@ -107,23 +107,23 @@ module _ (d : Domain) (opening : List Recorded) (offers : List Offer) (backgroun
 
       module _ (accepted : IsAccepted d) (unsealed : seals opening ≡ 0) (good_offers : AreOffers d offers) (good_background : AreBackground d background) where
         -- so they are those of the one-thread book of the history
-        pages_of_history : IsHistoryOf d opening (all_asked admins) cycles (entries_of account.history) →
-            ClosesItsCycles d (entries_of account.history) cycles e.sealed.seat → BridgesApartPostThePages →
-            (book : Contents) × HasThePages d (entries_of account.history) offers background cycles (pages_of account.pages) book
-        pages_of_history history closes law =
-            pages_are (traffic_of d offers background) (entries_of account.history) cycles p.ready.workers.items e.workers.items e.sealed.tables.items
+        tapes_of_history : IsHistoryOf d opening (all_asked admins) cycles (entries_of account.history) →
+            ClosesItsCycles d (entries_of account.history) cycles e.sealed.seat → BridgesApartKeepTheTapes →
+            (book : Contents) × HasTheTapes d (entries_of account.history) offers background cycles account.pages book
+        tapes_of_history history closes law =
+            tapes_are (traffic_of d offers background) (entries_of account.history) cycles p.ready.workers.items e.workers.items e.sealed.tables.items
             account.pages law
             (record { accepted = accepted; legal = history.legal; offers = good_offers; background = good_background }) is.laid.workers is.laid.many
-            ended.worked settled.fed tables_in_the_end settled.given (given_so closes) closes.sealed of_shares
+            ended.worked settled.fed tables_in_the_end settled.given (given_so closes) closes.sealed settled.gathered
 
         -- and the account is that of the run
-        pub account_is : SeatsGiveTheHistory → ConductorHasTheTables → BridgesApartPostThePages → BookOfHistorySaysTheShift →
+        pub account_is : SeatsGiveTheHistory → ConductorHasTheTables → BridgesApartKeepTheTapes → BookOfHistorySaysTheShift →
             IsPagedAccount d opening offers background cycles admins account
         account_is seats tables apart promise =
             let entries = entries_of account.history in
             let history : IsHistoryOf d opening (all_asked admins) cycles entries = history_is seats in
             let closes : ClosesItsCycles d entries cycles e.sealed.seat = closes_so tables unsealed in
-            let has = pages_of_history history closes apart in
+            let has = tapes_of_history history closes apart in
             let is_account : IsAccountOf d opening offers background cycles (all_asked admins) entries has.0 = record {
               history = history;
               sealed = has.1.of_history.sealed;
@@ -133,14 +133,14 @@ module _ (d : Domain) (opening : List Recorded) (offers : List Offer) (backgroun
               book = has.0;
               run = record { opens = settled.history.opening ∙ ap (λ (desk : Counter). length desk.opening.entries) is.desk; is = is_account };
               some = has.1.some;
-              its_pages = has.1.pages_of;
+              its_pages = has.1.tapes_of;
             }
 
--- an account by pages, and the book that these are gathered to, are an account
-pub gathered_account : (d : Domain) (opening : List Recorded) (offers : List Offer) (background : List Background) (cycles : ℕ)
-    (admins : List (List Command)) (paged : PagedAccount) (account : Account) → GatheredPagesAreTheBook → IsAccepted d →
+-- an account by pages, and the book that these tell, are an account
+pub told_account : (d : Domain) (opening : List Recorded) (offers : List Offer) (background : List Background) (cycles : ℕ)
+    (admins : List (List Command)) (paged : PagedAccount) (account : Account) → TapesTellTheBook → IsAccepted d →
     IsPagedAccount d opening offers background cycles admins paged → account.history ≡ paged.history →
-    IsBookOfPages (pages_of paged.pages) (length d.bridges) (contents_of account.book) → IsAccount d opening offers background cycles admins account
-gathered_account d opening offers background cycles admins paged account law accepted is same gathered =
+    contents_of account.book ≡ told_from d cycles paged.pages → IsAccount d opening offers background cycles admins account
+told_account d opening offers background cycles admins paged account law accepted is same told =
     subst₂ (λ (history : History) (book : Contents). IsOutcomeOf d opening offers background cycles admins history book) (sym same)
-    (sym (law d cycles (pages_of paged.pages) is.book (contents_of account.book) accepted is.some is.its_pages gathered)) is.run
+    ((law d cycles paged.pages is.book accepted is.some is.its_pages).told ∙ sym told) is.run

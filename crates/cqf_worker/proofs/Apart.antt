@@ -1,43 +1,43 @@
--- From what workers have done, each by its own lists, to the one-thread book.
-use Rattle.std.proofs.Common.{ℕ, ◌≡◌, ◌<◌, ◌==◌, ◌∷◌, ◌++◌, [], List, AllPairs, Contains, length, map, refl, sym, ap, ◌∙◌, arith, inl, inr, subst, get_or}
-use Rattle.std.proofs.Common.{eq-eqb, eqb-true, ne_eqb}
-use Rattle.std.specs.Prelude.{Option, Some, replicate, slice_get, slice_index_or, true}
+-- From what workers have done, each by its own lists and its own reel, to the one-thread book.
+use Rattle.std.proofs.Common.{ℕ, zero, suc, ◌≡◌, ◌<◌, ◌≤◌, ◌⊎◌, ◌==◌, ◌∷◌, ◌++◌, [], List, AllPairs, Contains, length, map, refl, sym, ap, ◌∙◌, arith, inl, inr, subst, get_or}
+use Rattle.std.proofs.Common.{eq-eqb, ne_eqb}
+use Rattle.std.specs.Prelude.{Option, Some, None, option_map, slice_get, slice_index_or, true}
 use Rattle.std.specs.List.{AllZip}
 use Rattle.std.specs.Option.{option_map_or}
 use Rattle.std.proofs.lemmas.Bool.{cond-false, cond-true}
-use Rattle.std.proofs.lemmas.List.{get_or-replicate, length-map, map-append}
+use Rattle.std.proofs.lemmas.List.{length-map, map-append}
 use Rattle.std.proofs.lemmas.List.Concat.{flat_map-append}
 use Rattle.std.proofs.lemmas.List.Kept.{AllPairs-filter}
 use Rattle.std.proofs.lemmas.List.Elements.{AllZip-get_or, length_all_zip}
-use Rattle.std.proofs.lemmas.Option.{get_or_from_slice_get, same_Some, slice_get-get_or, slice_get_cases, slice_get_within}
+use Rattle.std.proofs.lemmas.Option.{get_or_from_slice_get, same_Some, slice_get-get_or, slice_get-map, slice_get_cases, slice_get_within}
 use Rattle.std.proofs.lemmas.Simd.{map-map}
 use Rattle.cqf_lists.proofs.EachBelow.{map_below}
 use Rattle.cqf_lists.proofs.Members.{contains_at, contains_cases, contains_from_filter, contains_from_map, contains_map}
-use Rattle.cqf_lists.proofs.Members.{contains_none, find_member, find_some, place_of_member}
+use Rattle.cqf_lists.proofs.Members.{contains_none, place_of_member}
 use Rattle.cqf_lists.proofs.Numbers.{kept_number, numbers_ascend}
 use Rattle.cqf_lists.proofs.Pairs.{pairs_head, pairs_tail}
-use Rattle.cqf_model.specs.declared.frames.Page.{Page}
 use Rattle.cqf_model.specs.declared.topology.Row.{Row}
 use Rattle.cqf_model.specs.Book.{Contents}
 use Rattle.cqf_model.specs.Domain.{Domain, bridge_of, enters, leaves}
 use Rattle.cqf_model.specs.History.{Recorded, seals, table_at, tables_of}
 use Rattle.cqf_admission.specs.Tables.{CycleTable}
-use Rattle.cqf_book.specs.Pages.{Posted, pages_of}
-use Rattle.cqf_book.specs.Shares.{Agree, Own, Said, all_pages_of, is_of, pages_by, pages_in, said}
+use Rattle.cqf_tape.specs.declared.reel.Reel.{Reel}
+use Rattle.cqf_tape.specs.declared.tapes.Tapes.{Tapes}
+use Rattle.cqf_tape.specs.Reels.{AreGatheredFrom, AreReelsOf, HasKept, links_leaving}
+use Rattle.cqf_tape.specs.Tapes.{links_of}
 use Rattle.cqf_bridge.specs.Batch.{LinkBatch}
 use Rattle.cqf_bridge.specs.BridgeState.{links_from}
 use Rattle.cqf_bridge.specs.Receiving.{links_into}
 use Rattle.cqf_laws_bridge.specs.Courses.{Course, HasWorked, IsGiven, Traffic}
 use Rattle.cqf_laws_bridge.proofs.LinkNumbers.{link_listed, links_ascend}
-use Rattle.cqf_laws_account.specs.Apart.{HavePosted, HaveWorkedApart}
-use Rattle.cqf_laws_account.specs.Gathered.{contents_of_page}
-use Rattle.cqf_laws_account.specs.Paged.{BridgesApartPostThePages, HasThePages}
+use Rattle.cqf_laws_account.specs.Apart.{HaveWorkedApart}
+use Rattle.cqf_laws_account.specs.Taped.{BridgesApartKeepTheTapes, HasTheTapes, HaveKept}
 use Rattle.cqf_laws_account.specs.Sealing.{cycle_tables}
 use Rattle.cqf_laws_account.proofs.Gathering.{leaves_one}
 use Rattle.cqf_worker_loops.specs.declared.carried.Carried.{Carried}
 use Rattle.cqf_worker_loops.specs.declared.carried.Carried.TheVariants.{Item}
 use Rattle.cqf_worker_loops.specs.declared.worker.Worker.{Worker}
-use Rattle.cqf_worker_wires.specs.Closing.{share_at}
+use Rattle.cqf_worker_wires.specs.Closing.{reel_at}
 use Rattle.cqf_worker_loops.specs.Handing.{TableEnd}
 use Rattle.cqf_worker_pipe.specs.PipeEnds.{PipeId}
 use Rattle.cqf_worker_loops.specs.Rows.{wire_at, wires_of}
@@ -49,13 +49,41 @@ use Rattle.cqf_worker_loops.specs.Workers.{item_in, items_in, link_of, links_onw
 abbrev pub no_course : Course
 no_course = record { sent = λ bridge. 0; tables = λ bridge. []; pages = λ bridge. []; put = λ l. []; taken = λ l. [] }
 
--- by bridge what its worker's lists say
-abbrev pub own_courses : List Worker → ℕ → Course
-own_courses dones bridge = option_map_or course_of (slice_get dones bridge) no_course
+-- by bridge what its worker's lists say, where these pages were kept
+abbrev pub own_courses : List Worker → (ℕ → List Contents) → ℕ → Course
+own_courses dones pages bridge = option_map_or (λ (done : Worker). course_of done (pages bridge)) (slice_get dones bridge) no_course
 
--- a book of so many bridges and cycles in which nothing stands
-abbrev pub no_pages : ℕ → ℕ → Posted
-no_pages bridges cycles = record { bridges = bridges; cycles = cycles; pages = replicate bridges [] }
+-- a value in front of those of later numbers
+abbrev ahead : {Y : Type 0} → Y → (ℕ → Y) → ℕ → Y
+ahead y f zero = y
+ahead y f (suc k) = f k
+
+-- a function of an element's place, with one element more in front
+chosen_more : {X Y : Type 0} (x : X) (xs : List X) (P : ℕ → X → Y → Type 0) → (y : Y) × P 0 x y →
+    (f : ℕ → Y) × ((k : ℕ) (z : X) → slice_get xs k ≡ Some z → P (suc k) z (f k)) →
+    (f : ℕ → Y) × ((k : ℕ) (z : X) → slice_get (x ∷ xs) k ≡ Some z → P k z (f k))
+chosen_more {X} {Y} x xs P first later = (ahead first.0 later.0, at)
+  where
+    -- the first element has the first value, and the others have theirs
+    at : (k : ℕ) (z : X) → slice_get (x ∷ xs) k ≡ Some z → P k z (ahead first.0 later.0 k)
+    at zero z there = subst (λ (w : X). P 0 w first.0) (same_Some x z there) first.1
+    at (suc k) z there = later.1 k z there
+
+-- where there is a value for each element of a list, they are those of one function of its place
+chosen : {X Y : Type 0} (none : Y) (xs : List X) (P : ℕ → X → Y → Type 0) → ((k : ℕ) (x : X) → slice_get xs k ≡ Some x → (y : Y) × P k x y) →
+    (f : ℕ → Y) × ((k : ℕ) (x : X) → slice_get xs k ≡ Some x → P k x (f k))
+chosen {X} {Y} none [] P each = (λ k. none, λ k x there. absurd (nowhere k x there))
+  where
+    -- an empty list has no element
+    nowhere : (k : ℕ) (x : X) → slice_get [] k ≡ Some x → ⊥
+    nowhere k x e = cc
+chosen none (x ∷ xs) P each = chosen_more x xs P (each 0 x refl) (chosen none xs (λ k. P (suc k)) (λ k z there. each (suc k) z there))
+
+-- the pages that the worker of a bridge has kept
+pub record IsKeptBy (t : Traffic) (bridge cycles : ℕ) (done : Worker) (pages : List Contents) : Type 0 where
+  pub worked_so : HasWorked t (course_of done pages) bridge
+  pub as_many : length pages ≡ cycles
+  pub on_reel : HasKept t.domain bridge pages done.reel
 
 -- workers of all bridges of a traffic that are done, with their pipes closed, and the ends at which tables were put for each: those of
 -- the cycles of a history that has just so many
@@ -141,10 +169,6 @@ module _ (t : Traffic) (cycles : ℕ) (workers dones : List Worker) (of_bridges 
   pub kept_part : HasGoneThrough t place cycles done
   kept_part = was.2.part t place was_of
 
-  -- its share is its bridge's
-  pub kept_share : done.share.bridge ≡ place
-  kept_share = was.2.share ∙ ap (λ (s : Own). s.bridge) was_of.is_share
-
   -- it takes at ports of the links that end in its bridge
   pub kept_ins : map link_of done.ins.items ≡ links_into t.domain place
   kept_ins = kept_links was.0.ins.items done.ins.items was.2.ins ∙ was_of.links_in
@@ -154,20 +178,22 @@ module _ (t : Traffic) (cycles : ℕ) (workers dones : List Worker) (of_bridges 
   kept_outs = kept_links was.0.outs.items done.outs.items was.2.outs ∙ was_of.links_out
 
 -- what the lists of the worker at a place say
-own_is : (dones : List Worker) (place : ℕ) (done : Worker) → slice_get dones place ≡ Some done → own_courses dones place ≡ course_of done
-own_is dones place done there = ap (λ (o : Option Worker). option_map_or course_of o no_course) there
+own_is : (dones : List Worker) (pages : ℕ → List Contents) (place : ℕ) (done : Worker) → slice_get dones place ≡ Some done →
+    own_courses dones pages place ≡ course_of done (pages place)
+own_is dones pages place done there = ap (λ (o : Option Worker). option_map_or (λ (w : Worker). course_of w (pages place)) o no_course) there
 
 -- where the tables of a history's cycles begin with those that a worker took, so do their rows
-rows_first : (d : Domain) (entries : List Recorded) (cycles : ℕ) (dones : List Worker) (place : ℕ) (done : Worker) (rest : List CycleTable) →
+rows_first : (d : Domain) (entries : List Recorded) (cycles : ℕ) (dones : List Worker) (pages : ℕ → List Contents) (place : ℕ) (done : Worker)
+    (rest : List CycleTable) →
     seals entries ≡ cycles → slice_get dones place ≡ Some done → cycle_tables d entries cycles ≡ items_in done.tables.items ++ rest →
-    tables_of d entries (seals entries) ≡ (own_courses dones place).tables place ++ map rows_in rest
-rows_first d entries cycles dones place done rest sealed there parts =
+    tables_of d entries (seals entries) ≡ (own_courses dones pages place).tables place ++ map rows_in rest
+rows_first d entries cycles dones pages place done rest sealed there parts =
     let all : tables_of d entries (seals entries) ≡ map rows_in (cycle_tables d entries cycles) =
     ap (tables_of d entries) sealed ∙ sym (rows_of_tables d entries cycles) in
     let both : map rows_in (cycle_tables d entries cycles) ≡ map rows_in (items_in done.tables.items) ++ map rows_in rest =
     ap (map rows_in) parts ∙ map-append rows_in (items_in done.tables.items) rest in
-    let own : map rows_in (items_in done.tables.items) ≡ (own_courses dones place).tables place =
-    ap (λ (c : Course). c.tables place) (sym (own_is dones place done there)) in
+    let own : map rows_in (items_in done.tables.items) ≡ (own_courses dones pages place).tables place =
+    ap (λ (c : Course). c.tables place) (sym (own_is dones pages place done there)) in
     all ∙ both ∙ ap (λ (rows : List (List Row)). rows ++ map rows_in rest) own
 
 -- the links that leave a bridge and end in another ascend
@@ -189,9 +215,17 @@ module _ (t : Traffic) (entries : List Recorded) (cycles : ℕ) (workers dones :
   gone_at : (place : ℕ) (done : Worker) → slice_get dones place ≡ Some done → HasGoneThrough t place cycles done
   gone_at place done there = kept_part t cycles workers dones run.of_bridges run.worked place done there
 
-  -- its share is its bridge's
-  share_number : (place : ℕ) (done : Worker) → slice_get dones place ≡ Some done → done.share.bridge ≡ place
-  share_number place done there = kept_share t cycles workers dones run.of_bridges run.worked place done there
+  -- so there are pages that each has kept
+  kept_pages : (pages : ℕ → List Contents) × ((place : ℕ) (done : Worker) → slice_get dones place ≡ Some done → IsKeptBy t place cycles done (pages place))
+  kept_pages = chosen {X = Worker} {Y = List Contents} [] dones (λ place done pages. IsKeptBy t place cycles done pages)
+      (λ place done there. (let gone = gone_at place done there in
+      (gone.pages, record { worked_so = gone.worked; as_many = gone.all_pages; on_reel = gone.kept })))
+
+  abbrev pages : ℕ → List Contents
+  pages = kept_pages.0
+
+  abbrev own : ℕ → Course
+  own = own_courses dones pages
 
   -- it takes at ports of the links that end in its bridge
   ins_links : (place : ℕ) (done : Worker) → slice_get dones place ≡ Some done → map link_of done.ins.items ≡ links_into t.domain place
@@ -219,7 +253,7 @@ module _ (t : Traffic) (entries : List Recorded) (cycles : ℕ) (workers dones :
 
   -- what was taken at a port is the beginning of what was put by the bridge that its link leaves
   fed_at : (place : ℕ) (done : Worker) (p : BatchPort) → slice_get dones place ≡ Some done → Contains done.ins.items p →
-      IsBeginning ((own_courses dones place).taken p.link) ((own_courses dones (bridge_of t.domain p.link)).put p.link)
+      IsBeginning ((own place).taken p.link) ((own (bridge_of t.domain p.link)).put p.link)
   fed_at place done p there held =
       let fed = run.fed done p (contains_at dones place done there) held in
       let source = place_of_member dones fed.from fed.of_workers in
@@ -228,10 +262,10 @@ module _ (t : Traffic) (entries : List Recorded) (cycles : ℕ) (workers dones :
       let begin = items_begin p.pipe.items fed.out.pipe.items fed.beginning in
       let leaves_source : bridge_of t.domain p.link ≡ source.0 =
       ap (bridge_of t.domain) (sym fed.same_link) ∙ leaves_its_worker source.0 fed.from fed.out source.1 fed.at_worker in
-      let puts : own_courses dones (bridge_of t.domain p.link) ≡ course_of fed.from =
-      ap (own_courses dones) leaves_source ∙ own_is dones source.0 fed.from source.1 in
-      let takes : (own_courses dones place).taken p.link ≡ items_in p.pipe.items =
-      ap (λ (c : Course). c.taken p.link) (own_is dones place done there) ∙ taken in (
+      let puts : own (bridge_of t.domain p.link) ≡ course_of fed.from (pages source.0) =
+      ap own leaves_source ∙ own_is dones pages source.0 fed.from source.1 in
+      let takes : (own place).taken p.link ≡ items_in p.pipe.items =
+      ap (λ (c : Course). c.taken p.link) (own_is dones pages place done there) ∙ taken in (
         begin.0,
         ap (λ (c : Course). c.put p.link) puts
             ∙ ap (batches_at fed.from.outs.items) (sym fed.same_link)
@@ -242,18 +276,18 @@ module _ (t : Traffic) (entries : List Recorded) (cycles : ℕ) (workers dones :
 
   -- so it is of each link that ends in a bridge
   links_so : (l bridge : ℕ) → enters t.domain l bridge ≡ true →
-      IsBeginning ((own_courses dones bridge).taken l) ((own_courses dones (bridge_of t.domain l)).put l)
+      IsBeginning ((own bridge).taken l) ((own (bridge_of t.domain l)).put l)
   links_so l bridge here =
       elim (slice_get_cases dones bridge).1 [
         | inl w ↦
             let among : Contains (map link_of w.0.ins.items) l =
             subst (λ (ls : List ℕ). Contains ls l) (sym (ins_links bridge w.0 w.2)) (link_listed t.domain bridge l here) in
             let port = contains_from_map link_of w.0.ins.items l among in
-            subst (λ (k : ℕ). IsBeginning ((own_courses dones bridge).taken k) ((own_courses dones (bridge_of t.domain k)).put k)) port.2
+            subst (λ (k : ℕ). IsBeginning ((own bridge).taken k) ((own (bridge_of t.domain k)).put k)) port.2
             (fed_at bridge w.0 port.0 w.2 port.1)
         | inr past ↦
-            let put = (own_courses dones (bridge_of t.domain l)).put l in
-            (put, ap (λ (o : Option Worker). (option_map_or course_of o no_course).taken l ++ put) (sym past.1))
+            let put = (own (bridge_of t.domain l)).put l in
+            (put, ap (λ (o : Option Worker). (option_map_or (λ (w : Worker). course_of w (pages bridge)) o no_course).taken l ++ put) (sym past.1))
       ]
 
   -- the tables that a worker took are the first of those that were put for it
@@ -269,79 +303,75 @@ module _ (t : Traffic) (entries : List Recorded) (cycles : ℕ) (workers dones :
 
   -- so their rows are the first tables of the history
   tables_so : (bridge : ℕ) → bridge < length t.domain.bridges →
-      (rest : List (List Row)) × (tables_of t.domain entries (seals entries) ≡ (own_courses dones bridge).tables bridge ++ rest)
+      (rest : List (List Row)) × (tables_of t.domain entries (seals entries) ≡ (own bridge).tables bridge ++ rest)
   tables_so bridge inside =
       let done = element_at dones bridge (omega (arith, inside, as_many)) in
       let rest = taken_first bridge done.0 (omega (arith, inside, as_many_ends)) done.1 in
-      (map rows_in rest.0, rows_first t.domain entries cycles dones bridge done.0 rest.0 run.sealed done.1 rest.1)
+      (map rows_in rest.0, rows_first t.domain entries cycles dones pages bridge done.0 rest.0 run.sealed done.1 rest.1)
 
   -- each bridge did its part by its own worker's lists
-  worked_so : (bridge : ℕ) → bridge < length t.domain.bridges → HasWorked t (own_courses dones bridge) bridge
+  worked_so : (bridge : ℕ) → bridge < length t.domain.bridges → HasWorked t (own bridge) bridge
   worked_so bridge inside =
       let done = element_at dones bridge (omega (arith, inside, as_many)) in
-      subst (λ (c : Course). HasWorked t c bridge) (sym (own_is dones bridge done.0 done.1)) (gone_at bridge done.0 done.1).worked
+      subst (λ (c : Course). HasWorked t c bridge) (sym (own_is dones pages bridge done.0 done.1)) (kept_pages.1 bridge done.0 done.1).worked_so
 
   -- so they have worked apart
-  pub worked_apart : HaveWorkedApart t entries (own_courses dones)
+  worked_apart : HaveWorkedApart t entries own
   worked_apart = record { worked = worked_so; tables = tables_so; links = links_so }
 
-  -- the pages of a bridge's share are its worker's
-  pages_there : (place : ℕ) (done : Worker) → slice_get dones place ≡ Some done → pages_by (map share_at dones) place ≡ done.share.pages
-  pages_there place done there =
-      let shares = map share_at dones in
-      let mine : Contains shares done.share = contains_map share_at dones done (contains_at dones place done there) in
-      let found = find_some (is_of place) shares done.share mine (eq-eqb done.share.bridge place (share_number place done there)) in
-      let is = find_member (is_of place) shares found.0 found.1 in
-      let other = contains_from_map share_at dones found.0 is.0 in
-      let its = place_of_member dones other.0 other.1 in
-      let same : its.0 ≡ place =
-      sym (share_number its.0 other.0 its.1) ∙ ap (λ (s : Own). s.bridge) other.2 ∙ eqb-true found.0.bridge place is.1 in
-      let one : other.0 ≡ done = same_Some other.0 done (sym its.1 ∙ ap (slice_get dones) same ∙ there) in
-      ap pages_in found.1 ∙ ap (λ (s : Own). s.pages) (sym other.2 ∙ ap share_at one)
-
-  -- and there are no others
-  all_pages_there : (bridge : ℕ) (done : Worker) → bridge < length t.domain.bridges → slice_get dones bridge ≡ Some done →
-      all_pages_of (no_pages (length t.domain.bridges) cycles) (map share_at dones) bridge ≡ done.share.pages
-  all_pages_there bridge done inside there =
-      ap (λ (ps : List Page). ps ++ pages_by (map share_at dones) bridge) (get_or-replicate (length t.domain.bridges) bridge [] [] inside)
-      ∙ pages_there bridge done there
-
-  -- so they have posted a page of each cycle, which say what their lists do
-  pub posted_all : HavePosted t cycles (own_courses dones) (all_pages_of (no_pages (length t.domain.bridges) cycles) (map share_at dones))
-  posted_all = record {
+  -- and their reels have kept it
+  kept_all : HaveKept t cycles own (map reel_at dones)
+  kept_all = record {
+    each_bridge = length-map dones reel_at ∙ as_many;
     many = λ bridge inside. (let done = element_at dones bridge (omega (arith, inside, as_many)) in
-        ap length (all_pages_there bridge done.0 inside done.1) ∙ (gone_at bridge done.0 done.1).has_posted);
-    same = λ bridge inside. (let done = element_at dones bridge (omega (arith, inside, as_many)) in
-        ap (map contents_of_page) (all_pages_there bridge done.0 inside done.1)
-        ∙ ap (λ (c : Course). c.pages bridge) (sym (own_is dones bridge done.0 done.1)));
+        ap (λ (c : Course). length (c.pages bridge)) (own_is dones pages bridge done.0 done.1) ∙ (kept_pages.1 bridge done.0 done.1).as_many);
+    kept = λ bridge reel there. kept_at bridge reel there (slice_get_cases dones bridge).1;
   }
+    where
+      -- the worker at the place of a reel
+      kept_at : (bridge : ℕ) (reel : Reel) → slice_get (map reel_at dones) bridge ≡ Some reel →
+          ((done : Worker) × (bridge < length dones) × (slice_get dones bridge ≡ Some done) × (get_or dones bridge done ≡ done))
+          ⊎ ((length dones ≤ bridge) × (slice_get dones bridge ≡ None)) → HasKept t.domain bridge ((own bridge).pages bridge) reel
+      kept_at bridge reel there (inl w) =
+          let same : reel_at w.0 ≡ reel =
+          same_Some (reel_at w.0) reel (sym (slice_get-map reel_at dones bridge ∙ ap (option_map reel_at) w.2) ∙ there) in
+          subst (HasKept t.domain bridge ((own bridge).pages bridge)) same
+          (subst (λ (c : Course). HasKept t.domain bridge (c.pages bridge) w.0.reel) (sym (own_is dones pages bridge w.0 w.2))
+          (kept_pages.1 bridge w.0 w.2).on_reel)
+      kept_at bridge reel there (inr past) =
+          absurd (omega (arith, past.0, slice_get_within (map reel_at dones) bridge reel there, length-map dones reel_at))
 
--- pages that say what posted ones do were posted too
-posted_too : (t : Traffic) (cycles : ℕ) (own : ℕ → Course) (pages others : ℕ → List Page) → HavePosted t cycles own others →
-    ((bridge : ℕ) → bridge < length t.domain.bridges → map said (pages bridge) ≡ map said (others bridge)) → HavePosted t cycles own pages
-posted_too t cycles own pages others have same = record {
-  many = λ bridge inside. sym (length-map (pages bridge) said) ∙ ap length (same bridge inside) ∙ length-map (others bridge) said ∙ have.many bridge inside;
-  same = λ bridge inside.
-      sym (map-map contents said (pages bridge)) ∙ ap (map contents) (same bridge inside) ∙ map-map contents said (others bridge) ∙ have.same bridge inside;
-}
-  where
-    -- what a page says stands on it
-    contents : Said → Contents
-    contents s = s.contents
-
--- so pages that say what the workers' shares do are those of the one-thread book of the history
-pub pages_are : (t : Traffic) (entries : List Recorded) (cycles : ℕ) (workers dones : List Worker) (ends : List TableEnd) (closed : Posted) →
-    BridgesApartPostThePages → IsGiven t entries → AreWorkersOf t workers → length workers ≡ length t.domain.bridges → AllZip (Works cycles) workers dones →
+-- so the tapes that are gathered from the workers' reels are those of the one-thread book of the history
+pub tapes_are : (t : Traffic) (entries : List Recorded) (cycles : ℕ) (workers dones : List Worker) (ends : List TableEnd) (tapes : Tapes) →
+    BridgesApartKeepTheTapes → IsGiven t entries → AreWorkersOf t workers → length workers ≡ length t.domain.bridges → AllZip (Works cycles) workers dones →
     AreFedByWires dones → map pipe_of_tables ends ≡ map tables_pipe dones → AreGiven ends dones →
     ((place : ℕ) (d : TableEnd) → place < length ends → (slice_index_or ends place d).items ≡ map Item (cycle_tables t.domain entries cycles)) →
-    seals entries ≡ cycles → Agree (no_pages (length t.domain.bridges) cycles) (map share_at dones) closed (length t.domain.bridges) →
-    (book : Contents) × HasThePages t.domain entries t.offers t.background cycles (pages_of closed) book
-pages_are t entries cycles workers dones ends closed law may_run of_bridges many worked fed pipes given put sealed agree =
+    seals entries ≡ cycles → AreGatheredFrom t.domain (map reel_at dones) tapes →
+    (book : Contents) × HasTheTapes t.domain entries t.offers t.background cycles tapes book
+tapes_are t entries cycles workers dones ends tapes law may_run of_bridges many worked fed pipes given put sealed gathered =
     let run : HaveRun t entries cycles workers dones ends =
     record { of_bridges = of_bridges; many = many; worked = worked; fed = fed; pipes = pipes; given = given; put = put; sealed = sealed } in
-    law t entries (own_courses dones) cycles (pages_of closed) may_run (worked_apart t entries cycles workers dones ends run) (omega (arith, sealed))
-    (posted_too t cycles (own_courses dones) (pages_of closed) (all_pages_of (no_pages (length t.domain.bridges) cycles) (map share_at dones))
-    (posted_all t entries cycles workers dones ends run) (λ bridge inside. (agree bridge inside).same))
+    law t entries (own t entries cycles workers dones ends run) cycles (map reel_at dones) tapes may_run
+    (worked_apart t entries cycles workers dones ends run) (omega (arith, sealed)) (kept_all t entries cycles workers dones ends run) gathered
+
+-- the reels of workers that are done are of their bridges
+pub still_reels : (t : Traffic) (cycles : ℕ) (workers dones : List Worker) → AreWorkersOf t workers → length workers ≡ length t.domain.bridges →
+    AllZip (Works cycles) workers dones → AreReelsOf t.domain (map reel_at dones)
+still_reels t cycles workers dones of_bridges many worked = record {
+  many = length-map dones reel_at ∙ sym (length_all_zip (Works cycles) workers dones worked) ∙ many;
+  links = λ bridge reel there. links_at bridge reel there (slice_get_cases dones bridge).1;
+}
+  where
+    -- those of the worker at the place of a reel
+    links_at : (bridge : ℕ) (reel : Reel) → slice_get (map reel_at dones) bridge ≡ Some reel →
+        ((done : Worker) × (bridge < length dones) × (slice_get dones bridge ≡ Some done) × (get_or dones bridge done ≡ done))
+        ⊎ ((length dones ≤ bridge) × (slice_get dones bridge ≡ None)) → links_of reel.tapes.items ≡ links_leaving t.domain bridge
+    links_at bridge reel there (inl w) =
+        let same : reel_at w.0 ≡ reel =
+        same_Some (reel_at w.0) reel (sym (slice_get-map reel_at dones bridge ∙ ap (option_map reel_at) w.2) ∙ there) in
+        ap (λ (r : Reel). links_of r.tapes.items) (sym same) ∙ (kept_part t cycles workers dones of_bridges worked bridge w.0 w.2).kept.links
+    links_at bridge reel there (inr past) =
+        absurd (omega (arith, past.0, slice_get_within (map reel_at dones) bridge reel there, length-map dones reel_at))
 
 -- ports that keep their wires are of the pipes on their links still
 still_on : (wiring : Wiring) (before after : List BatchPort) → wires_of after ≡ wires_of before → AreOn wiring before → AreOn wiring after

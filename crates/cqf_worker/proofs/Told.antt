@@ -1,10 +1,8 @@
 -- From a fault that is told to its cause.
-use Rattle.std.proofs.Common.{ℕ, ◌≡◌, ◌+◌, ◌<◌, ◌⊎◌, ◌∙◌, List, Contains, Some, arith, ap, inl, inr, length, map, refl, subst, sym}
-use Rattle.std.specs.Prelude.{false, option_map, slice_get}
+use Rattle.std.proofs.Common.{ℕ, ◌≡◌, ◌+◌, ◌<◌, ◌⊎◌, ◌∙◌, List, Contains, arith, ap, inl, inr, length, map, refl, subst, sym}
+use Rattle.std.specs.Prelude.{false}
 use Rattle.std.proofs.lemmas.Bool.{false≢true}
-use Rattle.std.proofs.lemmas.List.{length-map}
-use Rattle.std.proofs.lemmas.List.Elements.{length_all_zip}
-use Rattle.std.proofs.lemmas.Option.{same_Some, slice_get-map, slice_get_cases, slice_get_within}
+use Rattle.std.proofs.lemmas.Option.{slice_get_within}
 use Rattle.cqf_lists.proofs.Members.{contains_map, place_of_member}
 use Rattle.cqf_model.specs.declared.frames.Background.{Background}
 use Rattle.cqf_model.specs.declared.frames.Offer.{Offer}
@@ -16,9 +14,6 @@ use Rattle.cqf_model.specs.Table.{table_of}
 use Rattle.cqf_laws_cycle.specs.Gathered.{offered_for}
 use Rattle.cqf_admission.specs.Tables.{CycleTable}
 use Rattle.cqf_admission.specs.declared.entries.Command.{Command}
-use Rattle.cqf_book.specs.Faults.{IsBookCloseFault}
-use Rattle.cqf_book.specs.Pages.{Posted}
-use Rattle.cqf_book.specs.Shares.{Own}
 use Rattle.cqf_bridge.specs.declared.faults.BridgeFault.{BridgeFault}
 use Rattle.cqf_bridge.specs.declared.faults.BridgeFault.TheVariants as refusing
 use Rattle.cqf_bridge.specs.Batch.{LinkBatch}
@@ -34,19 +29,17 @@ use Rattle.cqf_worker_loops.specs.declared.worker.WorkerFault.{WorkerFault}
 use Rattle.cqf_worker_loops.specs.declared.worker.WorkerFault.TheVariants as working
 use Rattle.cqf_worker_loops.specs.GivingUp.{RefusesToReceive}
 use Rattle.cqf_worker_loops.specs.declared.worker.Worker.{Worker}
-use Rattle.cqf_worker_loops.specs.Workers.{HasGoneThrough, IsWorkerOf, Works}
+use Rattle.cqf_worker_loops.specs.Workers.{HasGoneThrough, IsWorkerOf}
 use Rattle.cqf_worker_threads.specs.declared.faults.ConductFault.{ConductFault}
 use Rattle.cqf_worker_threads.specs.declared.faults.ConductFault.TheVariants as conduct
 use Rattle.cqf_worker_threads.specs.declared.threads.Ended.{Ended}
 use Rattle.cqf_worker_threads.specs.Running.{IsEnded}
 use Rattle.cqf_worker_threads.specs.Telling.{IsStartFault, MayBeTold, OneStops}
-use Rattle.cqf_worker_wires.specs.Closing.{share_at}
 use Rattle.cqf_worker_wires.specs.Laying.{traffic_of}
 use Rattle.cqf_worker.specs.declared.conducting.Prepared.{Prepared}
 use Rattle.cqf_worker.specs.Conducting.{IsPrepared, IsSettleFault, all_seats, commands_of}
-use Rattle.cqf_worker.specs.Failing.{AreFull, IsConductFault, IsStrange, RefusesStrange, SomeCall, StopsAt, StopsInBridge}
+use Rattle.cqf_worker.specs.Failing.{IsConductFault, IsStrange, RefusesStrange, SomeCall, StopsAt, StopsInBridge}
 use Rattle.cqf_worker.proofs.Accounts.{seated_so}
-use Rattle.cqf_worker.proofs.Apart.{kept_part, kept_share}
 use Rattle.cqf_worker.proofs.Lacking.{none_lacks}
 
 -- a reason is want of memory, or another
@@ -155,7 +148,7 @@ module _ (d : Domain) (opening : List Recorded) (offers : List Offer) (backgroun
   told_before conduct.ChannelLost is = absurd is
   told_before conduct.Spawn is = tt
 
-  module _ (p : Prepared) (is : IsPrepared d opening offers background cycles admins p) where
+  module _ (p : Prepared) (is : IsPrepared d opening offers background admins p) where
     -- a worker that stops is of a bridge of the domain, which stops
     stops_somewhere : (fault : WorkerFault) (one : OneStops cycles p.ready fault) →
         (bridge : ℕ) × IsWorkerOf (traffic_of d offers background) bridge one.worker × StopsAt (traffic_of d offers background) cycles bridge fault
@@ -193,9 +186,7 @@ module _ (d : Domain) (opening : List Recorded) (offers : List Offer) (backgroun
           inr (inl (calls_somewhere (commands_of calls.administrator)
           (contains_map commands_of p.ready.administrators.items calls.administrator calls.there) calls.some))
     ]
-    told_of_threads receive conduct.BookDisagrees may =
-        let at = stops_somewhere (working.Book may.0) may.1 in
-        inl (at.0, may.0, at.2)
+    told_of_threads receive conduct.BookDisagrees may = absurd may
     told_of_threads receive conduct.ChannelLost may = elim may [
       | inl one ↦ omega (arith, one.stops.below)
       | inr some ↦ some.0
@@ -203,31 +194,8 @@ module _ (d : Domain) (opening : List Recorded) (offers : List Offer) (backgroun
     told_of_threads receive conduct.Spawn may = tt
 
     module _ (e : Ended) (ended : IsEnded cycles p.ready e) where
-      -- the shares in the end are full
-      are_full : AreFull d cycles (map share_at e.workers.items)
-      are_full = record { many = as_many; each = each }
-        where
-          as_many : length (map share_at e.workers.items) ≡ length d.bridges
-          as_many =
-              length-map e.workers.items share_at ∙ sym (length_all_zip (Works cycles) p.ready.workers.items e.workers.items ended.worked) ∙ is.laid.many
-
-          -- each is its worker's
-          each : (bridge : ℕ) (own : Own) → slice_get (map share_at e.workers.items) bridge ≡ Some own → (own.bridge ≡ bridge) × (length own.pages ≡ cycles)
-          each bridge own there = elim (slice_get_cases e.workers.items bridge).1 [
-            | inl w ↦
-                let same : share_at w.0 ≡ own =
-                same_Some (share_at w.0) own (sym (slice_get-map share_at e.workers.items bridge ∙ ap (option_map share_at) w.2) ∙ there) in
-                let number = kept_share (traffic_of d offers background) cycles p.ready.workers.items e.workers.items is.laid.workers
-                ended.worked bridge w.0 w.2 in
-                let part = kept_part (traffic_of d offers background) cycles p.ready.workers.items e.workers.items is.laid.workers ended.worked
-                bridge w.0 w.2 in
-                (ap (λ (s : Own). s.bridge) (sym same) ∙ number, ap (λ (s : Own). length s.pages) (sym same) ∙ part.has_posted)
-            | inr past ↦
-                absurd (omega (arith, past.0, slice_get_within (map share_at e.workers.items) bridge own there, length-map e.workers.items share_at))
-          ]
-
-      -- and why it isn't closed
-      pub told_in_the_end : IsAccepted d → (fault : ConductFault) → IsSettleFault p.desk p.book e fault →
+      -- why it isn't closed
+      pub told_in_the_end : IsAccepted d → (fault : ConductFault) → IsSettleFault p.desk e fault →
           IsConductFault d opening offers background cycles admins fault
       told_in_the_end accepted conduct.Memory why = tt
       told_in_the_end accepted (conduct.Bridge bridge reason) why = absurd why
@@ -238,13 +206,7 @@ module _ (d : Domain) (opening : List Recorded) (offers : List Offer) (backgroun
         other = why.1;
         fault = subst (λ (desk : Counter). IsCloseFault desk (all_seats e) why.0) is.desk why.2;
       }))
-      told_in_the_end accepted conduct.BookDisagrees why = inr (record {
-        shares = map share_at e.workers.items;
-        full = are_full;
-        why = why.0;
-        other = why.1;
-        fault = subst (λ (book : Posted). IsBookCloseFault book (map share_at e.workers.items) why.0) is.book why.2;
-      })
+      told_in_the_end accepted conduct.BookDisagrees why = absurd why
       told_in_the_end accepted conduct.ChannelLost why =
           absurd (none_lacks (traffic_of d offers background) cycles p.ready.workers.items e.workers.items is.laid.workers is.laid.many ended.worked accepted
           why.0 why.1)

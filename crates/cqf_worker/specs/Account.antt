@@ -10,9 +10,8 @@ use Rattle.cqf_model.specs.History.{Act, Recorded}
 use Rattle.cqf_laws_cycle.specs.PageLaws.{IsSomeBook}
 use Rattle.cqf_admission.specs.declared.entries.Command.{Command}
 use Rattle.cqf_admission.specs.Admission.{recorded_of}
-use Rattle.cqf_book.specs.Pages.{pages_of}
 use Rattle.cqf_desk.specs.declared.history.History.{History}
-use Rattle.cqf_laws_account.specs.Gathered.{ArePagesOf}
+use Rattle.cqf_tape.specs.Tapes.{AreTapesOf}
 use Rattle.cqf_worker.specs.declared.account.Account.{Account}
 use Rattle.cqf_worker.specs.declared.account.PagedAccount.{PagedAccount}
 use Rattle.cqf_worker_loops.specs.Commands.{acts_asked}
@@ -37,10 +36,10 @@ abbrev pub IsAccount : Domain → List Recorded → List Offer → List Backgrou
 IsAccount d opening offers background cycles admins account =
     IsOutcomeOf d opening offers background cycles admins account.history (contents_of account.book)
 
--- and one by pages has such a history, and the pages of such a book
+-- and one by pages has such a history, and the pages of such a book, link by link
 pub record IsPagedAccount (d : Domain) (opening : List Recorded) (offers : List Offer) (background : List Background) (cycles : ℕ)
     (admins : List (List Command)) (account : PagedAccount) : Type 0 where
   pub book : Contents
   pub run : IsOutcomeOf d opening offers background cycles admins account.history book
   pub some : IsSomeBook d cycles book
-  pub its_pages : ArePagesOf d cycles (pages_of account.pages) book
+  pub its_pages : AreTapesOf d account.pages book

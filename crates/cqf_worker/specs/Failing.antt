@@ -1,5 +1,5 @@
 -- Which fault a run on threads may tell, and of what cause (profile).
-use Rattle.std.specs.Prelude.{ℕ, ◌≡◌, ◌+◌, ◌<◌, ◌⊎◌, List, [], Contains, Some, length, replicate, slice_get}
+use Rattle.std.specs.Prelude.{ℕ, ◌≡◌, ◌+◌, ◌<◌, ◌⊎◌, List, Contains, length}
 use Rattle.cqf_model.specs.declared.frames.Background.{Background}
 use Rattle.cqf_model.specs.declared.frames.Offer.{Offer}
 use Rattle.cqf_model.specs.Domain.{Domain}
@@ -8,12 +8,6 @@ use Rattle.cqf_model.specs.Run.{Run}
 use Rattle.cqf_laws_cycle.specs.Gathered.{offered_for}
 use Rattle.cqf_admission.specs.Tables.{CycleTable}
 use Rattle.cqf_admission.specs.declared.entries.Command.{Command}
-use Rattle.cqf_book.specs.declared.faults.BookClose.{BookClose}
-use Rattle.cqf_book.specs.declared.faults.BookClose.TheVariants as book
-use Rattle.cqf_book.specs.declared.faults.PageFault.{PageFault}
-use Rattle.cqf_book.specs.Faults.{IsBookCloseFault}
-use Rattle.cqf_book.specs.Pages.{Posted}
-use Rattle.cqf_book.specs.Shares.{Own}
 use Rattle.cqf_desk.specs.declared.faults.CloseFault.{CloseFault}
 use Rattle.cqf_desk.specs.declared.faults.CloseFault.TheVariants as desk
 use Rattle.cqf_desk.specs.Closing.{IsCloseFault}
@@ -76,20 +70,13 @@ pub record StopsInBridge (t : Traffic) (cycles bridge : ℕ) (reason : BridgeFau
   pub stops : StopsAt t cycles bridge (working.Bridge reason)
   pub cause : (reason ≡ refusing.Memory) ⊎ RefusesStrange t bridge stops.cycle stops.worker reason
 
--- the book refuses a page of one of the bridges, for another cause than memory
-abbrev pub RefusesPage : Traffic → ℕ → Type 0
-RefusesPage t cycles = (bridge : ℕ) × (reason : PageFault) × StopsAt t cycles bridge (working.Book reason)
-
 -- one of the administrators has commands
 abbrev pub SomeCall : List (List Command) → Type 0
 SomeCall admins = (commands : List Command) × Contains admins commands × (0 < length commands)
 
--- the desk of a run before it begins, with a seat more than administrators, and its book
+-- the desk of a run before it begins, with a seat more than administrators
 abbrev pub desk_of_run : Domain → List Recorded → ℕ → Counter
 desk_of_run d opening admins = record { opening = record { domain = d; entries = opening }; seats = admins + 1 }
-
-abbrev pub book_of_run : Domain → ℕ → Posted
-book_of_run d cycles = record { bridges = length d.bridges; cycles = cycles; pages = replicate (length d.bridges) [] }
 
 -- all calls were made and all cycles closed, but the desk isn't closed with the seats of the run, for another cause than memory
 pub record KeepsDeskOpen (d : Domain) (opening : List Recorded) (cycles : ℕ) (admins : List (List Command)) : Type 0 where
@@ -99,30 +86,16 @@ pub record KeepsDeskOpen (d : Domain) (opening : List Recorded) (cycles : ℕ) (
   pub other : ¬ (why ≡ desk.Memory)
   pub fault : IsCloseFault (desk_of_run d opening (length admins)) seats why
 
--- shares of all bridges, by number, each with a page for each cycle
-pub record AreFull (d : Domain) (cycles : ℕ) (shares : List Own) : Type 0 where
-  pub many : length shares ≡ length d.bridges
-  pub each : (bridge : ℕ) (own : Own) → slice_get shares bridge ≡ Some own → (own.bridge ≡ bridge) × (length own.pages ≡ cycles)
-
--- all pages were posted, but the book isn't closed with the shares of the run, for another cause than memory
-pub record KeepsBookOpen (d : Domain) (cycles : ℕ) : Type 0 where
-  pub shares : List Own
-  pub full : AreFull d cycles shares
-  pub why : BookClose
-  pub other : ¬ (why ≡ book.Memory)
-  pub fault : IsBookCloseFault (book_of_run d cycles) shares why
-
 -- which fault a run may tell: that of a bridge of its domain, with which this stops in one of its cycles, for want of memory, or since it
--- refuses to receive what comes to it in no run under the tables of a legal history; that the desk disagrees where a Seal or a call isn't entered, or the desk isn't closed; that the book does where it
--- refuses a page, or isn't closed; and that an end of a pipe was lost where there are cycles to go through, but never as pipes are closed.
--- Memory may be refused in each run, and in each there are threads to be started
+-- refuses to receive what comes to it in no run under the tables of a legal history; that the desk disagrees where a Seal or a call isn't
+-- entered, or the desk isn't closed; never that the book does; and that an end of a pipe was lost where there are cycles to go through, but
+-- never as pipes are closed. Memory may be refused in each run, and in each there are threads to be started
 abbrev pub IsConductFault : Domain → List Recorded → List Offer → List Background → ℕ → List (List Command) → ConductFault → Type 0
 IsConductFault d opening offers background cycles admins conduct.Memory = Unit {0}
 IsConductFault d opening offers background cycles admins (conduct.Bridge bridge reason) =
     StopsInBridge (traffic_of d offers background) cycles bridge reason
 IsConductFault d opening offers background cycles admins conduct.DeskDisagrees =
     (0 < cycles) ⊎ (SomeCall admins ⊎ KeepsDeskOpen d opening cycles admins)
-IsConductFault d opening offers background cycles admins conduct.BookDisagrees =
-    RefusesPage (traffic_of d offers background) cycles ⊎ KeepsBookOpen d cycles
+IsConductFault d opening offers background cycles admins conduct.BookDisagrees = ⊥
 IsConductFault d opening offers background cycles admins conduct.ChannelLost = 0 < cycles
 IsConductFault d opening offers background cycles admins conduct.Spawn = Unit {0}

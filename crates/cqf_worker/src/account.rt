@@ -1,8 +1,8 @@
 //! What a run on threads gives.
 
-use cqf_book::Pages;
 use cqf_desk::History;
 use cqf_model::Book;
+use cqf_tape::Tapes;
 
 /// What a run on threads gives: the history of all calls, and the book of every transmission and drop (profile).
 #[derive(Debug, Drop)]
@@ -11,9 +11,9 @@ pub struct Account {
     pub book: Book,
 }
 
-/// The same with the pages of the book, as the bridges posted them.
+/// The same with the pages of the book, as the bridges kept them: link by link what each sent, and what each bridge dropped.
 #[derive(Debug, Drop)]
 pub struct PagedAccount {
     pub history: History,
-    pub pages: Pages,
+    pub pages: Tapes,
 }

@@ -1,6 +1,5 @@
 //! The conductor: a whole run on threads.
-ghost use Rattle.std.specs.Prelude.{◌≡◌, ◌≤◌, ◌+◌, IfErr, IfOk, Ok, length, map};
-ghost use Rattle.cqf_book.specs.Shares.{Agree, new_shares};
+ghost use Rattle.std.specs.Prelude.{◌≡◌, ◌≤◌, ◌+◌, IfErr, IfOk, length, map};
 ghost use Rattle.cqf_desk.specs.Closing.{IsClosed};
 ghost use Rattle.cqf_desk.specs.Desk.{fresh_seats};
 ghost use Rattle.cqf_model.specs.History.{seals};
@@ -8,46 +7,43 @@ ghost use Rattle.cqf_model.specs.Run.{AreBackground, AreOffers};
 ghost use Rattle.cqf_worker_wires.specs.Wires.{AreWired, Wiring, pipe_of_tables, tables_pipe};
 ghost use Rattle.cqf_worker_threads.specs.Telling.{IsStartFault};
 ghost use Rattle.cqf_worker.specs.Account.{IsAccount, IsPagedAccount};
-ghost use Rattle.cqf_worker.specs.Conducting.{AreBooked, AreLaidFor, AreSeatedFor, AreShut, IsBookFault, IsDeskFault};
-ghost use Rattle.cqf_worker.specs.Conducting.{IsFirstOfFaults, IsPipeFault, IsPrepared, IsSettleFault, IsSettled};
+ghost use Rattle.cqf_worker.specs.Conducting.{AreLaidFor, AreSeatedFor, AreShut, IsDeskFault, IsPipeFault, IsPrepared, IsSettleFault, IsSettled};
+ghost use Rattle.cqf_worker_wires.specs.Closing.{reel_at};
+ghost use Rattle.cqf_tape.specs.Reels.{AreReelsOf};
 ghost use Rattle.cqf_worker.specs.Failing.{IsConductFault};
 ghost use Rattle.cqf_model.specs.Limits.{most_cycles, most_rows};
 
 use crate::account::{Account, PagedAccount};
 use cqf_admission::{Admission, Command, Table};
-use cqf_book::{CycleBook, Pages, Share, book_of};
 use cqf_compile::compile;
 use cqf_desk::{CloseFault, Desk, History, Seat};
-use cqf_laws_account::{
-    bridges_apart_post_the_pages, gathered_pages_are_the_book, seats_give_the_history,
-};
+use cqf_laws_account::{bridges_apart_keep_the_tapes, seats_give_the_history, tapes_tell_the_book};
 use cqf_laws_bridge::bridges_go_on;
 use cqf_laws_shift::book_of_history_says_the_shift;
 use cqf_model::{Background, Offer};
+use cqf_tape::{Reel, book_of, gather};
 use cqf_topology::Domain;
 use cqf_worker_loops::{Carried, Pace, Sealed, Worker};
 use cqf_worker_pipe::PipeIn;
-use cqf_worker_threads::{Administrator, ConductFault, Ended, Faults, Ready, Task, run_threads};
+use cqf_worker_threads::{Administrator, ConductFault, Ended, Ready, run_threads};
 use cqf_worker_wires::{ClosingFault, Laid, close_pipes, lay};
 use std::alloc::Global;
 use std::sync::Wait;
 use std::thread::Threads;
 
-/// What a run is given beside its admission and its administrators: a domain, what is offered at its bridges, the background frames of its
-/// links, and for how many cycles it goes on.
+/// What a run is given beside its admission, its administrators and its cycles: a domain, what is offered at its bridges, and the background
+/// frames of its links.
 #[derive(Clone, Copy)]
 struct Given<'d, 'o, 'b> {
     domain: &'d Domain,
     offers: &'o [Offer],
     background: &'b [Background],
-    cycles: u32,
 }
 
-/// A run that is ready to begin: its desk, its book, and what its threads begin with.
+/// A run that is ready to begin: its desk, and what its threads begin with.
 #[derive(Drop)]
 struct Prepared {
     desk: Desk,
-    book: CycleBook,
     ready: Ready,
 }
 
@@ -96,29 +92,8 @@ fn seat_each(
     Ok((administrators, conductor))
 }
 
-/// An empty book of the domain's bridges, and a share for each.
-fn open_book(
-    alloc: Global,
-    domain: &Domain,
-    cycles: u32,
-) -> Result<(CycleBook, Vec<Share>), ConductFault>
-    requires { cycles ≤ most_cycles }
-    ensures ok { IfOk result (λ made. AreBooked domain.now cycles made.0 made.1.items) }
-    ensures err { IfErr result IsStartFault }
-{
-    domain.know();
-    let pages = Pages::new(alloc, domain.bridges(), cycles)?;
-    let made = CycleBook::new(alloc, pages)?;
-    Ok(made)
-}
-
 /// The workers of the domain's bridges, with pipes between them.
-fn lay_all(
-    alloc: Global,
-    given: Given<'_, '_, '_>,
-    shares: Vec<Share>,
-) -> Result<Laid, ConductFault>
-    requires shares { shares.items ≡ new_shares (length given.domain.now.bridges) }
+fn lay_all(alloc: Global, given: Given<'_, '_, '_>) -> Result<Laid, ConductFault>
     requires offers { AreOffers given.domain.now given.offers.now }
     requires few_offers { length given.offers.now ≤ most_rows }
     requires background { AreBackground given.domain.now given.background.now }
@@ -128,7 +103,7 @@ fn lay_all(
     ensures err { IfErr result IsStartFault }
 {
     let plan = compile(alloc, given.domain)?;
-    let laid = lay(alloc, &plan, given.offers, given.background, shares)?;
+    let laid = lay(alloc, &plan, given.offers, given.background)?;
     Ok(laid)
 }
 
@@ -140,26 +115,24 @@ fn prepare(
     admins: Vec<Vec<Command>>,
 ) -> Result<Prepared, ConductFault>
     requires domain { admission.domain ≡ given.domain.now }
-    requires short { given.cycles ≤ most_cycles }
     requires offers { AreOffers given.domain.now given.offers.now }
     requires few_offers { length given.offers.now ≤ most_rows }
     requires background { AreBackground given.domain.now given.background.now }
     requires few_background { length given.background.now ≤ most_rows }
-    ensures ok { IfOk result (IsPrepared given.entry.domain.now admission.entries given.entry.offers.now given.entry.background.now given.entry.cycles
+    ensures ok { IfOk result (IsPrepared given.entry.domain.now admission.entries given.entry.offers.now given.entry.background.now
         (map (λ c. c.items) admins.items)) }
     ensures err { IfErr result IsStartFault }
 {
     let (desk, seats) = open_desk(alloc, admission, admins.len())?;
     let (administrators, conductor) = seat_each(alloc, seats, admins)?;
-    let (book, shares) = open_book(alloc, given.domain, given.cycles)?;
-    let Laid { workers, tables } = lay_all(alloc, given, shares)?;
+    let Laid { workers, tables } = lay_all(alloc, given)?;
     let ready = Ready {
         workers,
         tables,
         administrators,
         conductor,
     };
-    Ok(Prepared { desk, book, ready })
+    Ok(Prepared { desk, ready })
 }
 
 /// Closes a desk.
@@ -174,67 +147,36 @@ fn close_desk(desk: Desk, seats: Vec<Seat>) -> Result<History, ConductFault>
     }
 }
 
-/// Closes a book.
-fn close_book(book: CycleBook, shares: Vec<Share>) -> Result<Pages, ConductFault>
-    ensures ok { IfOk result (λ pages. Agree book shares.items pages book.bridges) }
-    ensures err { IfErr result (IsBookFault book shares.items) }
-{
-    match book.close_pages(shares) {
-        Ok(pages) => Ok(pages),
-        Err(_) => Err(ConductFault::BookDisagrees),
-    }
-}
-
-/// An account of a history and pages, or their fault: of two the one that [`ConductFault`] tells first.
-fn account_of(
-    history: Result<History, ConductFault>,
-    pages: Result<Pages, ConductFault>,
-) -> Result<PagedAccount, ConductFault>
-    ensures ok { IfOk result (λ account. (history ≡ Ok account.history) × (pages ≡ Ok account.pages)) }
-    ensures fault { IfErr result (IsFirstOfFaults history pages) }
-{
-    match (history, pages) {
-        (Ok(history), Ok(pages)) => Ok(PagedAccount { history, pages }),
-        (Err(one), Err(other)) => {
-            let mut faults = Faults::none();
-            faults.note(one);
-            faults.note(other);
-            Err(faults.told().unwrap_or(one))
-        }
-        (Err(fault), Ok(_)) => Err(fault),
-        (Ok(_), Err(fault)) => Err(fault),
-    }
-}
-
 /// Closes the pipes of a run.
 fn shut_pipes(
     alloc: Global,
     tables: Vec<PipeIn<Carried<Table>>>,
     workers: Vec<Worker>,
-) -> Result<Vec<Share>, ConductFault>
+) -> Result<Vec<Reel>, ConductFault>
     requires wired { (wiring : Wiring) × AreWired wiring workers.items }
     requires tables { map pipe_of_tables tables.items ≡ map tables_pipe workers.items }
-    ensures ok { IfOk result (λ shares. AreShut tables.items workers.items shares.items) }
+    ensures ok { IfOk result (λ reels. AreShut tables.items workers.items reels.items) }
     ensures err { IfErr result (IsPipeFault workers.items) }
 {
     match close_pipes(alloc, tables, workers) {
-        Ok(shares) => Ok(shares),
+        Ok(reels) => Ok(reels),
         Err(ClosingFault::Memory) => Err(ConductFault::Memory),
         Err(ClosingFault::ChannelLost) => Err(ConductFault::ChannelLost),
     }
 }
 
-/// The account of a run whose threads have ended: it closes its pipes, its desk and its book.
+/// The account of a run whose threads have ended: it closes its pipes and its desk, and gathers its tapes.
 fn settle(
     alloc: Global,
+    domain: &Domain,
     desk: Desk,
-    book: CycleBook,
     ended: Ended,
 ) -> Result<PagedAccount, ConductFault>
     requires wired { (wiring : Wiring) × AreWired wiring ended.workers.items }
     requires tables { map pipe_of_tables ended.sealed.tables.items ≡ map tables_pipe ended.workers.items }
-    ensures ok { IfOk result (IsSettled desk book ended) }
-    ensures err { IfErr result (IsSettleFault desk book ended) }
+    requires reels { AreReelsOf domain.now (map reel_at ended.workers.items) }
+    ensures ok { IfOk result (IsSettled domain.now desk ended) }
+    ensures err { IfErr result (IsSettleFault desk ended) }
 {
     let Ended {
         workers,
@@ -242,12 +184,11 @@ fn settle(
         sealed,
     } = ended;
     let Sealed { seat, tables } = sealed;
-    let shares = shut_pipes(alloc, tables, workers)?;
+    let reels = shut_pipes(alloc, tables, workers)?;
     seats.push(seat)?;
-    let history = close_desk(desk, seats);
-    let closed = close_book(book, shares);
-    let account = account_of(history, closed)?;
-    Ok(account)
+    let history = close_desk(desk, seats)?;
+    let pages = gather(alloc, domain, reels)?;
+    Ok(PagedAccount { history, pages })
 }
 
 /// Runs a network under administration: a thread for each bridge of the domain, one for each administrator, and the calling one,
@@ -285,7 +226,7 @@ pub fn conduct_pages<R: Threads + Wait + Sync, P: Pace>(
     ensures err { IfErr result (IsConductFault domain.now admission.entries offers.now background.now cycles (map (λ c. c.items) admins.items)) }
 {
     seats_give_the_history();
-    bridges_apart_post_the_pages();
+    bridges_apart_keep_the_tapes();
     book_of_history_says_the_shift();
     bridges_go_on();
     domain.know();
@@ -293,15 +234,10 @@ pub fn conduct_pages<R: Threads + Wait + Sync, P: Pace>(
         domain,
         offers,
         background,
-        cycles,
     };
-    let Prepared { desk, book, ready } = prepare(alloc, given, admission, admins)?;
-    let task = Task {
-        book: &book,
-        cycles,
-    };
-    let ended = run_threads(rt, alloc, pace, &desk, task, ready)?;
-    let account = settle(alloc, desk, book, ended)?;
+    let Prepared { desk, ready } = prepare(alloc, given, admission, admins)?;
+    let ended = run_threads(rt, alloc, pace, &desk, cycles, ready)?;
+    let account = settle(alloc, domain, desk, ended)?;
     Ok(account)
 }
 
@@ -329,11 +265,11 @@ pub fn conduct<R: Threads + Wait + Sync, P: Pace>(
     ensures ok { IfOk result (IsAccount domain.now admission.entries offers.now background.now cycles (map (λ c. c.items) admins.items)) }
     ensures err { IfErr result (IsConductFault domain.now admission.entries offers.now background.now cycles (map (λ c. c.items) admins.items)) }
 {
-    gathered_pages_are_the_book();
+    tapes_tell_the_book();
     domain.know();
     let PagedAccount { history, pages } = conduct_pages(
         rt, alloc, domain, admission, offers, background, cycles, admins, pace,
     )?;
-    let book = book_of(alloc, &pages, domain.bridges())?;
+    let book = book_of(alloc, domain, &pages, cycles)?;
     Ok(Account { history, book })
 }

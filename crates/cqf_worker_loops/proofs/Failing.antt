@@ -3,7 +3,7 @@ use Rattle.std.proofs.Common.{ℕ, ◌≡◌, List, length, inr}
 use Rattle.cqf_admission.specs.Tables.{CycleTable}
 use Rattle.cqf_bridge.specs.Batch.{LinkBatch}
 use Rattle.cqf_bridge.specs.BridgeState.{BridgeState}
-use Rattle.cqf_model.specs.declared.frames.Started.{Started}
+use Rattle.cqf_tape.specs.declared.reel.Reel.{Reel}
 use Rattle.cqf_worker_loops.specs.declared.worker.Worker.{Worker}
 use Rattle.cqf_worker_loops.specs.declared.worker.WorkerFault.{WorkerFault}
 use Rattle.cqf_worker_loops.specs.declared.worker.WorkerFault.TheVariants as working
@@ -13,10 +13,10 @@ use Rattle.cqf_worker_loops.proofs.Batches.{BatchPort}
 
 -- its bridge doesn't receive the cycle that it has sent
 pub not_received : (cycle : ℕ) (w : Worker) (table : CycleTable) (batches : List LinkBatch) (halfway after : BridgeState)
-    (outs outs_after : List BatchPort) (starts : List Started) (fault : WorkerFault) → length batches ≡ length w.ins.items →
-    SendsOn cycle w.agenda w.bridge halfway outs outs_after starts →
+    (reel reel_after : Reel) (outs outs_after : List BatchPort) (fault : WorkerFault) → length batches ≡ length w.ins.items →
+    SendsOn cycle w.agenda w.bridge halfway reel reel_after outs outs_after →
     IsReceiveOnFault cycle w.agenda table batches halfway after fault → IsCycleFault cycle w fault
-not_received cycle w table batches halfway after outs outs_after starts (working.Bridge reason) one_each sent why = inr (record {
+not_received cycle w table batches halfway after reel reel_after outs outs_after (working.Bridge reason) one_each sent why = inr (record {
   table = table;
   batches = batches;
   sent = sent.batches;
@@ -26,6 +26,5 @@ not_received cycle w table batches halfway after outs outs_after starts (working
   sends = sent.sends;
   refuses = why;
 })
-not_received cycle w table batches halfway after outs outs_after starts working.Memory one_each sent why = absurd why
-not_received cycle w table batches halfway after outs outs_after starts (working.Book reason) one_each sent why = absurd why
-not_received cycle w table batches halfway after outs outs_after starts working.Stopped one_each sent why = absurd why
+not_received cycle w table batches halfway after reel reel_after outs outs_after working.Memory one_each sent why = absurd why
+not_received cycle w table batches halfway after reel reel_after outs outs_after working.Stopped one_each sent why = absurd why

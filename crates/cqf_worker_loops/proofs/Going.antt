@@ -1,5 +1,5 @@
 -- A worker goes through its cycles.
-use Rattle.std.proofs.Common.{ℕ, zero, suc, ◌+◌, ◌≡◌, ◌<◌, ◌≤◌, ◌∷◌, ◌++◌, [], List, Some, All, AllPairs, length, map}
+use Rattle.std.proofs.Common.{ℕ, ◌+◌, ◌≡◌, ◌<◌, ◌≤◌, ◌∷◌, ◌++◌, [], List, Some, All, AllPairs, length, map}
 use Rattle.std.proofs.Common.{refl, sym, ap, ◌∙◌, arith, inl, inr, subst, Contains, length-append}
 use Rattle.std.specs.Prelude.{◌==◌, false, slice_get, true}
 use Rattle.std.specs.List.{flat_map}
@@ -7,18 +7,15 @@ use Rattle.std.specs.Option.{option_to_list}
 use Rattle.std.proofs.lemmas.Bool.{cases_Bool, cond-false, cond-true, false≢true}
 use Rattle.std.proofs.lemmas.List.{length-map, map-append}
 use Rattle.std.proofs.lemmas.List.Elements.{All-head, All-tail}
-use Rattle.std.proofs.lemmas.Option.{same_Some}
 use Rattle.cqf_lists.proofs.Members.{contains_from_filter}
 use Rattle.cqf_lists.proofs.Places.{slice_get_parts}
 use Rattle.cqf_model.specs.declared.frames.Backed.{Backed}
-use Rattle.cqf_model.specs.declared.frames.Page.{Page}
 use Rattle.cqf_model.specs.Book.{Contents}
 use Rattle.cqf_model.specs.Domain.{Domain, enters}
 use Rattle.cqf_model.specs.Run.{AreOffers, Run}
 use Rattle.cqf_laws_cycle.specs.Gathered.{backed_for, offered_for}
 use Rattle.cqf_admission.specs.Tables.{CycleTable}
 use Rattle.cqf_bridge_turn.specs.Agenda.{IsAgendaOf, background_at, offers_listed_at}
-use Rattle.cqf_book.specs.Shares.{Own, Said}
 use Rattle.cqf_bridge.specs.Batch.{LinkBatch}
 use Rattle.cqf_bridge.specs.BridgeState.{AreBackedOf, BridgeState, SendsCycle, links_from, new_bridge}
 use Rattle.cqf_bridge.specs.declared.faults.BridgeFault.{BridgeFault}
@@ -40,14 +37,16 @@ use Rattle.cqf_worker_pipe.specs.PipeEnds.{End}
 use Rattle.cqf_worker_loops.specs.Rows.{wires_of, with_each}
 use Rattle.cqf_worker_loops.specs.Stepping.{GoesOn, HasPorts, MayGoOn, onward}
 use Rattle.cqf_worker_loops.specs.Workers.{HasCarried, HasGoneThrough, IsUnused, IsWorkerOf, Works, batches_at}
-use Rattle.cqf_worker_loops.specs.Workers.{contents_by_worker, course_of, ends_in_bridge, items_in, link_of}
+use Rattle.cqf_worker_loops.specs.Workers.{course_of, ends_in_bridge, items_in, link_of}
 use Rattle.cqf_worker_loops.specs.Workers.{links_onward, rows_in}
 use Rattle.cqf_worker_loops.proofs.Batches.{BatchPort, batch_count, batches_more, counts_more, first_at, first_member}
 use Rattle.cqf_worker_loops.proofs.Batches.{items_more, links_same, one_at, taken_last}
 use Rattle.cqf_worker_loops.proofs.Each.{all_more, wires_same}
 use Rattle.cqf_worker_loops.proofs.Stopping.{CarriesItems, each_carries, items_alone}
 use Rattle.cqf_worker_loops.proofs.Onward.{new_links, onward_links, ports_received, ports_sent}
+use Rattle.cqf_worker_loops.proofs.Kept.{kept_more}
 use Rattle.cqf_worker_loops.proofs.OneMore.{IsNextCycle, PutsMore, TakesMore, stands_behind, worked_on}
+use Rattle.cqf_tape.proofs.Keeping.{none_kept}
 use Rattle.cqf_worker_pipe.specs.PipeRule.{most_items}
 
 -- so many went through a port at most
@@ -86,12 +85,13 @@ unused_counts ports all k d below =
 -- a worker that has done nothing stands before cycle 0
 pub begins : (t : Traffic) (number : ℕ) (w : Worker) → IsWorkerOf t number w → StandsAt t number 0 w
 begins t number w is =
-    let none_posted : length w.share.pages ≡ 0 = ap (λ (s : Own). length s.pages) is.is_share in
-    let no_pages : length (map contents_by_worker w.share.pages) ≡ 0 = length-map w.share.pages contents_by_worker ∙ none_posted in
+    let none : List Contents = [] in
+    let no_pages : length none ≡ 0 = refl in
     let none_sent : w.bridge.sent ≡ 0 = ap (λ (b : BridgeState). b.sent) is.is_bridge in
     let none_given : length (items_in w.tables.items) ≡ 0 = ap (λ ys. length (items_in ys)) is.no_tables in
     record {
       gone = record {
+        pages = none;
         worked = record {
           before = λ k. new_bridge t.domain number;
           halfway = λ k. new_bridge t.domain number;
@@ -115,8 +115,8 @@ begins t number w is =
         had_tables = none_given;
         has_taken = unused_counts w.ins.items is.none_taken;
         has_put = unused_counts w.outs.items is.none_put;
-        has_posted = none_posted;
-        in_place = λ k page there. absurd (none_at k page (ap (λ (s : Own). slice_get s.pages k) (sym is.is_share) ∙ there));
+        all_pages = no_pages;
+        kept = none_kept t.domain number w.reel is.is_reel;
       };
       behind = sym is.is_bridge;
       not_spent = ap (λ (b : BridgeState). b.spent) is.is_bridge;
@@ -141,6 +141,7 @@ may_go_on t number cycle worker now background is at early =
     record {
       early = early;
       ports = at.ports;
+      tapes = at.gone.kept.links ∙ (λ i. links_from (sym at.gone.of_domain i) (sym at.gone.of_number i));
       links_out = at.links_out ∙ (λ i. links_onward (sym at.gone.of_domain i) (sym at.gone.of_number i));
       room = λ k d below. omega (arith, early, (at.gone.has_put k d below).1);
       backed = subst (λ (d : Domain). AreBackedOf d now.bridge.number cycle (background_at now.agenda cycle)) (sym at.gone.of_domain)
@@ -216,22 +217,12 @@ module _ (t : Traffic) (number n : ℕ) (before after : Worker) (at : StandsAt t
       ap (λ (e : End (Carried CycleTable)). map rows_in (items_in e.items)) step.is_given
       ∙ ap (map rows_in) (items_more before.tables.items step.table) ∙ map-append rows_in (items_in before.tables.items) (step.table ∷ [])
 
-  -- the page says what the bridge gave
-  contents_now : contents_by_worker step.page ≡ page_given step.sends.batches step.halfway.background step.dropped
-  contents_now =
-      ap (λ (s : Said). s.contents) step.page_is
-      ∙ (λ i. record {
-        starts = step.sends.listed i;
-        background = (received.bridge i).background;
-        drops = step.dropped;
-      })
+  -- what the bridge gave is one page more
+  abbrev page_now : Contents
+  page_now = page_given step.sends.batches step.halfway.background step.dropped
 
-  -- one page more was posted
-  pages_grow : map contents_by_worker after.share.pages ≡ map contents_by_worker before.share.pages
-      ++ page_given step.sends.batches step.halfway.background step.dropped ∷ []
-  pages_grow =
-      ap (λ (s : Own). map contents_by_worker s.pages) step.posts ∙ map-append contents_by_worker before.share.pages (step.page ∷ [])
-      ∙ ap (λ (c : Contents). map contents_by_worker before.share.pages ++ c ∷ []) contents_now
+  abbrev pages_now : List Contents
+  pages_now = at.gone.pages ++ page_now ∷ []
 
   -- each batch more on a link was sent in the cycle
   put_grows : (l : ℕ) → PutsMore n l step.sends.batches (batches_at before.outs.items l) (batches_at after.outs.items l)
@@ -261,7 +252,7 @@ module _ (t : Traffic) (number n : ℕ) (before after : Worker) (at : StandsAt t
       )
 
   -- by number of link they are what the bridge received
-  brought_now : taken_in t.domain (course_of after) number n ≡ step.batches
+  brought_now : taken_in t.domain (course_of after pages_now) number n ≡ step.batches
   brought_now =
       (λ i. flat_map (λ l. option_to_list (slice_get (batches_at (step.takes i) l) n)) (sym at.links_in i))
       ∙ taken_last before.ins.items step.batches n (subst (AllPairs (λ (a b : ℕ). a < b)) (sym at.links_in) (links_ascend t.domain number))
@@ -274,7 +265,7 @@ module _ (t : Traffic) (number n : ℕ) (before after : Worker) (at : StandsAt t
       (subst (λ (own : List Backed). SendsCycle before.bridge step.halfway n own [] step.sends.batches) (at.gone.is_agenda.background_are n) step.sends.sends)
 
   -- the cycle is the next of its course
-  next : IsNextCycle t number n (course_of before) (course_of after) (at.gone.worked.before n) step.halfway after.bridge
+  next : IsNextCycle t number n (course_of before at.gone.pages) (course_of after pages_now) (at.gone.worked.before n) step.halfway after.bridge
   next = record {
     batches = step.sends.batches;
     rows = step.table.rows;
@@ -284,37 +275,14 @@ module _ (t : Traffic) (number n : ℕ) (before after : Worker) (at : StandsAt t
     sent_after = sent_after;
     tables_before = length-map (items_in before.tables.items) rows_in ∙ at.gone.had_tables;
     tables_after = tables_grow;
-    pages_before = length-map before.share.pages contents_by_worker ∙ at.gone.has_posted;
-    pages_after = pages_grow;
+    pages_before = at.gone.all_pages;
+    pages_after = refl;
     put = λ l here. put_grows l;
     taken = taken_grows;
     brought_is = brought_now;
     sends = sends_now;
     receives = receives;
   }
-
-  -- each page stands at its place
-  pages_in_place : (k : ℕ) (page : Page) → slice_get after.share.pages k ≡ Some page → (page.bridge ≡ number) × (page.cycle.0 ≡ k)
-  pages_in_place k page there =
-      elim (slice_get_parts before.share.pages (step.page ∷ []) k page (ap (λ (s : Own). slice_get s.pages k) (sym step.posts) ∙ there)) [
-        | inl was ↦ at.gone.in_place k page was
-        | inr now ↦
-            let last = only_one step.page page now.0 now.2 in (
-              ap (λ (p : Page). p.bridge) (sym last.1) ∙ ap (λ (s : Said). s.bridge) step.page_is ∙ number_after,
-              omega (
-                arith,
-                ap (λ (p : Page). p.cycle.0) (sym last.1) ∙ ap (λ (s : Said). s.cycle) step.page_is,
-                now.1,
-                last.0,
-                at.gone.has_posted,
-              ),
-            )
-      ]
-    where
-      -- an element of a list of one
-      only_one : (y x : Page) (j : ℕ) → slice_get (y ∷ []) j ≡ Some x → (j ≡ 0) × (y ≡ x)
-      only_one y x zero e = (refl, same_Some y x e)
-      only_one y x (suc j) e = absurd cc
 
   -- it has what it is offered still
   agenda_after : IsAgendaOf t.domain t.offers t.background number after.agenda
@@ -324,7 +292,8 @@ module _ (t : Traffic) (number n : ℕ) (before after : Worker) (at : StandsAt t
   pub goes_on : StandsAt t number (n + 1) after
   goes_on = record {
     gone = record {
-      worked = worked_on t number n (course_of before) (course_of after) step.halfway after.bridge at.gone.worked next;
+      pages = pages_now;
+      worked = worked_on t number n (course_of before at.gone.pages) (course_of after pages_now) step.halfway after.bridge at.gone.worked next;
       is_agenda = agenda_after;
       of_domain = domain_after;
       of_number = number_after;
@@ -335,10 +304,11 @@ module _ (t : Traffic) (number n : ℕ) (before after : Worker) (at : StandsAt t
       has_taken = subst (All (HasCarried (n + 1))) (sym step.takes) (counts_more before.ins.items step.batches n step.one_each at.gone.has_taken);
       has_put = subst (All (HasCarried (n + 1))) (sym step.sends.puts)
           (counts_more before.outs.items (onward before.bridge.domain step.sends.batches) n count_put at.gone.has_put);
-      has_posted = ap (λ (s : Own). length s.pages) step.posts ∙ length-append before.share.pages (step.page ∷ []) ∙ ap (λ (k : ℕ). k + 1) at.gone.has_posted;
-      in_place = pages_in_place;
+      all_pages = length-append at.gone.pages (page_now ∷ []) ∙ ap (λ (k : ℕ). k + 1) at.gone.all_pages;
+      kept = kept_more t.domain number at.gone.pages step.sends.batches step.halfway.background step.dropped before.reel step.between after.reel
+          at.gone.kept step.sends.keeps step.keeps_drops;
     };
-    behind = stands_behind t number n (course_of before) (course_of after) step.halfway after.bridge at.gone.worked next;
+    behind = stands_behind t number n (course_of before at.gone.pages) (course_of after pages_now) step.halfway after.bridge at.gone.worked next;
     not_spent = ap (λ (b : BridgeState). b.spent) received.bridge;
     ports = ports_received some_run.0 step.halfway after.bridge n step.batches step.dropped received
         (ports_sent before.bridge step.halfway n (background_at before.agenda n) step.sends.batches step.sends.sends at.ports);
@@ -351,12 +321,11 @@ pub record IsGoing (cycle : ℕ) (worker now : Worker) : Type 0 where
   pub tables : now.tables.pipe ≡ worker.tables.pipe
   pub ins : wires_of now.ins.items ≡ wires_of worker.ins.items
   pub outs : wires_of now.outs.items ≡ wires_of worker.outs.items
-  pub share : now.share.bridge ≡ worker.share.bridge
   pub part : (t : Traffic) (number : ℕ) → IsWorkerOf t number worker → StandsAt t number cycle now
 
 -- none yet
 pub none_gone : (worker : Worker) → IsGoing 0 worker worker
-none_gone worker = record { tables = refl; ins = refl; outs = refl; share = refl; part = λ t number is. begins t number worker is }
+none_gone worker = record { tables = refl; ins = refl; outs = refl; part = λ t number is. begins t number worker is }
 
 -- one more
 pub one_gone : (cycle : ℕ) (worker now after : Worker) → IsGoing cycle worker now → GoesOn cycle now after → IsGoing (cycle + 1) worker after
@@ -364,7 +333,6 @@ one_gone cycle worker now after going step = record {
   tables = ap (λ (e : End (Carried CycleTable)). e.pipe) step.is_given ∙ going.tables;
   ins = ap wires_of step.takes ∙ wires_same now.ins.items (map Item step.batches) ∙ going.ins;
   outs = ap wires_of step.sends.puts ∙ wires_same now.outs.items (map Item (onward now.bridge.domain step.sends.batches)) ∙ going.outs;
-  share = ap (λ (s : Own). s.bridge) step.posts ∙ going.share;
   part = λ t number is. goes_on t number cycle now after (going.part t number is) is.good_offers step;
 }
 
@@ -374,7 +342,6 @@ all_gone cycle cycles worker now going through = record {
   tables = going.tables;
   ins = going.ins;
   outs = going.outs;
-  share = going.share;
   part = λ t number is. subst (λ (n : ℕ). HasGoneThrough t number n now) through (going.part t number is).gone;
 }
 
@@ -419,7 +386,6 @@ stops_for t number cycle now (working.Bridge reason) at fault =
       | inr receives ↦ inr receives
     ]
 stops_for t number cycle now working.Memory at fault = fault
-stops_for t number cycle now (working.Book reason) at fault = fault
 stops_for t number cycle now working.Stopped at fault = fault
 
 -- and where it does, it went through those before

@@ -2,6 +2,7 @@ mod Each
 mod Batches
 mod Onward
 mod OneMore
+mod Kept
 mod Stopping
 mod Going
 mod HandedTables

@@ -14,7 +14,8 @@ use Rattle.cqf_bridge.specs.BridgeState.{BridgeState, SendsCycle, batch_from, li
 use Rattle.cqf_bridge.specs.PortRecord.{PortRecord}
 use Rattle.cqf_bridge.specs.Receiving.{ReceivesCycle, port_queued, verdicts_in}
 use Rattle.cqf_bridge_turn.specs.Agenda.{AgendaOf}
-use Rattle.cqf_model.specs.declared.frames.Started.{Started}
+use Rattle.cqf_bridge_turn.specs.Keeping.{links_of_batches}
+use Rattle.cqf_tape.specs.declared.reel.Reel.{Reel}
 use Rattle.cqf_worker_loops.specs.Stepping.{HasPorts, IsOffered, SendsOn, onward}
 use Rattle.cqf_worker_loops.specs.Workers.{ends_in_bridge, link_of, links_onward}
 use Rattle.cqf_worker_loops.proofs.Batches.{BatchPort}
@@ -89,8 +90,15 @@ onward_fits a b cycle backed given batches kept d outs s none has links of_bridg
     ap length (is ∙ ap (λ (e : Domain). onward e batches) (of_bridge ∙ ap (λ (x : BridgeState). x.domain) s.bridge))
     ∙ onward_count a b cycle backed batches outs sent has links
 
+-- its batches are of the links of its ports
+pub batches_of_ports : (a b : BridgeState) (cycle : ℕ) (backed : List Backed) (given batches : List LinkBatch) → SendsCycle a b cycle backed given batches →
+    given ≡ [] → HasPorts a → links_of_batches batches ≡ links_from a.domain a.number
+batches_of_ports a b cycle backed given batches s none has =
+    let sent : SendsCycle a b cycle backed [] batches = subst (λ (xs : List LinkBatch). SendsCycle a b cycle backed xs batches) none s in
+    ap (map (λ (x : LinkBatch). x.link)) sent.batches ∙ batch_links cycle backed a.ports sent.made sent.one_each ∙ has
+
 -- what may be offered to a bridge still may once it has sent
-pub offered_half : (a b : BridgeState) (cycle : ℕ) (agenda : AgendaOf) (outs outs_after : List BatchPort) (starts : List Started) →
-    SendsOn cycle agenda a b outs outs_after starts → IsOffered a.domain a.number cycle agenda → IsOffered b.domain b.number cycle agenda
-offered_half a b cycle agenda outs outs_after starts s offered =
+pub offered_half : (a b : BridgeState) (cycle : ℕ) (agenda : AgendaOf) (reel reel_after : Reel) (outs outs_after : List BatchPort) →
+    SendsOn cycle agenda a b reel reel_after outs outs_after → IsOffered a.domain a.number cycle agenda → IsOffered b.domain b.number cycle agenda
+offered_half a b cycle agenda reel reel_after outs outs_after s offered =
     subst (λ (x : BridgeState). IsOffered x.domain x.number cycle agenda) (sym s.sends.bridge) offered

@@ -3,7 +3,6 @@ use Rattle.std.specs.Prelude.{ℕ, ◌≡◌, ◌<◌, ◌⊎◌, List, [], ◌�
 use Rattle.cqf_model.specs.Run.{Run}
 use Rattle.cqf_admission.specs.Tables.{CycleTable}
 use Rattle.cqf_bridge_turn.specs.Agenda.{AgendaOf, background_at, offers_listed_at}
-use Rattle.cqf_book.specs.declared.faults.PageFault.TheVariants as page
 use Rattle.cqf_bridge.specs.declared.faults.BridgeFault.{BridgeFault}
 use Rattle.cqf_bridge.specs.declared.faults.BridgeFault.TheVariants as refusing
 use Rattle.cqf_bridge.specs.Batch.{LinkBatch}
@@ -31,14 +30,12 @@ abbrev pub IsSendOnFault : ℕ → BridgeState → BridgeState → List (LinkEnd
     → WorkerFault → Type 0
 IsSendOnFault cycle before after outs outs_after (working.Bridge reason) = IsSendFault before after cycle reason
 IsSendOnFault cycle before after outs outs_after working.Memory = Unit {0}
-IsSendOnFault cycle before after outs outs_after (working.Book reason) = ⊥
 IsSendOnFault cycle before after outs outs_after working.Stopped = MissesPut outs outs_after
 
 -- why not a batch of each port is taken: at one of them there is none, or memory is refused
 abbrev pub IsTakeFault : List (LinkEnd (End (Carried LinkBatch))) → List (LinkEnd (End (Carried LinkBatch))) → WorkerFault → Type 0
 IsTakeFault before after (working.Bridge reason) = ⊥
 IsTakeFault before after working.Memory = Unit {0}
-IsTakeFault before after (working.Book reason) = ⊥
 IsTakeFault before after working.Stopped = MissesItem before after
 
 -- the bridge refuses to receive a cycle with a table, batches and its offers
@@ -51,15 +48,7 @@ Refuses cycle agenda table batches before after reason =
 abbrev pub IsReceiveOnFault : ℕ → AgendaOf → CycleTable → List LinkBatch → BridgeState → BridgeState → WorkerFault → Type 0
 IsReceiveOnFault cycle agenda table batches before after (working.Bridge reason) = Refuses cycle agenda table batches before after reason
 IsReceiveOnFault cycle agenda table batches before after working.Memory = ⊥
-IsReceiveOnFault cycle agenda table batches before after (working.Book reason) = ⊥
 IsReceiveOnFault cycle agenda table batches before after working.Stopped = ⊥
-
--- why a page isn't posted: memory is refused, or the book refuses it for another cause
-abbrev pub GivesUpPosting : WorkerFault → Type 0
-GivesUpPosting (working.Bridge reason) = ⊥
-GivesUpPosting working.Memory = Unit {0}
-GivesUpPosting (working.Book reason) = ¬ (reason ≡ page.Memory)
-GivesUpPosting working.Stopped = ⊥
 
 -- a worker's bridge has sent a cycle, and refuses to receive it with a table and batches, one for each of its ports
 pub record RefusesToReceive (cycle : ℕ) (w : Worker) (reason : BridgeFault) : Type 0 where
@@ -80,14 +69,12 @@ RefusesCycle cycle w reason = ((after : BridgeState) × IsSendFault w.bridge aft
 abbrev pub IsCycleFault : ℕ → Worker → WorkerFault → Type 0
 IsCycleFault cycle w (working.Bridge reason) = RefusesCycle cycle w reason
 IsCycleFault cycle w working.Memory = Unit {0}
-IsCycleFault cycle w (working.Book reason) = ¬ (reason ≡ page.Memory)
 IsCycleFault cycle w working.Stopped = Unit {0}
 
 -- the same of one that has gone through the cycles before: its bridge sends the cycle, unless memory is refused to it
 abbrev pub StopsFor : ℕ → Worker → WorkerFault → Type 0
 StopsFor cycle w (working.Bridge reason) = (reason ≡ refusing.Memory) ⊎ RefusesToReceive cycle w reason
 StopsFor cycle w working.Memory = Unit {0}
-StopsFor cycle w (working.Book reason) = ¬ (reason ≡ page.Memory)
 StopsFor cycle w working.Stopped = Unit {0}
 
 -- a worker went through the cycles before one of so many, and stopped in it for this reason

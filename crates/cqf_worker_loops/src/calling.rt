@@ -53,7 +53,7 @@ fn make_call<R: Wait>(
 {
     match command {
         Command::Admit(request) => settled(desk.admit(rt, seat, request)),
-        Command::AdmitPaced(request) => settled(desk.admit_paced(rt, seat, request)),
+        Command::AdmitPaced(request) => settled(desk.admit_shared(rt, seat, request)),
         Command::Withdraw(name) => settled(desk.withdraw(rt, seat, name.as_str())),
     }
 }

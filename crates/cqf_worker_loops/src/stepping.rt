@@ -1,12 +1,11 @@
 //! One cycle of a bridge on its thread.
 ghost use Rattle.std.specs.Prelude.{◌≡◌, ◌<◌, All, IfErr, IfOk, List, OnOk, length, map};
 ghost use Rattle.cqf_bridge_turn.specs.Agenda.{background_at};
-ghost use Rattle.cqf_book.specs.Shares.{with_own};
 ghost use Rattle.cqf_bridge.specs.Batch.{LinkBatch};
 ghost use Rattle.cqf_bridge.specs.BridgeState.{AreBackedOf};
-ghost use Rattle.cqf_worker_loops.specs.GivingUp.{IsCycleFault, GivesUpPosting, IsReceiveOnFault, IsSendOnFault, IsTakeFault, NoTable};
+ghost use Rattle.cqf_worker_loops.specs.GivingUp.{IsCycleFault, IsReceiveOnFault, IsSendOnFault, IsTakeFault, NoTable};
 ghost use Rattle.cqf_worker_loops.specs.Rows.{with_each, with_item};
-ghost use Rattle.cqf_worker_loops.specs.Stepping.{GoesOn, HasPorts, IsOffered, MayGoOn, ReceivesOn, SendsOn, onward};
+ghost use Rattle.cqf_worker_loops.specs.Stepping.{GoesOn, HasPorts, HasTapes, IsOffered, MayGoOn, ReceivesOn, SendsOn, onward};
 ghost use Rattle.cqf_worker_loops.specs.Workers.{ends_in_bridge, link_of, links_onward};
 ghost use Rattle.cqf_worker_loops.specs.declared.carried.Carried.TheVariants.{Item};
 ghost use Rattle.cqf_model.specs.Limits.{most_cycles};
@@ -18,10 +17,10 @@ use crate::pace::Pace;
 use crate::rows::{put_each, take_each};
 use crate::worker::{Worker, WorkerFault};
 use cqf_admission::Table;
-use cqf_book::{CycleBook, PageFault, Share};
 use cqf_bridge::{Batch, Bridge};
-use cqf_bridge_turn::{Agenda, page_with, starts_of};
-use cqf_model::{Dropped, Node, Page, Started};
+use cqf_bridge_turn::{Agenda, keep_sent};
+use cqf_model::{Dropped, Node};
+use cqf_tape::Reel;
 use cqf_topology::Domain;
 use cqf_units::Cycle;
 use cqf_worker_pipe::{PipeIn, PipeOut};
@@ -60,22 +59,23 @@ fn keep_onward(domain: &Domain, batches: &mut Vec<Batch>)
     batches.retain(|batch| ends_in_a_bridge(domain, batch.link()));
 }
 
-/// Sends a cycle of a bridge, and puts the batches for other bridges at the ports of their links. Gives the starts of all batches'
-/// frames, as the page has them.
+/// Sends a cycle of a bridge, keeps on its reel what it sends, and puts the batches for other bridges at the ports of their links.
 fn send_on<R: Wait>(
     rt: &R,
     alloc: Global,
     cycle: Cycle,
     bridge: &mut Bridge,
     agenda: &Agenda,
+    reel: &mut Reel,
     outs: &mut [LinkEnd<PipeIn<Carried<Batch>>>],
-) -> Result<Vec<Started>, WorkerFault>
+) -> Result<(), WorkerFault>
     requires early { cycle.0 < most_cycles }
     requires backed { AreBackedOf bridge.old.domain bridge.old.number cycle.0 (background_at agenda.now cycle.0) }
     requires ports { HasPorts bridge.old }
+    requires tapes { HasTapes bridge.old reel.old }
     requires links { map link_of outs.old ≡ links_onward bridge.old.domain bridge.old.number }
     requires room { All (λ port. length port.pipe.items < most_items) outs.old }
-    ensures ok { IfOk result (λ starts. SendsOn cycle.0 agenda.now bridge.old bridge.new outs.old outs.new starts.items) }
+    ensures ok { OnOk result (SendsOn cycle.0 agenda.now bridge.old bridge.new reel.old reel.new outs.old outs.new) }
     ensures err { IfErr result (IsSendOnFault cycle.0 bridge.old bridge.new outs.old outs.new) }
     ensures put { (put : List LinkBatch) × (outs.new ≡ with_each outs.old (map Item put)) }
 {
@@ -84,10 +84,10 @@ fn send_on<R: Wait>(
         Ok(()) => {}
         Err(fault) => return Err(WorkerFault::Bridge(fault)),
     }
-    let starts = starts_of(alloc, batches.as_slice())?;
+    keep_sent(reel, batches.as_slice(), bridge.background_starts())?;
     keep_onward(bridge.domain(), &mut batches);
     if put_each(rt, outs, batches) {
-        Ok(starts)
+        Ok(())
     } else {
         Err(WorkerFault::Stopped)
     }
@@ -128,31 +128,13 @@ fn receive_on(
     }
 }
 
-/// Posts a page by a share of the book.
-fn post_page<R: Wait>(
-    rt: &R,
-    book: &CycleBook,
-    share: &mut Share,
-    page: Page,
-) -> Result<(), WorkerFault>
-    ensures ok { OnOk result (share.new ≡ with_own share.old page) }
-    ensures err { IfErr result GivesUpPosting }
-{
-    match book.post(rt, share, page) {
-        Ok(()) => Ok(()),
-        Err((PageFault::Memory, _)) => Err(WorkerFault::Memory),
-        Err((fault, _)) => Err(WorkerFault::Book(fault)),
-    }
-}
-
-/// One cycle of a worker's bridge: the table is taken, the cycle sent, a batch taken from each link, the cycle received, and its page
-/// posted. It waits for the table, for room in its pipes and for the batches. `Stopped` where a pipe carries that nothing comes
-/// any more, or its other end is gone; else the fault of the bridge or of the book, or `Memory`.
+/// One cycle of a worker's bridge: the table is taken, the cycle sent, a batch taken from each link, and the cycle received; what it sent and
+/// dropped is kept on its reel. It waits for the table, for room in its pipes and for the batches. `Stopped` where a pipe carries that
+/// nothing comes any more, or its other end is gone; else the fault of the bridge, or `Memory`.
 pub(crate) fn work_cycle<R: Wait, P: Pace>(
     rt: &R,
     alloc: Global,
     pace: &P,
-    book: &CycleBook,
     cycle: Cycle,
     worker: &mut Worker,
 ) -> Result<(), WorkerFault>
@@ -163,12 +145,13 @@ pub(crate) fn work_cycle<R: Wait, P: Pace>(
 {
     let table = take_table(rt, &mut worker.tables)?;
     pace.before_step(usize::from(worker.bridge.number()), cycle);
-    let starts = send_on(
+    send_on(
         rt,
         alloc,
         cycle,
         &mut worker.bridge,
         &worker.agenda,
+        &mut worker.reel,
         worker.outs.as_mut_slice(),
     )?;
     let batches = take_batches(rt, alloc, worker.ins.as_mut_slice())?;
@@ -180,7 +163,6 @@ pub(crate) fn work_cycle<R: Wait, P: Pace>(
         &mut worker.bridge,
         &worker.agenda,
     )?;
-    let page = page_with(alloc, &worker.bridge, cycle, starts, drops)?;
-    post_page(rt, book, &mut worker.share, page)?;
+    worker.reel.keep_drops(drops.as_slice())?;
     Ok(())
 }

@@ -14,10 +14,10 @@ use crate::pace::Pace;
 use crate::rows::stop_each;
 use crate::stepping::work_cycle;
 use cqf_admission::Table;
-use cqf_book::{CycleBook, PageFault, Share};
 use cqf_bridge::{Batch, Bridge, BridgeFault};
 use cqf_bridge_turn::Agenda;
 use cqf_laws_bridge::new_bridge_follows;
+use cqf_tape::Reel;
 use cqf_units::{Cycle, Memory};
 use cqf_worker_pipe::{PipeIn, PipeOut};
 use std::alloc::Global;
@@ -35,8 +35,8 @@ pub struct Worker {
     pub ins: Vec<LinkEnd<PipeOut<Carried<Batch>>>>,
     /// The ends of the pipes on the links that leave the bridge and end in another, by number.
     pub outs: Vec<LinkEnd<PipeIn<Carried<Batch>>>>,
-    /// The bridge's share of the book.
-    pub share: Share,
+    /// What the bridge has sent and dropped.
+    pub reel: Reel,
 }
 
 /// Why a worker ends before its last cycle is over.
@@ -44,10 +44,8 @@ pub struct Worker {
 pub enum WorkerFault {
     /// Its bridge refused a cycle.
     Bridge(BridgeFault),
-    /// A growth was refused to it, in the book too, but not in its bridge.
+    /// A growth was refused to it, but not in its bridge.
     Memory,
-    /// The book refused its page for another cause than memory.
-    Book(PageFault),
     /// A pipe carried that nothing comes any more, or its other end was gone. It is no fault of the worker's own.
     Stopped,
 }
@@ -77,7 +75,6 @@ fn work_cycles<R: Wait, P: Pace>(
     rt: &R,
     alloc: Global,
     pace: &P,
-    book: &CycleBook,
     cycles: u32,
     worker: &mut Worker,
 ) -> Result<(), WorkerFault>
@@ -91,7 +88,7 @@ fn work_cycles<R: Wait, P: Pace>(
 {
     new_bridge_follows();
     for cycle in 0..cycles {
-        work_cycle(rt, alloc, pace, book, Cycle(cycle), worker)?;
+        work_cycle(rt, alloc, pace, Cycle(cycle), worker)?;
     }
     Ok(())
 }
@@ -112,7 +109,7 @@ fn let_go<R: Wait>(rt: &R, worker: Worker) -> Vec<LinkEnd<PipeIn<Carried<Batch>>
         mut outs,
         bridge: _bridge,
         agenda: _agenda,
-        share: _share,
+        reel: _reel,
     } = worker;
     drop(tables);
     drop(ins);
@@ -120,18 +117,16 @@ fn let_go<R: Wait>(rt: &R, worker: Worker) -> Vec<LinkEnd<PipeIn<Carried<Batch>>
     outs
 }
 
-/// Goes through all cycles of a run with a bridge on its thread: the worker comes back with what went through its pipes and what it
-/// posted; it had done nothing before. The pace is asked in each cycle, once its table has come and while no lock is held. It waits for
-/// tables, for room in its pipes, for batches and for the book. Where it ends sooner it tells so first to those who put for it, and then
-/// to those who take from it; the ends at which they are told come back, and the rest is gone with its share, without which the book can't
-/// be closed. It may give up in each cycle for want of memory, in its bridge too, where it is stopped, and where the book refuses its page;
-/// for another cause of its bridge only where this, having sent the cycle, refuses to receive it. That the cycles are at most 100,000 is
-/// for the caller to see to.
+/// Goes through all cycles of a run with a bridge on its thread: the worker comes back with what went through its pipes, and with what its
+/// bridge sent and dropped on its reel; it had done nothing before. The pace is asked in each cycle, once its table has come, and no lock
+/// is held. It waits for tables, for room in its pipes and for batches. Where it ends sooner it tells so first to those who put for it, and
+/// then to those who take from it; the ends at which they are told come back, and the rest is gone with its reel, without which there is no
+/// book. It may give up in each cycle for want of memory, in its bridge too, and where it is stopped; for another cause of its bridge only
+/// where this, having sent the cycle, refuses to receive it. That the cycles are at most 100,000 is for the caller to see to.
 pub fn work<R: Wait, P: Pace>(
     rt: &R,
     alloc: Global,
     pace: &P,
-    book: &CycleBook,
     cycles: u32,
     mut worker: Worker,
 ) -> Result<Worker, GaveUp>
@@ -141,7 +136,7 @@ pub fn work<R: Wait, P: Pace>(
     ensures err { IfErr result (HasGivenUp cycles worker) }
 {
     let bridge = worker.bridge.number();
-    match work_cycles(rt, alloc, pace, book, cycles, &mut worker) {
+    match work_cycles(rt, alloc, pace, cycles, &mut worker) {
         Ok(()) => Ok(worker),
         Err(fault) => {
             let outs = let_go(rt, worker);

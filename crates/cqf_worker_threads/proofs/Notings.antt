@@ -152,7 +152,6 @@ module _ (cycles : ℕ) (r : Ready) where
   worker_cause w bridge (working.Bridge reason) there is stops =
       record { one = record { worker = w; there = there; stops = stops }; number = sym is }
   worker_cause w bridge working.Memory there is stops = tt
-  worker_cause w bridge (working.Book reason) there is stops = (reason, record { worker = w; there = there; stops = stops })
   worker_cause w bridge working.Stopped there is stops = inl (record { worker = w; there = there; stops = stops })
 
   pub workers_told : All (λ (w : Worker). (why : GaveUp) → AnswersWorker cycles w (Err why) → MayCause cycles r (fault_of_worker why)) r.workers.items

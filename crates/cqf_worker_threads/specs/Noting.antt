@@ -23,7 +23,6 @@ noted faults None = record faults { is_stopped = true }
 abbrev pub fault_in_bridge : ℕ → WorkerFault → Option ConductFault
 fault_in_bridge bridge (working.Bridge reason) = Some (conduct.Bridge bridge reason)
 fault_in_bridge bridge working.Memory = Some conduct.Memory
-fault_in_bridge bridge (working.Book reason) = Some conduct.BookDisagrees
 fault_in_bridge bridge working.Stopped = None
 
 abbrev pub fault_of_worker : GaveUp → Option ConductFault

@@ -1,6 +1,5 @@
 -- Which fault a run on threads may tell (profile).
 use Rattle.std.specs.Prelude.{ℕ, ◌≡◌, ◌<◌, ◌⊎◌, Contains, length}
-use Rattle.cqf_book.specs.declared.faults.PageFault.{PageFault}
 use Rattle.cqf_worker_threads.specs.declared.faults.ConductFault.{ConductFault}
 use Rattle.cqf_worker_threads.specs.declared.faults.ConductFault.TheVariants as conduct
 use Rattle.cqf_worker_threads.specs.declared.threads.Administrator.{Administrator}
@@ -37,12 +36,12 @@ pub record OneCalls (r : Ready) : Type 0 where
   pub some : 0 < length administrator.commands.items
 
 -- which fault may be told of a run: that of a bridge with the number of a worker's bridge, for a cause for which that worker may stop; that
--- the desk disagrees where cycles are to be closed, or an administrator has commands; that the book does where a worker's page may be
--- refused; and that an end of a pipe was lost where a worker may be stopped, or tables are to be handed on
+-- the desk disagrees where cycles are to be closed, or an administrator has commands; never that the book does; and that an end of a pipe
+-- was lost where a worker may be stopped, or tables are to be handed on
 abbrev pub MayBeTold : ℕ → Ready → ConductFault → Type 0
 MayBeTold cycles r conduct.Memory = Unit {0}
 MayBeTold cycles r (conduct.Bridge bridge reason) = OneStopsAt cycles r bridge (working.Bridge reason)
 MayBeTold cycles r conduct.DeskDisagrees = (0 < cycles) ⊎ OneCalls r
-MayBeTold cycles r conduct.BookDisagrees = (reason : PageFault) × OneStops cycles r (working.Book reason)
+MayBeTold cycles r conduct.BookDisagrees = ⊥
 MayBeTold cycles r conduct.ChannelLost = OneStops cycles r working.Stopped ⊎ ((0 < cycles) × (0 < length r.tables.items))
 MayBeTold cycles r conduct.Spawn = Unit {0}

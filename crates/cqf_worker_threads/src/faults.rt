@@ -19,7 +19,7 @@ pub enum ConductFault {
     Bridge(u16, BridgeFault),
     /// The desk's history isn't that of its seats, or had no room for a call or a Seal.
     DeskDisagrees,
-    /// The book isn't that of its shares, or refused a page for another cause than memory.
+    /// The book isn't that of its bridges. No run tells it: what a bridge sends and drops stands nowhere but on its own reel.
     BookDisagrees,
     /// An end of a pipe was gone, though no thread has failed.
     ChannelLost,

@@ -3,7 +3,6 @@
 //! - [`run_threads`] starts them with what is [`Ready`], waits for all, and gives what they have in the end, or else the fault
 //!   that is told first.
 //! - [`start_workers`] and [`join_workers`] are its part for the bridges.
-//! - [`Task`] is what each worker is to go through.
 //! - [`ConductFault`] is why a run gives no account, and [`Faults`] is what has gone wrong so far.
 #![tactic(auto)]
 
@@ -13,5 +12,5 @@ mod threads;
 pub use cqf_worker_loops::GaveUp;
 pub use faults::{ConductFault, Faults};
 pub use threads::{
-    Administrator, Ended, OfWorker, Ready, Task, Working, join_workers, run_threads, start_workers,
+    Administrator, Ended, OfWorker, Ready, Working, join_workers, run_threads, start_workers,
 };

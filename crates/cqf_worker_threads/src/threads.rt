@@ -15,7 +15,6 @@ ghost use Rattle.cqf_model.specs.Limits.{most_cycles};
 
 use crate::faults::{ConductFault, Faults};
 use cqf_admission::{Command, Table};
-use cqf_book::CycleBook;
 use cqf_desk::{Desk, Seat};
 use cqf_worker_loops::{
     CallFault, Carried, GaveUp, Pace, Sealed, SealingFault, Unmade, Worker, WorkerFault,
@@ -53,19 +52,12 @@ pub struct Ended {
     pub sealed: Sealed,
 }
 
-/// What each worker is to go through, at most 100,000 cycles, and the book in which it posts its pages.
-#[derive(Clone, Copy)]
-pub struct Task<'s> {
-    pub book: &'s CycleBook,
-    pub cycles: u32,
-}
-
 /// What the threads of a run share: what they do before each call and step, the desk at which administrators call and cycles are
-/// closed, and what each worker is to go through.
+/// closed, and how many cycles each worker is to go through.
 struct Shared<'s, P> {
     pace: &'s P,
     desk: &'s Desk,
-    task: Task<'s>,
+    cycles: u32,
 }
 
 /// That a worker's thread gives what its work promises, also where it gives up.
@@ -109,16 +101,15 @@ pub fn start_workers<'s, E, R: Threads + Wait + Sync, P: Pace>(
     scope: &'s Scope<'s, E>,
     rt: &'s R,
     pace: &'s P,
-    task: Task<'s>,
+    cycles: u32,
     workers: Vec<Worker>,
 ) -> Result<Vec<Working>, ConductFault>
-    requires few { task.cycles ≤ most_cycles }
+    requires few { cycles ≤ most_cycles }
     requires new { All MayWork workers.items }
     ensures of { IfOk result (λ handles. map (λ h. h.promise.worker.value) handles.items ≡ workers.items) }
-    ensures cycles { IfOk result (λ handles. All (λ h. h.promise.cycles ≡ task.entry.cycles) handles.items) }
+    ensures cycles { IfOk result (λ handles. All (λ h. h.promise.cycles ≡ cycles) handles.items) }
     ensures err { IfErr result IsStartFault }
 {
-    let Task { book, cycles } = task;
     let mut handles = Vec::new(alloc);
     for worker in workers {
         let promise = OfWorker {
@@ -130,7 +121,7 @@ pub fn start_workers<'s, E, R: Threads + Wait + Sync, P: Pace>(
             move || -> Result<Worker, GaveUp>
                 requires { (cycles ≤ most_cycles) × MayWork worker }
                 ensures { AnswersWorker cycles worker result }
-            { work(rt, alloc, pace, book, cycles, worker) },
+            { work(rt, alloc, pace, cycles, worker) },
         ) else {
             return Err(ConductFault::Spawn);
         };
@@ -194,7 +185,6 @@ fn note_worker(faults: &mut Faults, why: GaveUp)
     match why.fault {
         WorkerFault::Bridge(reason) => faults.note(ConductFault::Bridge(why.bridge, reason)),
         WorkerFault::Memory => faults.note(ConductFault::Memory),
-        WorkerFault::Book(_) => faults.note(ConductFault::BookDisagrees),
         WorkerFault::Stopped => faults.note_stop(),
     }
 }
@@ -315,16 +305,16 @@ fn start_all<'s, E, R: Threads + Wait + Sync, P: Pace>(
     workers: Vec<Worker>,
     administrators: Vec<Administrator>,
 ) -> Result<(Vec<Working>, Vec<Calling>), ConductFault>
-    requires few { shared.task.cycles ≤ most_cycles }
+    requires few { shared.cycles ≤ most_cycles }
     requires new { All MayWork workers.items }
     requires fresh { All (λ a. a.seat.calls ≡ []) administrators.items }
     ensures workers { IfOk result (λ handles. map (λ h. h.promise.worker.value) handles.0.items ≡ workers.items) }
-    ensures cycles { IfOk result (λ handles. All (λ h. h.promise.cycles ≡ shared.entry.task.cycles) handles.0.items) }
+    ensures cycles { IfOk result (λ handles. All (λ h. h.promise.cycles ≡ shared.entry.cycles) handles.0.items) }
     ensures administrators { IfOk result (λ handles. map (λ h. h.promise.administrator.value) handles.1.items ≡ administrators.items) }
     ensures err { IfErr result IsStartFault }
 {
-    let Shared { pace, desk, task } = shared;
-    let working = start_workers(alloc, scope, rt, pace, task, workers)?;
+    let Shared { pace, desk, cycles } = shared;
+    let working = start_workers(alloc, scope, rt, pace, cycles, workers)?;
     let calling = start_administrators(alloc, scope, rt, pace, desk, administrators)?;
     Ok((working, calling))
 }
@@ -360,9 +350,9 @@ fn run_in<'s, E, R: Threads + Wait + Sync, P: Pace>(
     shared: Shared<'s, P>,
     ready: Ready,
 ) -> Result<Ended, ConductFault>
-    requires { IsReadyWorker shared.task.cycles ready }
-    ensures ok { IfOk result (IsEnded shared.entry.task.cycles ready) }
-    ensures err { IfErr result (MayBeTold shared.entry.task.cycles ready) }
+    requires { IsReadyWorker shared.cycles ready }
+    ensures ok { IfOk result (IsEnded shared.entry.cycles ready) }
+    ensures err { IfErr result (MayBeTold shared.entry.cycles ready) }
 {
     let Ready {
         workers,
@@ -371,7 +361,7 @@ fn run_in<'s, E, R: Threads + Wait + Sync, P: Pace>(
         conductor,
     } = ready;
     let desk = shared.desk;
-    let cycles = shared.task.cycles;
+    let cycles = shared.cycles;
     let started = start_all(alloc, scope, rt, shared, workers, administrators);
     let (working, calling) = match started {
         Ok(threads) => threads,
@@ -429,14 +419,13 @@ pub fn run_threads<R: Threads + Wait + Sync, P: Pace>(
     alloc: Global,
     pace: &P,
     desk: &Desk,
-    task: Task<'_>,
+    cycles: u32,
     ready: Ready,
 ) -> Result<Ended, ConductFault>
-    requires { IsReadyWorker task.cycles ready }
-    ensures ok { IfOk result (IsEnded task.entry.cycles ready) }
-    ensures err { IfErr result (MayBeTold task.entry.cycles ready) }
+    requires { IsReadyWorker cycles ready }
+    ensures ok { IfOk result (IsEnded cycles ready) }
+    ensures err { IfErr result (MayBeTold cycles ready) }
 {
-    let Task { book, cycles } = task;
     thread::scope(
         thread::scope_env(),
         rt,
@@ -444,8 +433,7 @@ pub fn run_threads<R: Threads + Wait + Sync, P: Pace>(
             requires { IsReadyWorker cycles ready }
             ensures { RunAnswers cycles ready result }
         {
-            let task = Task { book, cycles };
-            let shared = Shared { pace, desk, task };
+            let shared = Shared { pace, desk, cycles };
             run_in(alloc, scope, rt, shared, ready)
         },
     )

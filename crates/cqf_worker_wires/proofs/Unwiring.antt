@@ -17,7 +17,7 @@ use Rattle.cqf_lists.proofs.Places.{slice_get_behind, slice_get_front, slice_get
 use Rattle.cqf_worker_loops.specs.declared.carried.Carried.{Carried}
 use Rattle.cqf_worker_wires.specs.declared.closing.Parts.{Parts}
 use Rattle.cqf_worker_loops.specs.declared.worker.Worker.{Worker}
-use Rattle.cqf_worker_wires.specs.Closing.{AreFedBy, AreGivenBy, ArePartsOf, HasLostOne, HaveMore, IsFedBy, IsPartner, share_at, tables_at}
+use Rattle.cqf_worker_wires.specs.Closing.{AreFedBy, AreGivenBy, ArePartsOf, HasLostOne, HaveMore, IsFedBy, IsPartner, reel_at, tables_at}
 use Rattle.cqf_worker_pipe.specs.PipeEnds.{AreLeft, End, PipeId}
 use Rattle.cqf_worker_wires.specs.Wires.{AreFedByWires, AreGiven, AreOn, BatchPort, IsOn, LackEnds, Wiring, count_on}
 use Rattle.cqf_worker_wires.specs.Wires.{ins_at, outs_at, pipe_of_tables, tables_pipe}
@@ -39,7 +39,7 @@ parts_more workers before after w so more = record {
   all_ins = flat_more ins_at workers w before.ins.items after.ins.items so.all_ins more.more_ins;
   all_outs = flat_more outs_at workers w before.outs.items after.outs.items so.all_outs more.more_outs;
   all_tables = map_more tables_at workers w before.tables.items after.tables.items so.all_tables more.more_tables;
-  all_shares = map_more share_at workers w before.shares.items after.shares.items so.all_shares more.more_shares;
+  all_reels = map_more reel_at workers w before.reels.items after.reels.items so.all_reels more.more_reels;
 }
 
 -- the ends at all workers are of the pipes on their links

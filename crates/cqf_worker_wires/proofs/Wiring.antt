@@ -9,12 +9,10 @@ use Rattle.std.proofs.lemmas.List.{get_or-set_other, get_or-set_same, get_or_app
 use Rattle.std.proofs.lemmas.List.Elements.{All-push, Contains-push_cases, filter-append}
 use Rattle.std.proofs.lemmas.Option.{get_or_from_slice_get, slice_get-get_or, slice_get_within}
 use Rattle.cqf_lists.specs.Lists.{each_below}
-use Rattle.cqf_lists.proofs.EachBelow.{contains_from_below, get_or-singles, length-singles}
+use Rattle.cqf_lists.proofs.EachBelow.{contains_from_below}
 use Rattle.cqf_lists.proofs.Made.{contains_if_there}
 use Rattle.cqf_lists.proofs.Members.{all_from_members, contains_from_filter, contains_map, contains_one}
-use Rattle.cqf_lists.proofs.Places.{slice_get_behind}
 use Rattle.cqf_admission.specs.Tables.{CycleTable}
-use Rattle.cqf_book.specs.Shares.{Own, new_shares}
 use Rattle.cqf_bridge.specs.Batch.{LinkBatch}
 use Rattle.cqf_model.specs.declared.topology.Link.{Link}
 use Rattle.cqf_model.specs.declared.topology.Node.TheVariants.{Bridge, Station}
@@ -183,7 +181,7 @@ out_own t wiring link number before after p has of_link mine on begins ends so =
     (ports_more wiring (first_onward t.domain number link) before.outs.items after.outs.items p so.outs has.more mine on) in
     subst (λ (w : Worker). IsLaid t wiring link (suc link) number w) (sym has.same)
     (record {
-      ready = record { is_bridge = so.ready.is_bridge; is_agenda = so.ready.is_agenda; no_tables = so.ready.no_tables; is_share = so.ready.is_share };
+      ready = record { is_bridge = so.ready.is_bridge; is_agenda = so.ready.is_agenda; no_tables = so.ready.no_tables; is_reel = so.ready.is_reel };
       ins = so.ins;
       outs = more;
     })
@@ -207,7 +205,7 @@ in_own t wiring link number before after p has of_link mine on ends so =
     (ports_more wiring (first_into t.domain number link) before.ins.items after.ins.items p so.ins has.more mine on) in
     subst (λ (w : Worker). IsLaid t wiring (suc link) (suc link) number w) (sym has.same)
     (record {
-      ready = record { is_bridge = so.ready.is_bridge; is_agenda = so.ready.is_agenda; no_tables = so.ready.no_tables; is_share = so.ready.is_share };
+      ready = record { is_bridge = so.ready.is_bridge; is_agenda = so.ready.is_agenda; no_tables = so.ready.no_tables; is_reel = so.ready.is_reel };
       ins = more;
       outs = so.outs;
     })
@@ -325,14 +323,6 @@ pub nothing_more : (ends more : List (End (Carried CycleTable))) (end : End (Car
 nothing_more ends more end is none so =
     subst (All (λ (e : End (Carried CycleTable)). e.items ≡ [])) (sym is) (All-push (λ (e : End (Carried CycleTable)). e.items ≡ []) ends end so none)
 
--- so many shares
-pub shares_count : (count : ℕ) → length (new_shares count) ≡ count
-shares_count count = length-singles (λ (b : ℕ). record_of b) count
-  where
-    -- a bridge's share
-    record_of : ℕ → Own
-    record_of b = record { bridge = b; pages = [] }
-
 -- one bare worker more
 pub bare_more : (t : Traffic) (workers : List Worker) (w : Worker) (bridge : ℕ) → bridge ≡ length workers → AreBare t workers → IsBare t bridge w →
     AreBare t (workers ++ w ∷ [])
@@ -345,18 +335,6 @@ bare_laid t wiring workers so n x below = record {
   ins = no_ports wiring (get_or workers n x).ins.items (so n x below).no_ins;
   outs = no_ports wiring (get_or workers n x).outs.items (so n x below).no_outs;
 }
-
--- the next of the shares of so many bridges
-pub next_share : (count : ℕ) (before rest : List Own) (share : Own) → before ++ share ∷ rest ≡ new_shares count →
-    (share ≡ record { bridge = length before; pages = [] }) × (length before < count)
-next_share count before rest share is =
-    let f : ℕ → Own = λ b. record { bridge = b; pages = [] } in
-    let below : length before < count = omega (arith, ap length is, length-append before (share ∷ rest), length-singles f count) in (
-      sym (get_or_from_slice_get (before ++ share ∷ rest) (length before) share share (slice_get_behind before share rest (length before) refl))
-          ∙ ap (λ (xs : List Own). get_or xs (length before) share) is
-          ∙ get_or-singles f count (length before) share below,
-      below,
-    )
 
 -- workers that are laid to all links are those of the traffic
 pub workers_laid : (t : Traffic) (wiring : Wiring) (workers : List Worker) → AreOffers t.domain t.offers → AreBackground t.domain t.background →
@@ -377,7 +355,7 @@ workers_laid t wiring workers offers background so number w there =
       none_taken = all_from_members IsUnused u.ins.items laid.ins.unused;
       links_out = laid.outs.of_links;
       none_put = all_from_members IsUnused u.outs.items laid.outs.unused;
-      is_share = laid.ready.is_share;
+      is_reel = laid.ready.is_reel;
     }
 
 -- bare workers to which pipes are laid on all links

@@ -2,8 +2,8 @@
 use Rattle.std.specs.Prelude.{ℕ, ◌≡◌, ◌+◌, ◌==◌, ◌++◌, ◌∷◌, [], if◌then◌else◌, List, Some, Contains, map, slice_get}
 use Rattle.std.specs.List.{flat_map}
 use Rattle.cqf_admission.specs.Tables.{CycleTable}
-use Rattle.cqf_book.specs.Shares.{Own}
 use Rattle.cqf_bridge.specs.Batch.{LinkBatch}
+use Rattle.cqf_tape.specs.declared.reel.Reel.{Reel}
 use Rattle.cqf_worker_loops.specs.declared.carried.Carried.{Carried}
 use Rattle.cqf_worker_wires.specs.declared.closing.Parts.{Parts}
 use Rattle.cqf_worker_loops.specs.declared.worker.Worker.{Worker}
@@ -14,22 +14,22 @@ use Rattle.cqf_worker_wires.specs.Wires.{BatchPort, IsBeginning, count_on, ins_a
 abbrev pub tables_at : Worker → End (Carried CycleTable)
 tables_at w = w.tables
 
-abbrev pub share_at : Worker → Own
-share_at w = w.share
+abbrev pub reel_at : Worker → Reel
+reel_at w = w.reel
 
 -- a worker's parts stand behind those that were there
 pub record HaveMore (before after : Parts) (w : Worker) : Type 0 where
   pub more_ins : after.ins.items ≡ before.ins.items ++ ins_at w
   pub more_outs : after.outs.items ≡ before.outs.items ++ outs_at w
   pub more_tables : after.tables.items ≡ before.tables.items ++ tables_at w ∷ []
-  pub more_shares : after.shares.items ≡ before.shares.items ++ share_at w ∷ []
+  pub more_reels : after.reels.items ≡ before.reels.items ++ reel_at w ∷ []
 
 -- the parts of workers, worker by worker
 pub record ArePartsOf (workers : List Worker) (parts : Parts) : Type 0 where
   pub all_ins : parts.ins.items ≡ flat_map ins_at workers
   pub all_outs : parts.outs.items ≡ flat_map outs_at workers
   pub all_tables : parts.tables.items ≡ map tables_at workers
-  pub all_shares : parts.shares.items ≡ map share_at workers
+  pub all_reels : parts.reels.items ≡ map reel_at workers
 
 -- a putting end is one of some, of a link
 pub record IsPartner (outs : List BatchPort) (link : ℕ) (end : End (Carried LinkBatch)) : Type 0 where

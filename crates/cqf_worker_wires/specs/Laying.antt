@@ -7,6 +7,7 @@ use Rattle.cqf_model.specs.Domain.{Domain, enters, leaves}
 use Rattle.cqf_bridge_turn.specs.Agenda.{IsAgendaOf}
 use Rattle.cqf_bridge.specs.BridgeState.{new_bridge}
 use Rattle.cqf_laws_bridge.specs.Courses.{Traffic}
+use Rattle.cqf_tape.specs.Reels.{IsNewReel}
 use Rattle.cqf_worker_loops.specs.declared.worker.Worker.{Worker}
 use Rattle.cqf_worker_wires.specs.Wires.{BatchPort, IsOn, Wiring}
 use Rattle.cqf_worker_loops.specs.Workers.{IsUnused, ends_in_bridge, link_of}
@@ -33,7 +34,7 @@ pub record IsReadyWiring (t : Traffic) (number : ℕ) (w : Worker) : Type 0 wher
   pub is_bridge : w.bridge ≡ new_bridge t.domain number
   pub is_agenda : IsAgendaOf t.domain t.offers t.background number w.agenda
   pub no_tables : w.tables.items ≡ []
-  pub is_share : w.share ≡ record { bridge = number; pages = [] }
+  pub is_reel : IsNewReel t.domain number w.reel
 
 -- and it has no ports
 pub record IsBare (t : Traffic) (number : ℕ) (w : Worker) : Type 0 where

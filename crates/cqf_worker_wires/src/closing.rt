@@ -1,7 +1,7 @@
 //! Closing the pipes of a run, when its threads have ended.
 ghost use Rattle.std.specs.Prelude.{◌≡◌, ◌==◌, ◌++◌, Contains, IfNone, IfOk, IfSome, IsErrOf, OnErr, OnOk, map};
 ghost use Rattle.std.specs.List.{flat_map, position};
-ghost use Rattle.cqf_worker_wires.specs.Closing.{AreFedBy, AreGivenBy, ArePartsOf, HasLostOne, HaveMore, IsPartner, share_at};
+ghost use Rattle.cqf_worker_wires.specs.Closing.{AreFedBy, AreGivenBy, ArePartsOf, HasLostOne, HaveMore, IsPartner, reel_at};
 ghost use Rattle.cqf_worker_wires.specs.Wires.{
   AreFedByWires,
   AreGiven,
@@ -18,8 +18,8 @@ ghost use Rattle.cqf_worker_wires.specs.Wires.{
 };
 
 use cqf_admission::Table;
-use cqf_book::Share;
 use cqf_bridge::Batch;
+use cqf_tape::Reel;
 use cqf_units::Memory;
 use cqf_worker_loops::{Carried, LinkEnd, Worker};
 use cqf_worker_pipe::{PipeIn, PipeOut};
@@ -45,13 +45,13 @@ impl From<Memory> for ClosingFault {
     }
 }
 
-/// What workers had, apart: their ends on links, worker by worker, and their table ends and shares, one a worker.
+/// What workers had, apart: their ends on links, worker by worker, and their table ends and reels, one a worker.
 #[derive(Drop)]
 struct Parts {
     ins: Vec<LinkEnd<PipeOut<Carried<Batch>>>>,
     outs: Vec<LinkEnd<PipeIn<Carried<Batch>>>>,
     tables: Vec<PipeOut<Carried<Table>>>,
-    shares: Vec<Share>,
+    reels: Vec<Reel>,
 }
 
 /// Puts more at the end of a list.
@@ -74,12 +74,12 @@ fn add_parts(parts: &mut Parts, worker: Worker) -> Result<(), Memory>
         tables,
         ins,
         outs,
-        share,
+        reel,
     } = worker;
     append(&mut parts.ins, ins)?;
     append(&mut parts.outs, outs)?;
     parts.tables.push(tables)?;
-    parts.shares.push(share)?;
+    parts.reels.push(reel)?;
     Ok(())
 }
 
@@ -91,7 +91,7 @@ fn take_apart(alloc: Global, workers: Vec<Worker>) -> Result<Parts, Memory>
         ins: Vec::new(alloc),
         outs: Vec::new(alloc),
         tables: Vec::new(alloc),
-        shares: Vec::new(alloc),
+        reels: Vec::new(alloc),
     };
     for worker in workers {
         add_parts(&mut parts, worker)?;
@@ -156,19 +156,19 @@ fn close_tables(ins: Vec<PipeIn<Carried<Table>>>, outs: Vec<PipeOut<Carried<Tabl
 }
 
 /// Closes all pipes of a run when its threads have ended: those on links between bridges, whose ends the workers have, and those
-/// of tables, whose putting ends stand by number of worker. It gives back the workers' shares, by worker. `Memory` where a growth
-/// is refused, and `ChannelLost` where there are fewer putting than taking ends of a link; then the ends and shares are gone. The
+/// of tables, whose putting ends stand by number of worker. It gives back the workers' reels, by worker. `Memory` where a growth
+/// is refused, and `ChannelLost` where there are fewer putting than taking ends of a link; then the ends and reels are gone. The
 /// workers' ends are of the pipe on their link, and the ends for tables of the workers' pipes, as `lay` gives them. It waits for nobody.
 pub fn close_pipes(
     alloc: Global,
     tables: Vec<PipeIn<Carried<Table>>>,
     workers: Vec<Worker>,
-) -> Result<Vec<Share>, ClosingFault>
+) -> Result<Vec<Reel>, ClosingFault>
     requires wired { (wiring : Wiring) × AreWired wiring workers.items }
     requires tables { map pipe_of_tables tables.items ≡ map tables_pipe workers.items }
     ensures fed { OnOk result (AreFedByWires workers.items) }
     ensures given { OnOk result (AreGiven tables.items workers.items) }
-    ensures shares { IfOk result (λ shares. shares.items ≡ map share_at workers.items) }
+    ensures reels { IfOk result (λ reels. reels.items ≡ map reel_at workers.items) }
     ensures lost { IsErrOf result ClosingFault.ChannelLost → LackEnds (flat_map ins_at workers.items) (flat_map outs_at workers.items) }
 {
     let parts = take_apart(alloc, workers)?;
@@ -176,9 +176,9 @@ pub fn close_pipes(
         ins,
         outs,
         tables: takings,
-        shares,
+        reels,
     } = parts;
     close_links(ins, outs)?;
     close_tables(tables, takings);
-    Ok(shares)
+    Ok(reels)
 }

@@ -1,17 +1,16 @@
 //! Laying the pipes of a run.
 ghost use Rattle.std.specs.Prelude.{◌≡◌, ◌<◌, ◌^◌, [], All, IfOk, OnOk, length, map};
-ghost use Rattle.cqf_book.specs.Shares.{new_shares};
 ghost use Rattle.cqf_worker_loops.specs.Workers.{MayWork};
 ghost use Rattle.cqf_model.specs.Run.{AreBackground, AreOffers};
 ghost use Rattle.cqf_worker_wires.specs.Laying.{AreBare, HasIn, HasOut, IsBare, LaysFirst, LaysLink, LaysPipe, traffic_of};
 ghost use Rattle.cqf_worker_wires.specs.Wires.{AreWired, AreWorkersOf, Wiring, pipe_of_tables, tables_pipe};
 
 use cqf_admission::Table;
-use cqf_book::Share;
 use cqf_bridge::{Batch, Bridge};
 use cqf_bridge_turn::Agenda;
 use cqf_compile::Plan;
 use cqf_model::{Background, Node, Offer};
+use cqf_tape::Reel;
 use cqf_topology::Domain;
 use cqf_units::Memory;
 use cqf_worker_loops::{Carried, LinkEnd, Worker};
@@ -31,19 +30,18 @@ fn ready_worker(
     plan: &Plan,
     offers: &[Offer],
     background: &[Background],
-    share: Share,
+    number: u16,
 ) -> Result<(Worker, PipeIn<Carried<Table>>), Memory>
-    requires bridge { share.bridge < length plan.now.bridges }
-    requires unposted { share.pages ≡ [] }
+    requires bridge { number < length plan.now.bridges }
     requires few_offers { length offers.now < 2 ^ 32 }
     requires few_background { length background.now < 2 ^ 32 }
-    ensures worker { IfOk result (λ made. IsBare (traffic_of plan.now offers.now background.now) share.bridge made.0) }
+    ensures worker { IfOk result (λ made. IsBare (traffic_of plan.now offers.now background.now) number made.0) }
     ensures pipe { IfOk result (λ made. made.1.pipe ≡ tables_pipe made.0) }
     ensures nothing_put { IfOk result (λ made. made.1.items ≡ []) }
 {
-    let number = share.bridge();
     let bridge = Bridge::new(alloc, plan, number)?;
     let agenda = Agenda::new(alloc, plan.domain(), offers, background, number)?;
+    let reel = Reel::new(alloc, plan.domain(), number)?;
     let (putting, tables) = pipe(alloc)?;
     let worker = Worker {
         bridge,
@@ -51,7 +49,7 @@ fn ready_worker(
         tables,
         ins: Vec::new(alloc),
         outs: Vec::new(alloc),
-        share,
+        reel,
     };
     Ok((worker, putting))
 }
@@ -62,9 +60,7 @@ fn ready_workers(
     plan: &Plan,
     offers: &[Offer],
     background: &[Background],
-    shares: Vec<Share>,
 ) -> Result<Laid, Memory>
-    requires shares { shares.items ≡ new_shares (length plan.now.bridges) }
     requires few_offers { length offers.now < 2 ^ 32 }
     requires few_background { length background.now < 2 ^ 32 }
     ensures count { IfOk result (λ laid. length laid.workers.items ≡ length plan.now.bridges) }
@@ -74,8 +70,8 @@ fn ready_workers(
 {
     let mut workers = Vec::new(alloc);
     let mut tables = Vec::new(alloc);
-    for share in shares {
-        let (worker, putting) = ready_worker(alloc, plan, offers, background, share)?;
+    for number in 0..plan.domain().bridges() {
+        let (worker, putting) = ready_worker(alloc, plan, offers, background, number)?;
         workers.push(worker)?;
         tables.push(putting)?;
     }
@@ -155,18 +151,16 @@ fn lay_links(alloc: Global, domain: &Domain, workers: &mut Vec<Worker>) -> Resul
     Ok(())
 }
 
-/// The workers of all bridges of a plan's domain, by number, which have done nothing, each with its share of a cycle book: on each
-/// link between two bridges a pipe from the one's worker to the other's, and a pipe for tables to each worker, whose putting ends
-/// stand by number too. The shares are one of each bridge, by number, with no page. There are fewer than 2^32 offers, each at a bridge of
-/// the domain, and fewer than 2^32 background frames, each on a link of it. `Memory` where a growth is refused; then the shares are gone.
+/// The workers of all bridges of a plan's domain, by number, which have done nothing, each with a reel: on each link between two bridges a
+/// pipe from the one's worker to the other's, and a pipe for tables to each worker, whose putting ends stand by number too. There are
+/// fewer than 2^32 offers, each at a bridge of the domain, and fewer than 2^32 background frames, each on a link of it. `Memory` where a
+/// growth is refused.
 pub fn lay(
     alloc: Global,
     plan: &Plan,
     offers: &[Offer],
     background: &[Background],
-    shares: Vec<Share>,
 ) -> Result<Laid, Memory>
-    requires shares { shares.items ≡ new_shares (length plan.now.bridges) }
     requires few_offers { length offers.now < 2 ^ 32 }
     requires few_background { length background.now < 2 ^ 32 }
     requires offers { AreOffers plan.now offers.now }
@@ -178,7 +172,7 @@ pub fn lay(
     ensures tables { IfOk result (λ laid. map pipe_of_tables laid.tables.items ≡ map tables_pipe laid.workers.items) }
     ensures nothing_put { IfOk result (λ laid. All (λ end. end.items ≡ []) laid.tables.items) }
 {
-    let mut laid = ready_workers(alloc, plan, offers, background, shares)?;
+    let mut laid = ready_workers(alloc, plan, offers, background)?;
     lay_links(alloc, plan.domain(), &mut laid.workers)?;
     Ok(laid)
 }

@@ -21,7 +21,7 @@ pub(crate) fn ask(
 {
     match command {
         Command::Admit(request) => admission.admit(seat, request),
-        Command::AdmitPaced(request) => admission.admit_paced(seat, request),
+        Command::AdmitPaced(request) => admission.admit_shared(seat, request),
         Command::Withdraw(name) => admission.withdraw(seat, name.as_str()),
     }
 }

@@ -6,5 +6,5 @@ returns-clause-under_way c t entries own given apart = under_way t entries own a
 
 pub returns-clause-book : goal.returns-clause-book
 returns-clause-book c t entries own cycles pages gathered given apart closed have is =
-    gathered_history t entries own apart given c.pages_are_of_the_book.ensures c.gathered_pages_are_the_book.ensures c.book_exists.ensures
-    c.tables_are_orderly.ensures.count cycles closed pages gathered have is
+    gathered_history t entries own apart given c.pages_are_of_the_book.ensures c.book_exists.ensures
+    c.tables_are_orderly.ensures.count cycles closed c.gathered_pages_are_the_book.ensures pages gathered have is

@@ -7,7 +7,7 @@ use Rattle.cqf_bridge_turn.proofs.paging.list_batch.Goals as goal
 
 pub loop-place-preserved : goal.loop-place-preserved
 loop-place-preserved c =
-    batch_more c.args.batch.now.cycle c.args.batch.now.link c.loop-place.place c.args.batch.now.frames c.get.result c.args.starts.now.items
+    batch_more (started c.args.batch.now.cycle c.args.batch.now.link) c.loop-place.place c.args.batch.now.frames c.get.result c.args.starts.now.items
     c.loop-place.starts.items
     c.push.new.self.items c.get.ensures c.loop-place.invariant
     (c.in_ok-push.ensures.items ∙ ap (λ (x : Started). c.loop-place.starts.items ++ x ∷ [])

@@ -12,10 +12,10 @@ returns-in-Admit c =
 
 pub returns-in-AdmitPaced : goal.returns-in-AdmitPaced
 returns-in-AdmitPaced c =
-    comes_answered c.state_follows_history.ensures.counted c.args.admission.now c.admit_paced.new.self (recorded_of c.args.entry.now) c.admit_paced.result
+    comes_answered c.state_follows_history.ensures.counted c.args.admission.now c.admit_shared.new.self (recorded_of c.args.entry.now) c.admit_shared.result
     c.answered-in-AdmitPaced.result
-    (subst (λ (act : Act). Answers c.args.admission.now c.admit_paced.new.self c.args.entry.now.seat act c.admit_paced.result)
-    (sym (ap act_of c.in-AdmitPaced.is)) c.admit_paced.ensures.answers) (ap is_seal (ap act_of c.in-AdmitPaced.is))
+    (subst (λ (act : Act). Answers c.args.admission.now c.admit_shared.new.self c.args.entry.now.seat act c.admit_shared.result)
+    (sym (ap act_of c.in-AdmitPaced.is)) c.admit_shared.ensures.answers) (ap is_seal (ap act_of c.in-AdmitPaced.is))
     c.answered-in-AdmitPaced.ensures
 
 pub returns-in-Withdraw : goal.returns-in-Withdraw

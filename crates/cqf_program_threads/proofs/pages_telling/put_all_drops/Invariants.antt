@@ -1,8 +1,12 @@
 use Rattle.cqf_program_press.specs.Press.{Puts}
 use Rattle.cqf_report.specs.Books.{lines_of_drops}
-use Rattle.cqf_program_threads.specs.PagedBooks.{drops_in_cycles}
+use Rattle.cqf_tape.specs.Tapes.{drops_in_cycles}
+use Rattle.cqf_tape.specs.Telling.{AreDropPlaces}
 use Rattle.cqf_program_threads.proofs.pages_telling.put_all_drops.Given as goal
 
--- the lines of the cycles so far are put
+-- the lines of the cycles so far are put, and the places are where these end
 abbrev pub invariant-loop-cycle : goal.invariant-loop-cycle
-invariant-loop-cycle g l = Puts g.W.Write.contents l.initial.press l.press (lines_of_drops l.book.domain (drops_in_cycles l.book l.cycle))
+invariant-loop-cycle g l = record {
+  places : AreDropPlaces l.book.domain l.book.tapes l.cycle l.places;
+  puts : Puts g.W.Write.contents l.initial.press l.press (lines_of_drops l.book.domain (drops_in_cycles l.book.domain l.book.tapes l.cycle));
+}

@@ -1,18 +1,36 @@
-use Rattle.std.proofs.Common.{◌+◌}
-use Rattle.cqf_book.specs.Pages.{pages_of}
-use Rattle.cqf_laws_account.specs.Paged.{contents_on}
-use Rattle.cqf_program_press.proofs.PressLemmas.{Puts-as, Puts-then}
+use Rattle.std.proofs.Common.{◌+◌, ◌∙◌, ℕ, List, ap, arith, filter, length, refl, set, subst, sym}
+use Rattle.cqf_model.specs.declared.frames.Dropped.{Dropped}
+use Rattle.cqf_program_press.proofs.PressLemmas.{Puts-as, Puts-nothing, Puts-then}
 use Rattle.cqf_report.specs.Books.{lines_of_drops}
-use Rattle.cqf_program_threads.specs.PagedBooks.{drops_at_bridges}
+use Rattle.cqf_tape.specs.Tapes.{IsDropsEndBefore, drops_at, drops_at_bridges, is_drop_in}
 use Rattle.cqf_program_threads.proofs.PageLines.{drops_more}
+use Rattle.cqf_program_threads.proofs.Places.{AreBehindBridges, bridges_begin, ends_by_bridge, one_gone}
 use Rattle.cqf_program_threads.proofs.pages_telling.put_drops_of_cycle.Goals as goal
 
--- the next bridge's are put behind
+-- at first no line is put
+pub loop-bridge-init : goal.loop-bridge-init
+loop-bridge-init g c = record {
+  places = bridges_begin c.args.domain.now c.args.tapes.now c.args.places.now c.args.cycle.0 c.requires.before;
+  puts = Puts-nothing _ refl;
+}
+
+-- the next bridge's are put behind, and its place is behind the cycle
 pub loop-bridge-preserved : goal.loop-bridge-preserved
 loop-bridge-preserved g c =
-    let book = c.args.book.now in
+    let d = c.args.domain.now in
+    let tapes = c.args.tapes.now in
+    let cycle = c.args.cycle.0 in
     let bridge = c.loop-bridge.bridge in
-    Puts-as _ (lines_of_drops book.domain (drops_at_bridges book c.args.cycle (bridge + 1)))
-    (drops_more book.domain c.domain-in-loop-bridge.result.now (λ b. (contents_on (pages_of book.pages) b c.args.cycle).drops) bridge c.drops.result.now
-    c.domain-in-loop-bridge.ensures c.drops.ensures)
-    (Puts-then _ _ c.loop-bridge.invariant c.put_drops.ensures)
+    let end = c.drops_end_of-end.result in
+    let placed : AreBehindBridges d tapes cycle (bridge + 1) (set c.loop-bridge.places bridge end) =
+    one_gone (ends_by_bridge tapes cycle) (ends_by_bridge tapes (cycle + 1)) (length d.bridges) c.loop-bridge.places bridge end
+    (omega (arith, c.loop-bridge-test.true, c.bridges-bridge-end.ensures)) c.loop-bridge.invariant.places
+    (subst (λ (drops : List Dropped). IsDropsEndBefore (cycle + 1) drops end) c.drops-drops.ensures c.drops_end_of-end.ensures.behind) in
+    record {
+      places = subst (λ (place : ℕ). AreBehindBridges d tapes cycle (bridge + 1) (set c.loop-bridge.places place end))
+          (sym c.from-place.ensures) placed;
+      puts = Puts-as _ (lines_of_drops d (drops_at_bridges tapes cycle (bridge + 1)))
+          (drops_more d d (λ (b : ℕ). filter (is_drop_in cycle) (drops_at tapes b)) bridge _ refl
+          (sym c.drops_end_of-end.ensures.of_cycle ∙ ap (filter (is_drop_in cycle)) c.drops-drops.ensures))
+          (Puts-then _ _ c.loop-bridge.invariant.puts c.put_drops.ensures);
+    }

@@ -1,23 +1,23 @@
 use Rattle.std.proofs.Common.{ap}
-use Rattle.cqf_program_threads.specs.PagedBooks.{ByPages, contents_told}
+use Rattle.cqf_program_threads.specs.PagedBooks.{ByTapes, contents_told}
 use Rattle.cqf_program_runs.specs.RunOutput.{run_text}
 use Rattle.cqf_worker.specs.Account.{entries_of}
-use Rattle.cqf_program_threads.proofs.Accounts.{EndsThreads-memory, IsThreadsOutput-written, pages_by_link}
+use Rattle.cqf_program_threads.proofs.Accounts.{EndsThreads-memory, IsThreadsOutput-written, may_be_told}
 use Rattle.cqf_program_threads.proofs.threads_command.threads_output.Goals as goal
 
--- on the pages the transmissions stand link by link
-pub new-book-requires : goal.new-book-requires
-new-book-requires g c =
-    pages_by_link c.args.limits c.args.cycles c.args.input.now c.in-Ok-conduct_opened.ran.0 c.in-Ok-conduct_opened.ran.1 c.in-Ok-conduct_opened.ensures.ok
-    c.pages_tell_the_book.ensures c.know.ensures.accepted
+-- the tapes may be told
+pub new-book-requires-clause-tapes : goal.new-book-requires-clause-tapes
+new-book-requires-clause-tapes g c =
+    may_be_told c.args.limits c.args.cycles c.args.input.now c.in-Ok-conduct_opened.ran.0 c.in-Ok-conduct_opened.ran.1 c.in-Ok-conduct_opened.ensures.ok
+    c.tapes_tell_the_book.ensures c.know.ensures.accepted
 
 -- and they tell the output
 pub returns-in-Ok-new-clause-ok : goal.returns-in-Ok-new-clause-ok
 returns-in-Ok-new-clause-ok g c =
     let account = c.in-Ok-conduct_opened.ran.1 in
     IsThreadsOutput-written c.args.limits c.args.cycles c.args.input.now c.in-Ok-conduct_opened.ran.0 account c.in-Ok-conduct_opened.ensures.ok
-    c.pages_tell_the_book.ensures c.know.ensures.accepted _
-    (ap (λ (book : ByPages). run_text book.domain (entries_of account.history) (contents_told book)) c.new-book.ensures)
+    c.tapes_tell_the_book.ensures c.know.ensures.accepted _
+    (ap (λ (book : ByTapes). run_text book.domain (entries_of account.history) (contents_told book)) c.new-book.ensures)
 
 -- without memory for a sheet nothing is told
 pub returns-in-Err-new-clause-err : goal.returns-in-Err-new-clause-err

@@ -1,18 +1,21 @@
-use Rattle.std.proofs.Common.{ℕ, Global, Vec, map, refl, subst}
-use Rattle.cqf_model.specs.Book.{contents_of}
+use Rattle.std.proofs.Common.{Global, Vec, map, refl}
 use Rattle.cqf_admission.specs.declared.entries.Command.{Command}
-use Rattle.cqf_book.specs.Pages.{pages_of}
-use Rattle.cqf_book.specs.Shares.{IsBookOfPages}
 use Rattle.cqf_worker.specs.declared.account.Account.{Account}
-use Rattle.cqf_worker.proofs.Accounts.{gathered_account}
+use Rattle.cqf_worker.proofs.Accounts.{told_account}
 use Rattle.cqf_worker.proofs.conducting.conduct.Goals as goal
 
--- the book that its pages are gathered to is that of the run
+-- the tapes may be told
+pub book_of-requires-clause-tapes : goal.book_of-requires-clause-tapes
+book_of-requires-clause-tapes g c =
+    let paged = c.in_ok-history.field-0 in
+    let is = c.in_ok-history.ensures.ok in
+    (c.tapes_tell_the_book.ensures c.args.domain.now c.args.cycles paged.pages is.book c.know.ensures.accepted is.some is.its_pages).may
+
+-- the book that its pages tell is that of the run
 pub returns-clause-ok : goal.returns-clause-ok
 returns-clause-ok g c =
     let paged = c.in_ok-history.field-0 in
     let account : Account = record { history = paged.history; book = c.in_ok-book.book } in
-    gathered_account c.args.domain.now c.args.admission.entries c.args.offers.now c.args.background.now c.args.cycles
-    (map (λ (v : Vec Command Global). v.items) c.args.admins.items) paged account c.gathered_pages_are_the_book.ensures
-    c.know.ensures.accepted c.in_ok-history.ensures.ok refl
-    (subst (λ (n : ℕ). IsBookOfPages (pages_of paged.pages) n (contents_of c.in_ok-book.book)) c.bridges.ensures c.in_ok-book.ensures)
+    told_account c.args.domain.now c.args.admission.entries c.args.offers.now c.args.background.now c.args.cycles
+    (map (λ (v : Vec Command Global). v.items) c.args.admins.items) paged account c.tapes_tell_the_book.ensures
+    c.know.ensures.accepted c.in_ok-history.ensures.ok refl c.in_ok-book.ensures

@@ -3,7 +3,7 @@ use Rattle.cqf_admission.specs.declared.entries.Command.{Command}
 use Rattle.cqf_worker.proofs.Preparing.{passed_on}
 use Rattle.cqf_worker.specs.Failing.{IsConductFault}
 use Rattle.cqf_worker.proofs.Told.{told_before, told_in_the_end, told_of_threads}
-use Rattle.cqf_worker.proofs.Accounts.{account_is, is_ready, tables_in_the_end, wired_in_the_end}
+use Rattle.cqf_worker.proofs.Accounts.{account_is, is_ready, reels_in_the_end, tables_in_the_end, wired_in_the_end}
 use Rattle.cqf_worker.proofs.conducting.conduct_pages.Goals as goal
 
 -- what is prepared is ready
@@ -23,13 +23,19 @@ settle-requires-clause-tables g c =
     tables_in_the_end c.args.domain.now c.args.admission.entries c.args.offers.now c.args.background.now c.args.cycles
     (map (λ (v : Vec Command Global). v.items) c.args.admins.items) c.in_ok-desk.field-0 c.in_ok-desk.ensures.ok c.in_ok-ended.ended c.in_ok-ended.ensures.ok
 
+-- and the reels are of the bridges
+pub settle-requires-clause-reels : goal.settle-requires-clause-reels
+settle-requires-clause-reels g c =
+    reels_in_the_end c.args.domain.now c.args.admission.entries c.args.offers.now c.args.background.now c.args.cycles
+    (map (λ (v : Vec Command Global). v.items) c.args.admins.items) c.in_ok-desk.field-0 c.in_ok-desk.ensures.ok c.in_ok-ended.ended c.in_ok-ended.ensures.ok
+
 -- the account is that of the run
 pub returns-clause-ok : goal.returns-clause-ok
 returns-clause-ok g c =
     account_is c.args.domain.now c.args.admission.entries c.args.offers.now c.args.background.now c.args.cycles
     (map (λ (v : Vec Command Global). v.items) c.args.admins.items) c.in_ok-desk.field-0 c.in_ok-desk.ensures.ok c.in_ok-ended.ended c.in_ok-ended.ensures.ok
     c.in_ok-account.account c.in_ok-account.ensures.ok c.know.ensures.accepted c.requires.unsealed c.requires.offers c.requires.background
-    c.seats_give_the_history.ensures.history c.seats_give_the_history.ensures.tables c.bridges_apart_post_the_pages.ensures
+    c.seats_give_the_history.ensures.history c.seats_give_the_history.ensures.tables c.bridges_apart_keep_the_tapes.ensures
     c.book_of_history_says_the_shift.ensures
 
 -- it can't begin

@@ -14,7 +14,6 @@ returns-clause-ok c =
       desk = desk_is c.in_ok-desk.desk c.args.admission c.args.given.domain.now c.len.result
           (length (map (λ (v : Vec Command Global). v.items) c.args.admins.items))
           c.in_ok-desk.ensures.desk c.requires.domain many;
-      book = c.in_ok-book.ensures.ok.empty;
       laid = c.in_ok-workers.ensures.ok;
       seated = c.in_ok-administrators.ensures.ok;
     }
@@ -24,10 +23,6 @@ pub returns-in_err-administrators-clause-err : goal.returns-in_err-administrator
 returns-in_err-administrators-clause-err c =
     passed_on c.from_residual-in_err-administrators.result c.in_err-administrators.field-0.0 IsStartFault
     c.from_residual-in_err-administrators.ensures.1 c.in_err-administrators.ensures.err
-
-pub returns-in_err-book-clause-err : goal.returns-in_err-book-clause-err
-returns-in_err-book-clause-err c =
-    passed_on c.from_residual-in_err-book.result c.in_err-book.field-0.0 IsStartFault c.from_residual-in_err-book.ensures.1 c.in_err-book.ensures.err
 
 pub returns-in_err-workers-clause-err : goal.returns-in_err-workers-clause-err
 returns-in_err-workers-clause-err c =

@@ -1,25 +1,30 @@
+use Rattle.std.proofs.Common.{subst, sym}
+use Rattle.cqf_tape.specs.Reels.{AreReelsOf}
 use Rattle.cqf_worker.specs.Conducting.{IsSettleFault}
-use Rattle.cqf_worker.proofs.Preparing.{passed_on, settled_so, told_of_both, told_of_pipes}
+use Rattle.cqf_worker.proofs.Preparing.{passed_on, settled_so, told_of_desk, told_of_pipes}
 use Rattle.cqf_worker.proofs.conducting.settle.Goals as goal
 
--- pipes, desk and book are closed
+-- the reels are of the bridges
+pub gather-requires : goal.gather-requires
+gather-requires c = subst (AreReelsOf c.args.domain.now) (sym c.in_ok-reels.ensures.ok.own) c.requires.reels
+
+-- pipes and desk are closed, and the tapes gathered
 pub returns-clause-ok : goal.returns-clause-ok
 returns-clause-ok c =
-    settled_so c.args.desk c.args.book c.args.ended c.push.new.self.items c.in_ok-shares.shares.items c.close_desk-history.result c.close_book-closed.result
-    c.in_ok-account.account c.in_ok-shares.ensures.ok.fed c.in_ok-shares.ensures.ok.given c.in_ok-push.ensures.items c.in_ok-shares.ensures.ok.own
-    c.close_desk-history.ensures.ok c.close_book-closed.ensures.ok c.in_ok-account.ensures.ok.0 c.in_ok-account.ensures.ok.1
+    settled_so c.args.domain.now c.args.desk c.args.ended c.push.new.self.items c.in_ok-reels.reels.items
+    (record { history = c.in_ok-history.history; pages = c.in_ok-pages.pages })
+    c.in_ok-reels.ensures.ok.fed c.in_ok-reels.ensures.ok.given c.in_ok-push.ensures.items c.in_ok-reels.ensures.ok.own
+    c.in_ok-history.ensures.ok c.in_ok-pages.ensures
 
 -- or its pipes aren't
-pub returns-in_err-shares-clause-err : goal.returns-in_err-shares-clause-err
-returns-in_err-shares-clause-err c =
-    passed_on c.from_residual.result c.in_err-shares.field-0.0 (IsSettleFault c.args.desk c.args.book c.args.ended) c.from_residual.ensures.1
-    (told_of_pipes c.args.desk c.args.book c.args.ended c.in_err-shares.field-0.0 c.in_err-shares.ensures.err)
+pub returns-in_err-reels-clause-err : goal.returns-in_err-reels-clause-err
+returns-in_err-reels-clause-err c =
+    passed_on c.from_residual.result c.in_err-reels.field-0.0 (IsSettleFault c.args.desk c.args.ended) c.from_residual.ensures.1
+    (told_of_pipes c.args.desk c.args.ended c.in_err-reels.field-0.0 c.in_err-reels.ensures.err)
 
--- or the desk or the book isn't
-pub returns-in_err-account-clause-err : goal.returns-in_err-account-clause-err
-returns-in_err-account-clause-err c =
-    passed_on c.from_residual-in_err-account.result c.in_err-account.field-0.0 (IsSettleFault c.args.desk c.args.book c.args.ended)
-    c.from_residual-in_err-account.ensures.1
-    (told_of_both c.args.desk c.args.book c.args.ended c.push.new.self.items c.in_ok-shares.shares.items c.close_desk-history.result
-    c.close_book-closed.result c.in_err-account.field-0.0 c.in_ok-push.ensures.items c.in_ok-shares.ensures.ok.own c.close_desk-history.ensures.err
-    c.close_book-closed.ensures.err c.in_err-account.ensures.fault)
+-- or the desk isn't
+pub returns-in_err-history-clause-err : goal.returns-in_err-history-clause-err
+returns-in_err-history-clause-err c =
+    passed_on c.from_residual-in_err-history.result c.in_err-history.field-0.0 (IsSettleFault c.args.desk c.args.ended)
+    c.from_residual-in_err-history.ensures.1
+    (told_of_desk c.args.desk c.args.ended c.push.new.self.items c.in_err-history.field-0.0 c.in_ok-push.ensures.items c.in_err-history.ensures.err)

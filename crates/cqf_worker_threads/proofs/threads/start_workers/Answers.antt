@@ -27,7 +27,7 @@ loop-worker-preserved g c =
       append_assoc before (c.in-Some.worker ∷ []) rest ∙ ap (λ xs. before ++ xs) (sym steps) ∙ c.loop-worker.invariant.0,
       mapped_more (λ h. h.promise.worker.value) c.in-Ok.handle c.loop-worker.handles.items c.push.new.self.items c.in-Some.worker before
           c.in_ok-push.ensures.items c.loop-worker.invariant.1 (search rules),
-      holds_of_more (λ h. h.promise.cycles ≡ c.args.task.cycles) c.in-Ok.handle c.loop-worker.handles.items c.push.new.self.items c.in_ok-push.ensures.items
+      holds_of_more (λ h. h.promise.cycles ≡ c.args.cycles) c.in-Ok.handle c.loop-worker.handles.items c.push.new.self.items c.in_ok-push.ensures.items
           c.loop-worker.invariant.2 (search rules),
       All-rest MayWork c.in-Some.worker rest (into_iter_items c.loop-worker.worker-iterator) steps c.loop-worker.invariant.3,
     )

@@ -1,34 +1,15 @@
--- A request is judged by itself, and asked for.
-use Rattle.std.proofs.Common.{◌≡◌, ap, arith, refl, subst}
-use Rattle.cqf_model.specs.History.{Act, Admits}
-use Rattle.cqf_admission.specs.declared.entries.Call.TheVariants.{AdmitPaced}
-use Rattle.cqf_admission.specs.Admission.{Administration, Answers, act_of}
-use Rattle.cqf_admission.specs.Asking.{asked_by, asked_paced}
-use Rattle.cqf_admission.specs.Calling.{IsJudgedCall}
-use Rattle.cqf_admission.proofs.Entered.{room_left}
+-- A copy that is shared asks for the same.
+use Rattle.std.proofs.Common.{subst}
+use Rattle.cqf_model.specs.History.{Admits, Asked}
+use Rattle.cqf_admission.specs.Admission.{Answers, HoldsOneMore}
 use Rattle.cqf_admission.proofs.admission.Admission.admit_paced.Goals as goal
-
-pub admit_judged-requires-clause-room : goal.admit_judged-requires-clause-room
-admit_judged-requires-clause-room c =
-    room_left c.is_full.result c.len.result c.self.inside.history.items c.self.inside.domain c.self.inside.state c.args.self.now c.if-is_full.false
-    c.is_full.ensures (omega (arith, c.len.ensures)) c.self.invariant.0 c.self.view_is
-
-pub admit_judged-requires-clause-judged : goal.admit_judged-requires-clause-judged
-admit_judged-requires-clause-judged c =
-    subst (λ (a : Administration). IsJudgedCall a.domain (AdmitPaced c.in_ok-asked.asked) c.args.request.now.octets c.judge_paced-judged.result) c.self.view_is (
-    record {
-      asked = asked_paced c.args.request.now;
-      act = ap (λ text. Admits (asked_by text)) c.in_ok-asked.ensures;
-      octets_asked = refl;
-      judges = c.judge_paced-judged.ensures;
-    }
-    )
 
 pub returns-clause-answers : goal.returns-clause-answers
 returns-clause-answers c =
-    subst (λ (act : Act). Answers c.args.self.now c.admit_judged.new.self c.args.seat act c.admit_judged.result)
-    (ap (λ text. Admits (asked_by text)) c.in_ok-asked.ensures) c.admit_judged.ensures.answers
+    subst (λ (asked : Asked). Answers c.args.self.now c.admit_shared.new.self c.args.seat (Admits asked) c.admit_shared.result)
+    c.in_ok-asked.ensures c.admit_shared.ensures.answers
 
 pub returns-clause-held : goal.returns-clause-held
 returns-clause-held c =
-    c.admit_judged.ensures.held (asked_paced c.args.request.now) (ap (λ text. Admits (asked_by text)) c.in_ok-asked.ensures)
+    subst (λ (asked : Asked). HoldsOneMore c.args.self.now c.admit_shared.new.self asked c.admit_shared.result) c.in_ok-asked.ensures
+    c.admit_shared.ensures.held

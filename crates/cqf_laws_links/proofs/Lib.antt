@@ -1,0 +1,4 @@
+mod Hindmost
+mod Unled
+mod Lanes
+mod Follow

@@ -1,0 +1,107 @@
+-- Rows of a table, one of them shortened, and what elements by number come to.
+use Rattle.std.proofs.Common.{◌≡◌, ◌≢◌, ℕ, zero, suc, ◌<◌, ◌∷◌, ◌++◌, [], List, length, get_or, map, set, sym, ap, ◌∙◌, arith, refl}
+use Rattle.std.specs.Prelude.{Option, Some, slice_get}
+use Rattle.std.specs.Global.{Global}
+use Rattle.std.specs.Option.{option_map_or}
+use Rattle.std.specs.declared.vec.Vec.{Vec}
+use Rattle.std.proofs.lemmas.List.{append-nil, append_assoc, length-map, length-set, map-append}
+use Rattle.std.proofs.lemmas.Option.{slice_get-get_or}
+use Rattle.cqf_lists.specs.ByNumber.{lists_of}
+use Rattle.cqf_model.specs.declared.frames.Dropped.{Dropped}
+use Rattle.cqf_tape.specs.declared.reel.Reel.{Reel}
+use Rattle.cqf_tape.specs.declared.tape.Tape.{Tape}
+use Rattle.cqf_tape.specs.Reels.{TakesLast, row_at}
+
+-- what is made of an element by its number, and else something else
+pub made_at : {A B : Type 0} (f : A → B) (xs : List A) (k : ℕ) (none : B) → option_map_or f (slice_get xs k) none ≡ get_or (map f xs) k none
+made_at f [] k none = refl
+made_at f (x ∷ xs) zero none = refl
+made_at f (x ∷ xs) (suc k) none = made_at f xs k none
+
+-- an element at another place stays
+pub slice_get-set_other : {A : Type 0} (xs : List A) (i j : ℕ) (x : A) → j ≢ i → slice_get (set xs i x) j ≡ slice_get xs j
+slice_get-set_other [] i j x apart = refl
+slice_get-set_other (y ∷ xs) zero zero x apart = absurd (apart refl)
+slice_get-set_other (y ∷ xs) zero (suc j) x apart = refl
+slice_get-set_other (y ∷ xs) (suc i) zero x apart = refl
+slice_get-set_other (y ∷ xs) (suc i) (suc j) x apart = slice_get-set_other xs i j x (λ same. apart (ap (λ (n : ℕ). suc n) same))
+
+slice_get-set_same : {A : Type 0} (xs : List A) (i : ℕ) (x : A) → i < length xs → slice_get (set xs i x) i ≡ Some x
+slice_get-set_same [] i x inside = absurd (omega (arith, inside))
+slice_get-set_same (y ∷ xs) zero x inside = refl
+slice_get-set_same (y ∷ xs) (suc i) x inside = slice_get-set_same xs i x (omega (arith, inside))
+
+-- a row inside of a table
+pub row_here : {X : Type 0} (rows : List (Vec X Global)) (place : ℕ) (d : Vec X Global) → place < length rows → row_at rows place ≡ (get_or rows place d).items
+row_here {X} rows place d inside =
+    ap (λ (o : Option (Vec X Global)). option_map_or (λ (row : Vec X Global). row.items) o []) (slice_get-get_or rows place d inside)
+
+-- a row is shortened by its last tape
+pub taken_last : (before : List (Vec Tape Global)) (place bridge : ℕ) (old new : Vec Tape Global) (tape : Tape) → place ≡ bridge → place < length before →
+    old ≡ get_or before place old → old.items ≡ new.items ++ tape ∷ [] → TakesLast bridge before (set before place new) tape
+taken_last before place bridge old new tape is inside stands parts = record {
+  many = length-set before place new;
+  last =
+      ap (row_at before) (sym is)
+      ∙ row_here before place old inside
+      ∙ ap (λ (row : Vec Tape Global). row.items) (sym stands)
+      ∙ parts
+      ∙ ap (λ (tapes : List Tape). tapes ++ tape ∷ [])
+      (sym (ap (row_at (set before place new)) (sym is)
+      ∙ ap (λ (o : Option (Vec Tape Global)). option_map_or (λ (row : Vec Tape Global). row.items) o []) (slice_get-set_same before place new inside)));
+  others = λ other apart.
+      ap (λ (o : Option (Vec Tape Global)). option_map_or (λ (row : Vec Tape Global). row.items) o [])
+      (slice_get-set_other before place other new (λ same. apart (same ∙ is)));
+}
+
+-- a row with nothing to take
+pub nothing_there : (rows : List (Vec Tape Global)) (place bridge : ℕ) (old : Vec Tape Global) → place ≡ bridge → place < length rows →
+    old ≡ get_or rows place old → old.items ≡ [] → row_at rows bridge ≡ []
+nothing_there rows place bridge old is inside stands none =
+    ap (row_at rows) (sym is) ∙ row_here rows place old inside ∙ ap (λ (row : Vec Tape Global). row.items) (sym stands) ∙ none
+
+-- ---- reels that are taken apart, the others still to come
+
+-- what is on reels
+abbrev pub tapes_on : Reel → List Tape
+tapes_on reel = reel.tapes.items
+
+abbrev pub drops_on : Reel → List Dropped
+drops_on reel = reel.drops.items
+
+-- what rows have so far, and what is made of those to come, is what is made of all
+pub record IsTakenUpTo {X : Type 0} (made : Reel → List X) (rows : List (Vec X Global)) (rest all : List Reel) : Type 0 where
+  pub parts : lists_of rows ++ map made rest ≡ map made all
+
+module _ {X : Type 0} (made : Reel → List X) where
+  pub none_taken : (rows : List (Vec X Global)) (rest all : List Reel) → rows ≡ [] → rest ≡ all → IsTakenUpTo made rows rest all
+  none_taken rows rest all none given = record { parts = ap (λ (vs : List (Vec X Global)). lists_of vs ++ map made rest) none ∙ ap (map made) given }
+
+  -- one more row is that of the next reel
+  pub one_taken : (rows after : List (Vec X Global)) (row : Vec X Global) (reel : Reel) (rest left all : List Reel) → IsTakenUpTo made rows left all →
+      left ≡ reel ∷ rest → after ≡ rows ++ row ∷ [] → row.items ≡ made reel → IsTakenUpTo made after rest all
+  one_taken rows after row reel rest left all h next more is = record {
+    parts =
+        ap (λ (vs : List (Vec X Global)). lists_of vs ++ map made rest) more
+        ∙ ap (λ (ls : List (List X)). ls ++ map made rest) (map-append (λ (v : Vec X Global). v.items) rows (row ∷ []))
+        ∙ ap (λ (l : List X). (lists_of rows ++ l ∷ []) ++ map made rest) is
+        ∙ append_assoc (lists_of rows) (made reel ∷ []) (map made rest)
+        ∙ ap (λ (rs : List Reel). lists_of rows ++ map made rs) (sym next)
+        ∙ h.parts;
+  }
+
+  -- in the end each reel has its row
+  pub all_taken : (rows : List (Vec X Global)) (rest all : List Reel) → IsTakenUpTo made rows rest all → rest ≡ [] → lists_of rows ≡ map made all
+  all_taken rows rest all h none =
+      sym (append-nil (lists_of rows)) ∙ ap (λ (rs : List Reel). lists_of rows ++ map made rs) (sym none) ∙ h.parts
+
+  pub rows_taken : (rows : List (Vec X Global)) (rest all : List Reel) (bridge : ℕ) → IsTakenUpTo made rows rest all → rest ≡ [] →
+      row_at rows bridge ≡ option_map_or made (slice_get all bridge) []
+  rows_taken rows rest all bridge h none =
+      made_at (λ (row : Vec X Global). row.items) rows bridge []
+      ∙ ap (λ (ls : List (List X)). get_or ls bridge []) (all_taken rows rest all h none)
+      ∙ sym (made_at made all bridge [])
+
+  pub many_taken : (rows : List (Vec X Global)) (rest all : List Reel) → IsTakenUpTo made rows rest all → rest ≡ [] → length rows ≡ length all
+  many_taken rows rest all h none =
+      sym (length-map rows (λ (row : Vec X Global). row.items)) ∙ ap length (all_taken rows rest all h none) ∙ length-map all made

@@ -1,0 +1,4 @@
+pub mod Tapes
+pub mod Reels
+-- what the inner functions say
+pub mod Telling

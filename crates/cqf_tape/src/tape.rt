@@ -1,0 +1,79 @@
+//! What one link sends.
+ghost use Rattle.std.specs.Prelude.{◌≡◌, ◌++◌, [], ◌∷◌, OnOk, filter, map};
+ghost use Rattle.cqf_laws_cycle.specs.PageLaws.{is_on_link};
+ghost use Rattle.cqf_tape.specs.Tapes.{mark_of};
+
+use cqf_model::Started;
+use cqf_units::{Memory, Nanos};
+use std::alloc::Global;
+
+/// A transmission, as its link's tape has it.
+#[derive(Clone, Copy, Debug, PartialEq, Eq)]
+pub struct Mark {
+    pub start: Nanos,
+    /// The place of its offer among the offers, or of its background frame among those, from 1.
+    pub frame: u32,
+    pub octets: u32,
+}
+
+/// The transmissions of a link, in order of instant (profile).
+#[derive(Debug, Drop)]
+pub struct Tape {
+    /// The number of the link, by the domain, from 0.
+    pub link: u16,
+    /// Those of streams' frames.
+    pub starts: Vec<Mark>,
+    /// Those of background frames.
+    pub background: Vec<Mark>,
+}
+
+/// A transmission without its link and its cycle.
+fn marked(started: &Started) -> Mark
+    ensures { result ≡ mark_of started.now }
+{
+    Mark {
+        start: started.start,
+        frame: started.frame,
+        octets: started.octets,
+    }
+}
+
+impl Tape {
+    /// A link's tape with nothing on it. It takes no memory yet.
+    pub fn new(alloc: Global, link: u16) -> Tape
+        ensures link { result.link ≡ link }
+        ensures starts { result.starts.items ≡ [] }
+        ensures background { result.background.items ≡ [] }
+    {
+        Tape {
+            link,
+            starts: Vec::new(alloc),
+            background: Vec::new(alloc),
+        }
+    }
+
+    /// Puts a stream's frame behind the others. `Memory` where a growth is refused.
+    pub fn keep(&mut self, mark: Mark) -> Result<(), Memory>
+        ensures link { self.new.link ≡ self.old.link }
+        ensures starts { OnOk result (self.new.starts.items ≡ self.old.starts.items ++ mark ∷ []) }
+        ensures background { self.new.background.items ≡ self.old.background.items }
+    {
+        self.starts.push(mark)?;
+        Ok(())
+    }
+
+    /// Puts those of some background frames behind the others that were sent on the link. `Memory` where a growth is refused.
+    pub fn keep_background(&mut self, starts: &[Started]) -> Result<(), Memory>
+        ensures link { self.new.link ≡ self.old.link }
+        ensures starts { self.new.starts.items ≡ self.old.starts.items }
+        ensures background { OnOk result (self.new.background.items ≡
+            self.old.background.items ++ map mark_of (filter (is_on_link self.old.link) starts.now)) }
+    {
+        for started in starts {
+            if started.link == self.link {
+                self.background.push(marked(started))?;
+            }
+        }
+        Ok(())
+    }
+}

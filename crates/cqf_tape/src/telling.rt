@@ -1,0 +1,197 @@
+//! Tapes told cycle by cycle.
+ghost use Rattle.std.specs.Prelude.{◌≡◌, ◌+◌, ◌-◌, ◌≤◌, ◌<◌, ◌++◌, IfOk, OnOk, drop, filter, length, take};
+ghost use Rattle.cqf_model.specs.Book.{contents_of};
+ghost use Rattle.cqf_model.specs.Limits.{most_cycles};
+ghost use Rattle.cqf_tape.specs.Tapes.{AreDropsByCycle, IsDropsEndBefore, IsEndBefore, IsInOrder, MayBeTold, is_drop_in, is_in, started_in};
+ghost use Rattle.cqf_tape.specs.Tapes.{drops_at_bridges, drops_in_cycles, told_from, told_in_cycles, told_on, told_on_links};
+ghost use Rattle.cqf_tape.specs.Telling.{AreDropPlaces, ArePlaces};
+
+use crate::tape::Mark;
+use crate::tapes::{Kind, Tapes};
+use cqf_model::{Book, Dropped, Started};
+use cqf_topology::Domain;
+use cqf_units::{Cycle, Memory};
+use std::alloc::Global;
+
+/// Where the marks of a cycle end, of a tape on which those of the cycles before end at a place.
+pub fn end_of(domain: &Domain, cycle: Cycle, marks: &[Mark], from: usize) -> usize
+    requires early { cycle.0 < most_cycles }
+    requires order { IsInOrder marks.now }
+    requires before { IsEndBefore domain.now cycle.0 marks.now from }
+    ensures behind { IsEndBefore domain.now (cycle.0 + 1) marks.now result }
+    ensures forward { from ≤ result }
+    ensures of_cycle { filter (is_in domain.now cycle.0) marks.now ≡ take (result - from) (drop from marks.now) }
+{
+    let end = (u64::from(cycle.0) + 1) * domain.cycle_time().0;
+    for place in from..marks.len() {
+        if marks[place].start.0 >= end {
+            return place;
+        }
+    }
+    marks.len()
+}
+
+/// Where the drops of a cycle end, where those of the cycles before end at a place.
+pub fn drops_end_of(cycle: Cycle, drops: &[Dropped], from: usize) -> usize
+    requires order { AreDropsByCycle drops.now }
+    requires before { IsDropsEndBefore cycle.0 drops.now from }
+    ensures behind { IsDropsEndBefore (cycle.0 + 1) drops.now result }
+    ensures forward { from ≤ result }
+    ensures of_cycle { filter (is_drop_in cycle.0) drops.now ≡ take (result - from) (drop from drops.now) }
+{
+    for place in from..drops.len() {
+        if drops[place].cycle.0 > cycle.0 {
+            return place;
+        }
+    }
+    drops.len()
+}
+
+/// A mark of a cycle on a link's tape, as a book has it.
+pub fn started_on(cycle: Cycle, link: u16, mark: Mark) -> Started
+    ensures { result ≡ started_in cycle.0 link mark }
+{
+    Started {
+        cycle,
+        link,
+        frame: mark.frame,
+        octets: mark.octets,
+        start: mark.start,
+    }
+}
+
+/// Puts the marks of a cycle on a link's tape behind what is told, and gives the place where they end.
+fn add_on_link(
+    domain: &Domain,
+    cycle: Cycle,
+    link: u16,
+    marks: &[Mark],
+    from: usize,
+    told: &mut Vec<Started>,
+) -> Result<usize, Memory>
+    requires early { cycle.0 < most_cycles }
+    requires order { IsInOrder marks.now }
+    requires before { IsEndBefore domain.now cycle.0 marks.now from }
+    ensures behind { IfOk result (IsEndBefore domain.now (cycle.0 + 1) marks.now) }
+    ensures more { OnOk result (told.new.items ≡ told.old.items ++ told_on domain.now cycle.0 link marks.now) }
+{
+    let end = end_of(domain, cycle, marks, from);
+    let own = &marks[from..end];
+    for mark in own {
+        told.push(started_on(cycle, link, *mark))?;
+    }
+    Ok(end)
+}
+
+/// Puts the marks of a kind and a cycle behind what is told, link by link. The places are those where the cycles before end.
+fn add_cycle(
+    domain: &Domain,
+    tapes: &Tapes,
+    kind: Kind,
+    cycle: Cycle,
+    places: &mut [usize],
+    told: &mut Vec<Started>,
+) -> Result<(), Memory>
+    requires early { cycle.0 < most_cycles }
+    requires tapes { MayBeTold domain.now tapes.now }
+    requires before { ArePlaces domain.now kind tapes.now cycle.0 places.old }
+    ensures behind { OnOk result (ArePlaces domain.now kind tapes.now (cycle.0 + 1) places.new) }
+    ensures more { OnOk result (told.new.items ≡ told.old.items ++ told_on_links domain.now kind tapes.now cycle.0 (length domain.now.links)) }
+{
+    for link in 0..domain.links() {
+        let marks = tapes.marks(kind, link);
+        let place = usize::from(link);
+        places[place] = add_on_link(domain, cycle, link, marks, places[place], told)?;
+    }
+    Ok(())
+}
+
+/// The transmissions of a kind, cycle by cycle, then link by link.
+fn starts_of_kind(
+    alloc: Global,
+    domain: &Domain,
+    tapes: &Tapes,
+    kind: Kind,
+    cycles: u32,
+) -> Result<Vec<Started>, Memory>
+    requires few { cycles ≤ most_cycles }
+    requires tapes { MayBeTold domain.now tapes.now }
+    ensures { IfOk result (λ starts. starts.items ≡ told_in_cycles domain.now kind tapes.now cycles) }
+{
+    let mut places = vec![in alloc; 0usize; usize::from(domain.links())]?;
+    let mut starts = Vec::new(alloc);
+    for cycle in 0..cycles {
+        add_cycle(
+            domain,
+            tapes,
+            kind,
+            Cycle(cycle),
+            places.as_mut_slice(),
+            &mut starts,
+        )?;
+    }
+    Ok(starts)
+}
+
+/// Puts the drops of a cycle behind what is told, bridge by bridge. The places are those where the cycles before end.
+fn add_drops(
+    domain: &Domain,
+    tapes: &Tapes,
+    cycle: Cycle,
+    places: &mut [usize],
+    told: &mut Vec<Dropped>,
+) -> Result<(), Memory>
+    requires tapes { MayBeTold domain.now tapes.now }
+    requires before { AreDropPlaces domain.now tapes.now cycle.0 places.old }
+    ensures behind { OnOk result (AreDropPlaces domain.now tapes.now (cycle.0 + 1) places.new) }
+    ensures more { OnOk result (told.new.items ≡ told.old.items ++ drops_at_bridges tapes.now cycle.0 (length domain.now.bridges)) }
+{
+    for bridge in 0..domain.bridges() {
+        let drops = tapes.drops(bridge);
+        let place = usize::from(bridge);
+        let from = places[place];
+        let end = drops_end_of(cycle, drops, from);
+        told.extend_from_slice(&drops[from..end])?;
+        places[place] = end;
+    }
+    Ok(())
+}
+
+/// The drops, cycle by cycle, then bridge by bridge.
+fn all_drops(
+    alloc: Global,
+    domain: &Domain,
+    tapes: &Tapes,
+    cycles: u32,
+) -> Result<Vec<Dropped>, Memory>
+    requires few { cycles ≤ most_cycles }
+    requires tapes { MayBeTold domain.now tapes.now }
+    ensures { IfOk result (λ drops. drops.items ≡ drops_in_cycles domain.now tapes.now cycles) }
+{
+    let mut places = vec![in alloc; 0usize; usize::from(domain.bridges())]?;
+    let mut drops = Vec::new(alloc);
+    for cycle in 0..cycles {
+        add_drops(
+            domain,
+            tapes,
+            Cycle(cycle),
+            places.as_mut_slice(),
+            &mut drops,
+        )?;
+    }
+    Ok(drops)
+}
+
+/// The book that tapes tell over so many cycles, at most 100,000: its starts by cycle, then link, then instant, and its drops by cycle, then
+/// bridge, then frame. Nothing is sorted. `Memory` where a growth is refused.
+pub fn book_of(alloc: Global, domain: &Domain, tapes: &Tapes, cycles: u32) -> Result<Book, Memory>
+    requires few { cycles ≤ most_cycles }
+    requires tapes { MayBeTold domain.now tapes.now }
+    ensures { IfOk result (λ book. contents_of book ≡ told_from domain.now cycles tapes.now) }
+{
+    Ok(Book {
+        starts: starts_of_kind(alloc, domain, tapes, Kind::Stream, cycles)?,
+        background: starts_of_kind(alloc, domain, tapes, Kind::Background, cycles)?,
+        drops: all_drops(alloc, domain, tapes, cycles)?,
+    })
+}
