@@ -64,7 +64,7 @@ module _ (d : Domain) (cycles : ℕ) (carried : Carried) (some : 0 < d.cycle_tim
       ap (λ k. arrival_of_start (started k l x)) (sym (eqb-true (cycle_of d x.start.0) cycle of_cycle.1)))
 
   -- what a link carries is its batches
-  batches : (l : ℕ) → l < length d.links → carried l ≡ each_below (batch d carried l) cycles
+  pub batches : (l : ℕ) → l < length d.links → carried l ≡ each_below (batch d carried l) cycles
   batches l is_link = by_key (λ (x : Sent). cycle_of d x.start.0) cycles (carried l) ascends
       (λ x c. cycle_below d.cycle_time x.start.0 cycles (turn.before_end l x c))
     where

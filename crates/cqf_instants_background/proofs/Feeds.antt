@@ -1,16 +1,12 @@
 -- What ports are given, one frame after the other.
-use Rattle.std.proofs.Common.{◌≡◌, ◌≢◌, ◌∙◌, ◌++◌, ◌∷◌, [], ◌<◌, ◌+◌, ◌-◌, ◌≤◌, ◌⊎◌, ℕ, zero, suc, All, Bool, true}
-use Rattle.std.proofs.Common.{false, List, filter, take, map, ap, sym, length, refl, arith, get_or, inl, inr, set}
+use Rattle.std.proofs.Common.{◌≡◌, ◌∙◌, ◌++◌, ◌∷◌, [], ◌<◌, ◌+◌, ℕ, zero, suc, All, Bool, true, false, List, take, ap, sym, length, refl, arith, get_or}
 use Rattle.std.proofs.Common.{append_assoc, append-nil, subst}
-use Rattle.std.specs.Prelude.{◌==◌, if◌then◌else◌}
+use Rattle.std.specs.Prelude.{◌==◌}
 use Rattle.std.specs.Global.{Global}
 use Rattle.std.specs.declared.vec.Vec.{Vec}
-use Rattle.std.proofs.lemmas.Bool.{cases_lt, true≢false}
+use Rattle.std.proofs.lemmas.Bool.{true≢false}
 use Rattle.std.proofs.lemmas.Bool.Decides.{nat_tests}
-use Rattle.std.proofs.lemmas.List.{get_or-append_right, get_or-map, get_or-set_other, get_or-set_same}
-use Rattle.std.proofs.lemmas.List.{get_or_append_left, length-append, length-map, length-set, map-append, map-set}
-use Rattle.std.proofs.lemmas.List.{nil_from_length, take_more}
-use Rattle.std.proofs.lemmas.List.Elements.{filter-append}
+use Rattle.std.proofs.lemmas.List.{get_or-map, length-map, nil_from_length, take_more}
 use Rattle.cqf_lists.specs.ByNumber.{AddsTo, AreListsBy, lists_of}
 use Rattle.cqf_lists.proofs.ByNumber.{apart_from_key, listed_by_key, made-append, made_by_key, made_elsewhere, made_here}
 use Rattle.cqf_model.specs.declared.frames.Backed.{Backed}
@@ -20,7 +16,7 @@ use Rattle.cqf_instants_background.specs.Feeding.{AddsStart, AreFed, arrival_of_
 use Rattle.cqf_instants_background.proofs.Starting.{given_whole}
 
 -- with no streams' frames a port is given its background frames
-fed-nil : (frames : List Arrival) → fed frames [] ≡ frames
+pub fed-nil : (frames : List Arrival) → fed frames [] ≡ frames
 fed-nil [] = refl
 fed-nil (x ∷ frames) = ap (λ z. x ∷ z) (append-nil frames)
 

@@ -9,3 +9,5 @@ pub mod Feeds
 pub mod Tellings
 pub mod Takings
 pub mod Whole
+pub mod Tapes
+pub mod Backing

@@ -91,7 +91,7 @@ given_whole [] streams some = absurd (omega (arith, some))
 given_whole (x ∷ frames) streams some = refl
 
 -- and an empty one not at all
-given_none : (frames streams : List Arrival) → length frames ≡ 0 → fed frames streams ≡ []
+pub given_none : (frames streams : List Arrival) → length frames ≡ 0 → fed frames streams ≡ []
 given_none [] streams none = refl
 given_none (x ∷ frames) streams none = absurd (omega (arith, none))
 

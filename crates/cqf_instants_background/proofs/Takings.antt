@@ -104,11 +104,9 @@ in_order background end =
     when : (t : ℕ) (x : Backed) → Contains (at t) x → x.background.at.0 ≡ t
     when t x c = eqb-true x.background.at.0 t (contains_from_filter (is_at t) (numbered_background background) x c).1
 
-module _ (d : Domain) (cycles : ℕ) (carried : Carried) (starts : List Started) (background : List Background) (frames : List Backed)
-    (lists : List (List Arrival))
-    (accepted : IsAccepted d) (few : cycles < 2 ^ 32) (turn : IsInTurn d cycles carried) (are : starts ≡ starts_of d cycles carried)
-    (behind : AreBackground d background) (by : frames ≡ by_instant background (cycles * d.cycle_time))
-    (given : AreFed frames starts (length d.links) lists) where
+module _ (d : Domain) (cycles : ℕ) (carried : Carried) (background : List Background) (frames : List Backed) (accepted : IsAccepted d)
+    (soon : cycles * d.cycle_time < 2 ^ 62) (turn : IsInTurn d cycles carried) (behind : AreBackground d background)
+    (by : frames ≡ by_instant background (cycles * d.cycle_time)) where
   -- each background frame of a link
   frame_given : (l : ℕ) (a : Arrival) → Contains (frames_fed_on l frames) a → IsGiven 0 6 a
   frame_given l a c =
@@ -122,11 +120,7 @@ module _ (d : Domain) (cycles : ℕ) (carried : Carried) (starts : List Started)
   stream_given l a c =
       let m = contains_from_map (arrival_of_sent d) (carried l) a c in
       let class = sent_class (cycle_of d m.0.start.0) in
-      subst (IsGiven 6 8) m.2 (record {
-        from = class.0;
-        below = class.1;
-        early = omega (arith, turn.before_end l m.0 m.1, end_early cycles d.cycle_time few accepted.cycle_most);
-      })
+      subst (IsGiven 6 8) m.2 (record { from = class.0; below = class.1; early = omega (arith, turn.before_end l m.0 m.1, soon) })
 
   -- the background frames of a link are in order
   frames_in_order : (l : ℕ) → AllPairs (λ (a b : Arrival). a.at.0 ≤ b.at.0) (frames_fed_on l frames)
@@ -142,18 +136,26 @@ module _ (d : Domain) (cycles : ℕ) (carried : Carried) (starts : List Started)
       (pairs_weaker (λ (a b : Sent). a.start.0 < b.start.0) (λ (a b : Sent). a.start.0 ≤ b.start.0) (carried l) (λ a b c e less. omega (arith, less))
       (turn.in_order l is_link))
 
-  -- so what a port is given it may take
-  pub all_taken : (l : ℕ) → l < length lists → AreTaken (get_or lists l [])
-  all_taken l inside =
-      let is_link : l < length d.links = omega (arith, inside, given.one_each) in
-      let some : 0 < d.cycle_time = omega (arith, accepted.cycle_least) in
-      let streams : streams_fed_on l starts ≡ map (arrival_of_sent d) (carried l) =
-      ap (streams_fed_on l) are ∙ streams_are d cycles carried some turn l is_link in
-      let is : get_or lists l [] ≡ fed (frames_fed_on l frames) (map (arrival_of_sent d) (carried l)) =
-      given.each l [] is_link ∙ ap (fed (frames_fed_on l frames)) streams in
-      subst AreTaken (sym is)
-      (both_taken (frames_fed_on l frames) (map (arrival_of_sent d) (carried l)) (frame_given l) (stream_given l) (frames_in_order l)
-      (streams_in_order l is_link))
+  -- so a link's port may take both
+  pub may_take : (l : ℕ) → l < length d.links → AreTaken (fed (frames_fed_on l frames) (map (arrival_of_sent d) (carried l)))
+  may_take l is_link =
+      both_taken (frames_fed_on l frames) (map (arrival_of_sent d) (carried l)) (frame_given l) (stream_given l) (frames_in_order l)
+      (streams_in_order l is_link)
+
+-- so what a port is given in a history's run it may take
+pub all_taken : (d : Domain) (cycles : ℕ) (carried : Carried) (starts : List Started) (background : List Background) (frames : List Backed)
+    (lists : List (List Arrival)) → IsAccepted d → cycles < 2 ^ 32 → IsInTurn d cycles carried → starts ≡ starts_of d cycles carried →
+    AreBackground d background → frames ≡ by_instant background (cycles * d.cycle_time) → AreFed frames starts (length d.links) lists →
+    (l : ℕ) → l < length lists → AreTaken (get_or lists l [])
+all_taken d cycles carried starts background frames lists accepted few turn are behind by given l inside =
+    let is_link : l < length d.links = omega (arith, inside, given.one_each) in
+    let some : 0 < d.cycle_time = omega (arith, accepted.cycle_least) in
+    let streams : streams_fed_on l starts ≡ map (arrival_of_sent d) (carried l) =
+    ap (streams_fed_on l) are ∙ streams_are d cycles carried some turn l is_link in
+    let is : get_or lists l [] ≡ fed (frames_fed_on l frames) (map (arrival_of_sent d) (carried l)) =
+    given.each l [] is_link ∙ ap (fed (frames_fed_on l frames)) streams in
+    subst AreTaken (sym is)
+    (may_take d cycles carried background frames accepted (end_early cycles d.cycle_time few accepted.cycle_most) turn behind by l is_link)
 
 -- each background frame is on a link of the domain
 pub frames_on_links : (d : Domain) (background : List Background) (end links : ℕ) (frames : List Backed) → AreBackground d background →

@@ -1,6 +1,7 @@
 //! What the ports are given, link by link.
 ghost use Rattle.std.specs.Prelude.{◌≡◌, ◌<◌, [], All, IfOk, OnOk, length};
 ghost use Rattle.cqf_lists.specs.ByNumber.{AddsTo, lists_of};
+ghost use Rattle.cqf_laws_cycle.specs.Compiled.{open_class};
 ghost use Rattle.cqf_instants_background.specs.Feeding.{AddsStart, AreFed, arrival_of_frame, arrival_of_start};
 
 use cqf_model::{Arrival, Backed, Started};
@@ -13,25 +14,31 @@ const CLASS_OF_EVEN_CYCLES: u8 = 7;
 /// The class that odd ones send.
 const CLASS_OF_ODD_CYCLES: u8 = 6;
 
+/// The class of streams' frames that a cycle sends.
+pub(crate) fn class_of_cycle(cycle: u64) -> u8
+    ensures { result ≡ open_class cycle }
+{
+    if cycle % 2 == 0 {
+        CLASS_OF_EVEN_CYCLES
+    } else {
+        CLASS_OF_ODD_CYCLES
+    }
+}
+
 /// A stream's frame that comes when it starts, with the class that its cycle sends.
 fn arrival_of_start(start: &Started) -> Arrival
     ensures { result ≡ arrival_of_start start.now }
 {
-    let class = if start.cycle.0 % 2 == 0 {
-        CLASS_OF_EVEN_CYCLES
-    } else {
-        CLASS_OF_ODD_CYCLES
-    };
     Arrival {
         at: start.start,
-        class,
+        class: class_of_cycle(u64::from(start.cycle.0)),
         octets: start.octets,
         frame: start.frame,
     }
 }
 
 /// A background frame as its port gets it.
-fn arrival_of_frame(frame: &Backed) -> Arrival
+pub(crate) fn arrival_of_frame(frame: &Backed) -> Arrival
     ensures { result ≡ arrival_of_frame frame.now }
 {
     Arrival {
@@ -63,7 +70,11 @@ fn put_arrival(lists: &mut Vec<Vec<Arrival>>, link: u16, arrival: Arrival) -> Re
 }
 
 /// The background frames, link by link.
-fn feed_frames(alloc: Global, links: u16, frames: &[Backed]) -> Result<Vec<Vec<Arrival>>, Memory>
+pub(crate) fn feed_frames(
+    alloc: Global,
+    links: u16,
+    frames: &[Backed],
+) -> Result<Vec<Vec<Arrival>>, Memory>
     requires { All (λ x. x.background.link < links) frames.now }
     ensures { IfOk result (λ lists. AreFed frames.now [] links (lists_of lists.items)) }
 {

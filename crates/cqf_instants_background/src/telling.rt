@@ -16,7 +16,7 @@ use std::alloc::Global;
 const STREAMS: u8 = 6;
 
 /// Whether a start is of a background frame.
-fn is_low(start: &Start) -> bool
+pub(crate) fn is_low(start: &Start) -> bool
     ensures { result ≡ is_low start.now }
 {
     start.class < STREAMS
@@ -57,7 +57,7 @@ fn tell_starts(
 }
 
 /// What the port of a link starts up to an end of what it is given.
-fn starts_of_port(
+pub(crate) fn starts_of_port(
     alloc: Global,
     domain: &Domain,
     link: u16,

@@ -1,6 +1,5 @@
 //! A run on threads over the line: the stream `x` is held from the beginning, and an administrator withdraws another one in vain.
 use cqf_admission::{Call, Command, Entry};
-use cqf_bridge::BridgeFault;
 use cqf_model::{Book, Offer};
 use cqf_refusing::{Told, X, domain_of, mark, once, twice, writes};
 use cqf_test_fixtures::{Begun, admission_of, are_begun, are_offers, line, offers_of};
@@ -65,11 +64,7 @@ fn is_given(alloc: Global, outcome: &Result<Account, ConductFault>) -> bool {
 
 /// Whether a run may fail so where a growth is refused: a thread for which there is no memory isn't started.
 fn is_wanting(fault: ConductFault) -> bool {
-    match fault {
-        ConductFault::Memory | ConductFault::Spawn => true,
-        ConductFault::Bridge(_, fault) => matches!(fault, BridgeFault::Memory),
-        _ => false,
-    }
+    matches!(fault, ConductFault::Memory | ConductFault::Spawn)
 }
 
 /// Makes the run with these commands.

@@ -3,9 +3,8 @@ ghost use Rattle.std.specs.Prelude.{◌≡◌, IfSome, map};
 ghost use Rattle.cqf_worker_wires.specs.Wires.{AreWired, Wiring, pipe_of_tables, tables_pipe};
 
 use cqf_bridge_turn::Agenda;
-use cqf_compile::Plan;
 use cqf_model::Offer;
-use cqf_refusing::{Told, mark, once, plan_of, twice};
+use cqf_refusing::{Told, domain_of, mark, once, twice};
 use cqf_tape::Reel;
 use cqf_test_fixtures::{are_offers, line, offers_of};
 use cqf_topology::Domain;
@@ -50,8 +49,8 @@ pub(crate) fn agenda_told(alloc: Global) -> Told {
     let Ok(offers) = offers_of(alloc, &[(0, 1, "x", 64), (125_000, 0, "x", 64)]) else {
         return Told::NotReady;
     };
-    match plan_of(alloc, line()) {
-        Some(plan) => agenda_made(alloc, plan.domain(), offers.as_slice()),
+    match domain_of(alloc, line()) {
+        Some(domain) => agenda_made(alloc, &domain, offers.as_slice()),
         None => Told::NotReady,
     }
 }
@@ -65,35 +64,35 @@ fn is_laid(laid: &Result<Laid, Memory>) -> bool {
 }
 
 /// Workers are laid, or else laid again.
-fn laid(alloc: Global, plan: &Plan, offers: &[Offer]) -> Told {
-    if offers.len() > 1_000_000 || !are_offers(plan.domain(), offers) {
+fn laid(alloc: Global, domain: &Domain, offers: &[Offer]) -> Told {
+    if offers.len() > 1_000_000 || !are_offers(domain, offers) {
         return Told::NotReady;
     }
     mark(alloc);
-    let first = lay(alloc, plan, offers, &[]);
+    let first = lay(alloc, domain, offers, &[], 5);
     mark(alloc);
     if first.is_ok() {
         return once(is_laid(&first));
     }
-    twice(true, is_laid(&lay(alloc, plan, offers, &[])))
+    twice(true, is_laid(&lay(alloc, domain, offers, &[], 5)))
 }
 
 pub(crate) fn lay_told(alloc: Global) -> Told {
     let Ok(offers) = offers_of(alloc, &[(0, 0, "x", 64)]) else {
         return Told::NotReady;
     };
-    match plan_of(alloc, line()) {
-        Some(plan) => laid(alloc, &plan, offers.as_slice()),
+    match domain_of(alloc, line()) {
+        Some(domain) => laid(alloc, &domain, offers.as_slice()),
         None => Told::NotReady,
     }
 }
 
 /// Workers without offers.
-fn workers_of(alloc: Global, plan: &Plan) -> Option<Laid>
+fn workers_of(alloc: Global, domain: &Domain) -> Option<Laid>
     ensures wired { IfSome result (λ laid. (wiring : Wiring) × AreWired wiring laid.workers.items) }
     ensures tables { IfSome result (λ laid. map pipe_of_tables laid.tables.items ≡ map tables_pipe laid.workers.items) }
 {
-    match lay(alloc, plan, &[], &[]) {
+    match lay(alloc, domain, &[], &[], 5) {
         Ok(laid) => Some(laid),
         Err(_) => None,
     }
@@ -134,20 +133,20 @@ fn shut(alloc: Global, laid: Laid, twin: Laid) -> Told
     )
 }
 
-/// They are, of a plan.
-fn shut_of(alloc: Global, plan: &Plan) -> Told {
-    let Some(laid) = workers_of(alloc, plan) else {
+/// They are, of a domain.
+fn shut_of(alloc: Global, domain: &Domain) -> Told {
+    let Some(laid) = workers_of(alloc, domain) else {
         return Told::NotReady;
     };
-    match workers_of(alloc, plan) {
+    match workers_of(alloc, domain) {
         Some(twin) => shut(alloc, laid, twin),
         None => Told::NotReady,
     }
 }
 
 pub(crate) fn shut_told(alloc: Global) -> Told {
-    match plan_of(alloc, line()) {
-        Some(plan) => shut_of(alloc, &plan),
+    match domain_of(alloc, line()) {
+        Some(domain) => shut_of(alloc, &domain),
         None => Told::NotReady,
     }
 }

@@ -1,7 +1,7 @@
 pub mod Leaving
 pub mod Keeping
 mod Stretches
-mod Held
+pub mod Held
 mod Behind
 mod Rows
 mod Gathered

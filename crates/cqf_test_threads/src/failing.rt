@@ -1,11 +1,9 @@
-//! A worker whose bridge fails lets the others go, by tables that no single history has.
+//! A worker that is stopped before its last cycle lets the others go, and the run tells that an end of a pipe was lost.
 ghost use Rattle.std.specs.Prelude.{◌≡◌, ◌≤◌, [], All, length};
 ghost use Rattle.cqf_worker_loops.specs.Workers.{MayWork};
 ghost use Rattle.cqf_model.specs.Run.{AreOffers};
 
 use cqf_admission::{Admission, Table};
-use cqf_bridge::BridgeFault;
-use cqf_compile::{Plan, compile};
 use cqf_model::Offer;
 use cqf_test_fixtures::{Asked, Offering, are_offers, line, offers_of, request};
 use cqf_topology::Domain;
@@ -19,13 +17,13 @@ use std::sync::Wait;
 use std::thread;
 use std::thread::Threads;
 
-/// A stream along the line, which each table but one has.
+/// A stream along the line.
 const X: &[Asked] = &[("x", 1500, &[&["a", "b", "c", "s"]])];
 
-/// How many cycles the workers go through, where nothing fails. Tables wait for the first four.
+/// How many cycles the workers go through. Tables of all wait for each but the second bridge's, whose worker has four.
 const CYCLES: u32 = 10;
 
-const CLOSED: u32 = 4;
+const GIVEN: usize = 4;
 
 /// A frame of 64 octets for x in each cycle.
 const FRAMES: &[Offering] = &[
@@ -41,8 +39,14 @@ const FRAMES: &[Offering] = &[
     (1_125_000, 0, "x", 64),
 ];
 
-/// The second bridge gets a frame of a stream that its table of cycle 3 lacks.
-const FAULT: ConductFault = ConductFault::Bridge(1, BridgeFault::StrangeBatch);
+/// How the second bridge's worker is stopped behind its tables.
+#[derive(Clone, Copy)]
+enum Stopped {
+    /// The other end of their pipe is gone.
+    ByLoss,
+    /// It is told that none comes any more, and then the other end is gone too.
+    ByStop,
+}
 
 /// Whether streams are granted.
 fn are_granted(alloc: Global, admission: &mut Admission, streams: &[Asked]) -> bool {
@@ -61,7 +65,7 @@ fn are_granted(alloc: Global, admission: &mut Admission, streams: &[Asked]) -> b
 
 /// Closes cycles, and appends their tables.
 fn close_all(admission: &mut Admission, tables: &mut Vec<Table>) -> bool {
-    for _cycle in 0..CLOSED {
+    for _cycle in 0..CYCLES {
         match admission.seal(1) {
             Ok(table) => {
                 if tables.push(table).is_err() {
@@ -84,23 +88,6 @@ fn add_tables(alloc: Global, domain: &Domain, streams: &[Asked], tables: &mut Ve
     }
 }
 
-/// Puts the last of some tables in the place of the last of others.
-fn change_last(tables: &mut Vec<Table>, others: &mut Vec<Table>) -> bool {
-    drop(tables.pop());
-    match others.pop() {
-        Some(last) => tables.push(last).is_ok(),
-        None => false,
-    }
-}
-
-/// Appends the same tables, but for the last, which has no stream.
-fn add_mixed(alloc: Global, domain: &Domain, tables: &mut Vec<Table>) -> bool {
-    let mut others = Vec::new(alloc);
-    add_tables(alloc, domain, X, tables)
-        && add_tables(alloc, domain, &[], &mut others)
-        && change_last(tables, &mut others)
-}
-
 /// Appends a copy of a table to what is put at once.
 fn add_copy(alloc: Global, table: &Table, bundle: &mut VecDeque<Carried<Table>>) -> bool {
     match table.try_copy(alloc) {
@@ -119,12 +106,21 @@ fn add_copies(alloc: Global, tables: &[Table], bundle: &mut VecDeque<Carried<Tab
     true
 }
 
-/// Whether copies of some tables go in.
-fn gives<R: Wait>(rt: &R, alloc: Global, tables: &[Table], end: &mut PipeIn<Carried<Table>>) -> bool
+/// Whether copies of some tables go in, and a Stop behind them where it is to come.
+fn gives<R: Wait>(
+    rt: &R,
+    alloc: Global,
+    tables: &[Table],
+    is_told: bool,
+    end: &mut PipeIn<Carried<Table>>,
+) -> bool
     requires { length end.old.items ≡ 0 }
 {
     let mut bundle = VecDeque::new(alloc);
     if !add_copies(alloc, tables, &mut bundle) {
+        return false;
+    }
+    if is_told && bundle.push_back(Carried::Stop).is_err() {
         return false;
     }
     match bundle.pop_front() {
@@ -133,21 +129,24 @@ fn gives<R: Wait>(rt: &R, alloc: Global, tables: &[Table], end: &mut PipeIn<Carr
     }
 }
 
-/// Gives each worker its tables, the second bridge's the mixed ones, and lets go of the ends.
+/// Gives each worker its tables, the second bridge's the first few, and lets go of the ends.
 fn give_tables<R: Wait>(
     rt: &R,
     alloc: Global,
     tables: &[Table],
-    mixed: &[Table],
+    stopped: Stopped,
     ends: Vec<PipeIn<Carried<Table>>>,
 ) -> bool
     requires { All (λ end. end.items ≡ []) ends.items }
 {
+    let few = tables.get(..GIVEN).unwrap_or(&[]);
+    let is_told = matches!(stopped, Stopped::ByStop);
     let mut given = true;
     let mut place: usize = 0;
     for mut end in ends {
-        let own = if place == 1 { mixed } else { tables };
-        given &= gives(rt, alloc, own, &mut end);
+        let is_second = place == 1;
+        let own = if is_second { few } else { tables };
+        given &= gives(rt, alloc, own, is_second && is_told, &mut end);
         place = place.saturating_add(1);
     }
     given
@@ -159,13 +158,13 @@ fn fault_of<R: Threads + Wait + Sync>(
     alloc: Global,
     workers: Vec<Worker>,
 ) -> Option<ConductFault>
-    requires { All MayWork workers.items }
+    requires { All (MayWork CYCLES) workers.items }
 {
     thread::scope(
         thread::scope_env(),
         rt,
         move |scope| -> Option<ConductFault>
-            requires { All MayWork workers.items }
+            requires { All (MayWork CYCLES) workers.items }
         {
             match start_workers(alloc, scope, rt, &Free, CYCLES, workers) {
                 Ok(working) => {
@@ -179,81 +178,69 @@ fn fault_of<R: Threads + Wait + Sync>(
     )
 }
 
-/// What the workers of a plan are given: what is offered, and their tables, of which the second bridge's worker gets the mixed ones.
-#[derive(Clone, Copy)]
-struct Given<'p, 'o, 't, 'm> {
-    plan: &'p Plan,
-    offers: &'o [Offer],
-    tables: &'t [Table],
-    mixed: &'m [Table],
-}
-
-/// Whether the workers fail so.
-fn fails_on<R: Threads + Wait + Sync>(rt: &R, alloc: Global, given: Given<'_, '_, '_, '_>) -> bool
-    requires offers { AreOffers given.plan.now given.offers.now }
-    requires few_offers { length given.offers.now ≤ 1000000 }
-{
-    match lay(alloc, given.plan, given.offers, &[]) {
-        Ok(Laid { workers, tables }) => {
-            let are_given = give_tables(rt, alloc, given.tables, given.mixed, tables);
-            let fault = fault_of(rt, alloc, workers);
-            are_given & (fault == Some(FAULT))
-        }
-        Err(_) => false,
-    }
-}
-
-/// Whether the workers of a domain do, where this is offered.
-fn fails_where<R: Threads + Wait + Sync>(
+/// Whether an end of a pipe was lost, and no worker has failed, where the workers of a domain have these tables and what is offered.
+fn ends_on<R: Threads + Wait + Sync>(
     rt: &R,
     alloc: Global,
     domain: &Domain,
     offers: &[Offer],
+    tables: &[Table],
+    stopped: Stopped,
 ) -> bool
     requires offers { AreOffers domain.now offers.now }
     requires few_offers { length offers.now ≤ 1000000 }
 {
-    let mut tables = Vec::new(alloc);
-    let mut mixed = Vec::new(alloc);
-    if !add_tables(alloc, domain, X, &mut tables) || !add_mixed(alloc, domain, &mut mixed) {
-        return false;
-    }
-    match compile(alloc, domain) {
-        Ok(plan) => {
-            let given = Given {
-                plan: &plan,
-                offers,
-                tables: tables.as_slice(),
-                mixed: mixed.as_slice(),
-            };
-            fails_on(rt, alloc, given)
+    match lay(alloc, domain, offers, &[], CYCLES) {
+        Ok(
+            Laid {
+                workers,
+                tables: ends,
+            },
+        ) => {
+            let are_given = give_tables(rt, alloc, tables, stopped, ends);
+            let fault = fault_of(rt, alloc, workers);
+            are_given & (fault == Some(ConductFault::ChannelLost))
         }
         Err(_) => false,
     }
 }
 
-/// Whether they do where the frames are offered.
-fn fails_over<R: Threads + Wait + Sync>(rt: &R, alloc: Global, domain: &Domain) -> bool {
+/// Whether it was where the frames are offered.
+fn ends_over<R: Threads + Wait + Sync>(
+    rt: &R,
+    alloc: Global,
+    domain: &Domain,
+    stopped: Stopped,
+) -> bool {
+    let mut tables = Vec::new(alloc);
+    if !add_tables(alloc, domain, X, &mut tables) {
+        return false;
+    }
     match offers_of(alloc, FRAMES) {
         Ok(offers) => {
             let frames = offers.as_slice();
             frames.len() <= 10
                 && are_offers(domain, frames)
-                && fails_where(rt, alloc, domain, frames)
+                && ends_on(rt, alloc, domain, frames, tables.as_slice(), stopped)
         }
         Err(_) => false,
     }
 }
 
-/// Whether the line's workers do.
-fn line_fails<R: Threads + Wait + Sync>(rt: &R, alloc: Global) -> bool {
+/// Whether it was on the line.
+fn line_ends<R: Threads + Wait + Sync>(rt: &R, alloc: Global, stopped: Stopped) -> bool {
     match Domain::read(alloc, line().as_bytes()) {
-        Ok(domain) => fails_over(rt, alloc, &domain),
+        Ok(domain) => ends_over(rt, alloc, &domain, stopped),
         Err(_) => false,
     }
 }
 
 #[test]
-fn a_worker_whose_bridge_fails_ends_the_run(rt: HostRuntime) {
-    assert!(rt; line_fails(&rt, rt.alloc()));
+fn a_worker_whose_tables_are_lost_ends_the_run(rt: HostRuntime) {
+    assert!(rt; line_ends(&rt, rt.alloc(), Stopped::ByLoss));
+}
+
+#[test]
+fn a_worker_that_is_stopped_ends_the_run(rt: HostRuntime) {
+    assert!(rt; line_ends(&rt, rt.alloc(), Stopped::ByStop));
 }

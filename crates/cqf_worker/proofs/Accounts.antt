@@ -1,5 +1,5 @@
 -- The account of a run, from what its parts promise.
-use Rattle.std.proofs.Common.{ℕ, ◌≡◌, ◌+◌, ◌≤◌, ◌<◌, [], List, length, get_or, map, sym, ap, subst, subst₂, ◌∙◌, arith}
+use Rattle.std.proofs.Common.{ℕ, ◌≡◌, ◌+◌, ◌*◌, ◌≤◌, ◌<◌, [], List, length, get_or, map, sym, ap, subst, subst₂, ◌∙◌, arith}
 use Rattle.std.specs.Prelude.{All, slice_index_or}
 use Rattle.std.proofs.lemmas.List.{get_or-map, length-map}
 use Rattle.cqf_lists.proofs.EachBelow.{get_or-singles}
@@ -10,17 +10,25 @@ use Rattle.cqf_model.specs.Domain.{Domain, IsAccepted}
 use Rattle.cqf_model.specs.Headline.{IsAccountOf}
 use Rattle.cqf_model.specs.History.{Recorded, seals}
 use Rattle.cqf_model.specs.Run.{AreBackground, AreOffers}
+use Rattle.cqf_model.specs.HistoryBook.{run_of_history}
+use Rattle.cqf_model.specs.Network.{Network}
 use Rattle.cqf_model.specs.Calls.{IsHistoryOf}
 use Rattle.cqf_admission.specs.declared.entries.Command.{Command}
 use Rattle.cqf_tape.specs.Reels.{AreReelsOf}
+use Rattle.cqf_tape.specs.declared.tapes.Tapes.{Tapes}
 use Rattle.cqf_tape.specs.Tapes.{told_from}
 use Rattle.cqf_desk.specs.Closing.{IsOfSeats}
 use Rattle.cqf_desk.specs.Desk.{Counter, Sitting, fresh_seats}
 use Rattle.cqf_desk.specs.declared.history.History.{History}
-use Rattle.cqf_laws_account.specs.Taped.{BridgesApartKeepTheTapes, HasTheTapes, TapesTellTheBook}
+use Rattle.cqf_laws_account.specs.Taped.{TapesTellTheBook}
 use Rattle.cqf_laws_account.specs.Sealing.{cycle_tables}
 use Rattle.cqf_laws_account.specs.Seated.{AreSeated, ClosesItsCycles, ConductorHasTheTables, SeatsGiveTheHistory}
+use Rattle.cqf_laws_network.specs.NetworkLaws.{LegalNetworkExists}
 use Rattle.cqf_laws_shift.specs.BookOfHistory.{BookOfHistorySaysTheShift}
+use Rattle.cqf_laws_shift.specs.Run.{IsLegalRun}
+use Rattle.cqf_laws_flow.specs.Following.{TablesMayCome}
+use Rattle.cqf_laws_flow.specs.Taped.{BackedTapesAreTheBooks, HaveTheStreams, StationsKeepTheTapes}
+use Rattle.cqf_instants_background.specs.Taping.{BacksTheTapes, SomeTapedRun}
 use Rattle.cqf_worker.specs.declared.account.Account.{Account}
 use Rattle.cqf_worker.specs.declared.account.PagedAccount.{PagedAccount}
 use Rattle.cqf_worker_loops.specs.declared.carried.Carried.TheVariants.{Item}
@@ -34,7 +42,9 @@ use Rattle.cqf_worker_loops.specs.Handing.{TableEnd}
 use Rattle.cqf_worker_wires.specs.Laying.{traffic_of}
 use Rattle.cqf_worker_threads.specs.Running.{IsEnded, IsReadyWorker}
 use Rattle.cqf_worker_wires.specs.Wires.{AreWired, Wiring, pipe_of_tables, tables_pipe}
-use Rattle.cqf_worker.proofs.Apart.{still_reels, still_tables, still_wired, tapes_are}
+use Rattle.cqf_worker.proofs.Apart.{still_reels, still_tables, still_wired}
+use Rattle.cqf_worker.proofs.Come.{HaveRun, all_come, all_sends, have_gone}
+use Rattle.cqf_worker.proofs.Taped.{book_on_tapes, have_taped, legal_run, some_taped}
 use Rattle.cqf_worker.proofs.Seating.{are_seated, asked_count, asks_no_seal, fresh_seat, seats_count}
 
 -- with a fresh seat nobody has called
@@ -49,7 +59,7 @@ no_calls_yet count administrators seats place a below =
     ap (λ (s : Sitting). s.calls) its
 
 module _ (d : Domain) (opening : List Recorded) (offers : List Offer) (background : List Background) (cycles : ℕ) (admins : List (List Command))
-    (p : Prepared) (is : IsPrepared d opening offers background admins p) where
+    (p : Prepared) (is : IsPrepared d opening offers background cycles admins p) where
   -- what is prepared is ready
   pub is_ready : cycles ≤ 100000 → IsReadyWorker cycles p.ready
   is_ready few = record {
@@ -105,25 +115,60 @@ module _ (d : Domain) (opening : List Recorded) (offers : List Offer) (backgroun
           (slice_index_or e.sealed.tables.items place end).items ≡ map Item (cycle_tables d (entries_of account.history) cycles)
       given_so closes place end inside = ended.sealed.given place end inside ∙ ap (map Item) closes.tables
 
-      module _ (accepted : IsAccepted d) (unsealed : seals opening ≡ 0) (good_offers : AreOffers d offers) (good_background : AreBackground d background) where
-        -- so they are those of the one-thread book of the history
-        tapes_of_history : IsHistoryOf d opening (all_asked admins) cycles (entries_of account.history) →
-            ClosesItsCycles d (entries_of account.history) cycles e.sealed.seat → BridgesApartKeepTheTapes →
-            (book : Contents) × HasTheTapes d (entries_of account.history) offers background cycles account.pages book
-        tapes_of_history history closes law =
-            tapes_are (traffic_of d offers background) (entries_of account.history) cycles p.ready.workers.items e.workers.items e.sealed.tables.items
-            account.pages law
-            (record { accepted = accepted; legal = history.legal; offers = good_offers; background = good_background }) is.laid.workers is.laid.many
-            ended.worked settled.fed tables_in_the_end settled.given (given_so closes) closes.sealed settled.gathered
+      module _ (accepted : IsAccepted d) (unsealed : seals opening ≡ 0) (good_offers : AreOffers d offers) (few_offers : length offers ≤ 16777215)
+          (good_background : AreBackground d background) (seats : SeatsGiveTheHistory) (has_tables : ConductorHasTheTables)
+          (exists : LegalNetworkExists) (come : TablesMayCome) (keep : StationsKeepTheTapes) where
+        abbrev entries : List Recorded
+        entries = entries_of account.history
 
-        -- and the account is that of the run
-        pub account_is : SeatsGiveTheHistory → ConductorHasTheTables → BridgesApartKeepTheTapes → BookOfHistorySaysTheShift →
-            IsPagedAccount d opening offers background cycles admins account
-        account_is seats tables apart promise =
-            let entries = entries_of account.history in
-            let history : IsHistoryOf d opening (all_asked admins) cycles entries = history_is seats in
-            let closes : ClosesItsCycles d entries cycles e.sealed.seat = closes_so tables unsealed in
-            let has = tapes_of_history history closes apart in
+        history : IsHistoryOf d opening (all_asked admins) cycles entries
+        history = history_is seats
+
+        closes : ClosesItsCycles d entries cycles e.sealed.seat
+        closes = closes_so has_tables unsealed
+
+        all_sealed : cycles ≤ seals entries
+        all_sealed = omega (arith, closes.sealed)
+
+        -- what its workers have done
+        have_run : HaveRun (traffic_of d offers background) entries cycles p.ready.workers.items e.workers.items e.sealed.tables.items
+        have_run = record {
+          accepted = accepted;
+          may_come = come d entries cycles history.legal all_sealed;
+          of_bridges = is.laid.workers;
+          many = is.laid.many;
+          worked = ended.worked;
+          fed = settled.fed;
+          pipes = tables_in_the_end;
+          given = settled.given;
+          put = given_so closes;
+        }
+
+        -- the run of its history is legal
+        its_net : (net : Network) × IsLegalRun (run_of_history d entries offers background cycles) net
+        its_net = legal_run d entries offers background cycles exists come accepted history.legal all_sealed good_offers good_background
+
+        -- and its tapes have what the streams send
+        streams : HaveTheStreams (run_of_history d entries offers background cycles) its_net.0 account.pages
+        streams =
+            keep (run_of_history d entries offers background cycles) its_net.0
+            (all_sends (traffic_of d offers background) entries cycles p.ready.workers.items e.workers.items e.sealed.tables.items have_run)
+            (all_come (traffic_of d offers background) entries cycles p.ready.workers.items e.workers.items e.sealed.tables.items have_run)
+            (map reel_at e.workers.items) account.pages its_net.1 (omega (arith, few_offers))
+            (have_gone (traffic_of d offers background) entries cycles p.ready.workers.items e.workers.items e.sealed.tables.items have_run)
+            (have_taped (traffic_of d offers background) entries cycles p.ready.workers.items e.workers.items e.sealed.tables.items have_run)
+            settled.gathered
+
+        -- so they may take their background frames
+        pub may_back : cycles ≤ 100000 → SomeTapedRun d (cycles * d.cycle_time) background account.pages.links.items
+        may_back short = some_taped d entries offers background cycles its_net.0 its_net.1 account.pages streams short
+
+        -- and with these the account is that of the run
+        pub account_is : cycles ≤ 100000 → BackedTapesAreTheBooks → BookOfHistorySaysTheShift → (pages : Tapes) → pages.drops ≡ account.pages.drops →
+            BacksTheTapes d (cycles * d.cycle_time) background account.pages.links.items pages.links.items →
+            IsPagedAccount d opening offers background cycles admins (record { history = account.history; pages = pages })
+        account_is short law promise pages same backs =
+            let has = book_on_tapes d entries offers background cycles its_net.0 its_net.1 account.pages streams short law all_sealed pages same backs in
             let is_account : IsAccountOf d opening offers background cycles (all_asked admins) entries has.0 = record {
               history = history;
               sealed = has.1.of_history.sealed;

@@ -20,13 +20,13 @@ use Rattle.cqf_model.specs.declared.topology.Link.{Link}
 use Rattle.cqf_model.specs.declared.topology.Node.{Node}
 use Rattle.cqf_model.specs.declared.topology.Node.TheVariants.{Bridge, Station}
 use Rattle.cqf_model.specs.Domain.{Domain, IsAccepted, enters, leaves, node_is}
-use Rattle.cqf_bridge.specs.BridgeState.{links_from}
-use Rattle.cqf_bridge.specs.Receiving.{links_into}
+use Rattle.cqf_flow.specs.Standing.{is_bridge, is_onward, links_from, links_into}
 use Rattle.cqf_laws_bridge.specs.Courses.{Traffic}
 use Rattle.cqf_laws_bridge.proofs.LinkNumbers.{link_into, links_ascend}
 use Rattle.cqf_worker_loops.specs.declared.worker.Worker.{Worker}
-use Rattle.cqf_worker_loops.specs.Workers.{Works, ends_in_bridge, is_bridge_node, link_of, links_onward}
-use Rattle.cqf_worker_wires.specs.Wires.{AreWorkersOf, BatchPort, count_on, ins_at, outs_at}
+use Rattle.cqf_worker_loops.specs.Workers.{Works, link_of, links_onward}
+use Rattle.cqf_worker_wires.specs.Wires.{AreWorkersOf, count_on, ins_at, outs_at}
+use Rattle.cqf_worker_loops.specs.Workers.{FlowPort}
 use Rattle.cqf_worker.proofs.Apart.{element_at, kept_ins, kept_outs}
 
 module _ {X : Type 0} (p : X → Bool) where
@@ -143,20 +143,20 @@ node_one : (n : Node) (a b : ℕ) → node_is n a ≡ true → node_is n b ≡ t
 node_one (Bridge c) a b at bt = sym (eqb-true c a at) ∙ eqb-true c b bt
 node_one (Station s) a b at bt = absurd (false≢true at)
 
-node_bridge : (n : Node) (a : ℕ) → node_is n a ≡ true → is_bridge_node n ≡ true
+node_bridge : (n : Node) (a : ℕ) → node_is n a ≡ true → is_bridge n ≡ true
 node_bridge (Bridge c) a at = refl
 node_bridge (Station s) a at = absurd (false≢true at)
 
 module _ (d : Domain) (l : ℕ) where
   -- the link that a number stands for, where it ends in a bridge
-  link_there : (a : ℕ) → enters d l a ≡ true → (link : Link) × (slice_get d.links l ≡ Some link)
+  pub link_there : (a : ℕ) → enters d l a ≡ true → (link : Link) × (slice_get d.links l ≡ Some link)
   link_there a here = elim (slice_get_cases d.links l).1 [
     | inl w ↦ (w.0, w.2)
     | inr past ↦ absurd (false≢true (sym (ap (λ (o : Option Link). option_map_or (λ (link : Link). node_is link.to a) o false) past.1) ∙ here))
   ]
 
   -- it ends there
-  ends_there : (link : Link) → slice_get d.links l ≡ Some link → (a : ℕ) → enters d l a ≡ true → node_is link.to a ≡ true
+  pub ends_there : (link : Link) → slice_get d.links l ≡ Some link → (a : ℕ) → enters d l a ≡ true → node_is link.to a ≡ true
   ends_there link there a here = sym (ap (λ (o : Option Link). option_map_or (λ (link : Link). node_is link.to a) o false) there) ∙ here
 
   -- a link ends in one bridge alone
@@ -170,20 +170,20 @@ module _ (d : Domain) (l : ℕ) where
   has_source accepted a here =
       let link = link_there a here in
       let b = link.0.from in
-      let onward : ends_in_bridge d l ≡ true =
-      ap (λ (o : Option Link). option_map_or (λ (link : Link). is_bridge_node link.to) o false) link.1
+      let onward : is_onward d l ≡ true =
+      ap (λ (o : Option Link). option_map_or (λ (link : Link). is_bridge link.to) o false) link.1
       ∙ node_bridge link.0.to a (ends_there link.0 link.1 a here) in
       let starts : leaves d l b ≡ true =
       ap (λ (o : Option Link). option_map_or (λ (link : Link). link.from == b) o false) link.1 ∙ eq-eqb b b refl in
       let listed : Contains (links_from d b) l =
       contains_below (λ k. if leaves d k b then k ∷ [] else []) (length d.links) l l (slice_get_within d.links l link.0 link.1)
       (subst (λ (ks : List ℕ). Contains ks l) (sym (cond-true (leaves d l b) (l ∷ []) [] starts)) (contains_here l [])) in
-      (b, (accepted.links_good l link.0 link.1).from_bridge, contains_filter (ends_in_bridge d) (links_from d b) l listed onward)
+      (b, (accepted.links_good l link.0 link.1).from_bridge, contains_filter (is_onward d) (links_from d b) l listed onward)
 
 module _ (t : Traffic) (cycles : ℕ) (workers dones : List Worker) (of_bridges : AreWorkersOf t workers) (many : length workers ≡ length t.domain.bridges)
     (worked : AllZip (Works cycles) workers dones) where
   -- the link of a port at which a worker takes ends in its bridge
-  enters_its_worker : (place : ℕ) (done : Worker) (port : BatchPort) → slice_get dones place ≡ Some done → Contains done.ins.items port →
+  enters_its_worker : (place : ℕ) (done : Worker) (port : FlowPort) → slice_get dones place ≡ Some done → Contains done.ins.items port →
       enters t.domain port.link place ≡ true
   enters_its_worker place done port there held =
       let among : Contains (links_into t.domain place) port.link =
@@ -193,7 +193,7 @@ module _ (t : Traffic) (cycles : ℕ) (workers dones : List Worker) (of_bridges 
 
   module _ (link : ℕ) where
     -- whether a port is of the link
-    abbrev is_on : BatchPort → Bool
+    abbrev is_on : FlowPort → Bool
     is_on port = port.link == link
 
     -- a worker has one taking end of it at most

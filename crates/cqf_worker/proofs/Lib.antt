@@ -1,6 +1,9 @@
 mod Seating
 mod Preparing
+mod Flows
 mod Apart
+mod Come
+mod Taped
 mod Accounts
 mod Lacking
 mod Told

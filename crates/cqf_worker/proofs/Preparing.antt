@@ -1,8 +1,6 @@
 -- What a run begins with, and what is closed in the end, from their parts.
 use Rattle.std.proofs.Common.{ℕ, ◌≡◌, ◌+◌, List, inl, inr, map, ap, subst, sym, ◌∙◌}
 use Rattle.std.specs.Prelude.{Err, IfErr, IsErrAnd, Ok, Result}
-use Rattle.cqf_model.specs.declared.frames.Background.{Background}
-use Rattle.cqf_model.specs.declared.frames.Offer.{Offer}
 use Rattle.cqf_model.specs.Domain.{Domain}
 use Rattle.cqf_admission.specs.Admission.{Administration}
 use Rattle.cqf_tape.specs.declared.reel.Reel.{Reel}
@@ -12,21 +10,14 @@ use Rattle.cqf_desk.specs.Desk.{Counter, Sitting}
 use Rattle.cqf_worker.specs.declared.account.PagedAccount.{PagedAccount}
 use Rattle.cqf_worker_threads.specs.declared.faults.ConductFault.{ConductFault}
 use Rattle.cqf_worker_threads.specs.declared.threads.Ended.{Ended}
-use Rattle.cqf_worker_loops.specs.declared.worker.Worker.{Worker}
 use Rattle.cqf_worker_wires.specs.Closing.{reel_at}
-use Rattle.cqf_worker.specs.Conducting.{AreLaidFor, IsDeskFault, IsPipeFault, IsSettleFault, IsSettled, all_seats}
-use Rattle.cqf_worker_loops.specs.Handing.{TableEnd}
+use Rattle.cqf_worker.specs.Conducting.{IsDeskFault, IsPipeFault, IsSettleFault, IsSettled, all_seats}
 use Rattle.cqf_worker_wires.specs.Wires.{AreFedByWires, AreGiven}
 
 -- what holds of a fault holds of the answer that hands it on
 pub passed_on : {V F : Type 0} (result : Result V F) (fault : F) (P : F → Type 0) → IsErrAnd result (λ e. e ≡ fault) → P fault → IfErr result P
 passed_on (Ok v) fault P passed h = absurd passed
 passed_on (Err e) fault P passed h = subst P (sym passed) h
-
--- workers that are laid for a domain are so for one that is the same
-pub laid_for : (d same : Domain) (offers : List Offer) (background : List Background) (workers : List Worker) (ends : List TableEnd) → same ≡ d →
-    AreLaidFor same offers background workers ends → AreLaidFor d offers background workers ends
-laid_for d same offers background workers ends is so = subst (λ (e : Domain). AreLaidFor e offers background workers ends) is so
 
 -- a desk of an administration with so many seats and one more
 abbrev desk_of : Administration → ℕ → Counter

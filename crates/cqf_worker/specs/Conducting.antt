@@ -1,5 +1,5 @@
 -- A run on threads before they begin, and when all have ended (profile).
-use Rattle.std.specs.Prelude.{◌≡◌, ◌⊎◌, ◌++◌, List, [], ◌∷◌, All, length, map}
+use Rattle.std.specs.Prelude.{ℕ, ◌≡◌, ◌⊎◌, ◌++◌, List, [], ◌∷◌, All, length, map}
 use Rattle.std.specs.List.{flat_map}
 use Rattle.cqf_model.specs.declared.frames.Background.{Background}
 use Rattle.cqf_model.specs.declared.frames.Offer.{Offer}
@@ -39,19 +39,19 @@ pub record AreSeatedFor (admins : List (List Command)) (administrators : List Ad
   pub next : conductor ≡ record { number = length admins; calls = []; tables = [] }
 
 -- the workers of all bridges, which have done nothing, with pipes between them, and an end of each one's pipe for tables
-pub record AreLaidFor (d : Domain) (offers : List Offer) (background : List Background) (those : List Worker) (ends : List TableEnd) : Type 0 where
+pub record AreLaidFor (d : Domain) (offers : List Offer) (background : List Background) (cycles : ℕ) (those : List Worker) (ends : List TableEnd) : Type 0 where
   pub many : length those ≡ length d.bridges
   pub workers : AreWorkersOf (traffic_of d offers background) those
-  pub may_work : All MayWork those
+  pub may_work : All (MayWork cycles) those
   pub wired : (wiring : Wiring) × AreWired wiring those
   pub tables : map pipe_of_tables ends ≡ map tables_pipe those
   pub nothing_put : All (λ (end : TableEnd). end.items ≡ []) ends
 
 -- a run that is ready to begin
-pub record IsPrepared (d : Domain) (opening : List Recorded) (offers : List Offer) (background : List Background)
+pub record IsPrepared (d : Domain) (opening : List Recorded) (offers : List Offer) (background : List Background) (cycles : ℕ)
     (admins : List (List Command)) (p : Prepared) : Type 0 where
   pub desk : p.desk ≡ desk_of_run d opening (length admins)
-  pub laid : AreLaidFor d offers background p.ready.workers.items p.ready.tables.items
+  pub laid : AreLaidFor d offers background cycles p.ready.workers.items p.ready.tables.items
   pub seated : AreSeatedFor admins p.ready.administrators.items p.ready.conductor
 
 -- all seats in the end: the administrators', and behind them the conductor's

@@ -1,5 +1,6 @@
 //! The conductor: a whole run on threads.
-ghost use Rattle.std.specs.Prelude.{◌≡◌, ◌≤◌, ◌+◌, IfErr, IfOk, length, map};
+ghost use Rattle.std.specs.Prelude.{◌≡◌, ◌≤◌, ◌+◌, ◌*◌, IfErr, IfOk, OnOk, length, map};
+ghost use Rattle.cqf_instants_background.specs.Taping.{BacksTheTapes, SomeTapedRun};
 ghost use Rattle.cqf_desk.specs.Closing.{IsClosed};
 ghost use Rattle.cqf_desk.specs.Desk.{fresh_seats};
 ghost use Rattle.cqf_model.specs.History.{seals};
@@ -15,14 +16,16 @@ ghost use Rattle.cqf_model.specs.Limits.{most_cycles, most_rows};
 
 use crate::account::{Account, PagedAccount};
 use cqf_admission::{Admission, Command, Table};
-use cqf_compile::compile;
 use cqf_desk::{CloseFault, Desk, History, Seat};
-use cqf_laws_account::{bridges_apart_keep_the_tapes, seats_give_the_history, tapes_tell_the_book};
-use cqf_laws_bridge::bridges_go_on;
+use cqf_instants_background::keep_background;
+use cqf_laws_account::{seats_give_the_history, tapes_tell_the_book};
+use cqf_laws_flow::{backed_tapes_are_the_books, stations_keep_the_tapes, tables_may_come};
+use cqf_laws_network::legal_network_exists;
 use cqf_laws_shift::book_of_history_says_the_shift;
 use cqf_model::{Background, Offer};
-use cqf_tape::{Reel, book_of, gather};
+use cqf_tape::{Reel, Tapes, book_of, gather};
 use cqf_topology::Domain;
+use cqf_units::{Memory, Nanos};
 use cqf_worker_loops::{Carried, Pace, Sealed, Worker};
 use cqf_worker_pipe::PipeIn;
 use cqf_worker_threads::{Administrator, ConductFault, Ended, Ready, run_threads};
@@ -93,17 +96,16 @@ fn seat_each(
 }
 
 /// The workers of the domain's bridges, with pipes between them.
-fn lay_all(alloc: Global, given: Given<'_, '_, '_>) -> Result<Laid, ConductFault>
+fn lay_all(alloc: Global, given: Given<'_, '_, '_>, cycles: u32) -> Result<Laid, ConductFault>
     requires offers { AreOffers given.domain.now given.offers.now }
     requires few_offers { length given.offers.now ≤ most_rows }
     requires background { AreBackground given.domain.now given.background.now }
     requires few_background { length given.background.now ≤ most_rows }
     ensures ok { IfOk result (λ laid.
-        AreLaidFor given.entry.domain.now given.entry.offers.now given.entry.background.now laid.workers.items laid.tables.items) }
+        AreLaidFor given.entry.domain.now given.entry.offers.now given.entry.background.now cycles laid.workers.items laid.tables.items) }
     ensures err { IfErr result IsStartFault }
 {
-    let plan = compile(alloc, given.domain)?;
-    let laid = lay(alloc, &plan, given.offers, given.background)?;
+    let laid = lay(alloc, given.domain, given.offers, given.background, cycles)?;
     Ok(laid)
 }
 
@@ -113,19 +115,20 @@ fn prepare(
     given: Given<'_, '_, '_>,
     admission: Admission,
     admins: Vec<Vec<Command>>,
+    cycles: u32,
 ) -> Result<Prepared, ConductFault>
     requires domain { admission.domain ≡ given.domain.now }
     requires offers { AreOffers given.domain.now given.offers.now }
     requires few_offers { length given.offers.now ≤ most_rows }
     requires background { AreBackground given.domain.now given.background.now }
     requires few_background { length given.background.now ≤ most_rows }
-    ensures ok { IfOk result (IsPrepared given.entry.domain.now admission.entries given.entry.offers.now given.entry.background.now
+    ensures ok { IfOk result (IsPrepared given.entry.domain.now admission.entries given.entry.offers.now given.entry.background.now cycles
         (map (λ c. c.items) admins.items)) }
     ensures err { IfErr result IsStartFault }
 {
     let (desk, seats) = open_desk(alloc, admission, admins.len())?;
     let (administrators, conductor) = seat_each(alloc, seats, admins)?;
-    let Laid { workers, tables } = lay_all(alloc, given)?;
+    let Laid { workers, tables } = lay_all(alloc, given, cycles)?;
     let ready = Ready {
         workers,
         tables,
@@ -191,6 +194,31 @@ fn settle(
     Ok(PagedAccount { history, pages })
 }
 
+/// Puts on the tapes of a run of so many cycles what their links start of background frames.
+fn back(
+    alloc: Global,
+    given: Given<'_, '_, '_>,
+    cycles: u32,
+    tapes: &mut Tapes,
+) -> Result<(), Memory>
+    requires short { cycles ≤ most_cycles }
+    requires few { length given.background.now ≤ most_rows }
+    requires run { SomeTapedRun given.domain.now (cycles * given.domain.now.cycle_time) given.background.now tapes.old.links.items }
+    ensures drops { tapes.new.drops ≡ tapes.old.drops }
+    ensures tapes { OnOk result (BacksTheTapes given.entry.domain.now (cycles * given.entry.domain.now.cycle_time) given.entry.background.now
+        tapes.old.links.items tapes.new.links.items) }
+{
+    given.domain.know();
+    let end = Nanos(u64::from(cycles) * given.domain.cycle_time().0);
+    keep_background(
+        alloc,
+        given.domain,
+        end,
+        given.background,
+        tapes.links.as_mut_slice(),
+    )
+}
+
 /// Runs a network under administration: a thread for each bridge of the domain, one for each administrator, and the calling one,
 /// which closes the cycles. Administrator i makes its commands in order with seat i, while the bridges run; the cycles are closed
 /// with the next seat. What comes of it is one history and the pages of one book, and the book is the one that the compiled gate lists
@@ -201,9 +229,8 @@ fn settle(
 /// bridge of the domain, and 1,000,000 background frames, each on a link of it. Before each command and before each step of a bridge
 /// the pace is asked, while no lock is held. It waits until all threads have ended.
 ///
-/// Refused with the first fault in the order that [`ConductFault`] tells; then the history and the pages are gone. `Bridge` comes for want of
-/// memory, or where a bridge refuses to receive a cycle that it has sent, with a table and batches that come to it in no run under the tables of
-/// a legal history; `ChannelLost` never as pipes are closed.
+/// Refused with the first fault in the order that [`ConductFault`] tells; then the history and the pages are gone. `Bridge` and
+/// `BookDisagrees` never come, and `ChannelLost` never as pipes are closed.
 pub fn conduct_pages<R: Threads + Wait + Sync, P: Pace>(
     rt: &R,
     alloc: Global,
@@ -226,18 +253,21 @@ pub fn conduct_pages<R: Threads + Wait + Sync, P: Pace>(
     ensures err { IfErr result (IsConductFault domain.now admission.entries offers.now background.now cycles (map (λ c. c.items) admins.items)) }
 {
     seats_give_the_history();
-    bridges_apart_keep_the_tapes();
+    legal_network_exists();
+    tables_may_come();
+    stations_keep_the_tapes();
+    backed_tapes_are_the_books();
     book_of_history_says_the_shift();
-    bridges_go_on();
     domain.know();
     let given = Given {
         domain,
         offers,
         background,
     };
-    let Prepared { desk, ready } = prepare(alloc, given, admission, admins)?;
+    let Prepared { desk, ready } = prepare(alloc, given, admission, admins, cycles)?;
     let ended = run_threads(rt, alloc, pace, &desk, cycles, ready)?;
-    let account = settle(alloc, domain, desk, ended)?;
+    let mut account = settle(alloc, domain, desk, ended)?;
+    back(alloc, given, cycles, &mut account.pages)?;
     Ok(account)
 }
 

@@ -1,11 +1,11 @@
 mod Each
-mod Batches
-mod Onward
-mod OneMore
-mod Kept
 mod Stopping
-mod Going
 mod HandedTables
 mod SealedCycles
 mod Passing
-mod Failing
+mod Ports
+mod UnderWay
+mod TakenTables
+mod TakenFlows
+mod HandedFlows
+mod Through

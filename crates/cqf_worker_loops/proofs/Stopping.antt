@@ -2,14 +2,12 @@
 use Rattle.std.proofs.Common.{ℕ, suc, ◌≡◌, ◌≤◌, ◌+◌, ◌∷◌, ◌++◌, [], List, All, length, get_or, map, refl, sym, ap, subst, ◌∙◌, arith, inl, inr}
 use Rattle.std.specs.Prelude.{drop, take}
 use Rattle.std.proofs.lemmas.List.{length-append, length-map, map-append}
-use Rattle.std.proofs.lemmas.List.Elements.{All-cons, All-head, All-nil, All-tail}
 use Rattle.cqf_worker_loops.specs.declared.carried.Carried.{Carried}
 use Rattle.cqf_worker_loops.specs.declared.carried.Carried.TheVariants.{Item, Stop}
 use Rattle.cqf_worker_loops.specs.declared.link_ends.LinkEnd.{LinkEnd}
 use Rattle.cqf_worker_pipe.specs.PipeEnds.{End}
-use Rattle.cqf_worker_loops.specs.Rows.{MayGet, MayHaveGot, wire_at, wires_of, with_each, with_item_at, with_items}
+use Rattle.cqf_worker_loops.specs.Rows.{MayGet, MayHaveGot, wire_at, wires_of, with_items}
 use Rattle.cqf_worker_loops.specs.Stops.{AreItems, AreItemsThenStop, AreStopped}
-use Rattle.cqf_worker_loops.specs.Workers.{items_in}
 use Rattle.cqf_worker_loops.proofs.Each.{written_back}
 
 module _ {T : Type 0} where
@@ -87,37 +85,6 @@ module _ {T : Type 0} where
   wires_back ports first now n many is same stopped =
       let all : length now ≡ length ports = same ∙ ap length is in
       ap wires_of (written_back now ports n all many) ∙ wires_kept first now same stopped ∙ ap wires_of is
-
-  -- an item more at each port, or at some
-  pub each_carries : (ports : List (LinkEnd (End (Carried T)))) (items : List T) → All CarriesItems ports → All CarriesItems (with_each ports (map Item items))
-  each_carries [] items all = All-nil CarriesItems
-  each_carries (port ∷ ports) [] all = all
-  each_carries (port ∷ ports) (x ∷ items) all =
-      All-cons CarriesItems (with_item_at port (Item x)) (with_each ports (map Item items))
-      (items_and_one port.pipe.items x (All-head CarriesItems port ports all)) (each_carries ports items (All-tail CarriesItems port ports all))
-
-  -- of what was carried the items are as many at most
-  few_items : (xs : List (Carried T)) → length (items_in xs) ≤ length xs
-  few_items [] = omega arith
-  few_items (Item x ∷ xs) =
-      let rest : length (items_in xs) ≤ length xs = few_items xs in
-      let now : suc (length (items_in xs)) ≤ suc (length xs) = omega (arith, rest) in
-      now
-  few_items (Stop ∷ xs) =
-      let rest : length (items_in xs) ≤ length xs = few_items xs in
-      let now : length (items_in xs) ≤ suc (length xs) = omega (arith, rest) in
-      now
-
-  -- where they are as many, there are no others
-  pub items_alone : (xs : List (Carried T)) → length (items_in xs) ≡ length xs → AreItems xs
-  items_alone [] same = ([], refl)
-  items_alone (Item x ∷ xs) same =
-      let one : suc (length (items_in xs)) ≡ suc (length xs) = same in
-      let rest : AreItems xs = items_alone xs (omega (arith, one)) in
-      (x ∷ rest.0, ap (λ (ys : List (Carried T)). Item x ∷ ys) rest.1)
-  items_alone (Stop ∷ xs) same =
-      let one : length (items_in xs) ≡ suc (length xs) = same in
-      absurd (omega (arith, one, few_items xs))
 
   -- items more at an end, or nothing
   pub items_or_none : (before after : End (Carried T)) (xs : List T) → HasItems before → MayGet (map Item xs) before after

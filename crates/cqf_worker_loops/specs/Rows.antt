@@ -28,9 +28,3 @@ module _ {T : Type 0} where
   -- the item was put at the port, or nothing was
   abbrev pub MayHaveGot : T → LinkEnd (End T) → LinkEnd (End T) → Type 0
   MayHaveGot x before after = (after ≡ before) ⊎ (after ≡ with_item_at before x)
-
-  -- the ports in turn, each with one item more as far as there are items
-  abbrev pub with_each : List (LinkEnd (End T)) → List T → List (LinkEnd (End T))
-  with_each [] items = []
-  with_each (port ∷ ports) [] = port ∷ ports
-  with_each (port ∷ ports) (x ∷ items) = with_item_at port x ∷ with_each ports items

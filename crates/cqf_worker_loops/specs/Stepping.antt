@@ -1,82 +1,124 @@
--- One cycle of a bridge on its thread (profile).
-use Rattle.std.specs.Prelude.{ℕ, ◌≡◌, ◌<◌, List, [], All, filter, length, map}
-use Rattle.cqf_model.specs.declared.frames.Dropped.{Dropped}
-use Rattle.cqf_model.specs.declared.topology.Row.{Row}
-use Rattle.cqf_model.specs.Domain.{Domain}
-use Rattle.cqf_model.specs.Run.{Run}
-use Rattle.cqf_admission.specs.Tables.{CycleTable}
-use Rattle.cqf_bridge_turn.specs.Agenda.{AgendaOf, background_at, offers_listed_at}
-use Rattle.cqf_bridge_turn.specs.Keeping.{KeepsSent}
-use Rattle.cqf_bridge.specs.Batch.{LinkBatch}
-use Rattle.cqf_bridge.specs.BridgeState.{AreBackedOf, BridgeState, SendsCycle, links_from}
-use Rattle.cqf_bridge.specs.PortRecord.{PortRecord}
-use Rattle.cqf_bridge.specs.Receiving.{CanReceive, IsRunOfBridge, ReceivesCycle}
-use Rattle.cqf_tape.specs.declared.reel.Reel.{Reel}
-use Rattle.cqf_tape.specs.Reels.{KeepsDrops}
-use Rattle.cqf_tape.specs.Tapes.{links_of}
-use Rattle.cqf_worker_loops.specs.declared.carried.Carried.{Carried}
-use Rattle.cqf_worker_loops.specs.declared.carried.Carried.TheVariants.{Item}
-use Rattle.cqf_worker_loops.specs.declared.link_ends.LinkEnd.{LinkEnd}
-use Rattle.cqf_worker_loops.specs.declared.worker.Worker.{Worker}
-use Rattle.cqf_worker_pipe.specs.PipeEnds.{End}
-use Rattle.cqf_worker_loops.specs.Rows.{with_each, with_item}
-use Rattle.cqf_worker_loops.specs.Workers.{ends_in_bridge, link_of, links_onward}
+-- How far a bridge on its thread is (profile).
+use Rattle.std.specs.Prelude.{ℕ, ◌≡◌, ◌+◌, ◌≤◌, ◌<◌, [], true, if◌then◌else◌, nat_lt, All, Contains, Some, filter, length, map, slice_get}
 use Rattle.cqf_model.specs.Limits.{most_cycles}
+use Rattle.cqf_model.specs.Run.{AreOffers}
+use Rattle.cqf_admission.specs.Tables.{CycleTable}
+use Rattle.cqf_bridge_turn.specs.Agenda.{IsAgendaOf}
+use Rattle.cqf_laws_bridge.specs.Courses.{Traffic}
+use Rattle.cqf_laws_links.specs.Going.{Sendings}
+use Rattle.cqf_flow.specs.declared.outlet.Outlet.{Outlet}
+use Rattle.cqf_flow.specs.Flows.{all_frames, batch_at, came_in}
+use Rattle.cqf_flow.specs.Logs.{is_in}
+use Rattle.cqf_flow.specs.Sending.{IsTidy}
+use Rattle.cqf_flow.specs.Standing.{IsWithin, StandsSo, is_onward, link_in, link_out, links_from, links_into}
+use Rattle.cqf_worker_loops.specs.declared.carried.Carried.TheVariants.{Item}
+use Rattle.cqf_worker_loops.specs.declared.worker.Worker.{Worker}
+use Rattle.cqf_worker_loops.specs.Rows.{with_item, wires_of}
+use Rattle.cqf_worker_loops.specs.Stops.{AreItems}
+use Rattle.cqf_worker_loops.specs.Workers.{AreDropsOf, FlowPort, HasGoneThrough, HasPut, MayHaveComeTo, come_to, flows_at, items_in, link_of, links_onward}
 use Rattle.cqf_worker_pipe.specs.PipeRule.{most_items}
 
--- a bridge has the ports of the links that leave it
-abbrev pub HasPorts : BridgeState → Type 0
-HasPorts b = map (λ (r : PortRecord). r.link) b.ports ≡ links_from b.domain b.number
+-- the frames that a link has put of a cycle: those that it sent, where it has handed the cycle on
+pub record HasHandedOn (t : Traffic) (w : Worker) (sends : Sendings) (outlet : Outlet) : Type 0 where
+  pub each : (cycle : ℕ) → is_onward t.domain outlet.tape.link ≡ true →
+      filter (is_in cycle) (all_frames (flows_at w.outs.items outlet.tape.link))
+      ≡ (if nat_lt cycle outlet.told then map (came_in t.domain outlet.tape.link cycle) (batch_at (sends outlet.tape.link) cycle) else [])
 
--- and a reel has the tapes of these links
-abbrev pub HasTapes : BridgeState → Reel → Type 0
-HasTapes b reel = links_of reel.tapes.items ≡ links_from b.domain b.number
+-- a worker's bridge stands by what has come to it: its links have sent, and handed on what they tell, and it has dropped the offers that weren't
+-- covered
+pub record HasComeSoFar (t : Traffic) (number : ℕ) (w : Worker) : Type 0 where
+  pub sends : Sendings
+  pub stands : StandsSo t.domain (come_to w) sends w.station
+  pub handed : All (HasHandedOn t w sends) w.station.outlets.items
+  pub drops : AreDropsOf t.domain number (come_to w) w.station.tables w.station.edge.drops.items
 
--- the batches whose links end in bridges
-abbrev pub onward : Domain → List LinkBatch → List LinkBatch
-onward d batches = filter (λ (b : LinkBatch). ends_in_bridge d b.link) batches
+-- a worker under way: whatever comes, its tables and flows are items, its links are tidy and have sent no more than its cycles, and through each
+-- port went what its link has handed on; and where what came may come, its bridge stands by it
+pub record IsUnderWay (t : Traffic) (number : ℕ) (w : Worker) : Type 0 where
+  pub good_offers : AreOffers t.domain t.offers
+  pub is_agenda : IsAgendaOf t.domain t.offers t.background number w.agenda
+  pub of_domain : w.station.domain ≡ t.domain
+  pub number_is : w.station.number ≡ number
+  pub few : w.station.cycles ≤ most_cycles
+  pub tables : AreItems w.tables.items
+  pub tables_taken : w.station.tables ≡ length (items_in w.tables.items)
+  pub early : w.station.tables ≤ w.station.cycles
+  pub links_in : map link_of w.ins.items ≡ links_into t.domain number
+  pub inlets : map link_in w.station.inlets.items ≡ links_into t.domain number
+  pub ins : All (λ (port : FlowPort). AreItems port.pipe.items) w.ins.items
+  pub links_out : map link_of w.outs.items ≡ links_onward t.domain number
+  pub outlets : map link_out w.station.outlets.items ≡ links_from t.domain number
+  pub wires : All (λ (outlet : Outlet). outlet.wire.onward ≡ is_onward t.domain outlet.tape.link) w.station.outlets.items
+  pub tidy : All IsTidy w.station.outlets.items
+  pub within : All (IsWithin w.station.cycles) w.station.outlets.items
+  pub outs : (port : FlowPort) (outlet : Outlet) → Contains w.outs.items port → Contains w.station.outlets.items outlet →
+      port.link ≡ outlet.tape.link → HasPut outlet.told port
+  pub come : MayHaveComeTo t w → HasComeSoFar t number w
 
--- whatever the cycle's table, what an agenda has for a bridge may be offered to it
-abbrev pub IsOffered : Domain → ℕ → ℕ → AgendaOf → Type 0
-IsOffered d bridge cycle agenda = (rows : List Row) → (run : Run) × IsRunOfBridge d bridge cycle rows (offers_listed_at agenda cycle) run
+-- a worker of some traffic under way
+pub record SomeUnderWay (w : Worker) : Type 0 where
+  pub traffic : Traffic
+  pub number : ℕ
+  pub is : IsUnderWay traffic number w
 
--- a bridge sends a cycle with its background frames, and the batches for other bridges are put at the ports; what starts is kept on its reel
-pub record SendsOn (cycle : ℕ) (agenda : AgendaOf) (before after : BridgeState) (reel reel_after : Reel)
-    (outs outs_after : List (LinkEnd (End (Carried LinkBatch)))) : Type 0 where
-  pub batches : List LinkBatch
-  pub sends : SendsCycle before after cycle (background_at agenda cycle) [] batches
-  pub keeps : KeepsSent batches after.background reel reel_after
-  pub puts : outs_after ≡ with_each outs (map Item (onward before.domain batches))
+-- what stays of it whatever it does
+pub record IsSameWorker (before after : Worker) : Type 0 where
+  pub number : after.station.number ≡ before.station.number
+  pub cycles : after.station.cycles ≡ before.station.cycles
+  pub agenda : after.agenda ≡ before.agenda
+  pub tables : after.tables.pipe ≡ before.tables.pipe
+  pub ins : wires_of after.ins.items ≡ wires_of before.ins.items
+  pub outs : wires_of after.outs.items ≡ wires_of before.outs.items
 
--- it receives the cycle with a table, batches and its offers
-pub record ReceivesOn (cycle : ℕ) (agenda : AgendaOf) (table : CycleTable) (batches : List LinkBatch) (before after : BridgeState)
-    (dropped : List Dropped) : Type 0 where
-  pub can : CanReceive before cycle (record { table_cycle = table.cycle; rows = table.rows; batches = batches })
-  pub receives : (run : Run) → IsRunOfBridge before.domain before.number cycle table.rows (offers_listed_at agenda cycle) run →
-      ReceivesCycle run before after cycle batches dropped
+-- it goes on: of whatever traffic it was under way, it is so still
+pub record GoesFurther (before after : Worker) : Type 0 where
+  pub same : IsSameWorker before after
+  pub way : (t : Traffic) (number : ℕ) → IsUnderWay t number before → IsUnderWay t number after
 
--- what a worker is, so that its bridge may go through a cycle
-pub record MayGoOn (cycle : ℕ) (w : Worker) : Type 0 where
-  pub early : cycle < most_cycles
-  pub ports : HasPorts w.bridge
-  pub tapes : HasTapes w.bridge w.reel
-  pub links_out : map link_of w.outs.items ≡ links_onward w.bridge.domain w.bridge.number
-  pub room : All (λ (port : LinkEnd (End (Carried LinkBatch))). length port.pipe.items < most_items) w.outs.items
-  pub backed : AreBackedOf w.bridge.domain w.bridge.number cycle (background_at w.agenda cycle)
-  pub offered : IsOffered w.bridge.domain w.bridge.number cycle w.agenda
+-- and where it gives up, it has put flows alone, and there is room for a Stop
+pub record HasPutFlows (before after : Worker) : Type 0 where
+  pub outs : wires_of after.outs.items ≡ wires_of before.outs.items
+  pub items : All (λ (port : FlowPort). AreItems port.pipe.items) after.outs.items
+  pub room : All (λ (port : FlowPort). length port.pipe.items < most_items) after.outs.items
 
--- a worker goes through a cycle: it takes a table, its bridge sends the cycle, it takes a batch at each port, and its bridge receives the
--- cycle; it keeps what the bridge sent, and then what it dropped
-pub record GoesOn (cycle : ℕ) (before after : Worker) : Type 0 where
-  pub table : CycleTable
-  pub halfway : BridgeState
-  pub batches : List LinkBatch
-  pub dropped : List Dropped
-  pub between : Reel
-  pub is_given : after.tables ≡ with_item before.tables (Item table)
-  pub sends : SendsOn cycle before.agenda before.bridge halfway before.reel between before.outs.items after.outs.items
-  pub takes : after.ins.items ≡ with_each before.ins.items (map Item batches)
-  pub one_each : length batches ≡ length before.ins.items
-  pub receives : ReceivesOn cycle before.agenda table batches halfway after.bridge dropped
-  pub keeps_drops : KeepsDrops dropped between after.reel
-  pub same_agenda : after.agenda ≡ before.agenda
+-- a worker that has taken a table which its bridge hasn't
+pub record HasTable (table : CycleTable) (w : Worker) : Type 0 where
+  pub before : Worker
+  pub was : SomeUnderWay before
+  pub wants : before.station.tables < before.station.cycles
+  pub is : w ≡ record before { tables = with_item before.tables (Item table) }
+
+-- its bridge has taken the table: of whatever traffic it was under way before it took it from the pipe, it is so now
+pub record EntersTable (table : CycleTable) (before after : Worker) : Type 0 where
+  pub same : IsSameWorker before after
+  pub tables : after.tables ≡ before.tables
+  pub taken : after.station.tables ≡ before.station.tables + 1
+  pub way : (t : Traffic) (number : ℕ) (older : Worker) → IsUnderWay t number older → older.station.tables < older.station.cycles →
+      before ≡ record older { tables = with_item older.tables (Item table) } → IsUnderWay t number after
+
+-- the link at a place has something to hand on, by the port at another
+pub record HandsOnAt (place port : ℕ) (w : Worker) : Type 0 where
+  pub outlet : Outlet
+  pub there : slice_get w.station.outlets.items place ≡ Some outlet
+  pub onward : outlet.wire.onward ≡ true
+  pub more : outlet.told < outlet.sent
+  pub at : FlowPort
+  pub its_port : slice_get w.outs.items port ≡ Some at
+  pub same_link : at.link ≡ outlet.tape.link
+
+-- what a bridge has sent and dropped stands on its worker's reel, taken away from it
+pub record KeepsReel (before after : Worker) : Type 0 where
+  pub agenda : after.agenda ≡ before.agenda
+  pub tables : after.tables ≡ before.tables
+  pub ins : after.ins ≡ before.ins
+  pub tapes : after.reel.tapes.items ≡ map (λ (outlet : Outlet). outlet.tape) before.station.outlets.items
+  pub drops : after.reel.drops ≡ before.station.edge.drops
+
+-- a worker has gone through all cycles
+pub record EndsSo (before after : Worker) : Type 0 where
+  pub tables : after.tables.pipe ≡ before.tables.pipe
+  pub ins : wires_of after.ins.items ≡ wires_of before.ins.items
+  pub outs : wires_of after.outs.items ≡ wires_of before.outs.items
+  pub items : All (λ (port : FlowPort). AreItems port.pipe.items) after.outs.items
+  pub room : All (λ (port : FlowPort). length port.pipe.items < most_items) after.outs.items
+  pub part : (t : Traffic) (number : ℕ) → IsUnderWay t number before → HasGoneThrough t number before.station.cycles after

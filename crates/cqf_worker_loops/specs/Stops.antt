@@ -4,7 +4,7 @@ use Rattle.cqf_worker_loops.specs.declared.carried.Carried.{Carried}
 use Rattle.cqf_worker_loops.specs.declared.carried.Carried.TheVariants.{Item, Stop}
 use Rattle.cqf_worker_loops.specs.declared.link_ends.LinkEnd.{LinkEnd}
 use Rattle.cqf_worker_pipe.specs.PipeEnds.{End}
-use Rattle.cqf_worker_loops.specs.Rows.{MayHaveGot, with_each}
+use Rattle.cqf_worker_loops.specs.Rows.{MayHaveGot}
 
 module _ {T : Type 0} where
   -- items alone
@@ -19,12 +19,3 @@ module _ {T : Type 0} where
   abbrev pub AreStopped : List (LinkEnd (End (Carried T))) → List (LinkEnd (End (Carried T))) → Type 0
   AreStopped before after = (place : ℕ) (d : LinkEnd (End (Carried T))) → place < length before →
       MayHaveGot Stop (slice_index_or before place d) (slice_index_or after place d)
-
-  -- the first of the ports got an item each, and one behind them didn't
-  abbrev pub MissesPut : List (LinkEnd (End (Carried T))) → List (LinkEnd (End (Carried T))) → Type 0
-  MissesPut before after = (items : List T) × (length items < length before) × (after ≡ with_each before (map Item items))
-
-  -- at the first of the ports an item each was taken, and at the one behind them a Stop, or nothing
-  abbrev pub MissesItem : List (LinkEnd (End (Carried T))) → List (LinkEnd (End (Carried T))) → Type 0
-  MissesItem before after = (items : List T) × (length items < length before)
-      × ((after ≡ with_each before (map Item items)) ⊎ (after ≡ with_each before (map Item items ++ Stop ∷ [])))

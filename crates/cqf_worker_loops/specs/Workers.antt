@@ -1,39 +1,37 @@
 -- A bridge on a thread of its own: what it begins with, and what it promises (profile).
-use Rattle.std.specs.Prelude.{ℕ, ◌≡◌, ◌==◌, List, [], ◌∷◌, Bool, false, true, if◌then◌else◌, All, filter, length, map, slice_get}
+use Rattle.std.specs.Prelude.{ℕ, ◌≡◌, ◌≤◌, ◌<◌, ◌==◌, List, [], ◌∷◌, true, if◌then◌else◌, All, filter, length, map}
 use Rattle.std.specs.List.{flat_map}
-use Rattle.std.specs.Option.{option_map_or}
-use Rattle.cqf_model.specs.declared.topology.Link.{Link}
-use Rattle.cqf_model.specs.declared.topology.Node.{Node}
-use Rattle.cqf_model.specs.declared.topology.Node.TheVariants.{Bridge, Station}
+use Rattle.std.specs.List.Sorted.{IsNonDecreasingBy, IsPermutation}
+use Rattle.cqf_lists.specs.Lists.{each_below}
+use Rattle.cqf_model.specs.declared.frames.Dropped.{Dropped}
+use Rattle.cqf_model.specs.declared.frames.Sent.{Sent}
 use Rattle.cqf_model.specs.declared.topology.Row.{Row}
-use Rattle.cqf_model.specs.Book.{Contents}
-use Rattle.cqf_model.specs.Domain.{Domain}
-use Rattle.cqf_model.specs.Run.{AreBackground, AreOffers}
+use Rattle.cqf_model.specs.Domain.{Domain, leaves}
+use Rattle.cqf_model.specs.Run.{AreOffers}
+use Rattle.cqf_model.specs.Table.{table_of}
 use Rattle.cqf_admission.specs.Tables.{CycleTable}
-use Rattle.cqf_bridge_turn.specs.Agenda.{IsAgendaOf}
-use Rattle.cqf_bridge.specs.Batch.{LinkBatch}
-use Rattle.cqf_bridge.specs.BridgeState.{links_from, new_bridge}
-use Rattle.cqf_bridge.specs.Receiving.{links_into}
-use Rattle.cqf_laws_bridge.specs.Courses.{Course, HasWorked, Traffic}
-use Rattle.cqf_tape.specs.Reels.{HasKept, IsNewReel}
+use Rattle.cqf_bridge_turn.specs.Agenda.{AgendaOf, IsAgendaOf, offers_listed_at}
+use Rattle.cqf_laws_bridge.specs.Courses.{Traffic}
+use Rattle.cqf_laws_links.specs.Going.{Sendings}
+use Rattle.cqf_tape.specs.declared.tape.Tape.{Tape}
+use Rattle.cqf_tape.specs.Tapes.{links_of, mark_of_sent, starts_at}
+use Rattle.cqf_flow.specs.declared.moving.Flow.{Flow}
+use Rattle.cqf_flow.specs.Flows.{AreNextFlows, all_frames, batch_at, came_in, end_of_flows}
+use Rattle.cqf_flow.specs.Logs.{is_in}
+use Rattle.cqf_flow.specs.Offering.{dropped_behind}
+use Rattle.cqf_flow.specs.Standing.{Come, HasGoneOnBy, MayBeTables, StandsSo, is_onward, links_from, links_into, nothing_yet, offers_in}
+use Rattle.cqf_flow.specs.Sending.{IsTidy}
 use Rattle.cqf_worker_loops.specs.declared.carried.Carried.{Carried}
 use Rattle.cqf_worker_loops.specs.declared.carried.Carried.TheVariants.{Item, Stop}
 use Rattle.cqf_worker_loops.specs.declared.link_ends.LinkEnd.{LinkEnd}
 use Rattle.cqf_worker_loops.specs.declared.worker.Worker.{Worker}
 use Rattle.cqf_worker_pipe.specs.PipeEnds.{End}
 use Rattle.cqf_worker_loops.specs.Rows.{wires_of}
-
--- whether a link ends in a bridge, and not in a station
-abbrev pub is_bridge_node : Node → Bool
-is_bridge_node (Bridge b) = true
-is_bridge_node (Station s) = false
-
-abbrev pub ends_in_bridge : Domain → ℕ → Bool
-ends_in_bridge d l = option_map_or (λ (link : Link). is_bridge_node link.to) (slice_get d.links l) false
+use Rattle.cqf_worker_loops.specs.Stops.{AreItems}
 
 -- the links that leave a bridge and end in another, by number
 abbrev pub links_onward : Domain → ℕ → List ℕ
-links_onward d bridge = filter (ends_in_bridge d) (links_from d bridge)
+links_onward d bridge = filter (is_onward d) (links_from d bridge)
 
 -- the items among what a pipe carried
 abbrev pub item_in : {T : Type 0} → Carried T → List T
@@ -43,25 +41,39 @@ item_in Stop = []
 abbrev pub items_in : {T : Type 0} → List (Carried T) → List T
 items_in carried = flat_map item_in carried
 
--- the batches that went through the port of a link
-abbrev pub batches_at : List (LinkEnd (End (Carried LinkBatch))) → ℕ → List LinkBatch
-batches_at [] l = []
-batches_at (port ∷ ports) l = if port.link == l then items_in port.pipe.items else batches_at ports l
+-- an end of a pipe of flows, with the number of its link
+abbrev pub FlowPort : Type 0
+FlowPort = LinkEnd (End (Carried Flow))
+
+-- the flows that went through a port, and through that of a link
+abbrev pub flows_in : FlowPort → List Flow
+flows_in port = items_in port.pipe.items
+
+abbrev pub flows_at : List FlowPort → ℕ → List Flow
+flows_at [] l = []
+flows_at (port ∷ ports) l = if port.link == l then flows_in port else flows_at ports l
 
 -- the rows of a table
 abbrev pub rows_in : CycleTable → List Row
 rows_in table = table.rows
 
--- what a worker's own lists say that its bridge has done, where its reel has kept these pages. By links that don't leave the bridge it has
--- put nothing, and by links that don't end there it has taken nothing
-abbrev pub course_of : Worker → List Contents → Course
-course_of w pages = record {
-  sent = λ bridge. w.bridge.sent;
-  tables = λ bridge. map rows_in (items_in w.tables.items);
-  pages = λ bridge. pages;
-  put = batches_at w.outs.items;
-  taken = batches_at w.ins.items;
+-- what came by tables, with an agenda's offers of their cycles, and through ports
+abbrev pub come_by : List CycleTable → AgendaOf → List FlowPort → Come
+come_by tables agenda ins = record {
+  tables = map rows_in tables;
+  offers = each_below (λ cycle. offers_listed_at agenda cycle ∷ []) (length tables);
+  upto = λ m. end_of_flows 0 (flows_at ins m);
+  brought = λ m. all_frames (flows_at ins m);
 }
+
+-- and so what has come to a worker
+abbrev pub come_to : Worker → Come
+come_to w = come_by (items_in w.tables.items) w.agenda w.ins.items
+
+-- what may come to it: flows one behind the other by each link, and tables of a history
+pub record MayHaveComeTo (t : Traffic) (w : Worker) : Type 0 where
+  pub flows : (l : ℕ) → AreNextFlows 0 (flows_at w.ins.items l)
+  pub tables : MayBeTables t.domain (come_to w).tables
 
 -- the links of ports, and ports at which nothing was put or taken
 abbrev pub link_of : {T : Type 0} → LinkEnd (End T) → ℕ
@@ -70,43 +82,67 @@ link_of port = port.link
 abbrev pub IsUnused : {T : Type 0} → LinkEnd (End T) → Type 0
 IsUnused port = port.pipe.items ≡ []
 
--- ports through which so many items went, and no Stop
-abbrev pub HasCarried : {T : Type 0} → ℕ → LinkEnd (End (Carried T)) → Type 0
-HasCarried count port = (length (items_in port.pipe.items) ≡ count) × (length port.pipe.items ≡ count)
-
--- a worker of this traffic's bridge that has done nothing: it has the bridge, what the bridge is offered, the ports of the links that
--- end in the bridge, those of the links that leave it and end in another, and a reel with nothing on it
+-- a worker of this traffic's bridge that has done nothing: it has the bridge, what the bridge is offered, and the ports of the links that
+-- end in the bridge, and of those that leave it and end in another
 pub record IsWorkerOf (t : Traffic) (number : ℕ) (w : Worker) : Type 0 where
   pub good_offers : AreOffers t.domain t.offers
-  pub good_background : AreBackground t.domain t.background
-  pub is_bridge : w.bridge ≡ new_bridge t.domain number
+  pub stands : StandsSo t.domain nothing_yet (λ l. []) w.station
+  pub tidy : All IsTidy w.station.outlets.items
+  pub number_is : w.station.number ≡ number
+  pub no_drops : w.station.edge.drops.items ≡ []
   pub is_agenda : IsAgendaOf t.domain t.offers t.background number w.agenda
   pub no_tables : w.tables.items ≡ []
   pub links_in : map link_of w.ins.items ≡ links_into t.domain number
   pub none_taken : All IsUnused w.ins.items
   pub links_out : map link_of w.outs.items ≡ links_onward t.domain number
   pub none_put : All IsUnused w.outs.items
-  pub is_reel : IsNewReel t.domain number w.reel
 
--- a worker of some bridge that has done nothing
-abbrev pub MayWork : Worker → Type 0
-MayWork w = (t : Traffic) × (number : ℕ) × IsWorkerOf t number w
+-- a worker of some bridge that has done nothing, and is to go through so many cycles
+pub record MayWork (cycles : ℕ) (w : Worker) : Type 0 where
+  pub traffic : Traffic
+  pub number : ℕ
+  pub is : IsWorkerOf traffic number w
+  pub has_cycles : w.station.cycles ≡ cycles
 
--- the bridge did its part: it went through so many cycles, in each of which a table was taken, a batch at each port taken or put, and a
--- page of what it sent and dropped kept on its reel. The bridge stands before the next, with what the traffic has for it
+-- through a port flows were put one behind the other, up to a cycle, and nothing else
+pub record HasPut (upto : ℕ) (port : FlowPort) : Type 0 where
+  pub items : AreItems port.pipe.items
+  pub next : AreNextFlows 0 (flows_in port)
+  pub ends : end_of_flows 0 (flows_in port) ≡ upto
+  pub few : length port.pipe.items ≤ upto
+
+-- so many cycles' drops, cycle by cycle those of the offers that weren't covered, by frame
+pub record AreDropsOf (d : Domain) (number : ℕ) (come : Come) (cycles : ℕ) (drops : List Dropped) : Type 0 where
+  pub fresh : ℕ → List Dropped
+  pub are : drops ≡ each_below fresh cycles
+  pub each : (cycle : ℕ) → cycle < cycles →
+      IsPermutation (dropped_behind d number cycle (table_of come.tables cycle) [] (offers_in come cycle)) (fresh cycle)
+  pub by_frame : (cycle : ℕ) → cycle < cycles → IsNonDecreasingBy (λ (x : Dropped). x.frame) (fresh cycle)
+
+-- what a bridge's links have sent in so many cycles of what came to it: by each link it goes on by what came, it is what was put through the
+-- link's port, and it stands on the reel, with the drops
+pub record HasSentAll (t : Traffic) (number cycles : ℕ) (done : Worker) : Type 0 where
+  pub sends : Sendings
+  pub gone : (l : ℕ) → leaves t.domain l number ≡ true → HasGoneOnBy t.domain number (come_to done) l (sends l)
+  pub all : (l : ℕ) → leaves t.domain l number ≡ true → length (sends l) ≡ cycles
+  pub put : (l cycle : ℕ) → leaves t.domain l number ≡ true → is_onward t.domain l ≡ true →
+      filter (is_in cycle) (all_frames (flows_at done.outs.items l)) ≡ map (came_in t.domain l cycle) (batch_at (sends l) cycle)
+  pub starts : (l : ℕ) → leaves t.domain l number ≡ true →
+      starts_at done.reel.tapes.items l ≡ map mark_of_sent (flat_map (λ (batch : List Sent). batch) (sends l))
+  pub no_background : All (λ (tape : Tape). tape.background.items ≡ []) done.reel.tapes.items
+  pub came : All (λ (port : FlowPort). cycles ≤ end_of_flows 0 (flows_in port)) done.ins.items
+  pub drops : AreDropsOf t.domain number (come_to done) cycles done.reel.drops.items
+
+-- the bridge did its part: it took so many tables, its links put flows up to as many cycles, and on its reel are tapes of its links; where what
+-- came may come, they have sent all
 pub record HasGoneThrough (t : Traffic) (number cycles : ℕ) (done : Worker) : Type 0 where
-  pub pages : List Contents
-  pub worked : HasWorked t (course_of done pages) number
   pub is_agenda : IsAgendaOf t.domain t.offers t.background number done.agenda
-  pub of_domain : done.bridge.domain ≡ t.domain
-  pub of_number : done.bridge.number ≡ number
-  pub received : done.bridge.received ≡ cycles
-  pub has_sent : done.bridge.sent ≡ cycles
+  pub tables : AreItems done.tables.items
   pub had_tables : length (items_in done.tables.items) ≡ cycles
-  pub has_taken : All (HasCarried cycles) done.ins.items
-  pub has_put : All (HasCarried cycles) done.outs.items
-  pub all_pages : length pages ≡ cycles
-  pub kept : HasKept t.domain number pages done.reel
+  pub ins : All (λ (port : FlowPort). AreItems port.pipe.items) done.ins.items
+  pub outs : All (HasPut cycles) done.outs.items
+  pub links : links_of done.reel.tapes.items ≡ links_from t.domain number
+  pub sent : MayHaveComeTo t done → HasSentAll t number cycles done
 
 -- what a worker promises: it keeps its pipes, and, of whatever traffic it is a worker, its bridge did its part
 pub record Works (cycles : ℕ) (worker done : Worker) : Type 0 where

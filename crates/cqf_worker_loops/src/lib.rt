@@ -10,15 +10,16 @@
 
 mod calling;
 mod carried;
+mod flows;
 mod link_ends;
 mod pace;
 mod rows;
 mod sealing;
-mod stepping;
 mod worker;
 
 pub use calling::{CallFault, Unmade, make_calls};
 pub use carried::Carried;
+pub use cqf_flow::Flow;
 pub use link_ends::LinkEnd;
 pub use pace::{Free, Pace};
 pub use rows::stop_each;

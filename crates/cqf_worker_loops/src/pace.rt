@@ -7,7 +7,7 @@ pub trait Pace: Sync {
     /// An administrator is about to make its command at this place, from 0.
     fn before_call(&self, admin: usize, place: usize);
 
-    /// A bridge has its table of the cycle, and is about to send and receive the cycle.
+    /// The table of the cycle has come to a bridge, which is about to take it.
     fn before_step(&self, bridge: usize, cycle: Cycle);
 }
 

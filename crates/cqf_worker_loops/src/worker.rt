@@ -1,40 +1,40 @@
 //! A bridge on a thread of its own.
 ghost use Rattle.std.specs.Prelude.{◌≡◌, ◌<◌, ◌≤◌, ℕ, All, IfErr, IfOk, OnOk, length};
-ghost use Rattle.cqf_laws_bridge.specs.Courses.{Traffic};
-ghost use Rattle.cqf_worker_loops.specs.GivingUp.{HasGivenUp, StopsEarly};
+ghost use Rattle.cqf_worker_loops.specs.GivingUp.{GivesUpFor, HasGivenUp};
 ghost use Rattle.cqf_worker_loops.specs.Rows.{wires_of};
 ghost use Rattle.cqf_worker_loops.specs.Stops.{AreItems, AreItemsThenStop, AreStopped};
-ghost use Rattle.cqf_worker_loops.specs.Workers.{IsWorkerOf, Works};
+ghost use Rattle.cqf_worker_loops.specs.Workers.{MayWork, Works};
 ghost use Rattle.cqf_model.specs.Limits.{most_cycles};
 ghost use Rattle.cqf_worker_pipe.specs.PipeRule.{most_items};
 
 use crate::carried::Carried;
+use crate::flows::work_flows;
 use crate::link_ends::LinkEnd;
 use crate::pace::Pace;
 use crate::rows::stop_each;
-use crate::stepping::work_cycle;
 use cqf_admission::Table;
-use cqf_bridge::{Batch, Bridge, BridgeFault};
 use cqf_bridge_turn::Agenda;
-use cqf_laws_bridge::new_bridge_follows;
+use cqf_flow::{Flow, Station};
 use cqf_tape::Reel;
-use cqf_units::{Cycle, Memory};
-use cqf_worker_pipe::{PipeIn, PipeOut};
+use cqf_units::Memory;
+use cqf_worker_pipe::{Bell, PipeIn, PipeOut};
 use std::alloc::Global;
 use std::sync::Wait;
 
 /// A bridge with all that it needs on a thread of its own.
 #[derive(Drop)]
 pub struct Worker {
-    pub bridge: Bridge,
+    pub station: Station,
+    /// Where it waits: it is rung for each table and each flow that comes, and for room in a pipe that was full.
+    pub bell: Bell,
     /// What the bridge is offered, and its background frames.
     pub agenda: Agenda,
     /// Where the table of each cycle comes.
     pub tables: PipeOut<Carried<Table>>,
     /// The ends of the pipes on the links that end in the bridge, by number.
-    pub ins: Vec<LinkEnd<PipeOut<Carried<Batch>>>>,
+    pub ins: Vec<LinkEnd<PipeOut<Carried<Flow>>>>,
     /// The ends of the pipes on the links that leave the bridge and end in another, by number.
-    pub outs: Vec<LinkEnd<PipeIn<Carried<Batch>>>>,
+    pub outs: Vec<LinkEnd<PipeIn<Carried<Flow>>>>,
     /// What the bridge has sent and dropped.
     pub reel: Reel,
 }
@@ -42,9 +42,7 @@ pub struct Worker {
 /// Why a worker ends before its last cycle is over.
 #[derive(Clone, Copy, Debug, PartialEq, Eq, Drop)]
 pub enum WorkerFault {
-    /// Its bridge refused a cycle.
-    Bridge(BridgeFault),
-    /// A growth was refused to it, but not in its bridge.
+    /// A growth was refused to it.
     Memory,
     /// A pipe carried that nothing comes any more, or its other end was gone. It is no fault of the worker's own.
     Stopped,
@@ -62,40 +60,17 @@ impl From<Memory> for WorkerFault {
 }
 
 /// What comes back of a worker that gives up: the number of its bridge, from 0, why, and the ends at which it put. What it put there is
-/// batches, and then at most one Stop.
+/// flows, and then at most one Stop.
 #[derive(Drop)]
 pub struct GaveUp {
     pub bridge: u16,
     pub fault: WorkerFault,
-    pub outs: Vec<LinkEnd<PipeIn<Carried<Batch>>>>,
+    pub outs: Vec<LinkEnd<PipeIn<Carried<Flow>>>>,
 }
 
-/// Goes through the cycles, one after the other.
-fn work_cycles<R: Wait, P: Pace>(
-    rt: &R,
-    alloc: Global,
-    pace: &P,
-    cycles: u32,
-    worker: &mut Worker,
-) -> Result<(), WorkerFault>
-    requires few { cycles ≤ most_cycles }
-    requires new { (t : Traffic) × (number : ℕ) × IsWorkerOf t number worker.old }
-    ensures ok { OnOk result (Works cycles worker.old worker.new) }
-    ensures err { IfErr result (StopsEarly cycles worker.old) }
-    ensures outs { wires_of worker.new.outs.items ≡ wires_of worker.old.outs.items }
-    ensures room { All (λ port. length port.pipe.items < most_items) worker.new.outs.items }
-    ensures batches { All (λ port. AreItems port.pipe.items) worker.new.outs.items }
-{
-    new_bridge_follows();
-    for cycle in 0..cycles {
-        work_cycle(rt, alloc, pace, Cycle(cycle), worker)?;
-    }
-    Ok(())
-}
-
-/// Lets go of a worker: first of the ends at which it takes, so that who puts there waits no more; then those who take from it are
-/// told that nothing comes any more. Gives the ends at which that was put, behind batches alone.
-fn let_go<R: Wait>(rt: &R, worker: Worker) -> Vec<LinkEnd<PipeIn<Carried<Batch>>>>
+/// Lets go of a worker: first of the ends at which it takes, so that who puts there, or waits for room, waits no more; then those who take
+/// from it are told that nothing comes any more. Gives the ends at which that was put, behind flows alone.
+fn let_go<R: Wait>(rt: &R, worker: Worker) -> Vec<LinkEnd<PipeIn<Carried<Flow>>>>
     requires room { All (λ port. length port.pipe.items < most_items) worker.outs.items }
     requires batches { All (λ port. AreItems port.pipe.items) worker.outs.items }
     ensures count { length result.items ≡ length worker.outs.items }
@@ -107,7 +82,8 @@ fn let_go<R: Wait>(rt: &R, worker: Worker) -> Vec<LinkEnd<PipeIn<Carried<Batch>>
         tables,
         ins,
         mut outs,
-        bridge: _bridge,
+        station: _station,
+        bell: _bell,
         agenda: _agenda,
         reel: _reel,
     } = worker;
@@ -119,24 +95,23 @@ fn let_go<R: Wait>(rt: &R, worker: Worker) -> Vec<LinkEnd<PipeIn<Carried<Batch>>
 
 /// Goes through all cycles of a run with a bridge on its thread: the worker comes back with what went through its pipes, and with what its
 /// bridge sent and dropped on its reel; it had done nothing before. The pace is asked in each cycle, once its table has come, and no lock
-/// is held. It waits for tables, for room in its pipes and for batches. Where it ends sooner it tells so first to those who put for it, and
+/// is held. It waits at its bell, and nowhere else but where it gives up. Where it ends sooner it tells so first to those who put for it, and
 /// then to those who take from it; the ends at which they are told come back, and the rest is gone with its reel, without which there is no
-/// book. It may give up in each cycle for want of memory, in its bridge too, and where it is stopped; for another cause of its bridge only
-/// where this, having sent the cycle, refuses to receive it. That the cycles are at most 100,000 is for the caller to see to.
+/// book. It may give up for want of memory, and, where there are cycles, where it is stopped. That the cycles are at most 100,000 is for the
+/// caller to see to.
 pub fn work<R: Wait, P: Pace>(
     rt: &R,
     alloc: Global,
     pace: &P,
-    cycles: u32,
     mut worker: Worker,
 ) -> Result<Worker, GaveUp>
-    requires few { cycles ≤ most_cycles }
-    requires new { (t : Traffic) × (number : ℕ) × IsWorkerOf t number worker }
-    ensures ok { IfOk result (λ done. Works cycles worker done) }
-    ensures err { IfErr result (HasGivenUp cycles worker) }
+    requires few { worker.station.cycles ≤ most_cycles }
+    requires new { MayWork worker.station.cycles worker }
+    ensures ok { IfOk result (λ done. Works worker.station.cycles worker done) }
+    ensures err { IfErr result (HasGivenUp worker.station.cycles worker) }
 {
-    let bridge = worker.bridge.number();
-    match work_cycles(rt, alloc, pace, cycles, &mut worker) {
+    let bridge = worker.station.number();
+    match work_flows(rt, alloc, pace, &mut worker) {
         Ok(()) => Ok(worker),
         Err(fault) => {
             let outs = let_go(rt, worker);

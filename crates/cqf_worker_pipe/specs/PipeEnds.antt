@@ -1,10 +1,15 @@
 -- The two ends of a pipe: which pipe it is, and what was put or taken at the end (profile).
-use Rattle.std.specs.Prelude.{ℕ, ◌≡◌, ◌++◌, ◌-◌, List, [], true, false, length, take}
+use Rattle.std.specs.Prelude.{ℕ, ◌≡◌, ◌++◌, ◌-◌, List, [], ◌∷◌, true, false, length, take}
 use Rattle.atomic_table.specs.declared.badge.Badge.{Badge}
 use Rattle.atomic_table.specs.Seated.{TableId}
 use Rattle.crossbeam_channel.specs.Claims.{Pass, view}
 use Rattle.crossbeam_channel.specs.declared.flavors.array.Key.{Key}
 use Rattle.cqf_worker_pipe.specs.declared.pipe_rule.Bundle.{Bundle}
+use Rattle.cqf_worker_pipe.specs.declared.pipe_ends.Found.{Found}
+use Rattle.cqf_worker_pipe.specs.declared.pipe_ends.Found.TheVariants.{Item, Nothing}
+use Rattle.cqf_worker_pipe.specs.declared.pipe_ends.Found.TheVariants as found
+use Rattle.cqf_worker_pipe.specs.declared.pipe_ends.NotPut.{NotPut}
+use Rattle.cqf_worker_pipe.specs.declared.pipe_ends.NotPut.TheVariants.{Full, Gone}
 use Rattle.cqf_worker_pipe.specs.declared.pipe_rule.Log.{Log}
 use Rattle.cqf_worker_pipe.specs.PipeRule.{log}
 
@@ -44,3 +49,14 @@ module _ {T : Type 0} where
   -- what was put is what was taken, and behind it so many items
   abbrev pub AreLeft : List T → List T → ℕ → Type 0
   AreLeft put taken left = (rest : List T) × (put ≡ taken ++ rest) × (length rest ≡ left)
+
+  -- the item that a look found
+  abbrev pub items_found : Found T → List T
+  items_found (Item x) = x ∷ []
+  items_found Nothing = []
+  items_found found.Gone = []
+
+  -- the item that wasn't put
+  abbrev pub item_back : NotPut T → T
+  item_back (Full x) = x
+  item_back (Gone x) = x

@@ -3,6 +3,10 @@
 //! [`pipe`] gives the two ends of one: at [`PipeIn`] items are put, one by one or several at once, and at [`PipeOut`] they are taken
 //! one by one, in that order. Both ends together tell how many items are still under way.
 //!
+//! A thread that takes from several pipes waits at its [`Bell`]: [`pipe_to`] and [`pipe_between`] give pipes that ring it. It looks at each
+//! of them until none has an item left, and then waits. Whoever puts into several pipes doesn't wait for room at one: it tries
+//! ([`PipeIn::try_put`]), and is rung for when there is room again.
+//!
 //! ```text
 //! let (mut into, mut out) = pipe(alloc)?;
 //! into.put(rt, 1), into.put(rt, 2), into.put(rt, 3)      Ok, each time
@@ -11,7 +15,9 @@
 //! ```
 #![tactic(auto)]
 
+mod bells;
 mod pipe_ends;
 mod pipe_rule;
 
-pub use pipe_ends::{PipeIn, PipeOut, pipe};
+pub use bells::{Bell, Ringer};
+pub use pipe_ends::{Found, NotPut, PipeIn, PipeOut, pipe, pipe_between, pipe_to};

@@ -2,12 +2,13 @@
 ghost use Rattle.std.specs.Prelude.{◌≡◌, ◌+◌, ◌<◌, ◌++◌, [], ◌∷◌, IfErr, IfNone, IfOk, IfSome, OnOk, length};
 ghost use Rattle.crossbeam_channel.specs.Claims.{IsSeatAt, view};
 ghost use Rattle.crossbeam_channel.specs.Ends.{receives_on};
-ghost use Rattle.cqf_worker_pipe.specs.PipeEnds.{AreLeft, IsTaker};
+ghost use Rattle.cqf_worker_pipe.specs.PipeEnds.{AreLeft, IsTaker, item_back, items_found};
 ghost use Rattle.cqf_worker_pipe.specs.PipeRule.{IsTaken, most_items};
 
+use crate::bells::{Bell, Ringer};
 use crate::pipe_rule::{Bundle, InOrder, Log, Puts, Receiver, Roles, Sender, Takes, Token, Total};
 use cqf_units::Memory;
-use crossbeam_channel::bounded_with;
+use crossbeam_channel::{TryRecvError, TrySendError, bounded_with};
 use std::alloc::Global;
 use std::collections::VecDeque;
 use std::marker::Model;
@@ -28,6 +29,8 @@ pub struct PipeIn<T: Drop> {
     sender: Sender<T>,
     pass: Token<T>,
     puts: u64,
+    /// What is rung after each put, and when the end is gone: a field is let go of behind those before it.
+    bell: Option<Ringer>,
 }
 
 impl<T: Drop> Model for PipeIn<T> {
@@ -52,6 +55,10 @@ pub struct PipeOut<T: Drop> {
     /// What was taken from the pipe with an item before it, and waits to be handed out.
     waiting: VecDeque<T>,
     takes: u64,
+    /// How many were taken since none was found, those that were put at once as one.
+    streak: usize,
+    /// What is rung when none is found behind so many that the pipe may have been full, since there is room again, and when the end is gone.
+    bell: Option<Ringer>,
 }
 
 impl<T: Drop> Model for PipeOut<T> {
@@ -69,9 +76,74 @@ impl<T: Drop> Model for PipeOut<T> {
         × (items_taken s.pass ≡ handed_by s.pass s.waiting.items ++ s.waiting.items) × (s.takes ≡ length (handed_by s.pass s.waiting.items)) };
 }
 
+/// What a look at a pipe finds.
+#[derive(Drop)]
+pub enum Found<T> {
+    /// The item that was put first of those that wait.
+    Item(T),
+    /// None waits.
+    Nothing,
+    /// None waits, and the other end is gone.
+    Gone,
+}
+
+/// Why an item wasn't put at once; it comes back.
+#[derive(Drop)]
+pub enum NotPut<T> {
+    /// The pipe was full.
+    Full(T),
+    /// The other end is gone.
+    Gone(T),
+}
+
 /// The two ends of a pipe, at which nothing was put or taken yet. Four items can wait in it, and items that were put at once
 /// count as one. `Memory` where a growth is refused.
 pub fn pipe<T: Drop + Send>(alloc: Global) -> Result<(PipeIn<T>, PipeOut<T>), Memory>
+    ensures pair { IfOk result (λ ends. ends.0.pipe ≡ ends.1.pipe) }
+    ensures nothing_put { IfOk result (λ ends. ends.0.items ≡ []) }
+    ensures nothing_taken { IfOk result (λ ends. ends.1.items ≡ []) }
+{
+    let ends = pipe_with(alloc, None, None)?;
+    Ok(ends)
+}
+
+/// The two ends of such a pipe to a thread that waits at a bell, which is rung after each put, and when the putting end is gone.
+pub fn pipe_to<T: Drop + Send>(
+    alloc: Global,
+    taker: &Bell,
+) -> Result<(PipeIn<T>, PipeOut<T>), Memory>
+    ensures pair { IfOk result (λ ends. ends.0.pipe ≡ ends.1.pipe) }
+    ensures nothing_put { IfOk result (λ ends. ends.0.items ≡ []) }
+    ensures nothing_taken { IfOk result (λ ends. ends.1.items ≡ []) }
+{
+    let ringer = taker.ringer()?;
+    let ends = pipe_with(alloc, Some(ringer), None)?;
+    Ok(ends)
+}
+
+/// The two ends of such a pipe between two threads that wait at bells: that of the taking one is rung likewise, and that of the putting one
+/// when there is room in the pipe again, and when the taking end is gone.
+pub fn pipe_between<T: Drop + Send>(
+    alloc: Global,
+    putter: &Bell,
+    taker: &Bell,
+) -> Result<(PipeIn<T>, PipeOut<T>), Memory>
+    ensures pair { IfOk result (λ ends. ends.0.pipe ≡ ends.1.pipe) }
+    ensures nothing_put { IfOk result (λ ends. ends.0.items ≡ []) }
+    ensures nothing_taken { IfOk result (λ ends. ends.1.items ≡ []) }
+{
+    let onward = taker.ringer()?;
+    let back = putter.ringer()?;
+    let ends = pipe_with(alloc, Some(onward), Some(back))?;
+    Ok(ends)
+}
+
+/// The two ends of such a pipe, with what is rung after each put, and when there is room again.
+fn pipe_with<T: Drop + Send>(
+    alloc: Global,
+    onward: Option<Ringer>,
+    back: Option<Ringer>,
+) -> Result<(PipeIn<T>, PipeOut<T>), Memory>
     ensures pair { IfOk result (λ ends. ends.0.pipe ≡ ends.1.pipe) }
     ensures nothing_put { IfOk result (λ ends. ends.0.items ≡ []) }
     ensures nothing_taken { IfOk result (λ ends. ends.1.items ≡ []) }
@@ -85,14 +157,24 @@ pub fn pipe<T: Drop + Send>(alloc: Global) -> Result<(PipeIn<T>, PipeOut<T>), Me
         sender,
         pass,
         puts: 0,
+        bell: onward,
     };
     let out = PipeOut {
         receiver,
         pass: other,
         waiting: VecDeque::new(alloc),
         takes: 0,
+        streak: 0,
+        bell: back,
     };
     Ok((into, out))
+}
+
+/// Rings a bell, where there is one.
+fn ring(bell: &Option<Ringer>) {
+    if let Some(ringer) = bell {
+        ringer.ring();
+    }
 }
 
 /// Takes the bundle that was put first of those in the channel. It looks for it, and lets other threads run before it looks again;
@@ -155,11 +237,51 @@ impl<T: Drop> PipeIn<T> {
         match self.sender.send_as::<Puts, R>(rt, &mut self.pass, bundle) {
             Ok(()) => {
                 self.puts += count;
+                ring(&self.bell);
                 Ok(())
             }
             Err(refused) => {
                 let Bundle { first, behind } = refused.into_inner();
                 Err((first, behind))
+            }
+        }
+    }
+
+    /// Puts an item in the pipe, up to a million in all, where there is room. Else it comes back, and nothing was put: `Full` where the pipe
+    /// was full, `Gone` where the other end is gone. It waits for nobody, and takes no memory.
+    pub fn try_put<R: Wait>(&mut self, rt: &R, item: T) -> Result<(), NotPut<T>>
+        requires room { length self.old.items < most_items }
+        ensures pipe { self.new.pipe ≡ self.old.pipe }
+        ensures ok { OnOk result (self.new.items ≡ self.old.items ++ item ∷ []) }
+        ensures err { IfErr result (λ back. self.new.items ≡ self.old.items) }
+        ensures back { IfErr result (λ back. item_back back ≡ item) }
+    {
+        let bundle = Bundle {
+            first: item,
+            behind: VecDeque::new(self.alloc),
+        };
+        match self
+            .sender
+            .try_send_as::<Puts, R>(rt, &mut self.pass, bundle)
+        {
+            Ok(()) => {
+                self.puts += 1;
+                ring(&self.bell);
+                Ok(())
+            }
+            Err(TrySendError::Full(back)) => {
+                let Bundle {
+                    first,
+                    behind: _none,
+                } = back;
+                Err(NotPut::Full(first))
+            }
+            Err(refused) => {
+                let Bundle {
+                    first,
+                    behind: _none,
+                } = refused.into_inner();
+                Err(NotPut::Gone(first))
             }
         }
     }
@@ -175,12 +297,15 @@ impl<T: Drop> PipeIn<T> {
             sender,
             mut pass,
             puts,
+            bell: _onward,
         } = self;
         let PipeOut {
             receiver: _receiver,
             pass: other,
             waiting: _waiting,
             takes,
+            streak: _streak,
+            bell: _back,
         } = out;
         sender.absorb::<Roles>(&mut pass, other);
         sender.learn_as::<Total>(&mut pass);
@@ -189,6 +314,43 @@ impl<T: Drop> PipeIn<T> {
 }
 
 impl<T: Drop> PipeOut<T> {
+    /// Takes the item that was put first of those that wait, or says that none does, and whether the other end is gone. Where none waits, and
+    /// the pipe may have been full since that was so before, the bell of the other end's thread is rung: so whoever takes until none is left
+    /// leaves nobody waiting for room. It waits for nobody, and takes no memory.
+    pub fn look<R: Wait>(&mut self, rt: &R) -> Found<T>
+        ensures pipe { self.new.pipe ≡ self.old.pipe }
+        ensures items { self.new.items ≡ self.old.items ++ items_found result }
+    {
+        if let Some(item) = self.waiting.pop_front() {
+            self.takes += 1;
+            return Found::Item(item);
+        }
+        match self.receiver.try_recv_as::<Takes, R>(rt, &mut self.pass) {
+            Ok(bundle) => {
+                let Bundle { first, behind } = bundle;
+                self.waiting = behind;
+                self.takes += 1;
+                self.streak = self.streak.saturating_add(1);
+                Found::Item(first)
+            }
+            Err(TryRecvError::Empty) => {
+                self.end_streak();
+                Found::Nothing
+            }
+            Err(TryRecvError::Disconnected) => Found::Gone,
+        }
+    }
+
+    /// Notes that none was found: where so many were taken before that the pipe may have been full, there is room again.
+    fn end_streak(&mut self)
+        ensures { self.new ≡ self.old }
+    {
+        if self.streak >= CAPACITY {
+            ring(&self.bell);
+        }
+        self.streak = 0;
+    }
+
     /// Takes the item that was put first of those that wait. It waits while nothing waits in the pipe, and answers none where
     /// the other end is gone too. It takes no memory.
     pub fn take<R: Wait>(&mut self, rt: &R) -> Option<T>

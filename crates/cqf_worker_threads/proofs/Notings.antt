@@ -1,10 +1,9 @@
 -- What is noted of the threads of a run, as they end one after the other.
 use Rattle.std.proofs.Common.{ℕ, ◌≡◌, ◌<◌, ◌++◌, List, [], ◌∷◌, All, Bool, Err, IfErr, IfOk, None, Ok, Option}
-use Rattle.std.proofs.Common.{Result, Some, arith, ap, cond, false, length, refl, subst, sym, true, inl, inr, ◌∙◌}
+use Rattle.std.proofs.Common.{Result, Some, arith, cond, false, length, refl, subst, sym, true, inl, inr, ◌∙◌}
 use Rattle.std.specs.List.{AllZip}
 use Rattle.std.specs.Prelude.{Contains}
 use Rattle.std.proofs.lemmas.Bool.{false≢true}
-use Rattle.std.proofs.lemmas.List.{length-map}
 use Rattle.std.proofs.lemmas.List.Elements.{All-contains_itself, All-head, All-tail, All-weaker}
 use Rattle.std.proofs.lemmas.Option.{same_Some}
 use Rattle.cqf_worker_loops.specs.declared.calling.CallFault.{CallFault}
@@ -18,15 +17,15 @@ use Rattle.cqf_worker_loops.specs.declared.worker.GaveUp.{GaveUp}
 use Rattle.cqf_worker_loops.specs.declared.worker.Worker.{Worker}
 use Rattle.cqf_worker_loops.specs.declared.worker.WorkerFault.{WorkerFault}
 use Rattle.cqf_worker_loops.specs.declared.worker.WorkerFault.TheVariants as working
-use Rattle.cqf_worker_loops.specs.GivingUp.{StopsEarly}
-use Rattle.cqf_worker_loops.specs.Handing.{HasBrokenOff, LacksOne, TableEnd, pipes_of}
+use Rattle.cqf_worker_loops.specs.GivingUp.{GivesUpFor}
+use Rattle.cqf_worker_loops.specs.Handing.{HasBrokenOff, LacksOne, TableEnd}
 use Rattle.cqf_worker_threads.specs.declared.faults.ConductFault.{ConductFault}
 use Rattle.cqf_worker_threads.specs.declared.faults.ConductFault.TheVariants as conduct
 use Rattle.cqf_worker_threads.specs.declared.faults.Faults.{Faults}
 use Rattle.cqf_worker_threads.specs.declared.threads.Administrator.{Administrator}
 use Rattle.cqf_worker_threads.specs.declared.threads.Ready.{Ready}
 use Rattle.cqf_worker_threads.specs.Faults.{IsClean, first_noted, is_before, is_noted, told_of}
-use Rattle.cqf_worker_threads.specs.Noting.{NotesFault, NotesAll, fault_in_bridge, fault_in_call, fault_of_caller}
+use Rattle.cqf_worker_threads.specs.Noting.{NotesFault, NotesAll, fault_in_call, fault_in_worker, fault_of_caller}
 use Rattle.cqf_worker_threads.specs.Noting.{fault_of_conductor, fault_of_worker, noted, noted_with}
 use Rattle.cqf_worker_threads.specs.Running.{AnswersWorker, BreaksOff, CallAnswers}
 use Rattle.cqf_worker_threads.specs.Telling.{IsStartFault, MayBeTold}
@@ -146,19 +145,13 @@ module _ (cycles : ℕ) (r : Ready) where
         (notes_told before notes.0 kept notes.1 answer notes.2 told
         (λ why is. All-head (λ (b : A). (why : Y) → P b (Err why) → MayCause cycles r (cause why)) a those may why (subst (P a) is zip.0)))
 
-  -- why a worker stops may be told
-  worker_cause : (w : Worker) (bridge : ℕ) (fault : WorkerFault) → Contains r.workers.items w → bridge ≡ w.bridge.number → StopsEarly cycles w fault →
-      MayCause cycles r (fault_in_bridge bridge fault)
-  worker_cause w bridge (working.Bridge reason) there is stops =
-      record { one = record { worker = w; there = there; stops = stops }; number = sym is }
-  worker_cause w bridge working.Memory there is stops = tt
-  worker_cause w bridge working.Stopped there is stops = inl (record { worker = w; there = there; stops = stops })
+  -- why a worker gives up may be told
+  worker_cause : (fault : WorkerFault) → GivesUpFor cycles fault → MayCause cycles r (fault_in_worker fault)
+  worker_cause working.Memory gives = gives
+  worker_cause working.Stopped gives = gives
 
   pub workers_told : All (λ (w : Worker). (why : GaveUp) → AnswersWorker cycles w (Err why) → MayCause cycles r (fault_of_worker why)) r.workers.items
-  workers_told =
-      All-weaker (Contains r.workers.items) (λ (w : Worker). (why : GaveUp) → AnswersWorker cycles w (Err why) → MayCause cycles r (fault_of_worker why))
-      (λ w there why answer. worker_cause w why.bridge why.fault there answer.1.number answer.1.stopped) r.workers.items
-      (All-contains_itself r.workers.items)
+  workers_told = λ place d within why answer. worker_cause why.fault answer.1.stopped
 
   -- and an administrator's
   caller_cause : (a : Administrator) (fault : CallFault) → Contains r.administrators.items a → 0 < length a.commands.items →
@@ -178,19 +171,12 @@ module _ (cycles : ℕ) (r : Ready) where
       MayCause cycles r (fault_of_conductor fault)
   conductor_cause left sealing.Memory is broken = tt
   conductor_cause left sealing.CyclesSpent is broken = inl (omega (arith, broken.spent is))
-  conductor_cause left sealing.Lost is broken =
-      let lacks : LacksOne left.conductor.tables.items cycles = (broken.lost is).1 in
-      inr (some_lacks left.conductor.tables.items lacks, omega (arith, lacks.1, as_many left.conductor.tables.items r.tables.items broken.pipes))
+  conductor_cause left sealing.Lost is broken = some_lacks left.conductor.tables.items (broken.lost is).1
     where
       -- an end that lacks an item lacks one of some
       some_lacks : (ends : List TableEnd) → LacksOne ends cycles → 0 < cycles
       some_lacks [] lacks = absurd (omega (arith, lacks.1))
       some_lacks (end ∷ ends) lacks = omega (arith, lacks.2 end)
-
-      -- ends of the same pipes are as many
-      as_many : (after before : List TableEnd) → pipes_of after ≡ pipes_of before → length after ≡ length before
-      as_many after before pipes =
-          sym (length-map after (λ (e : TableEnd). e.pipe)) ∙ ap length pipes ∙ length-map before (λ (e : TableEnd). e.pipe)
 
   -- all that is noted in the end, with what the conductor has
   pub told_with : (faults : Faults) (sealed : Result Sealed SealingFault) → AreTold cycles r faults →

@@ -1,5 +1,5 @@
 -- Which fault of a thread is told as which of the run's (profile).
-use Rattle.std.specs.Prelude.{ℕ, ◌≡◌, ◌⊎◌, ◌++◌, [], ◌∷◌, Err, List, None, Ok, Option, Result, Some, true}
+use Rattle.std.specs.Prelude.{◌≡◌, ◌⊎◌, ◌++◌, [], ◌∷◌, Err, List, None, Ok, Option, Result, Some, true}
 use Rattle.cqf_worker_loops.specs.declared.calling.CallFault.{CallFault}
 use Rattle.cqf_worker_loops.specs.declared.calling.CallFault.TheVariants as call
 use Rattle.cqf_worker_loops.specs.declared.calling.Unmade.{Unmade}
@@ -19,14 +19,13 @@ abbrev pub noted : Faults → Option ConductFault → Faults
 noted faults (Some fault) = record faults { first = Some (first_noted faults.first fault) }
 noted faults None = record faults { is_stopped = true }
 
--- a worker's own fault, with the number of its bridge
-abbrev pub fault_in_bridge : ℕ → WorkerFault → Option ConductFault
-fault_in_bridge bridge (working.Bridge reason) = Some (conduct.Bridge bridge reason)
-fault_in_bridge bridge working.Memory = Some conduct.Memory
-fault_in_bridge bridge working.Stopped = None
+-- a worker's own fault
+abbrev pub fault_in_worker : WorkerFault → Option ConductFault
+fault_in_worker working.Memory = Some conduct.Memory
+fault_in_worker working.Stopped = None
 
 abbrev pub fault_of_worker : GaveUp → Option ConductFault
-fault_of_worker why = fault_in_bridge why.bridge why.fault
+fault_of_worker why = fault_in_worker why.fault
 
 -- an administrator's
 abbrev pub fault_in_call : CallFault → Option ConductFault

@@ -38,7 +38,7 @@ BreaksOff cycles seat before fault = (left : Unsealed) × (left.fault ≡ fault)
 -- threads may begin: nothing is done yet
 pub record IsReadyWorker (cycles : ℕ) (r : Ready) : Type 0 where
   pub few : cycles ≤ most_cycles
-  pub workers : All MayWork r.workers.items
+  pub workers : All (MayWork cycles) r.workers.items
   pub fresh : All (λ (a : Administrator). a.seat.calls ≡ []) r.administrators.items
   pub no_calls : r.conductor.calls ≡ []
   pub no_tables : r.conductor.tables ≡ []

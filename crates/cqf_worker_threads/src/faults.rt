@@ -15,7 +15,8 @@ use thiserror::Error;
 pub enum ConductFault {
     /// A growth was refused outside a bridge.
     Memory,
-    /// This bridge refused a cycle, for this reason: of those that did, the one with the least number.
+    /// This bridge refused a cycle, for this reason: of those that did, the one with the least number. No run tells it: a worker has no
+    /// bridge that refuses.
     Bridge(u16, BridgeFault),
     /// The desk's history isn't that of its seats, or had no room for a call or a Seal.
     DeskDisagrees,

@@ -105,7 +105,7 @@ pub fn start_workers<'s, E, R: Threads + Wait + Sync, P: Pace>(
     workers: Vec<Worker>,
 ) -> Result<Vec<Working>, ConductFault>
     requires few { cycles ≤ most_cycles }
-    requires new { All MayWork workers.items }
+    requires new { All (MayWork cycles) workers.items }
     ensures of { IfOk result (λ handles. map (λ h. h.promise.worker.value) handles.items ≡ workers.items) }
     ensures cycles { IfOk result (λ handles. All (λ h. h.promise.cycles ≡ cycles) handles.items) }
     ensures err { IfErr result IsStartFault }
@@ -119,9 +119,9 @@ pub fn start_workers<'s, E, R: Threads + Wait + Sync, P: Pace>(
         let Ok(handle) = scope.spawn_with(
             promise,
             move || -> Result<Worker, GaveUp>
-                requires { (cycles ≤ most_cycles) × MayWork worker }
-                ensures { AnswersWorker cycles worker result }
-            { work(rt, alloc, pace, cycles, worker) },
+                requires { (worker.station.cycles ≤ most_cycles) × MayWork worker.station.cycles worker }
+                ensures { AnswersWorker worker.station.cycles worker result }
+            { work(rt, alloc, pace, worker) },
         ) else {
             return Err(ConductFault::Spawn);
         };
@@ -177,13 +177,12 @@ fn start_administrators<'s, E, R: Threads + Wait + Sync, P: Pace>(
     Ok(handles)
 }
 
-/// Notes why a bridge's worker gave up: a fault of its bridge with that bridge's number, and none of its own where it was stopped.
+/// Notes why a bridge's worker gave up: none of its own where it was stopped.
 fn note_worker(faults: &mut Faults, why: GaveUp)
     ensures some { IsClean faults.new → ⊥ }
     ensures told { faults.new ≡ noted faults.old (fault_of_worker why) }
 {
     match why.fault {
-        WorkerFault::Bridge(reason) => faults.note(ConductFault::Bridge(why.bridge, reason)),
         WorkerFault::Memory => faults.note(ConductFault::Memory),
         WorkerFault::Stopped => faults.note_stop(),
     }
@@ -239,8 +238,8 @@ fn join_worker<R: Threads + Wait>(
 }
 
 /// Waits for all workers' threads, and gives the workers that come back, in the handles' order. It notes the fault of each that gave
-/// up, in that order, with its bridge's number, or that it was stopped, where it has none of its own, and `Memory` where a worker can't be
-/// kept. Where nothing has gone wrong in the end, nor before, all are there, and each has done its part.
+/// up, in that order, or that it was stopped, where it has none of its own, and `Memory` where a worker can't be kept. Where nothing
+/// has gone wrong in the end, nor before, all are there, and each has done its part.
 pub fn join_workers<R: Threads + Wait>(
     rt: &R,
     alloc: Global,
@@ -306,7 +305,7 @@ fn start_all<'s, E, R: Threads + Wait + Sync, P: Pace>(
     administrators: Vec<Administrator>,
 ) -> Result<(Vec<Working>, Vec<Calling>), ConductFault>
     requires few { shared.cycles ≤ most_cycles }
-    requires new { All MayWork workers.items }
+    requires new { All (MayWork shared.cycles) workers.items }
     requires fresh { All (λ a. a.seat.calls ≡ []) administrators.items }
     ensures workers { IfOk result (λ handles. map (λ h. h.promise.worker.value) handles.0.items ≡ workers.items) }
     ensures cycles { IfOk result (λ handles. All (λ h. h.promise.cycles ≡ shared.entry.cycles) handles.0.items) }
@@ -412,8 +411,8 @@ fn all_ended(
 /// Runs the threads: each worker goes through all cycles and each administrator makes its commands on a thread of its own, while
 /// this one closes the cycles and hands their tables on. There are at most 100,000 cycles, and nothing is done yet: no seat has calls, and
 /// nothing was put. It returns when all threads have ended: `Spawn` where a thread couldn't be started, `Memory` where its handle
-/// couldn't be kept, and else the first fault in the order of [`ConductFault`], if there is one. `Bridge` comes with the number of a
-/// worker's bridge, and why it may give up (`work`). Then all that was ready is gone. It waits for threads, pipes and locks.
+/// couldn't be kept, and else the first fault in the order of [`ConductFault`], if there is one, which is never that of a bridge. Then
+/// all that was ready is gone. It waits for threads, pipes and locks.
 pub fn run_threads<R: Threads + Wait + Sync, P: Pace>(
     rt: &R,
     alloc: Global,

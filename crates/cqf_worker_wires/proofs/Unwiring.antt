@@ -1,99 +1,61 @@
 -- Workers taken apart, and their pipes closed.
-use Rattle.std.proofs.Common.{ℕ, zero, suc, ◌≡◌, ◌+◌, ◌<◌, ◌≤◌, ◌==◌, ◌++◌, ◌∷◌, [], Bool, cond, not, nat_lt, List, Contains, Some, None, length}
-use Rattle.std.proofs.Common.{length-append, map, get_or, drop, take, sym, ap, subst, ◌∙◌, arith, refl, inl, inr, eqb-true, eq-eqb}
+use Rattle.std.proofs.Common.{ℕ, zero, suc, ◌≡◌, ◌+◌, ◌≤◌, ◌==◌, ◌++◌, ◌∷◌, [], Bool, cond, not, nat_lt, List, Contains, Some, None, length}
+use Rattle.std.proofs.Common.{map, get_or, sym, ap, subst, ◌∙◌, arith, refl, inl, inr, eqb-true, eq-eqb}
 use Rattle.std.specs.Prelude.{count_by, if◌then◌else◌, option_map, slice_get}
 use Rattle.std.specs.List.{flat_map, position, position_or_len, remove}
 use Rattle.std.proofs.lemmas.Bool.{cases_Bool, cases_lt, cond-false, cond-true, lt-ltb}
 use Rattle.std.proofs.lemmas.List.Sums.{sum_by-append, sum_by-cons, sum_by-remove}
 use Rattle.std.proofs.lemmas.Option.{same_Some, slice_get-map, slice_get_within}
-use Rattle.std.proofs.lemmas.List.{flat_map_more, length-map, map-append}
-use Rattle.std.proofs.lemmas.List.Elements.{Contains-append_cases, Contains-append_right, Contains-get_or, Contains-push_cases}
+use Rattle.std.proofs.lemmas.List.Elements.{Contains-append_right, Contains-get_or, Contains-push_cases}
 use Rattle.std.proofs.lemmas.List.Quantifiers.{position-Some}
 use Rattle.std.proofs.lemmas.Simd.{map-map}
 use Rattle.cqf_admission.specs.Tables.{CycleTable}
-use Rattle.cqf_bridge.specs.Batch.{LinkBatch}
-use Rattle.cqf_lists.proofs.Members.{contains_flat, contains_from_flat, contains_from_take, contains_here, contains_later}
+use Rattle.cqf_flow.specs.declared.moving.Flow.{Flow}
+use Rattle.cqf_lists.proofs.Members.{contains_flat, contains_from_flat, contains_here}
 use Rattle.cqf_lists.proofs.Places.{slice_get_behind, slice_get_front, slice_get_parts}
 use Rattle.cqf_worker_loops.specs.declared.carried.Carried.{Carried}
 use Rattle.cqf_worker_wires.specs.declared.closing.Parts.{Parts}
 use Rattle.cqf_worker_loops.specs.declared.worker.Worker.{Worker}
-use Rattle.cqf_worker_wires.specs.Closing.{AreFedBy, AreGivenBy, ArePartsOf, HasLostOne, HaveMore, IsFedBy, IsPartner, reel_at, tables_at}
+use Rattle.cqf_worker_wires.specs.Closing.{AreFedBy, AreGivenBy, ArePartsOf, HasLostOne, IsFedBy, IsPartner, tables_at}
 use Rattle.cqf_worker_pipe.specs.PipeEnds.{AreLeft, End, PipeId}
-use Rattle.cqf_worker_wires.specs.Wires.{AreFedByWires, AreGiven, AreOn, BatchPort, IsOn, LackEnds, Wiring, count_on}
+use Rattle.cqf_worker_wires.specs.Wires.{AreFedByWires, AreGiven, AreOn, IsOn, LackEnds, Wiring, count_on}
+use Rattle.cqf_worker_loops.specs.Workers.{FlowPort}
 use Rattle.cqf_worker_wires.specs.Wires.{ins_at, outs_at, pipe_of_tables, tables_pipe}
 
--- lists end to end with one more list behind
-flat_more : {X Y : Type 0} (f : X → List Y) (xs : List X) (x : X) (front list : List Y) → front ≡ flat_map f xs → list ≡ front ++ f x →
-    list ≡ flat_map f (xs ++ x ∷ [])
-flat_more f xs x front list so more = more ∙ ap (λ ys. ys ++ f x) so ∙ flat_map_more f [] xs x
-
--- a mapped list with one more behind
-map_more : {X Y : Type 0} (f : X → Y) (xs : List X) (x : X) (front list : List Y) → front ≡ map f xs → list ≡ front ++ f x ∷ [] →
-    list ≡ map f (xs ++ x ∷ [])
-map_more f xs x front list so more = more ∙ ap (λ ys. ys ++ f x ∷ []) so ∙ sym (map-append f xs (x ∷ []))
-
--- the parts of one worker more
-pub parts_more : (workers : List Worker) (before after : Parts) (w : Worker) → ArePartsOf workers before → HaveMore before after w →
-    ArePartsOf (workers ++ w ∷ []) after
-parts_more workers before after w so more = record {
-  all_ins = flat_more ins_at workers w before.ins.items after.ins.items so.all_ins more.more_ins;
-  all_outs = flat_more outs_at workers w before.outs.items after.outs.items so.all_outs more.more_outs;
-  all_tables = map_more tables_at workers w before.tables.items after.tables.items so.all_tables more.more_tables;
-  all_reels = map_more reel_at workers w before.reels.items after.reels.items so.all_reels more.more_reels;
-}
-
 -- the ends at all workers are of the pipes on their links
-pub on_links : (wiring : Wiring) (workers : List Worker) (ports : List BatchPort) (at : Worker → List BatchPort) → ports ≡ flat_map at workers →
+pub on_links : (wiring : Wiring) (workers : List Worker) (ports : List FlowPort) (at : Worker → List FlowPort) → ports ≡ flat_map at workers →
     ((w : Worker) → Contains workers w → AreOn wiring (at w)) → AreOn wiring ports
 on_links wiring workers ports at is each p there =
-    let w = contains_from_flat at workers p (subst (λ (ps : List BatchPort). Contains ps p) is there) in each w.0 w.1 p w.2
+    let w = contains_from_flat at workers p (subst (λ (ps : List FlowPort). Contains ps p) is there) in each w.0 w.1 p w.2
 
 -- ends of one link are of one pipe
-pub of_one_pipe : (wiring : Wiring) (a b : BatchPort) → IsOn wiring a → IsOn wiring b → a.link ≡ b.link → a.pipe.pipe ≡ b.pipe.pipe
+pub of_one_pipe : (wiring : Wiring) (a b : FlowPort) → IsOn wiring a → IsOn wiring b → a.link ≡ b.link → a.pipe.pipe ≡ b.pipe.pipe
 of_one_pipe wiring a b on_a on_b same = same_Some a.pipe.pipe b.pipe.pipe (sym on_a ∙ ap wiring same ∙ on_b)
 
 -- so a port and its partner are of one pipe
-pub partners_pipe : (wiring : Wiring) (ins outs left before rest : List BatchPort) (p : BatchPort) (end : End (Carried LinkBatch)) →
-    before ++ p ∷ rest ≡ ins → AreOn wiring ins → AreOn wiring outs → ((out : BatchPort) → Contains left out → Contains outs out) →
+pub partners_pipe : (wiring : Wiring) (ins outs left before rest : List FlowPort) (p : FlowPort) (end : End (Carried Flow)) →
+    before ++ p ∷ rest ≡ ins → AreOn wiring ins → AreOn wiring outs → ((out : FlowPort) → Contains left out → Contains outs out) →
     IsPartner left p.link end → end.pipe ≡ p.pipe.pipe
 partners_pipe wiring ins outs left before rest p end is on_ins on_outs were partner =
-    let there : Contains ins p = subst (λ (ps : List BatchPort). Contains ps p) is (Contains-append_right before (p ∷ rest) p (contains_here p rest)) in
-    ap (λ (e : End (Carried LinkBatch)). e.pipe) (sym partner.is_end)
+    let there : Contains ins p = subst (λ (ps : List FlowPort). Contains ps p) is (Contains-append_right before (p ∷ rest) p (contains_here p rest)) in
+    ap (λ (e : End (Carried Flow)). e.pipe) (sym partner.is_end)
     ∙ of_one_pipe wiring partner.out p (on_outs partner.out (were partner.out partner.there)) (on_ins p there) partner.of_link
 
 -- the first end of a link is one of those that were there
-pub partner_found : (outs : List BatchPort) (link place : ℕ) (found : BatchPort) → position (λ (out : BatchPort). out.link == link) outs ≡ Some place →
+pub partner_found : (outs : List FlowPort) (link place : ℕ) (found : FlowPort) → position (λ (out : FlowPort). out.link == link) outs ≡ Some place →
     found ≡ get_or outs place found → IsPartner outs link found.pipe
 partner_found outs link place found at is =
-    let here = position-Some (λ (out : BatchPort). out.link == link) outs place found at in
+    let here = position-Some (λ (out : FlowPort). out.link == link) outs place found at in
     record {
       out = found;
-      there = subst (λ (x : BatchPort). Contains outs x) (sym is) (Contains-get_or outs place found here.0);
-      of_link = eqb-true found.link link (ap (λ (x : BatchPort). x.link == link) is ∙ here.1);
+      there = subst (λ (x : FlowPort). Contains outs x) (sym is) (Contains-get_or outs place found here.0);
+      of_link = eqb-true found.link link (ap (λ (x : FlowPort). x.link == link) is ∙ here.1);
       is_end = refl;
     }
 
--- its place is one of theirs
-pub place_within : (outs : List BatchPort) (link place : ℕ) (d : BatchPort) → position (λ (out : BatchPort). out.link == link) outs
-    ≡ Some place → place < length outs
-place_within outs link place d at = (position-Some (λ (out : BatchPort). out.link == link) outs place d at).0
-
--- what stands behind some is of the list
-contains_from_drop : {X : Type 0} (xs : List X) (n : ℕ) (x : X) → Contains (drop n xs) x → Contains xs x
-contains_from_drop xs zero x c = c
-contains_from_drop [] (suc n) x c = c
-contains_from_drop (y ∷ xs) (suc n) x c = contains_later y xs x (contains_from_drop xs n x c)
-
--- what is left behind one that is taken was there
-pub left_was_there : {X : Type 0} (xs : List X) (place : ℕ) (x : X) → Contains (remove xs place) x → Contains xs x
-left_was_there xs place x c = elim (Contains-append_cases (take place xs) (drop (suc place) xs) x c) [
-  | inl h ↦ contains_from_take xs place x h
-  | inr h ↦ contains_from_drop xs (suc place) x h
-]
-
 -- a port more that is fed, by an end that was among the others
-pub fed_more : (outs left ins : List BatchPort) (p : BatchPort) (end : End (Carried LinkBatch)) (count : ℕ) →
-    ((out : BatchPort) → Contains left out → Contains outs out) → IsPartner left p.link end → AreLeft end.items p.pipe.items count →
+pub fed_more : (outs left ins : List FlowPort) (p : FlowPort) (end : End (Carried Flow)) (count : ℕ) →
+    ((out : FlowPort) → Contains left out → Contains outs out) → IsPartner left p.link end → AreLeft end.items p.pipe.items count →
     AreFedBy outs ins → AreFedBy outs (ins ++ p ∷ [])
 fed_more outs left ins p end count were partner closed so q there = elim (Contains-push_cases ins p q there) [
   | inl h ↦ so q h
@@ -101,19 +63,15 @@ fed_more outs left ins p end count were partner closed so q there = elim (Contai
     out = partner.out;
     there = were partner.out partner.there;
     of_link = partner.of_link;
-    beginning = (closed.0, ap (λ (x : End (Carried LinkBatch)). x.items) partner.is_end ∙ closed.1);
+    beginning = (closed.0, ap (λ (x : End (Carried Flow)). x.items) partner.is_end ∙ closed.1);
   })
 ]
-
--- no port, so each is fed
-pub none_fed : (outs : List BatchPort) → AreFedBy outs []
-none_fed outs p there = absurd (omega (arith, there.1))
 
 -- the ports of all workers are fed
 pub all_fed : (workers : List Worker) (parts : Parts) → ArePartsOf workers parts → AreFedBy parts.outs.items parts.ins.items → AreFedByWires workers
 all_fed workers parts so fed w p of_workers there =
-    let f = fed p (subst (λ (ps : List BatchPort). Contains ps p) (sym so.all_ins) (contains_flat ins_at workers w p of_workers there)) in
-    let from = contains_from_flat outs_at workers f.out (subst (λ (ps : List BatchPort). Contains ps f.out) so.all_outs f.there) in
+    let f = fed p (subst (λ (ps : List FlowPort). Contains ps p) (sym so.all_ins) (contains_flat ins_at workers w p of_workers there)) in
+    let from = contains_from_flat outs_at workers f.out (subst (λ (ps : List FlowPort). Contains ps f.out) so.all_outs f.there) in
     record { from = from.0; out = f.out; of_workers = from.1; at_worker = from.2; same_link = f.of_link; beginning = f.beginning }
 
 -- the tables of all workers are what was put for them
@@ -146,10 +104,6 @@ given_more puts takes putting taking count as_many so closed place a b at_a at_b
           (closed.0, ap (λ (e : End (Carried CycleTable)). e.items) (sym one.1) ∙ closed.1 ∙ ap (λ (e : End (Carried CycleTable)). e.items ++ closed.0) taken)
     ]
 
--- no tables, so all were put
-pub none_given : AreGivenBy [] []
-none_given place a b at_a at_b = absurd cc
-
 -- the ends at the next place are of one pipe
 pub next_pair : (ins outs puts takes rest others : List (End (Carried CycleTable))) (putting taking : End (Carried CycleTable)) →
     puts ++ putting ∷ rest ≡ ins → outs ≡ takes ++ taking ∷ others → length takes ≡ length puts →
@@ -165,14 +119,6 @@ next_pair ins outs puts takes rest others putting taking is_ins is_outs as_many 
     ∙ ap (λ (xs : List (PipeId (Carried CycleTable))). slice_get xs k) same
     ∙ slice_get-map pipe_of_tables outs k
     ∙ ap (option_map pipe_of_tables) right)
-
--- there is an end at the next place
-pub next_there : (ins outs puts takes rest others : List (End (Carried CycleTable))) (putting : End (Carried CycleTable)) →
-    puts ++ putting ∷ rest ≡ ins → outs ≡ takes ++ others → length takes ≡ length puts →
-    map pipe_of_tables ins ≡ map pipe_of_tables outs → 0 < length others
-next_there ins outs puts takes rest others putting is_ins is_outs as_many same =
-    let as_long : length ins ≡ length outs = sym (length-map ins pipe_of_tables) ∙ ap length same ∙ length-map outs pipe_of_tables in
-    omega (arith, as_long, ap length is_ins, ap length is_outs, length-append puts (putting ∷ rest), length-append takes others, as_many)
 
 -- where no element passes a test, none is counted
 none_counted : {X : Type 0} (p : X → Bool) (xs : List X) → length xs ≤ position_or_len p xs → count_by p xs ≡ 0
@@ -204,40 +150,33 @@ no_place p xs none = elim (cases_lt (position_or_len p xs) (length xs)) [
     never k e = absurd cc
 
 -- one end less of its link
-pub one_lost : (outs after : List BatchPort) (link place : ℕ) (d : BatchPort) → position (λ (out : BatchPort). out.link == link) outs ≡ Some place →
+pub one_lost : (outs after : List FlowPort) (link place : ℕ) (d : FlowPort) → position (λ (out : FlowPort). out.link == link) outs ≡ Some place →
     after ≡ remove outs place → HasLostOne link outs after
 one_lost outs after link place d at is other =
-    let here = position-Some (λ (out : BatchPort). out.link == link) outs place d at in
+    let here = position-Some (λ (out : FlowPort). out.link == link) outs place d at in
     let gone : (if (get_or outs place d).link == other then 1 else 0) ≡ (if link == other then 1 else 0) =
     ap (λ k. if k == other then 1 else 0) (eqb-true (get_or outs place d).link link here.1) in
-    sym (sum_by-remove (λ (p : BatchPort). if p.link == other then 1 else 0) outs place d here.0)
+    sym (sum_by-remove (λ (p : FlowPort). if p.link == other then 1 else 0) outs place d here.0)
     ∙ ap (λ n. count_on other (remove outs place) + n) gone
-    ∙ ap (λ (ps : List BatchPort). count_on other ps + (if link == other then 1 else 0)) (sym is)
+    ∙ ap (λ (ps : List FlowPort). count_on other ps + (if link == other then 1 else 0)) (sym is)
 
 -- the ends that are left and the ports that are fed are as many as the ends that were there
-pub counted_more : (outs left after ins : List BatchPort) (p : BatchPort) → ((link : ℕ) → count_on link outs ≡ count_on link left + count_on link ins) →
+pub counted_more : (outs left after ins : List FlowPort) (p : FlowPort) → ((link : ℕ) → count_on link outs ≡ count_on link left + count_on link ins) →
     HasLostOne p.link left after → (link : ℕ) → count_on link outs ≡ count_on link after + count_on link (ins ++ p ∷ [])
 counted_more outs left after ins p so lost link =
-    let f : BatchPort → ℕ = λ q. if q.link == link then 1 else 0 in
+    let f : FlowPort → ℕ = λ q. if q.link == link then 1 else 0 in
     let one : count_on link (p ∷ []) ≡ f p + 0 = sum_by-cons f p [] in
     let more : count_on link (ins ++ p ∷ []) ≡ count_on link ins + count_on link (p ∷ []) = sum_by-append f ins (p ∷ []) in
     omega (arith, so link, lost link, one, more)
 
 -- where none is left for a port, its link lacks an end
-pub end_lacks : (outs left ins before rest : List BatchPort) (p : BatchPort) → before ++ p ∷ rest ≡ ins →
+pub end_lacks : (outs left ins before rest : List FlowPort) (p : FlowPort) → before ++ p ∷ rest ≡ ins →
     ((link : ℕ) → count_on link outs ≡ count_on link left + count_on link before) → count_on p.link left ≡ 0 → LackEnds ins outs
 end_lacks outs left ins before rest p is so none =
-    let f : BatchPort → ℕ = λ q. if q.link == p.link then 1 else 0 in
+    let f : FlowPort → ℕ = λ q. if q.link == p.link then 1 else 0 in
     let own : f p ≡ 1 = cond-true (p.link == p.link) 1 0 (eq-eqb p.link p.link refl) in
     let all : count_on p.link ins ≡ count_on p.link before + (1 + count_on p.link rest) =
     ap (count_on p.link) (sym is)
     ∙ sum_by-append f before (p ∷ rest)
     ∙ ap (λ n. count_on p.link before + n) (sum_by-cons f p rest ∙ ap (λ n. n + count_on p.link rest) own) in
     (p.link, omega (arith, so p.link, none, all))
-
--- the ends of all workers lack one where their parts do
-pub parts_lack : (workers : List Worker) (parts : Parts) → ArePartsOf workers parts → LackEnds parts.ins.items parts.outs.items →
-    LackEnds (flat_map ins_at workers) (flat_map outs_at workers)
-parts_lack workers parts so lack =
-    subst (λ (ps : List BatchPort). LackEnds ps (flat_map outs_at workers)) so.all_ins
-    (subst (λ (ps : List BatchPort). LackEnds parts.ins.items ps) so.all_outs lack)

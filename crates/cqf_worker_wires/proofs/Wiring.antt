@@ -5,27 +5,30 @@ use Rattle.std.proofs.Common.{append-nil, add-one, eq-eqb, ne_eqb}
 use Rattle.std.specs.Prelude.{Bool, ◌==◌, All, Option, false, if◌then◌else◌, slice_get, true}
 use Rattle.std.specs.Option.{option_map_or}
 use Rattle.std.proofs.lemmas.Bool.{cases_eq, cases_lt, cond-false, cond-true}
-use Rattle.std.proofs.lemmas.List.{get_or-set_other, get_or-set_same, get_or_append_left, length-set, map-append, map-set, set-get_or}
+use Rattle.std.proofs.lemmas.List.{get_or-set_other, get_or-set_same, get_or_append_left, length-map, length-set, map-append}
 use Rattle.std.proofs.lemmas.List.Elements.{All-push, Contains-push_cases, filter-append}
+use Rattle.std.proofs.Math.ListN.{get_or-map}
+use Rattle.std.proofs.Math.Seq.{map-set_same}
 use Rattle.std.proofs.lemmas.Option.{get_or_from_slice_get, slice_get-get_or, slice_get_within}
 use Rattle.cqf_lists.specs.Lists.{each_below}
 use Rattle.cqf_lists.proofs.EachBelow.{contains_from_below}
 use Rattle.cqf_lists.proofs.Made.{contains_if_there}
 use Rattle.cqf_lists.proofs.Members.{all_from_members, contains_from_filter, contains_map, contains_one}
 use Rattle.cqf_admission.specs.Tables.{CycleTable}
-use Rattle.cqf_bridge.specs.Batch.{LinkBatch}
+use Rattle.cqf_flow.specs.declared.moving.Flow.{Flow}
+use Rattle.cqf_flow.specs.Standing.{is_bridge, is_onward}
 use Rattle.cqf_model.specs.declared.topology.Link.{Link}
 use Rattle.cqf_model.specs.declared.topology.Node.TheVariants.{Bridge, Station}
 use Rattle.cqf_model.specs.Domain.{Domain, enters, leaves, node_is}
-use Rattle.cqf_model.specs.Run.{AreBackground, AreOffers}
+use Rattle.cqf_model.specs.Run.{AreOffers}
 use Rattle.cqf_laws_bridge.specs.Courses.{Traffic}
 use Rattle.cqf_worker_loops.specs.declared.carried.Carried.{Carried}
 use Rattle.cqf_worker_loops.specs.declared.worker.Worker.{Worker}
-use Rattle.cqf_worker_wires.specs.Laying.{AreBare, AreLaidWires, ArePorts, HasIn, HasOut, IsBare, IsLaid, LaysFirst}
-use Rattle.cqf_worker_wires.specs.Laying.{LaysLink, LaysPipe, first_into, first_onward}
+use Rattle.cqf_worker_wires.specs.Laying.{AreBare, AreLaidWires, ArePorts, HasCycles, HasIn, HasOut, IsBare, IsLaid, LaysFirst}
+use Rattle.cqf_worker_wires.specs.Laying.{LaysLink, LaysPipe, cycles_at, first_into, first_onward}
 use Rattle.cqf_worker_pipe.specs.PipeEnds.{End, PipeId}
-use Rattle.cqf_worker_wires.specs.Wires.{AreOn, AreWired, AreWorkersOf, BatchPort, IsOn, Wiring, pipe_of_tables, tables_pipe}
-use Rattle.cqf_worker_loops.specs.Workers.{IsUnused, IsWorkerOf, MayWork, ends_in_bridge, is_bridge_node, link_of}
+use Rattle.cqf_worker_wires.specs.Wires.{AreOn, AreWired, AreWorkersOf, IsOn, Wiring, pipe_of_tables, tables_pipe}
+use Rattle.cqf_worker_loops.specs.Workers.{FlowPort, IsUnused, IsWorkerOf, MayWork, link_of}
 
 -- a fact of each element and its place
 abbrev pub EachAt : {X : Type 0} → (ℕ → X → Type 0) → List X → Type 0
@@ -66,7 +69,7 @@ into_below d bridge count l c =
 -- the links that go on to a bridge are below the count
 onward_below : (d : Domain) (bridge count l : ℕ) → Contains (first_onward d bridge count) l → l < count
 onward_below d bridge count l c =
-    let below = contains_from_filter (ends_in_bridge d) (each_below (λ k. if leaves d k bridge then k ∷ [] else []) count) l c in
+    let below = contains_from_filter (is_onward d) (each_below (λ k. if leaves d k bridge then k ∷ [] else []) count) l c in
     let w = contains_from_below (λ k. if leaves d k bridge then k ∷ [] else []) count l below.0 in
     subst (λ k. k < count) (contains_one w.0 l (contains_if_there (leaves d w.0 bridge) (w.0 ∷ []) l w.2).1) w.1
 
@@ -80,10 +83,10 @@ into_same d bridge link none =
     ap (λ ls. first_into d bridge link ++ ls) (cond-false (enters d link bridge) (link ∷ []) [] none) ∙ append-nil (first_into d bridge link)
 
 -- a link from the bridge to another is one more that goes on
-onward_more : (d : Domain) (bridge link : ℕ) → leaves d link bridge ≡ true → ends_in_bridge d link ≡ true →
+onward_more : (d : Domain) (bridge link : ℕ) → leaves d link bridge ≡ true → is_onward d link ≡ true →
     first_onward d bridge (suc link) ≡ first_onward d bridge link ++ link ∷ []
 onward_more d bridge link begins ends =
-    let p = ends_in_bridge d in
+    let p = is_onward d in
     let xs = each_below (λ l. if leaves d l bridge then l ∷ [] else []) link in
     ap (λ ls. filter p (xs ++ ls)) (cond-true (leaves d link bridge) (link ∷ []) [] begins)
     ∙ filter-append p xs (link ∷ [])
@@ -92,38 +95,38 @@ onward_more d bridge link begins ends =
 -- a link of another bridge adds none
 onward_same : (d : Domain) (bridge link : ℕ) → leaves d link bridge ≡ false → first_onward d bridge (suc link) ≡ first_onward d bridge link
 onward_same d bridge link none =
-    let p = ends_in_bridge d in
+    let p = is_onward d in
     let xs = each_below (λ l. if leaves d l bridge then l ∷ [] else []) link in
     ap (λ ls. filter p (xs ++ ls)) (cond-false (leaves d link bridge) (link ∷ []) [] none) ∙ ap (filter p) (append-nil xs)
 
 -- a link to a station adds none
-onward_ended : (d : Domain) (bridge link : ℕ) → ends_in_bridge d link ≡ false → first_onward d bridge (suc link) ≡ first_onward d bridge link
+onward_ended : (d : Domain) (bridge link : ℕ) → is_onward d link ≡ false → first_onward d bridge (suc link) ≡ first_onward d bridge link
 onward_ended d bridge link none =
-    let p = ends_in_bridge d in
+    let p = is_onward d in
     let xs = each_below (λ l. if leaves d l bridge then l ∷ [] else []) link in
     filter-append p xs (if leaves d link bridge then link ∷ [] else [])
     ∙ ap (λ ls. filter p xs ++ ls) (dropped (leaves d link bridge))
     ∙ append-nil (filter p xs)
   where
     -- it is dropped where it is listed
-    dropped : (b : Bool) → filter (ends_in_bridge d) (if b then link ∷ [] else []) ≡ []
-    dropped true = cond-false (ends_in_bridge d link) (link ∷ []) [] none
+    dropped : (b : Bool) → filter (is_onward d) (if b then link ∷ [] else []) ≡ []
+    dropped true = cond-false (is_onward d link) (link ∷ []) [] none
     dropped false = refl
 
 -- a pipe more is on a link
-abbrev pub with_pipe : Wiring → ℕ → PipeId (Carried LinkBatch) → Wiring
+abbrev pub with_pipe : Wiring → ℕ → PipeId (Carried Flow) → Wiring
 with_pipe wiring link id l = if l == link then Some id else wiring l
 
 -- no port
-no_ports : (wiring : Wiring) (ports : List BatchPort) → ports ≡ [] → ArePorts wiring [] ports
+no_ports : (wiring : Wiring) (ports : List FlowPort) → ports ≡ [] → ArePorts wiring [] ports
 no_ports wiring ports none = record {
   of_links = ap (map link_of) none;
-  unused = λ p c. absurd (omega (arith, (subst (λ (ps : List BatchPort). Contains ps p) none c).1));
-  wired = λ p c. absurd (omega (arith, (subst (λ (ps : List BatchPort). Contains ps p) none c).1));
+  unused = λ p c. absurd (omega (arith, (subst (λ (ps : List FlowPort). Contains ps p) none c).1));
+  wired = λ p c. absurd (omega (arith, (subst (λ (ps : List FlowPort). Contains ps p) none c).1));
 }
 
 -- ports of other links are as before
-ports_rewired : (wiring more : Wiring) (links : List ℕ) (ports : List BatchPort) → ((l : ℕ) → Contains links l → more l ≡ wiring l) →
+ports_rewired : (wiring more : Wiring) (links : List ℕ) (ports : List FlowPort) → ((l : ℕ) → Contains links l → more l ≡ wiring l) →
     ArePorts wiring links ports → ArePorts more links ports
 ports_rewired wiring more links ports same so = record {
   of_links = so.of_links;
@@ -132,22 +135,22 @@ ports_rewired wiring more links ports same so = record {
 }
 
 -- one port more
-ports_more : (wiring : Wiring) (links : List ℕ) (ports after : List BatchPort) (p : BatchPort) → ArePorts wiring links ports → after ≡ ports ++ p ∷ [] →
+ports_more : (wiring : Wiring) (links : List ℕ) (ports after : List FlowPort) (p : FlowPort) → ArePorts wiring links ports → after ≡ ports ++ p ∷ [] →
     IsUnused p → IsOn wiring p → ArePorts wiring (links ++ p.link ∷ []) after
 ports_more wiring links ports after p so more mine on = record {
   of_links = ap (map link_of) more ∙ map-append link_of ports (p ∷ []) ∙ ap (λ ls. ls ++ p.link ∷ []) so.of_links;
-  unused = λ q c. elim (Contains-push_cases ports p q (subst (λ (ps : List BatchPort). Contains ps q) more c)) [
+  unused = λ q c. elim (Contains-push_cases ports p q (subst (λ (ps : List FlowPort). Contains ps q) more c)) [
     | inl h ↦ so.unused q h
     | inr e ↦ subst IsUnused e mine
   ];
-  wired = λ q c. elim (Contains-push_cases ports p q (subst (λ (ps : List BatchPort). Contains ps q) more c)) [
+  wired = λ q c. elim (Contains-push_cases ports p q (subst (λ (ps : List FlowPort). Contains ps q) more c)) [
     | inl h ↦ so.wired q h
     | inr e ↦ subst (IsOn wiring) e on
   ];
 }
 
 -- workers are as before, whatever pipe is on the next link
-rewired : (t : Traffic) (wiring : Wiring) (id : PipeId (Carried LinkBatch)) (link number : ℕ) (w : Worker) → IsLaid t wiring link link number w →
+rewired : (t : Traffic) (wiring : Wiring) (id : PipeId (Carried Flow)) (link number : ℕ) (w : Worker) → IsLaid t wiring link link number w →
     IsLaid t (with_pipe wiring link id) link link number w
 rewired t wiring id link number w so = record {
   ready = so.ready;
@@ -171,8 +174,8 @@ out_other t wiring link number w none so = record {
 }
 
 -- a link whose putting end the worker got
-out_own : (t : Traffic) (wiring : Wiring) (link number : ℕ) (before after : Worker) (p : BatchPort) → HasOut before after p → p.link ≡ link → IsUnused p →
-    IsOn wiring p → leaves t.domain link number ≡ true → ends_in_bridge t.domain link ≡ true → IsLaid t wiring link link number before →
+out_own : (t : Traffic) (wiring : Wiring) (link number : ℕ) (before after : Worker) (p : FlowPort) → HasOut before after p → p.link ≡ link → IsUnused p →
+    IsOn wiring p → leaves t.domain link number ≡ true → is_onward t.domain link ≡ true → IsLaid t wiring link link number before →
     IsLaid t wiring link (suc link) number after
 out_own t wiring link number before after p has of_link mine on begins ends so =
     let more : ArePorts wiring (first_onward t.domain number (suc link)) after.outs.items =
@@ -181,7 +184,14 @@ out_own t wiring link number before after p has of_link mine on begins ends so =
     (ports_more wiring (first_onward t.domain number link) before.outs.items after.outs.items p so.outs has.more mine on) in
     subst (λ (w : Worker). IsLaid t wiring link (suc link) number w) (sym has.same)
     (record {
-      ready = record { is_bridge = so.ready.is_bridge; is_agenda = so.ready.is_agenda; no_tables = so.ready.no_tables; is_reel = so.ready.is_reel };
+      ready = record {
+        stands = so.ready.stands;
+        tidy = so.ready.tidy;
+        number_is = so.ready.number_is;
+        no_drops = so.ready.no_drops;
+        is_agenda = so.ready.is_agenda;
+        no_tables = so.ready.no_tables;
+      };
       ins = so.ins;
       outs = more;
     })
@@ -196,7 +206,7 @@ in_other t wiring link number w none so = record {
 }
 
 -- a link whose taking end the worker got
-in_own : (t : Traffic) (wiring : Wiring) (link number : ℕ) (before after : Worker) (p : BatchPort) → HasIn before after p → p.link ≡ link → IsUnused p →
+in_own : (t : Traffic) (wiring : Wiring) (link number : ℕ) (before after : Worker) (p : FlowPort) → HasIn before after p → p.link ≡ link → IsUnused p →
     IsOn wiring p → enters t.domain link number ≡ true → IsLaid t wiring link (suc link) number before → IsLaid t wiring (suc link) (suc link) number after
 in_own t wiring link number before after p has of_link mine on ends so =
     let more : ArePorts wiring (first_into t.domain number (suc link)) after.ins.items =
@@ -205,14 +215,21 @@ in_own t wiring link number before after p has of_link mine on ends so =
     (ports_more wiring (first_into t.domain number link) before.ins.items after.ins.items p so.ins has.more mine on) in
     subst (λ (w : Worker). IsLaid t wiring (suc link) (suc link) number w) (sym has.same)
     (record {
-      ready = record { is_bridge = so.ready.is_bridge; is_agenda = so.ready.is_agenda; no_tables = so.ready.no_tables; is_reel = so.ready.is_reel };
+      ready = record {
+        stands = so.ready.stands;
+        tidy = so.ready.tidy;
+        number_is = so.ready.number_is;
+        no_drops = so.ready.no_drops;
+        is_agenda = so.ready.is_agenda;
+        no_tables = so.ready.no_tables;
+      };
       ins = more;
       outs = so.outs;
     })
 
 -- a link that ends in no bridge wants no port
 none_wanted : (t : Traffic) (wiring : Wiring) (link number : ℕ) (w : Worker) → enters t.domain link number ≡ false →
-    ends_in_bridge t.domain link ≡ false → IsLaid t wiring link link number w → IsLaid t wiring (suc link) (suc link) number w
+    is_onward t.domain link ≡ false → IsLaid t wiring link link number w → IsLaid t wiring (suc link) (suc link) number w
 none_wanted t wiring link number w none ended so = record {
   ready = so.ready;
   ins = subst (λ ls. ArePorts wiring ls w.ins.items) (sym (into_same t.domain number link none)) so.ins;
@@ -220,7 +237,7 @@ none_wanted t wiring link number w none ended so = record {
 }
 
 -- a pipe is laid, of which the one worker has the putting end, and the other the taking end
-pub pipe_laid : (workers : List Worker) (link from to : ℕ) (x y v w : Worker) (out into : BatchPort) → from < length workers → to < length workers →
+pub pipe_laid : (workers : List Worker) (link from to : ℕ) (x y v w : Worker) (out into : FlowPort) → from < length workers → to < length workers →
     x ≡ get_or workers from x → HasOut x y out → v ≡ get_or (set workers from y) to v → HasIn v w into → out.link ≡ link → into.link ≡ link →
     IsUnused out → IsUnused into → out.pipe.pipe ≡ into.pipe.pipe → LaysPipe link from to workers (set (set workers from y) to w)
 pipe_laid workers link from to x y v w out into from_inside to_inside x_is has_out v_is has_in out_link into_link out_unused into_unused
@@ -245,7 +262,7 @@ pipe_laid workers link from to x y v w out into from_inside to_inside x_is has_o
     (more, subst (λ k. AreLaidWires t more k k (set (set workers from y) to w)) (sym (add-one link)) third)
 
 -- the same, where the places are given as other numbers
-pub pipe_laid_at : (workers : List Worker) (link from to a b : ℕ) (x y v w : Worker) (out into : BatchPort) → a ≡ from → b ≡ to → from < length workers →
+pub pipe_laid_at : (workers : List Worker) (link from to a b : ℕ) (x y v w : Worker) (out into : FlowPort) → a ≡ from → b ≡ to → from < length workers →
     to < length workers → x ≡ get_or workers a x → HasOut x y out → v ≡ get_or (set workers a y) b v → HasIn v w into → out.link ≡ link →
     into.link ≡ link → IsUnused out → IsUnused into → out.pipe.pipe ≡ into.pipe.pipe → LaysPipe link from to workers (set (set workers a y) b w)
 pipe_laid_at workers link from to a b x y v w out into is_from is_to from_inside to_inside x_is has_out v_is has_in out_link into_link
@@ -256,22 +273,11 @@ pipe_laid_at workers link from to a b x y v w out into is_from is_to from_inside
     out_unused into_unused one_pipe in
     subst (λ k. LaysPipe link from k workers (set (set workers a y) b w)) is_to (subst (λ k. LaysPipe link k b workers (set (set workers a y) b w)) is_from at)
 
--- a worker that keeps its pipe of tables leaves all in place
-pub tables_kept : (workers : List Worker) (place : ℕ) (x y : Worker) → x ≡ get_or workers place x → tables_pipe y ≡ tables_pipe x →
-    map tables_pipe (set workers place y) ≡ map tables_pipe workers
-tables_kept workers place x y is kept =
-    map-set tables_pipe workers place y
-    ∙ ap (set (map tables_pipe workers) place) (kept ∙ ap tables_pipe is)
-    ∙ sym (map-set tables_pipe workers place (get_or workers place x))
-    ∙ ap (map tables_pipe) (set-get_or workers place x)
-
--- so a pipe leaves them, and as many workers as there were
-pub out_keeps_tables : (x y : Worker) (p : BatchPort) → HasOut x y p → tables_pipe y ≡ tables_pipe x
-out_keeps_tables x y p has = ap tables_pipe has.same
-
--- a taking end leaves the pipe of tables as it was
-pub in_keeps_tables : (x y : Worker) (p : BatchPort) → HasIn x y p → tables_pipe y ≡ tables_pipe x
-in_keeps_tables x y p has = ap tables_pipe has.same
+-- what neither end of a pipe changes is kept of all workers
+pub pipe_keeps : {Y : Type 0} (f : Worker → Y) (workers : List Worker) (from to : ℕ) (x y v w : Worker) → x ≡ get_or workers from x → f y ≡ f x →
+    v ≡ get_or (set workers from y) to v → f w ≡ f v → map f (set (set workers from y) to w) ≡ map f workers
+pipe_keeps f workers from to x y v w x_is kept_out v_is kept_in =
+    map-set_same f (set workers from y) to w v (kept_in ∙ ap f v_is) ∙ map-set_same f workers from y x (kept_out ∙ ap f x_is)
 
 -- a link between two bridges
 pub bridge_laid : (d : Domain) (link : ℕ) (between : Link) (to : ℕ) (before after : List Worker) → slice_get d.links link ≡ Some between →
@@ -281,8 +287,8 @@ bridge_laid d link between to before after there ends lays t wiring is so =
     (λ n. ap (λ (e : Domain). leaves e link n) is ∙ ap (λ (o : Option Link). option_map_or (λ (l : Link). l.from == n) o false) there)
     (λ n. ap (λ (e : Domain). enters e link n) is ∙ ap (λ (o : Option Link). option_map_or (λ (l : Link). node_is l.to n) o false) there
     ∙ ap (λ e. node_is e n) ends)
-    (ap (λ (e : Domain). ends_in_bridge e link) is ∙ ap (λ (o : Option Link). option_map_or (λ (l : Link). is_bridge_node l.to) o false) there
-    ∙ ap is_bridge_node ends)
+    (ap (λ (e : Domain). is_onward e link) is ∙ ap (λ (o : Option Link). option_map_or (λ (l : Link). is_bridge l.to) o false) there
+    ∙ ap is_bridge ends)
 
 -- a link that ends in a station
 pub station_laid : (d : Domain) (link : ℕ) (between : Link) (station : ℕ) (workers : List Worker) → slice_get d.links link ≡ Some between →
@@ -291,21 +297,12 @@ station_laid d link between station workers there ends t wiring is so =
     let none : (n : ℕ) → enters t.domain link n ≡ false =
     λ n. ap (λ (e : Domain). enters e link n) is ∙ ap (λ (o : Option Link). option_map_or (λ (l : Link). node_is l.to n) o false) there
     ∙ ap (λ e. node_is e n) ends in
-    let ended : ends_in_bridge t.domain link ≡ false =
-    ap (λ (e : Domain). ends_in_bridge e link) is ∙ ap (λ (o : Option Link). option_map_or (λ (l : Link). is_bridge_node l.to) o false) there
-    ∙ ap is_bridge_node ends in
+    let ended : is_onward t.domain link ≡ false =
+    ap (λ (e : Domain). is_onward e link) is ∙ ap (λ (o : Option Link). option_map_or (λ (l : Link). is_bridge l.to) o false) there
+    ∙ ap is_bridge ends in
     let all : AreLaidWires t wiring (suc link) (suc link) workers =
     λ n x below. none_wanted t wiring link n (get_or workers n x) (none n) ended (so n x below) in
     (wiring, subst (λ k. AreLaidWires t wiring k k workers) (sym (add-one link)) all)
-
--- no link, and one link more
-pub none_laid : (d : Domain) (workers : List Worker) → LaysFirst d 0 workers workers
-none_laid d workers t wiring is so = (wiring, so)
-
--- one link more is laid
-pub more_laid : (d : Domain) (link : ℕ) (before middle after : List Worker) → LaysFirst d link before middle → LaysLink d link middle after →
-    LaysFirst d (link + 1) before after
-more_laid d link before middle after first lays t wiring is so = let all = first t wiring is so in lays t all.0 is all.1
 
 -- the pipe of tables of one worker more
 pub pipes_more : (ends more_ends : List (End (Carried CycleTable))) (workers more_workers : List Worker) (end : End (Carried CycleTable)) (w : Worker) →
@@ -337,9 +334,9 @@ bare_laid t wiring workers so n x below = record {
 }
 
 -- workers that are laid to all links are those of the traffic
-pub workers_laid : (t : Traffic) (wiring : Wiring) (workers : List Worker) → AreOffers t.domain t.offers → AreBackground t.domain t.background →
+pub workers_laid : (t : Traffic) (wiring : Wiring) (workers : List Worker) → AreOffers t.domain t.offers →
     AreLaidWires t wiring (length t.domain.links) (length t.domain.links) workers → AreWorkersOf t workers
-workers_laid t wiring workers offers background so number w there =
+workers_laid t wiring workers offers so number w there =
     subst (IsWorkerOf t number) (get_or_from_slice_get workers number w w there)
     (worker_laid (get_or workers number w) (so number w (slice_get_within workers number w there)))
   where
@@ -347,24 +344,22 @@ workers_laid t wiring workers offers background so number w there =
     worker_laid : (u : Worker) → IsLaid t wiring (length t.domain.links) (length t.domain.links) number u → IsWorkerOf t number u
     worker_laid u laid = record {
       good_offers = offers;
-      good_background = background;
-      is_bridge = laid.ready.is_bridge;
+      stands = laid.ready.stands;
+      tidy = laid.ready.tidy;
+      number_is = laid.ready.number_is;
+      no_drops = laid.ready.no_drops;
       is_agenda = laid.ready.is_agenda;
       no_tables = laid.ready.no_tables;
       links_in = laid.ins.of_links;
       none_taken = all_from_members IsUnused u.ins.items laid.ins.unused;
       links_out = laid.outs.of_links;
       none_put = all_from_members IsUnused u.outs.items laid.outs.unused;
-      is_reel = laid.ready.is_reel;
     }
 
 -- bare workers to which pipes are laid on all links
-pub all_laid : (t : Traffic) (d : Domain) (before after : List Worker) → d ≡ t.domain → AreBare t before → LaysFirst d (length d.links) before after →
+pub all_laid : (t : Traffic) (before after : List Worker) → AreBare t before → LaysFirst t.domain (length t.domain.links) before after →
     (wiring : Wiring) × AreLaidWires t wiring (length t.domain.links) (length t.domain.links) after
-all_laid t d before after is bare first =
-    let wiring : Wiring = λ l. None in
-    let all = first t wiring (sym is) (bare_laid t wiring before bare) in
-    (all.0, subst (λ (e : Domain). AreLaidWires t all.0 (length e.links) (length e.links) after) is all.1)
+all_laid t before after bare first = let wiring : Wiring = λ l. None in first t wiring refl (bare_laid t wiring before bare)
 
 -- and each of their ports is of the pipe on its link
 pub wired_laid : (t : Traffic) (wiring : Wiring) (into onward : ℕ) (workers : List Worker) → AreLaidWires t wiring into onward workers → AreWired wiring workers
@@ -373,6 +368,21 @@ wired_laid t wiring into onward workers so = record {
   at_outs = λ w there. subst (λ (u : Worker). AreOn wiring u.outs.items) there.2 (so there.0 w there.1).outs.wired;
 }
 
+-- workers that keep their numbers of cycles have as many as before
+pub cycles_kept : (cycles : ℕ) (before after : List Worker) → map cycles_at after ≡ map cycles_at before → All (HasCycles cycles) before →
+    All (HasCycles cycles) after
+cycles_kept cycles before after same so place w below =
+    let as_many : length after ≡ length before = sym (length-map after cycles_at) ∙ ap length same ∙ length-map before cycles_at in
+    sym (get_or-map cycles_at after place w)
+    ∙ ap (λ (ns : List ℕ). get_or ns place (cycles_at w)) same
+    ∙ get_or-map cycles_at before place w
+    ∙ so place w (omega (arith, below, as_many))
+
 -- each worker of a traffic's bridges may work
-pub workers_may : (t : Traffic) (workers : List Worker) → AreWorkersOf t workers → All MayWork workers
-workers_may t workers are place w below = (t, place, are place (get_or workers place w) (slice_get-get_or workers place w below))
+pub workers_may : (t : Traffic) (cycles : ℕ) (workers : List Worker) → AreWorkersOf t workers → All (HasCycles cycles) workers → All (MayWork cycles) workers
+workers_may t cycles workers are so place w below = record {
+  traffic = t;
+  number = place;
+  is = are place (get_or workers place w) (slice_get-get_or workers place w below);
+  has_cycles = so place w below;
+}

@@ -2,13 +2,14 @@
 use Rattle.std.specs.Prelude.{ℕ, ◌≡◌, ◌+◌, ◌==◌, ◌++◌, ◌∷◌, [], if◌then◌else◌, List, Some, Contains, map, slice_get}
 use Rattle.std.specs.List.{flat_map}
 use Rattle.cqf_admission.specs.Tables.{CycleTable}
-use Rattle.cqf_bridge.specs.Batch.{LinkBatch}
+use Rattle.cqf_flow.specs.declared.moving.Flow.{Flow}
 use Rattle.cqf_tape.specs.declared.reel.Reel.{Reel}
 use Rattle.cqf_worker_loops.specs.declared.carried.Carried.{Carried}
 use Rattle.cqf_worker_wires.specs.declared.closing.Parts.{Parts}
 use Rattle.cqf_worker_loops.specs.declared.worker.Worker.{Worker}
+use Rattle.cqf_worker_loops.specs.Workers.{FlowPort}
 use Rattle.cqf_worker_pipe.specs.PipeEnds.{End}
-use Rattle.cqf_worker_wires.specs.Wires.{BatchPort, IsBeginning, count_on, ins_at, outs_at}
+use Rattle.cqf_worker_wires.specs.Wires.{IsBeginning, count_on, ins_at, outs_at}
 
 -- what a worker has
 abbrev pub tables_at : Worker → End (Carried CycleTable)
@@ -32,25 +33,25 @@ pub record ArePartsOf (workers : List Worker) (parts : Parts) : Type 0 where
   pub all_reels : parts.reels.items ≡ map reel_at workers
 
 -- a putting end is one of some, of a link
-pub record IsPartner (outs : List BatchPort) (link : ℕ) (end : End (Carried LinkBatch)) : Type 0 where
-  pub out : BatchPort
+pub record IsPartner (outs : List FlowPort) (link : ℕ) (end : End (Carried Flow)) : Type 0 where
+  pub out : FlowPort
   pub there : Contains outs out
   pub of_link : out.link ≡ link
   pub is_end : out.pipe ≡ end
 
 -- one end of a link is gone, and no other
-abbrev pub HasLostOne : ℕ → List BatchPort → List BatchPort → Type 0
+abbrev pub HasLostOne : ℕ → List FlowPort → List FlowPort → Type 0
 HasLostOne link before after = (other : ℕ) → count_on other before ≡ count_on other after + (if link == other then 1 else 0)
 
 -- what was taken at a port is the beginning of what was put at some port of its link
-pub record IsFedBy (outs : List BatchPort) (p : BatchPort) : Type 0 where
-  pub out : BatchPort
+pub record IsFedBy (outs : List FlowPort) (p : FlowPort) : Type 0 where
+  pub out : FlowPort
   pub there : Contains outs out
   pub of_link : out.link ≡ p.link
   pub beginning : IsBeginning p.pipe.items out.pipe.items
 
-abbrev pub AreFedBy : List BatchPort → List BatchPort → Type 0
-AreFedBy outs ins = (p : BatchPort) → Contains ins p → IsFedBy outs p
+abbrev pub AreFedBy : List FlowPort → List FlowPort → Type 0
+AreFedBy outs ins = (p : FlowPort) → Contains ins p → IsFedBy outs p
 
 -- place by place what was taken is the beginning of what was put
 abbrev pub AreGivenBy : List (End (Carried CycleTable)) → List (End (Carried CycleTable)) → Type 0

@@ -1,16 +1,16 @@
 -- Workers to which pipes are laid, link by link.
-use Rattle.std.specs.Prelude.{ℕ, ◌≡◌, ◌+◌, ◌<◌, ◌==◌, ◌++◌, ◌∷◌, [], List, Contains, filter, if◌then◌else◌, length, map, slice_index_or, true}
+use Rattle.std.specs.Prelude.{ℕ, ◌≡◌, ◌+◌, ◌<◌, ◌==◌, ◌++◌, ◌∷◌, [], List, All, Contains, filter, if◌then◌else◌, length, map, slice_index_or, true}
 use Rattle.cqf_lists.specs.Lists.{each_below}
 use Rattle.cqf_model.specs.declared.frames.Background.{Background}
 use Rattle.cqf_model.specs.declared.frames.Offer.{Offer}
 use Rattle.cqf_model.specs.Domain.{Domain, enters, leaves}
 use Rattle.cqf_bridge_turn.specs.Agenda.{IsAgendaOf}
-use Rattle.cqf_bridge.specs.BridgeState.{new_bridge}
 use Rattle.cqf_laws_bridge.specs.Courses.{Traffic}
-use Rattle.cqf_tape.specs.Reels.{IsNewReel}
+use Rattle.cqf_flow.specs.Sending.{IsTidy}
+use Rattle.cqf_flow.specs.Standing.{StandsSo, is_onward, nothing_yet}
 use Rattle.cqf_worker_loops.specs.declared.worker.Worker.{Worker}
-use Rattle.cqf_worker_wires.specs.Wires.{BatchPort, IsOn, Wiring}
-use Rattle.cqf_worker_loops.specs.Workers.{IsUnused, ends_in_bridge, link_of}
+use Rattle.cqf_worker_wires.specs.Wires.{IsOn, Wiring}
+use Rattle.cqf_worker_loops.specs.Workers.{FlowPort, IsUnused, link_of}
 
 -- what a domain is given for a run
 abbrev pub traffic_of : Domain → List Offer → List Background → Traffic
@@ -21,20 +21,29 @@ abbrev pub first_into : Domain → ℕ → ℕ → List ℕ
 first_into d bridge count = each_below (λ l. if enters d l bridge then l ∷ [] else []) count
 
 abbrev pub first_onward : Domain → ℕ → ℕ → List ℕ
-first_onward d bridge count = filter (ends_in_bridge d) (each_below (λ l. if leaves d l bridge then l ∷ [] else []) count)
+first_onward d bridge count = filter (is_onward d) (each_below (λ l. if leaves d l bridge then l ∷ [] else []) count)
 
 -- ports of these links, in order, each of the pipe on its link, at which nothing was put or taken
-pub record ArePorts (wiring : Wiring) (links : List ℕ) (ports : List BatchPort) : Type 0 where
+pub record ArePorts (wiring : Wiring) (links : List ℕ) (ports : List FlowPort) : Type 0 where
   pub of_links : map link_of ports ≡ links
-  pub unused : (p : BatchPort) → Contains ports p → IsUnused p
-  pub wired : (p : BatchPort) → Contains ports p → IsOn wiring p
+  pub unused : (p : FlowPort) → Contains ports p → IsUnused p
+  pub wired : (p : FlowPort) → Contains ports p → IsOn wiring p
+
+-- how many cycles a worker is to go through
+abbrev pub cycles_at : Worker → ℕ
+cycles_at w = w.station.cycles
+
+abbrev pub HasCycles : ℕ → Worker → Type 0
+HasCycles cycles w = w.station.cycles ≡ cycles
 
 -- a bridge's worker that has done nothing, whatever ports it has
 pub record IsReadyWiring (t : Traffic) (number : ℕ) (w : Worker) : Type 0 where
-  pub is_bridge : w.bridge ≡ new_bridge t.domain number
+  pub stands : StandsSo t.domain nothing_yet (λ l. []) w.station
+  pub tidy : All IsTidy w.station.outlets.items
+  pub number_is : w.station.number ≡ number
+  pub no_drops : w.station.edge.drops.items ≡ []
   pub is_agenda : IsAgendaOf t.domain t.offers t.background number w.agenda
   pub no_tables : w.tables.items ≡ []
-  pub is_reel : IsNewReel t.domain number w.reel
 
 -- and it has no ports
 pub record IsBare (t : Traffic) (number : ℕ) (w : Worker) : Type 0 where
@@ -56,11 +65,11 @@ AreLaidWires t wiring into onward workers =
     (number : ℕ) (x : Worker) → number < length workers → IsLaid t wiring into onward number (slice_index_or workers number x)
 
 -- one port more, at which a worker puts, or takes
-pub record HasOut (before after : Worker) (port : BatchPort) : Type 0 where
+pub record HasOut (before after : Worker) (port : FlowPort) : Type 0 where
   pub same : after ≡ record before { outs = after.outs }
   pub more : after.outs.items ≡ before.outs.items ++ port ∷ []
 
-pub record HasIn (before after : Worker) (port : BatchPort) : Type 0 where
+pub record HasIn (before after : Worker) (port : FlowPort) : Type 0 where
   pub same : after ≡ record before { ins = after.ins }
   pub more : after.ins.items ≡ before.ins.items ++ port ∷ []
 
@@ -68,7 +77,7 @@ pub record HasIn (before after : Worker) (port : BatchPort) : Type 0 where
 abbrev pub LaysPipe : ℕ → ℕ → ℕ → List Worker → List Worker → Type 0
 LaysPipe link from to before after = (t : Traffic) (wiring : Wiring) → AreLaidWires t wiring link link before →
     ((bridge : ℕ) → leaves t.domain link bridge ≡ (from == bridge)) → ((bridge : ℕ) → enters t.domain link bridge ≡ (to == bridge)) →
-    ends_in_bridge t.domain link ≡ true → (more : Wiring) × AreLaidWires t more (link + 1) (link + 1) after
+    is_onward t.domain link ≡ true → (more : Wiring) × AreLaidWires t more (link + 1) (link + 1) after
 
 -- pipes are laid on one link more, where it wants one
 abbrev pub LaysLink : Domain → ℕ → List Worker → List Worker → Type 0

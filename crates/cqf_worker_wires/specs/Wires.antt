@@ -1,28 +1,23 @@
 -- The pipes between the workers of a run: which is on which link, and what is known of them once they are closed (profile).
 use Rattle.std.specs.Prelude.{ℕ, ◌≡◌, ◌<◌, ◌==◌, ◌++◌, List, Option, Some, Contains, count_by, slice_get}
 use Rattle.cqf_admission.specs.Tables.{CycleTable}
-use Rattle.cqf_bridge.specs.Batch.{LinkBatch}
+use Rattle.cqf_flow.specs.declared.moving.Flow.{Flow}
 use Rattle.cqf_laws_bridge.specs.Courses.{Traffic}
 use Rattle.cqf_worker_loops.specs.declared.carried.Carried.{Carried}
-use Rattle.cqf_worker_loops.specs.declared.link_ends.LinkEnd.{LinkEnd}
 use Rattle.cqf_worker_loops.specs.declared.worker.Worker.{Worker}
 use Rattle.cqf_worker_pipe.specs.PipeEnds.{End, PipeId}
-use Rattle.cqf_worker_loops.specs.Workers.{IsWorkerOf}
-
--- an end of a pipe of batches, with the number of its link
-abbrev pub BatchPort : Type 0
-BatchPort = LinkEnd (End (Carried LinkBatch))
+use Rattle.cqf_worker_loops.specs.Workers.{FlowPort, IsWorkerOf}
 
 -- which pipe is on each link, where one is
 abbrev pub Wiring : Type 0
-Wiring = ℕ → Option (PipeId (Carried LinkBatch))
+Wiring = ℕ → Option (PipeId (Carried Flow))
 
 -- the end is of the pipe on its link
-abbrev pub IsOn : Wiring → BatchPort → Type 0
+abbrev pub IsOn : Wiring → FlowPort → Type 0
 IsOn wiring port = wiring port.link ≡ Some port.pipe.pipe
 
-abbrev pub AreOn : Wiring → List BatchPort → Type 0
-AreOn wiring ports = (p : BatchPort) → Contains ports p → IsOn wiring p
+abbrev pub AreOn : Wiring → List FlowPort → Type 0
+AreOn wiring ports = (p : FlowPort) → Contains ports p → IsOn wiring p
 
 -- each end at the workers is of the pipe on its link, so that a putting and a taking end of one link are of one pipe
 pub record AreWired (wiring : Wiring) (workers : List Worker) : Type 0 where
@@ -34,18 +29,18 @@ abbrev pub AreWorkersOf : Traffic → List Worker → Type 0
 AreWorkersOf t workers = (number : ℕ) (w : Worker) → slice_get workers number ≡ Some w → IsWorkerOf t number w
 
 -- how many ends there are of a link
-abbrev pub count_on : ℕ → List BatchPort → ℕ
-count_on link ports = count_by (λ (p : BatchPort). p.link == link) ports
+abbrev pub count_on : ℕ → List FlowPort → ℕ
+count_on link ports = count_by (λ (p : FlowPort). p.link == link) ports
 
 -- of some link there are fewer putting than taking ends
-abbrev pub LackEnds : List BatchPort → List BatchPort → Type 0
+abbrev pub LackEnds : List FlowPort → List FlowPort → Type 0
 LackEnds ins outs = (link : ℕ) × (count_on link outs < count_on link ins)
 
 -- the taking ends at workers, and the putting ends
-abbrev pub ins_at : Worker → List BatchPort
+abbrev pub ins_at : Worker → List FlowPort
 ins_at w = w.ins.items
 
-abbrev pub outs_at : Worker → List BatchPort
+abbrev pub outs_at : Worker → List FlowPort
 outs_at w = w.outs.items
 
 -- the pipe that brings a worker its tables, and the pipe of an end at which tables are put
@@ -60,9 +55,9 @@ abbrev pub IsBeginning : {T : Type 0} → List T → List T → Type 0
 IsBeginning {T} taken put = (rest : List T) × (put ≡ taken ++ rest)
 
 -- what was taken at a port is the beginning of what some worker put on the port's link
-pub record IsFed (workers : List Worker) (p : BatchPort) : Type 0 where
+pub record IsFed (workers : List Worker) (p : FlowPort) : Type 0 where
   pub from : Worker
-  pub out : BatchPort
+  pub out : FlowPort
   pub of_workers : Contains workers from
   pub at_worker : Contains from.outs.items out
   pub same_link : out.link ≡ p.link
@@ -70,7 +65,7 @@ pub record IsFed (workers : List Worker) (p : BatchPort) : Type 0 where
 
 -- each port at which a worker takes is fed so
 abbrev pub AreFedByWires : List Worker → Type 0
-AreFedByWires workers = (w : Worker) (p : BatchPort) → Contains workers w → Contains w.ins.items p → IsFed workers p
+AreFedByWires workers = (w : Worker) (p : FlowPort) → Contains workers w → Contains w.ins.items p → IsFed workers p
 
 -- and the tables that each worker took are the beginning of what was put for it
 abbrev pub AreGiven : List (End (Carried CycleTable)) → List Worker → Type 0

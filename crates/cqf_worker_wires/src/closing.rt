@@ -2,12 +2,12 @@
 ghost use Rattle.std.specs.Prelude.{◌≡◌, ◌==◌, ◌++◌, Contains, IfNone, IfOk, IfSome, IsErrOf, OnErr, OnOk, map};
 ghost use Rattle.std.specs.List.{flat_map, position};
 ghost use Rattle.cqf_worker_wires.specs.Closing.{AreFedBy, AreGivenBy, ArePartsOf, HasLostOne, HaveMore, IsPartner, reel_at};
+ghost use Rattle.cqf_worker_loops.specs.Workers.{FlowPort};
 ghost use Rattle.cqf_worker_wires.specs.Wires.{
   AreFedByWires,
   AreGiven,
   AreOn,
   AreWired,
-  BatchPort,
   LackEnds,
   Wiring,
   count_on,
@@ -18,7 +18,7 @@ ghost use Rattle.cqf_worker_wires.specs.Wires.{
 };
 
 use cqf_admission::Table;
-use cqf_bridge::Batch;
+use cqf_flow::Flow;
 use cqf_tape::Reel;
 use cqf_units::Memory;
 use cqf_worker_loops::{Carried, LinkEnd, Worker};
@@ -48,8 +48,8 @@ impl From<Memory> for ClosingFault {
 /// What workers had, apart: their ends on links, worker by worker, and their table ends and reels, one a worker.
 #[derive(Drop)]
 struct Parts {
-    ins: Vec<LinkEnd<PipeOut<Carried<Batch>>>>,
-    outs: Vec<LinkEnd<PipeIn<Carried<Batch>>>>,
+    ins: Vec<LinkEnd<PipeOut<Carried<Flow>>>>,
+    outs: Vec<LinkEnd<PipeIn<Carried<Flow>>>>,
     tables: Vec<PipeOut<Carried<Table>>>,
     reels: Vec<Reel>,
 }
@@ -69,7 +69,8 @@ fn add_parts(parts: &mut Parts, worker: Worker) -> Result<(), Memory>
     ensures { OnOk result (HaveMore parts.old parts.new worker) }
 {
     let Worker {
-        bridge: _bridge,
+        station: _station,
+        bell: _bell,
         agenda: _agenda,
         tables,
         ins,
@@ -100,19 +101,19 @@ fn take_apart(alloc: Global, workers: Vec<Worker>) -> Result<Parts, Memory>
 }
 
 /// The place of the first putting end of a link.
-fn place_of(outs: &[LinkEnd<PipeIn<Carried<Batch>>>], link: u16) -> Option<usize>
-    ensures { result ≡ position (λ (out : BatchPort). out.link == link) outs.now }
+fn place_of(outs: &[LinkEnd<PipeIn<Carried<Flow>>>], link: u16) -> Option<usize>
+    ensures { result ≡ position (λ (out : FlowPort). out.link == link) outs.now }
 {
     outs.iter().position(|out| out.link == link)
 }
 
 /// Takes the first putting end of a link from among others.
 fn take_partner(
-    outs: &mut Vec<LinkEnd<PipeIn<Carried<Batch>>>>,
+    outs: &mut Vec<LinkEnd<PipeIn<Carried<Flow>>>>,
     link: u16,
-) -> Option<PipeIn<Carried<Batch>>>
+) -> Option<PipeIn<Carried<Flow>>>
     ensures some { IfSome result (λ end. IsPartner outs.old.items link end) }
-    ensures rest { (out : BatchPort) → Contains outs.new.items out → Contains outs.old.items out }
+    ensures rest { (out : FlowPort) → Contains outs.new.items out → Contains outs.old.items out }
     ensures one { IfSome result (λ end. HasLostOne link outs.old.items outs.new.items) }
     ensures none { IfNone result (count_on link outs.old.items ≡ 0) }
 {
@@ -124,8 +125,8 @@ fn take_partner(
 
 /// Closes the pipes on links, each with its two ends.
 fn close_links(
-    ins: Vec<LinkEnd<PipeOut<Carried<Batch>>>>,
-    outs: Vec<LinkEnd<PipeIn<Carried<Batch>>>>,
+    ins: Vec<LinkEnd<PipeOut<Carried<Flow>>>>,
+    outs: Vec<LinkEnd<PipeIn<Carried<Flow>>>>,
 ) -> Result<(), ClosingFault>
     requires { (wiring : Wiring) × AreOn wiring ins.items × AreOn wiring outs.items }
     ensures fed { OnOk result (AreFedBy outs.items ins.items) }

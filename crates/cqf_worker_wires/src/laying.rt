@@ -2,19 +2,18 @@
 ghost use Rattle.std.specs.Prelude.{◌≡◌, ◌<◌, ◌^◌, [], All, IfOk, OnOk, length, map};
 ghost use Rattle.cqf_worker_loops.specs.Workers.{MayWork};
 ghost use Rattle.cqf_model.specs.Run.{AreBackground, AreOffers};
-ghost use Rattle.cqf_worker_wires.specs.Laying.{AreBare, HasIn, HasOut, IsBare, LaysFirst, LaysLink, LaysPipe, traffic_of};
+ghost use Rattle.cqf_worker_wires.specs.Laying.{AreBare, HasCycles, HasIn, HasOut, IsBare, LaysFirst, LaysLink, LaysPipe, cycles_at, traffic_of};
 ghost use Rattle.cqf_worker_wires.specs.Wires.{AreWired, AreWorkersOf, Wiring, pipe_of_tables, tables_pipe};
 
 use cqf_admission::Table;
-use cqf_bridge::{Batch, Bridge};
 use cqf_bridge_turn::Agenda;
-use cqf_compile::Plan;
+use cqf_flow::{Flow, Station};
 use cqf_model::{Background, Node, Offer};
 use cqf_tape::Reel;
 use cqf_topology::Domain;
 use cqf_units::Memory;
 use cqf_worker_loops::{Carried, LinkEnd, Worker};
-use cqf_worker_pipe::{PipeIn, PipeOut, pipe};
+use cqf_worker_pipe::{Bell, PipeIn, PipeOut, pipe_between, pipe_to};
 use std::alloc::Global;
 
 /// What the threads of a run begin with: a worker for each bridge, by number, and the ends at which their tables are put, likewise.
@@ -27,29 +26,35 @@ pub struct Laid {
 /// A bridge's worker with no ports, and the end at which its tables are put.
 fn ready_worker(
     alloc: Global,
-    plan: &Plan,
+    domain: &Domain,
     offers: &[Offer],
     background: &[Background],
     number: u16,
+    cycles: u32,
 ) -> Result<(Worker, PipeIn<Carried<Table>>), Memory>
-    requires bridge { number < length plan.now.bridges }
+    requires bridge { number < length domain.now.bridges }
     requires few_offers { length offers.now < 2 ^ 32 }
     requires few_background { length background.now < 2 ^ 32 }
-    ensures worker { IfOk result (λ made. IsBare (traffic_of plan.now offers.now background.now) number made.0) }
+    ensures worker { IfOk result (λ made. IsBare (traffic_of domain.now offers.now background.now) number made.0) }
+    ensures cycles { IfOk result (λ made. made.0.station.cycles ≡ cycles) }
     ensures pipe { IfOk result (λ made. made.1.pipe ≡ tables_pipe made.0) }
     ensures nothing_put { IfOk result (λ made. made.1.items ≡ []) }
 {
-    let bridge = Bridge::new(alloc, plan, number)?;
-    let agenda = Agenda::new(alloc, plan.domain(), offers, background, number)?;
-    let reel = Reel::new(alloc, plan.domain(), number)?;
-    let (putting, tables) = pipe(alloc)?;
+    let station = Station::new(alloc, domain, number, cycles)?;
+    let agenda = Agenda::new(alloc, domain, offers, background, number)?;
+    let bell = Bell::new(alloc)?;
+    let (putting, tables) = pipe_to(alloc, &bell)?;
     let worker = Worker {
-        bridge,
+        station,
+        bell,
         agenda,
         tables,
         ins: Vec::new(alloc),
         outs: Vec::new(alloc),
-        reel,
+        reel: Reel {
+            tapes: Vec::new(alloc),
+            drops: Vec::new(alloc),
+        },
     };
     Ok((worker, putting))
 }
@@ -57,21 +62,23 @@ fn ready_worker(
 /// The workers of all bridges with no ports, and the ends at which their tables are put.
 fn ready_workers(
     alloc: Global,
-    plan: &Plan,
+    domain: &Domain,
     offers: &[Offer],
     background: &[Background],
+    cycles: u32,
 ) -> Result<Laid, Memory>
     requires few_offers { length offers.now < 2 ^ 32 }
     requires few_background { length background.now < 2 ^ 32 }
-    ensures count { IfOk result (λ laid. length laid.workers.items ≡ length plan.now.bridges) }
-    ensures workers { IfOk result (λ laid. AreBare (traffic_of plan.now offers.now background.now) laid.workers.items) }
+    ensures count { IfOk result (λ laid. length laid.workers.items ≡ length domain.now.bridges) }
+    ensures workers { IfOk result (λ laid. AreBare (traffic_of domain.now offers.now background.now) laid.workers.items) }
+    ensures cycles { IfOk result (λ laid. All (HasCycles cycles) laid.workers.items) }
     ensures pipes { IfOk result (λ laid. map pipe_of_tables laid.tables.items ≡ map tables_pipe laid.workers.items) }
     ensures nothing_put { IfOk result (λ laid. All (λ end. end.items ≡ []) laid.tables.items) }
 {
     let mut workers = Vec::new(alloc);
     let mut tables = Vec::new(alloc);
-    for number in 0..plan.domain().bridges() {
-        let (worker, putting) = ready_worker(alloc, plan, offers, background, number)?;
+    for number in 0..domain.bridges() {
+        let (worker, putting) = ready_worker(alloc, domain, offers, background, number, cycles)?;
         workers.push(worker)?;
         tables.push(putting)?;
     }
@@ -79,7 +86,7 @@ fn ready_workers(
 }
 
 /// Gives a worker a port at which it puts.
-fn add_out(worker: &mut Worker, port: LinkEnd<PipeIn<Carried<Batch>>>) -> Result<(), Memory>
+fn add_out(worker: &mut Worker, port: LinkEnd<PipeIn<Carried<Flow>>>) -> Result<(), Memory>
     ensures { OnOk result (HasOut worker.old worker.new port) }
 {
     worker.outs.push(port)?;
@@ -87,7 +94,7 @@ fn add_out(worker: &mut Worker, port: LinkEnd<PipeIn<Carried<Batch>>>) -> Result
 }
 
 /// Gives a worker a port at which it takes.
-fn add_in(worker: &mut Worker, port: LinkEnd<PipeOut<Carried<Batch>>>) -> Result<(), Memory>
+fn add_in(worker: &mut Worker, port: LinkEnd<PipeOut<Carried<Flow>>>) -> Result<(), Memory>
     ensures { OnOk result (HasIn worker.old worker.new port) }
 {
     worker.ins.push(port)?;
@@ -106,8 +113,11 @@ fn lay_pipe(
     requires to { to < length workers.old.items }
     ensures laid { OnOk result (LaysPipe link from to workers.old.items workers.new.items) }
     ensures tables { OnOk result (map tables_pipe workers.new.items ≡ map tables_pipe workers.old.items) }
+    ensures cycles { OnOk result (map cycles_at workers.new.items ≡ map cycles_at workers.old.items) }
 {
-    let (putting, taking) = pipe(alloc)?;
+    let putter = &workers[usize::from(from)].bell;
+    let taker = &workers[usize::from(to)].bell;
+    let (putting, taking) = pipe_between(alloc, putter, taker)?;
     let out = LinkEnd {
         link,
         pipe: putting,
@@ -129,6 +139,7 @@ fn lay_link(
     requires workers { length workers.old.items ≡ length domain.now.bridges }
     ensures laid { OnOk result (LaysLink domain.now link workers.old.items workers.new.items) }
     ensures tables { OnOk result (map tables_pipe workers.new.items ≡ map tables_pipe workers.old.items) }
+    ensures cycles { OnOk result (map cycles_at workers.new.items ≡ map cycles_at workers.old.items) }
 {
     domain.know();
     let between = domain.link(link);
@@ -144,6 +155,7 @@ fn lay_links(alloc: Global, domain: &Domain, workers: &mut Vec<Worker>) -> Resul
     requires { length workers.old.items ≡ length domain.now.bridges }
     ensures laid { OnOk result (LaysFirst domain.now (length domain.now.links) workers.old.items workers.new.items) }
     ensures tables { OnOk result (map tables_pipe workers.new.items ≡ map tables_pipe workers.old.items) }
+    ensures cycles { OnOk result (map cycles_at workers.new.items ≡ map cycles_at workers.old.items) }
 {
     for link in 0..domain.links() {
         lay_link(alloc, domain, workers, link)?;
@@ -151,28 +163,29 @@ fn lay_links(alloc: Global, domain: &Domain, workers: &mut Vec<Worker>) -> Resul
     Ok(())
 }
 
-/// The workers of all bridges of a plan's domain, by number, which have done nothing, each with a reel: on each link between two bridges a
+/// The workers of all bridges of a domain, by number, which have done nothing and are to go through so many cycles: on each link between two bridges a
 /// pipe from the one's worker to the other's, and a pipe for tables to each worker, whose putting ends stand by number too. There are
 /// fewer than 2^32 offers, each at a bridge of the domain, and fewer than 2^32 background frames, each on a link of it. `Memory` where a
 /// growth is refused.
 pub fn lay(
     alloc: Global,
-    plan: &Plan,
+    domain: &Domain,
     offers: &[Offer],
     background: &[Background],
+    cycles: u32,
 ) -> Result<Laid, Memory>
     requires few_offers { length offers.now < 2 ^ 32 }
     requires few_background { length background.now < 2 ^ 32 }
-    requires offers { AreOffers plan.now offers.now }
-    requires background { AreBackground plan.now background.now }
-    ensures count { IfOk result (λ laid. length laid.workers.items ≡ length plan.now.bridges) }
-    ensures workers { IfOk result (λ laid. AreWorkersOf (traffic_of plan.now offers.now background.now) laid.workers.items) }
-    ensures may_work { IfOk result (λ laid. All MayWork laid.workers.items) }
+    requires offers { AreOffers domain.now offers.now }
+    requires background { AreBackground domain.now background.now }
+    ensures count { IfOk result (λ laid. length laid.workers.items ≡ length domain.now.bridges) }
+    ensures workers { IfOk result (λ laid. AreWorkersOf (traffic_of domain.now offers.now background.now) laid.workers.items) }
+    ensures may_work { IfOk result (λ laid. All (MayWork cycles) laid.workers.items) }
     ensures wired { IfOk result (λ laid. (wiring : Wiring) × AreWired wiring laid.workers.items) }
     ensures tables { IfOk result (λ laid. map pipe_of_tables laid.tables.items ≡ map tables_pipe laid.workers.items) }
     ensures nothing_put { IfOk result (λ laid. All (λ end. end.items ≡ []) laid.tables.items) }
 {
-    let mut laid = ready_workers(alloc, plan, offers, background)?;
-    lay_links(alloc, plan.domain(), &mut laid.workers)?;
+    let mut laid = ready_workers(alloc, domain, offers, background, cycles)?;
+    lay_links(alloc, domain, &mut laid.workers)?;
     Ok(laid)
 }

@@ -3,7 +3,7 @@ use Rattle.cqf_admission.specs.declared.entries.Command.{Command}
 use Rattle.cqf_worker.proofs.Preparing.{passed_on}
 use Rattle.cqf_worker.specs.Failing.{IsConductFault}
 use Rattle.cqf_worker.proofs.Told.{told_before, told_in_the_end, told_of_threads}
-use Rattle.cqf_worker.proofs.Accounts.{account_is, is_ready, reels_in_the_end, tables_in_the_end, wired_in_the_end}
+use Rattle.cqf_worker.proofs.Accounts.{account_is, is_ready, may_back, reels_in_the_end, tables_in_the_end, wired_in_the_end}
 use Rattle.cqf_worker.proofs.conducting.conduct_pages.Goals as goal
 
 -- what is prepared is ready
@@ -11,6 +11,15 @@ pub run_threads-requires-after_bounds : goal.run_threads-requires-after_bounds
 run_threads-requires-after_bounds g c κs within =
     is_ready c.args.domain.now c.args.admission.entries c.args.offers.now c.args.background.now c.args.cycles
     (map (λ (v : Vec Command Global). v.items) c.args.admins.items) c.in_ok-desk.field-0 c.in_ok-desk.ensures.ok c.requires.short
+
+-- the tapes may take their background frames
+pub back-requires-clause-run : goal.back-requires-clause-run
+back-requires-clause-run g c =
+    may_back c.args.domain.now c.args.admission.entries c.args.offers.now c.args.background.now c.args.cycles
+    (map (λ (v : Vec Command Global). v.items) c.args.admins.items) c.in_ok-desk.field-0 c.in_ok-desk.ensures.ok c.in_ok-ended.ended c.in_ok-ended.ensures.ok
+    c.in_ok-account.account c.in_ok-account.ensures.ok c.know.ensures.accepted c.requires.unsealed c.requires.offers c.requires.few_offers
+    c.requires.background c.seats_give_the_history.ensures.history c.seats_give_the_history.ensures.tables c.legal_network_exists.ensures
+    c.tables_may_come.ensures c.stations_keep_the_tapes.ensures c.requires.short
 
 -- the pipes are those that were laid
 pub settle-requires-clause-wired : goal.settle-requires-clause-wired
@@ -34,9 +43,10 @@ pub returns-clause-ok : goal.returns-clause-ok
 returns-clause-ok g c =
     account_is c.args.domain.now c.args.admission.entries c.args.offers.now c.args.background.now c.args.cycles
     (map (λ (v : Vec Command Global). v.items) c.args.admins.items) c.in_ok-desk.field-0 c.in_ok-desk.ensures.ok c.in_ok-ended.ended c.in_ok-ended.ensures.ok
-    c.in_ok-account.account c.in_ok-account.ensures.ok c.know.ensures.accepted c.requires.unsealed c.requires.offers c.requires.background
-    c.seats_give_the_history.ensures.history c.seats_give_the_history.ensures.tables c.bridges_apart_keep_the_tapes.ensures
-    c.book_of_history_says_the_shift.ensures
+    c.in_ok-account.account c.in_ok-account.ensures.ok c.know.ensures.accepted c.requires.unsealed c.requires.offers c.requires.few_offers
+    c.requires.background c.seats_give_the_history.ensures.history c.seats_give_the_history.ensures.tables c.legal_network_exists.ensures
+    c.tables_may_come.ensures c.stations_keep_the_tapes.ensures c.requires.short c.backed_tapes_are_the_books.ensures
+    c.book_of_history_says_the_shift.ensures c.back.new.tapes c.in_ok-back.ensures.drops c.in_ok-back.ensures.tapes
 
 -- it can't begin
 pub returns-in_err-desk-clause-err : goal.returns-in_err-desk-clause-err
@@ -55,7 +65,7 @@ returns-in_err-ended-clause-err g c =
     (map (λ (v : Vec Command Global). v.items) c.args.admins.items)) c.from_residual-in_err-ended.ensures.1
     (told_of_threads c.args.domain.now c.args.admission.entries c.args.offers.now c.args.background.now c.args.cycles
     (map (λ (v : Vec Command Global). v.items) c.args.admins.items) c.in_ok-desk.field-0 c.in_ok-desk.ensures.ok
-    c.bridges_go_on.ensures.receives c.in_err-ended.field-0.0 c.in_err-ended.ensures.err)
+    c.in_err-ended.field-0.0 c.in_err-ended.ensures.err)
 
 -- or it isn't closed
 pub returns-in_err-account-clause-err : goal.returns-in_err-account-clause-err

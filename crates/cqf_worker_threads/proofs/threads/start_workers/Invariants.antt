@@ -9,4 +9,4 @@ invariant-loop-worker g l =
     (l.yielded ++ into_iter_items l.worker-iterator ≡ l.fn.workers.items)
     × (map (λ h. h.promise.worker.value) l.handles.items ≡ l.yielded)
     × All (λ h. h.promise.cycles ≡ l.fn.cycles) l.handles.items
-    × All MayWork (into_iter_items l.worker-iterator)
+    × All (MayWork l.fn.cycles) (into_iter_items l.worker-iterator)

@@ -1,13 +1,14 @@
 use Rattle.std.proofs.Common.{ℕ, ◌≡◌, ◌+◌, ◌++◌, Contains}
 use Rattle.std.specs.Vec.Iter.{into_iter_items}
 use Rattle.cqf_worker_wires.specs.Closing.{AreFedBy}
-use Rattle.cqf_worker_wires.specs.Wires.{BatchPort, count_on}
+use Rattle.cqf_worker_wires.specs.Wires.{count_on}
+use Rattle.cqf_worker_loops.specs.Workers.{FlowPort}
 use Rattle.cqf_worker_wires.proofs.closing.close_links.Given as goal
 
 -- the ports so far are fed, and the ends that are left are some of those that were there
 abbrev pub invariant-loop-taking : goal.invariant-loop-taking
 invariant-loop-taking l =
     (l.yielded ++ into_iter_items l.taking-iterator ≡ l.fn.ins.items)
-    × ((out : BatchPort) → Contains l.left.items out → Contains l.fn.outs.items out)
+    × ((out : FlowPort) → Contains l.left.items out → Contains l.fn.outs.items out)
     × AreFedBy l.fn.outs.items l.yielded
     × ((link : ℕ) → count_on link l.fn.outs.items ≡ count_on link l.left.items + count_on link l.yielded)
