@@ -4,12 +4,11 @@ ghost use Rattle.std.specs.Prelude.{◌≤◌, ◌<◌, ◌^◌, OnOk, length};
 
 use crate::terminal::hint;
 use cqf_model::Limits;
+use cqf_press::{FAULT, REFUSED, Stop, Told, write_out};
 use cqf_program_engine::{Heard, Texts, engine, most_bytes, tell};
-use cqf_program_explanations::{Source, explanation};
+use cqf_program_explanations::{NamedFile, explanation};
 use cqf_program_files::{Front, cycles_of, front_of, renumbered};
-use cqf_program_made::made_input;
-use cqf_program_press::{Told, write_out};
-use cqf_program_stop::{FAULT, REFUSED, Stop};
+use cqf_program_offers::made_input;
 use cqf_program_words::{
     Job, Operands, STANDARD, check_files, limits_of, read_words, stop_of_file,
 };
@@ -25,7 +24,7 @@ const ROOM: usize = 65_536;
 
 /// What a run with files is given: its words, the job that they mean, the limits within which plants are read, and the files' texts.
 #[derive(Clone, Copy)]
-struct Given<'g> {
+struct FilesInput<'g> {
     alloc: Global,
     limits: Limits,
     job: &'g Job,
@@ -101,10 +100,10 @@ fn sources_of<'t>(
     alloc: Global,
     names: &[&'t str],
     texts: &[&'t [u8]],
-) -> Result<Vec<Source<'t>>, AllocError> {
+) -> Result<Vec<NamedFile<'t>>, AllocError> {
     let mut sources = Vec::new(alloc);
     for place in 0..names.len().min(texts.len()) {
-        sources.push(Source {
+        sources.push(NamedFile {
             name: names[place],
             text: texts[place],
         })?;
@@ -113,7 +112,7 @@ fn sources_of<'t>(
 }
 
 /// Writes what explains the line of a refusal: nothing where there is nothing to say, and where memory lacks.
-fn explain(rt: &HostRuntime, given: &Given<'_>, line: &[u8]) {
+fn explain(rt: &HostRuntime, given: &FilesInput<'_>, line: &[u8]) {
     let Some(command) = given.operands.words().first() else {
         return;
     };
@@ -167,7 +166,7 @@ fn line_told(
 fn run_front(
     rt: &HostRuntime,
     threads: &(impl Threads + Wait + Sync),
-    given: &Given<'_>,
+    given: &FilesInput<'_>,
     front: &Front,
 ) -> ExitCode {
     let alloc = given.alloc;
@@ -216,7 +215,7 @@ pub(crate) fn run_files(
         Ok(texts) => run_texts(
             rt,
             threads,
-            &Given {
+            &FilesInput {
                 alloc,
                 limits: limits_of(words),
                 job: &job,
@@ -232,7 +231,7 @@ pub(crate) fn run_files(
 fn run_texts(
     rt: &HostRuntime,
     threads: &(impl Threads + Wait + Sync),
-    given: &Given<'_>,
+    given: &FilesInput<'_>,
 ) -> ExitCode {
     let names = given.operands.files();
     if names.len() != given.texts.len() {
@@ -245,7 +244,7 @@ fn run_texts(
 }
 
 /// Tells the end before the engine has run, and explains a refusal.
-fn refuse(rt: &HostRuntime, given: &Given<'_>, stop: &Stop) -> ExitCode {
+fn refuse(rt: &HostRuntime, given: &FilesInput<'_>, stop: &Stop) -> ExitCode {
     let ended = end(rt, stop);
     if stop.status == REFUSED {
         explain(rt, given, stop.text.as_slice());
@@ -254,7 +253,7 @@ fn refuse(rt: &HostRuntime, given: &Given<'_>, stop: &Stop) -> ExitCode {
 }
 
 /// The same where the line of a script may be one of a file of calls.
-fn refuse_made(rt: &HostRuntime, given: &Given<'_>, front: &Front, stop: Stop) -> ExitCode {
+fn refuse_made(rt: &HostRuntime, given: &FilesInput<'_>, front: &Front, stop: Stop) -> ExitCode {
     let Stop { status, text } = stop;
     match line_told(given.alloc, front, status, text) {
         Ok(text) => refuse(rt, given, &Stop { status, text }),
@@ -266,7 +265,7 @@ fn refuse_made(rt: &HostRuntime, given: &Given<'_>, front: &Front, stop: Stop) -
 fn run_made(
     rt: &HostRuntime,
     threads: &(impl Threads + Wait + Sync),
-    given: &Given<'_>,
+    given: &FilesInput<'_>,
     front: Front,
 ) -> ExitCode {
     match made_input(given.alloc, given.limits, given.job, front.input.as_slice()) {

@@ -1,32 +1,7 @@
-//! The program of cyclic queuing and forwarding.
+//! The program of cyclic queuing and forwarding: `main` reads the files that its words name, or standard input, and hands the input that they make
+//! to the engine (`cqf_program_engine`). Behind the line of a refusal it puts what explains it.
 //!
-//! - `cqf port --until N [--rate RATE]` reads a gate list and the arrivals of one output port from standard input, and
-//!   writes the frames that the port starts before instant N.
-//! - `cqf line --cycles N` reads offers, and writes the book of the smallest network over N cycles.
-//! - `cqf compile` reads a domain and its streams, and writes the gate list of each port and the gates of each stream. With
-//!   `--format tc` it writes a shell script that sets these by `tc`.
-//! - `cqf load` reads the same, and writes what each link holds of the streams and has left.
-//! - `cqf latency` reads the same, and writes the least and the most that a frame of each stream takes to each listener, and
-//!   whether its deadline is kept. With `--strict` a deadline that isn't kept for sure ends it with status 1.
-//! - `cqf run --cycles N` reads a domain, its streams, a script of admissions and withdrawals, offers, and background frames
-//!   where there are any, and writes the history of the calls and the book of every transmission and drop over N cycles.
-//!   With `--threads` each bridge and each administrator has a thread of its own.
-//! - `cqf report --cycles N` reads the same, and writes what each link carries.
-//! - `cqf deliveries --cycles N` reads the same, and writes what becomes of each offered frame at each listener of its stream.
-//! - `cqf check --cycles N` reads the same, and ends with status 1 where one of them is dropped, late or not yet there.
-//! - `cqf summary --cycles N` reads the same, and writes how the frames of each stream fare to each listener, counted.
-//! - `cqf hops --cycles N [--stream NAME] [--frame F]` reads the same, and writes the book by frame.
-//! - `cqf offers --cycles N [--seed S]` reads a domain and its streams, and writes what those with traffic offer.
-//! - `cqf plan [--table] [--cycle WORD]` reads a sketch of a domain and its streams, and writes a plant, or a table of the candidates for
-//!   its cycle time.
-//!
-//! With `--large` a command that reads a plant takes a larger one, with more rows of tables and more bytes.
-//!
-//! Behind the words may stand files, `-` for standard input among them. The input is then what their texts come to, one behind the other
-//! with a line `%%` between them; where the command takes a domain, a first file without such a line stands twice, as the domain and as
-//! its streams, and several first files whose names end with `.toml` are one plant. Where a run isn't given its calls or its offers,
-//! these are made: all streams are admitted before cycle 0, and those with traffic offer what their talkers promise. Behind the line of a
-//! refusal stands what explains it.
+//! `cqf --help` lists the commands, and the help of each says what it reads and writes.
 //!
 //! Without a word after the program's name the words stand in the first line of the input:
 //!
@@ -52,8 +27,8 @@
 mod files;
 mod terminal;
 
+use cqf_press::Stop;
 use cqf_program_engine::{Heard, Told, engine};
-use cqf_program_stop::Stop;
 use cqf_program_words::operands_of;
 use files::{end, run_files};
 use std::alloc::Global;

@@ -12,7 +12,7 @@ use Rattle.cqf_laws_history.specs.StateLaws.{HistoryGoesOn, SealsAreCounted, wit
 use Rattle.cqf_admission.specs.declared.entries.Entry.{Entry}
 use Rattle.cqf_admission.specs.Admission.{Administration, Answers, HoldsOneMore, act_of, calls, recorded_of}
 use Rattle.cqf_admission.specs.Judging.{IsOfGoodForm, form_refusal}
-use Rattle.cqf_admission.specs.declared.judged.Judged.{Judged}
+use Rattle.cqf_admission.specs.declared.judged.JudgedRequest.{JudgedRequest}
 use Rattle.cqf_model.specs.declared.topology.Row.{Row}
 use Rattle.cqf_admission.specs.declared.state.GoodForm.{GoodForm}
 use Rattle.cqf_admission.specs.Forms.{IsRowOfGoodForm}
@@ -89,7 +89,7 @@ good_form d asked row form is name octets paced tree = record {
 }
 
 -- and so is one that was judged
-pub judged_form : (d : Domain) (asked : Asked) (judged : Judged) (form : GoodForm) → IsOfGoodForm d asked judged →
+pub judged_form : (d : Domain) (asked : Asked) (judged : JudgedRequest) (form : GoodForm) → IsOfGoodForm d asked judged →
     form.name.now ≡ judged.name → form.octets ≡ asked.octets → form.pace ≡ judged.pace → form.tree.now ≡ judged.tree.items → IsGoodFormOf d asked form
 judged_form d asked judged form is name octets paced tree = record {
   none = is.none;

@@ -22,11 +22,11 @@ use Rattle.cqf_model.specs.Paces.{is_turn}
 use Rattle.cqf_model.specs.Table.{cost_on}
 use Rattle.cqf_model.specs.declared.topology.Pace.{Pace}
 use Rattle.cqf_model.specs.declared.topology.Row.{Row}
-use Rattle.cqf_admission_trees.specs.Turns.{AreLessIn, AreMoreIn, AreNone, HasIn, HasRoomFor, Turned, most_at, most_of, sum_on}
+use Rattle.cqf_admission.specs.Turns.{AreLessIn, AreMoreIn, AreNone, HasIn, HasRoomFor, Turned, most_at, most_of, sum_on}
 use Rattle.cqf_lists.proofs.EachBelow.{same_below}
 use Rattle.cqf_lists.proofs.Members.{contains_cases, contains_here, contains_later, contains_none, contains_one}
 use Rattle.std.proofs.lemmas.List.Elements.{Contains-append_cases, Contains-get_or}
-use Rattle.cqf_admission_trees.proofs.TurnLemmas.{most_of_costs}
+use Rattle.cqf_admission.proofs.TurnLemmas.{most_of_costs}
 use Rattle.cqf_admission.specs.Rows.{IsSummable, ended}
 use Rattle.cqf_admission.specs.Holdings.{HaveFigures, IsEnded, IsFree, IsHeldAt, IsHolder, Standing}
 use Rattle.cqf_admission.specs.Holdings.{held_cost, held_most, held_most_at, held_part, held_under, released, with_row}

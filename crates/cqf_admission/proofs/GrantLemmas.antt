@@ -29,7 +29,7 @@ use Rattle.cqf_admission.specs.Judging.{form_refusal, short_refusal}
 use Rattle.cqf_admission.specs.Rows.{IsCountable}
 use Rattle.cqf_lists.proofs.Least.{or_else_none}
 use Rattle.std.proofs.lemmas.List.Elements.{All-map}
-use Rattle.cqf_admission_trees.specs.Branches.{tree_refusal}
+use Rattle.cqf_admission.specs.Branches.{tree_refusal}
 
 -- why a request of good form is refused: for what is held
 abbrev pub state_refusal : Domain → List Row → Asked → Option Refused

@@ -16,7 +16,7 @@ use Rattle.cqf_model.specs.History.{refused_at}
 use Rattle.cqf_model.specs.Limits.{most_every}
 use Rattle.cqf_model.specs.Paces.{is_turn}
 use Rattle.cqf_model.specs.Table.{links_in, uses}
-use Rattle.cqf_admission_trees.proofs.TurnLemmas.{uses_of_hop}
+use Rattle.cqf_admission.proofs.TurnLemmas.{uses_of_hop}
 use Rattle.cqf_admission.specs.Holdings.{Standing, held_cost, held_most, held_most_at}
 use Rattle.cqf_admission.specs.Weighing.{left_at, left_by, short_among}
 use Rattle.cqf_admission.proofs.Most.{most_within}

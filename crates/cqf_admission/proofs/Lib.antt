@@ -1,3 +1,10 @@
+mod BranchLemmas
+mod FaultLemmas
+mod NodeLemmas
+mod PartLemmas
+mod SumLemmas
+mod TreeLemmas
+pub mod TurnLemmas
 pub mod CostLemmas
 pub mod Entered
 pub mod Figures
@@ -24,3 +31,9 @@ pub mod Told
 pub mod Weighed
 pub mod Whole
 pub mod Withdrawing
+mod OrderLemmas
+mod NamePlaces
+mod ReadLines
+mod Words
+mod Few
+mod ByLine

@@ -6,10 +6,10 @@ use Rattle.cqf_model.specs.Domain.{Domain}
 use Rattle.cqf_model.specs.History.{Asked}
 use Rattle.cqf_laws_history.specs.StateLaws.{with_entry}
 use Rattle.cqf_topology.specs.declared.paced.PacedRequest.{PacedRequest}
-use Rattle.cqf_admission_requests.specs.Orders.{StandsIn, act_in, request_at}
+use Rattle.cqf_admission.specs.Orders.{StandsIn, act_in, request_at}
 use Rattle.cqf_admission.specs.Asking.{asked_paced}
-use Rattle.cqf_admission.specs.declared.forms.Form.{Form}
-use Rattle.cqf_admission.specs.declared.forms.Form.TheVariants.{Unseen}
+use Rattle.cqf_admission.specs.declared.forms.RequestForm.{RequestForm}
+use Rattle.cqf_admission.specs.declared.forms.RequestForm.TheVariants.{Unseen}
 use Rattle.cqf_admission.specs.declared.logs.Logged.{Logged}
 use Rattle.cqf_admission.specs.Forms.{IsFormOf}
 use Rattle.cqf_admission.specs.Ledger.{recorded_in}
@@ -38,7 +38,7 @@ asked_at requests place request low is =
 -- ---- forms
 
 -- the form at a place is of the request there
-pub form_at : (d : Domain) (requests : List PacedRequest) (forms : List Form) (place : ℕ) (request : PacedRequest) (form : Form) → AreForms d requests forms →
+pub form_at : (d : Domain) (requests : List PacedRequest) (forms : List RequestForm) (place : ℕ) (request : PacedRequest) (form : RequestForm) → AreForms d requests forms →
     place < length requests → request ≡ get_or requests place request → form ≡ get_or forms place form →
     IsFormOf d (asked_paced request) form
 form_at d requests forms place request form known low is at =
@@ -48,7 +48,7 @@ form_at d requests forms place request form known low is at =
     (known.each place request low))
 
 -- and with another one of it they are of the requests
-pub forms_set : (d : Domain) (requests : List PacedRequest) (forms : List Form) (place : ℕ) (request : PacedRequest) (form : Form) → AreForms d requests forms →
+pub forms_set : (d : Domain) (requests : List PacedRequest) (forms : List RequestForm) (place : ℕ) (request : PacedRequest) (form : RequestForm) → AreForms d requests forms →
     place < length requests → request ≡ get_or requests place request → IsFormOf d (asked_paced request) form →
     AreForms d requests (set forms place form)
 forms_set d requests forms place request form known low is of = record {

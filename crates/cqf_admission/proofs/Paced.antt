@@ -18,8 +18,8 @@ use Rattle.cqf_model.specs.History.{seals, stream_by, streams_of}
 use Rattle.cqf_model.specs.Table.{is_held}
 use Rattle.cqf_laws_history.proofs.Granted.{granted}
 use Rattle.cqf_laws_history.proofs.Places.{entry_at}
-use Rattle.cqf_admission_trees.specs.Turns.{AreOfGoodPaces, IsGoodPace, IsOfGoodPace}
-use Rattle.cqf_admission_trees.proofs.TurnLemmas.{asked_is_good}
+use Rattle.cqf_admission.specs.Turns.{AreOfGoodPaces, IsGoodPace, IsOfGoodPace}
+use Rattle.cqf_admission.proofs.TurnLemmas.{asked_is_good}
 
 -- a pace of no cycles is none, and one of more than all paces repeat in
 no_pace : (every phase : ℕ) → 80 % every ≢ 0 → is_pace every phase ≡ false

@@ -16,8 +16,8 @@ use Rattle.cqf_model.specs.Table.{cost_on, links_in, uses}
 use Rattle.cqf_model.proofs.Hops.{hops_apart, hops_inside}
 use Rattle.cqf_laws_history.specs.StateLaws.{HeldAreSound, granted_row}
 use Rattle.cqf_laws_history.proofs.Granted.{granted_fits_a_row}
-use Rattle.cqf_admission_trees.specs.Turns.{IsGoodPace}
-use Rattle.cqf_admission_trees.proofs.TurnLemmas.{asked_is_good}
+use Rattle.cqf_admission.specs.Turns.{IsGoodPace}
+use Rattle.cqf_admission.proofs.TurnLemmas.{asked_is_good}
 use Rattle.cqf_admission.specs.declared.state.GoodForm.{GoodForm}
 use Rattle.cqf_admission.specs.Holdings.{IsFree, Standing, held_cost}
 use Rattle.cqf_admission.specs.Rows.{IsSummable}

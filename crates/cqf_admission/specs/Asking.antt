@@ -7,7 +7,7 @@ use Rattle.cqf_topology.specs.declared.streams.Request.{Request}
 use Rattle.cqf_topology.specs.declared.paced.PacedRequest.{PacedRequest}
 use Rattle.cqf_topology.specs.PacedText.{PacedText}
 use Rattle.cqf_model.specs.History.{Asked, Branch}
-use Rattle.cqf_admission_trees.specs.Branches.{branches_of}
+use Rattle.cqf_admission.specs.Branches.{branches_of}
 
 -- what is asked for by a name, a reservation, in which cycles it is used, and branches
 abbrev pub asked_with : List ℕ → ℕ → ℕ → ℕ → List Branch → Asked

@@ -5,8 +5,8 @@ use Rattle.cqf_model.specs.Domain.{Domain}
 use Rattle.cqf_model.specs.History.{Asked}
 use Rattle.cqf_laws_history.specs.StateLaws.{granted_row}
 use Rattle.cqf_admission.specs.Judging.{form_refusal}
-use Rattle.cqf_admission.specs.declared.forms.Form.{Form}
-use Rattle.cqf_admission.specs.declared.forms.Form.TheVariants.{Bad, Good, Unseen}
+use Rattle.cqf_admission.specs.declared.forms.RequestForm.{RequestForm}
+use Rattle.cqf_admission.specs.declared.forms.RequestForm.TheVariants.{Bad, Good, Unseen}
 use Rattle.cqf_model.specs.Limits.{most_reserved}
 
 -- a request of good form, and its row as that of number 0 and of cycle 0
@@ -16,17 +16,17 @@ pub record IsRowOfGoodForm (d : Domain) (asked : Asked) (row : Row) : Type 0 whe
   pub is : row ≡ granted_row d 0 0 asked
 
 -- what is known of a request's form is so
-abbrev pub IsFormOf : Domain → Asked → Form → Type 0
+abbrev pub IsFormOf : Domain → Asked → RequestForm → Type 0
 IsFormOf d asked Unseen = ⊤
 IsFormOf d asked (Bad refused) = form_refusal d asked ≡ Some refused
 IsFormOf d asked (Good row) = IsRowOfGoodForm d asked row
 
 -- of none anything is known
-abbrev pub AreUnseen : List Form → Type 0
+abbrev pub AreUnseen : List RequestForm → Type 0
 AreUnseen forms = (place : ℕ) → place < length forms → slice_index_or forms place Unseen ≡ Unseen
 
 -- and it is known
-abbrev pub IsSeen : Form → Type 0
+abbrev pub IsSeen : RequestForm → Type 0
 IsSeen Unseen = ⊥
 IsSeen (Bad refused) = ⊤
 IsSeen (Good row) = ⊤

@@ -12,7 +12,7 @@ use Rattle.cqf_model.specs.declared.topology.Row.{Row}
 use Rattle.cqf_model.specs.Limits.{most_every}
 use Rattle.cqf_model.specs.Paces.{is_turn}
 use Rattle.cqf_model.specs.Table.{cost_on}
-use Rattle.cqf_admission_trees.specs.Turns.{Turned, sum_on}
+use Rattle.cqf_admission.specs.Turns.{Turned, sum_on}
 use Rattle.cqf_admission.specs.Rows.{IsSummable, ended}
 use Rattle.cqf_admission.specs.declared.holdings.Stand.{Stand}
 

@@ -11,8 +11,8 @@ use Rattle.cqf_model.specs.declared.topology.Pace.{Pace}
 use Rattle.cqf_units.specs.declared.reservations.Cycle.{Cycle}
 use Rattle.cqf_model.specs.Domain.{Domain}
 use Rattle.cqf_model.specs.History.{Asked, is_pace, left_on, pace_of, refused_at, refused_if, short_link, tree_of}
-use Rattle.cqf_admission_trees.specs.Branches.{tree_refusal}
-use Rattle.cqf_admission.specs.declared.judged.Judged.{Judged}
+use Rattle.cqf_admission.specs.Branches.{tree_refusal}
+use Rattle.cqf_admission.specs.declared.judged.JudgedRequest.{JudgedRequest}
 use Rattle.cqf_model.specs.Limits.{least_reserved, most_reserved}
 
 -- why a request is refused whatever is held: for its form
@@ -32,7 +32,7 @@ pub record IsPaceOf (every phase : ℕ) (pace : Pace) : Type 0 where
   pub is : pace ≡ record { pause = every - 1; phase = phase }
 
 -- a request of good form
-pub record IsOfGoodForm (d : Domain) (asked : Asked) (judged : Judged) : Type 0 where
+pub record IsOfGoodForm (d : Domain) (asked : Asked) (judged : JudgedRequest) : Type 0 where
   pub none : form_refusal d asked ≡ None
   pub named : judged.name ≡ asked.name
   pub costs : judged.cost.0 ≡ cost_of asked.octets
@@ -41,7 +41,7 @@ pub record IsOfGoodForm (d : Domain) (asked : Asked) (judged : Judged) : Type 0 
   pub most_octets : asked.octets ≤ most_reserved
 
 -- the row by what a request of good form is, of a number and from a cycle on
-abbrev pub row_by : Judged → ℕ → ℕ → Cycle → Row
+abbrev pub row_by : JudgedRequest → ℕ → ℕ → Cycle → Row
 row_by judged octets number effect = record {
   no = number;
   name = judged.name;
@@ -53,6 +53,6 @@ row_by judged octets number effect = record {
 }
 
 -- a look at a request by itself gives what it is, or the first reason against its form
-abbrev pub Judges : Domain → Asked → Result Judged Refused → Type 0
+abbrev pub Judges : Domain → Asked → Result JudgedRequest Refused → Type 0
 Judges d asked (Ok judged) = IsOfGoodForm d asked judged
 Judges d asked (Err refused) = form_refusal d asked ≡ Some refused

@@ -6,7 +6,7 @@ use Rattle.cqf_model.specs.declared.topology.Row.{Row}
 use Rattle.cqf_model.specs.History.{Asked, Recorded, Seals, seals}
 use Rattle.cqf_model.specs.Table.{is_held}
 use Rattle.cqf_laws_history.specs.StateLaws.{with_entry}
-use Rattle.cqf_admission_requests.specs.Orders.{act_in}
+use Rattle.cqf_admission.specs.Orders.{act_in}
 use Rattle.cqf_admission.specs.declared.entries.SealFault.{SealFault}
 use Rattle.cqf_admission.specs.declared.entries.SealFault.TheVariants as fault
 use Rattle.cqf_admission.specs.Admission.{Administration, held_of}

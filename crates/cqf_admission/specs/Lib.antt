@@ -1,3 +1,8 @@
+pub mod Branches
+pub mod Sums
+pub mod Turns
+pub mod Names
+pub mod Orders
 pub mod Admission
 pub mod Calling
 pub mod Rows
@@ -17,3 +22,10 @@ pub mod Tabling
 pub mod Forms
 pub mod Ledger
 pub mod Running
+pub mod Faults
+pub mod Lines
+pub mod Script
+pub mod LineLaws
+-- what the inner functions say
+pub mod Placed
+pub mod Written

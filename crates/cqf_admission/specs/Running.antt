@@ -3,15 +3,15 @@ use Rattle.std.specs.Prelude.{ℕ, ◌≡◌, ◌<◌, All, List, length, slice_
 use Rattle.cqf_model.specs.Domain.{Domain}
 use Rattle.cqf_model.specs.History.{Asked}
 use Rattle.cqf_topology.specs.declared.paced.PacedRequest.{PacedRequest}
-use Rattle.cqf_admission_requests.specs.Orders.{StandsIn}
+use Rattle.cqf_admission.specs.Orders.{StandsIn}
 use Rattle.cqf_admission.specs.Asking.{asked_paced}
-use Rattle.cqf_admission.specs.declared.forms.Form.{Form}
-use Rattle.cqf_admission.specs.declared.forms.Form.TheVariants.{Unseen}
+use Rattle.cqf_admission.specs.declared.forms.RequestForm.{RequestForm}
+use Rattle.cqf_admission.specs.declared.forms.RequestForm.TheVariants.{Unseen}
 use Rattle.cqf_admission.specs.declared.logs.Logged.{Logged}
 use Rattle.cqf_admission.specs.Forms.{IsFormOf}
 
 -- what is known of each request's form is so
-pub record AreForms (d : Domain) (requests : List PacedRequest) (forms : List Form) : Type 0 where
+pub record AreForms (d : Domain) (requests : List PacedRequest) (forms : List RequestForm) : Type 0 where
   pub as_many : length forms ≡ length requests
   pub each : (place : ℕ) (request : PacedRequest) → place < length requests →
       IsFormOf d (asked_paced (slice_index_or requests place request)) (slice_index_or forms place Unseen)

@@ -8,14 +8,14 @@ ghost use Rattle.cqf_admission.specs.Calling.{IsJudgedCall};
 ghost use Rattle.cqf_model.specs.Limits.{most_calls};
 ghost use Rattle.cqf_admission.specs.Admission.{Answers, Closes, act_of, calls, EndsOne, HoldsOneMore, LetsGo, recorded_of};
 ghost use Rattle.cqf_admission.specs.Costs.{left_in_turns, most_cost};
-ghost use Rattle.cqf_admission_trees.specs.Turns.{IsGoodPace};
+ghost use Rattle.cqf_admission.specs.Turns.{IsGoodPace};
 
+use crate::count_places;
 use crate::entries::{Call, Entry, SealFault, copied_entries, enter, reply_of, shared_request};
-use crate::judged::{Judged, judge, judge_paced};
+use crate::judged::{JudgedRequest, judge, judge_paced};
 use crate::state::{GoodForm, State};
 use crate::table::Table;
 use crate::tabling::Tabling;
-use cqf_admission_trees::count_places;
 use cqf_laws_history::state_follows_history;
 use cqf_model::{Hop, MOST_SEALS, Pace, Receipt, Refused, Reply, Row};
 use cqf_topology::{Domain, PacedRequest, Request};
@@ -67,6 +67,14 @@ impl Admission {
         ensures { result.now ≡ self.now.domain }
     {
         &self.domain
+    }
+
+    /// Does nothing, and makes known to a proof what each call keeps: the history is legal.
+    pub fn know(&self)
+        ensures legal { IsLegalHistory self.now.domain self.now.entries }
+    {
+        // a use of a field: with it the invariant is known
+        let _ = &self.history;
     }
 
     /// All entries, in order.
@@ -167,7 +175,7 @@ impl Admission {
         seat: u16,
         call: Call,
         octets: u32,
-        judged: Result<Judged, Refused>,
+        judged: Result<JudgedRequest, Refused>,
     ) -> Result<Receipt, Refused>
         requires room { calls self.old.entries < most_calls }
         requires judged { IsJudgedCall self.old.domain call octets judged }

@@ -3,8 +3,8 @@ ghost use Rattle.std.specs.Prelude.{◌≡◌, IfOk, OnOk, length};
 ghost use Rattle.cqf_admission.specs.Asking.{asked_paced};
 ghost use Rattle.cqf_admission.specs.Forms.{AreUnseen, IsFormOf, IsSeen};
 
+use crate::count_places;
 use crate::judged::judge_paced;
-use cqf_admission_trees::count_places;
 use cqf_model::{Refused, Row};
 use cqf_topology::{Domain, PacedRequest};
 use cqf_units::{Cycle, Memory};
@@ -12,7 +12,7 @@ use std::alloc::{AllocError, Global};
 
 /// What is known of a request's form.
 #[derive(Drop)]
-pub(crate) enum Form {
+pub(crate) enum RequestForm {
     /// It wasn't looked at yet.
     Unseen,
     /// The first reason against it.
@@ -25,7 +25,7 @@ pub(crate) enum Form {
 ///
 /// # Errors
 /// Where a growth is refused, or no `usize` can count the places of its branches.
-fn look_over(alloc: Global, domain: &Domain, request: &PacedRequest) -> Result<Form, Memory>
+fn look_over(alloc: Global, domain: &Domain, request: &PacedRequest) -> Result<RequestForm, Memory>
     ensures seen { IfOk result IsSeen }
     ensures form { IfOk result (IsFormOf domain.now (asked_paced request.now)) }
 {
@@ -35,9 +35,9 @@ fn look_over(alloc: Global, domain: &Domain, request: &PacedRequest) -> Result<F
     match judge_paced(domain, request) {
         Ok(judged) => {
             let row = judged.into_row(alloc, request.octets, 0, Cycle(0))?;
-            Ok(Form::Good(row))
+            Ok(RequestForm::Good(row))
         }
-        Err(refused) => Ok(Form::Bad(refused)),
+        Err(refused) => Ok(RequestForm::Bad(refused)),
     }
 }
 
@@ -49,26 +49,26 @@ pub(crate) fn see(
     alloc: Global,
     domain: &Domain,
     request: &PacedRequest,
-    form: &mut Form,
+    form: &mut RequestForm,
 ) -> Result<(), Memory>
     requires { IsFormOf domain.now (asked_paced request.now) form.old }
     ensures form { IsFormOf domain.now (asked_paced request.now) form.new }
     ensures seen { OnOk result (IsSeen form.new) }
 {
-    if let Form::Unseen = form {
+    if let RequestForm::Unseen = form {
         *form = look_over(alloc, domain, request)?;
     }
     Ok(())
 }
 
 /// So many requests that weren't looked at yet, unless memory runs out.
-pub(crate) fn unseen(alloc: Global, requests: usize) -> Result<Vec<Form>, Memory>
+pub(crate) fn unseen(alloc: Global, requests: usize) -> Result<Vec<RequestForm>, Memory>
     ensures many { IfOk result (λ forms. length forms.items ≡ requests) }
     ensures unseen { IfOk result (λ forms. AreUnseen forms.items) }
 {
     let mut forms = Vec::with_capacity(alloc, requests)?;
     for _ in 0..requests {
-        forms.push(Form::Unseen)?;
+        forms.push(RequestForm::Unseen)?;
     }
     Ok(forms)
 }

@@ -3,12 +3,12 @@ ghost use Rattle.std.specs.Arc.{arc_value};
 ghost use Rattle.std.specs.Prelude.{◌≡◌, ◌+◌, ◌-◌, ◌<◌, ◌^◌, ◌==◌, ℕ, [], ◌∷◌, ◌++◌, AllPairs, Contains, IfOk, MatchOption, OnErr, OnOk};
 ghost use Rattle.std.specs.Prelude.{filter, length, map, not, slice_index_or, slice_set, vec_len, vec_capacity};
 ghost use Rattle.cqf_model.specs.Table.{cost_on};
-ghost use Rattle.cqf_admission_trees.specs.Turns.{IsGoodPace};
+ghost use Rattle.cqf_admission.specs.Turns.{IsGoodPace};
 ghost use Rattle.cqf_admission.specs.Rows.{IsSummable};
 ghost use Rattle.cqf_admission.specs.Holdings.{IsEnded, IsFree, IsHeldAt, IsHolder, Standing, held_by, held_cost, held_count, held_most, held_most_at};
 ghost use Rattle.cqf_admission.specs.Holdings.{released, standing_of, with_row};
 
-use cqf_admission_trees::Sums;
+use crate::CycleSums;
 use cqf_model::{Hop, Pace, Row};
 use cqf_units::{Memory, Name, Octets, cost};
 use std::alloc::Global;
@@ -32,7 +32,7 @@ pub(crate) struct Holdings {
     /// The numbers of those that are held, in order.
     held: Vec<u32>,
     /// By link and cycle, the sum of the costs of the held streams whose frames go by it in that cycle.
-    sums: Sums,
+    sums: CycleSums,
 }
 
 impl Model for Holdings {
@@ -103,7 +103,7 @@ impl Holdings {
         ensures rows { IfOk result (λ holdings. holdings.rows ≡ []) }
         ensures links { IfOk result (λ holdings. holdings.links ≡ links) }
     {
-        let sums = Sums::new(alloc, links)?;
+        let sums = CycleSums::new(alloc, links)?;
         Ok(Holdings {
             rows: Vec::new(alloc),
             by_name: BTreeMap::new(alloc),

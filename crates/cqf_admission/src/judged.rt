@@ -1,12 +1,12 @@
 //! What a request is by itself, whatever is held.
 ghost use Rattle.std.specs.Prelude.{◌≡◌, ◌<◌, ◌^◌, IfOk, MatchOption, false};
 ghost use Rattle.cqf_model.specs.History.{is_pace};
-ghost use Rattle.cqf_admission_trees.specs.Branches.{branches_of, places_of};
+ghost use Rattle.cqf_admission.specs.Branches.{branches_of, places_of};
 ghost use Rattle.cqf_admission.specs.Asking.{asked_of, asked_paced, asked_with};
 ghost use Rattle.cqf_admission.specs.Judging.{IsPaceOf, Judges, row_by};
 
+use crate::find_tree;
 use arrayvec::ArrayVec;
-use cqf_admission_trees::find_tree;
 use cqf_model::{Hop, LEAST_OCTETS, MOST_EVERY, MOST_OCTETS, Pace, Refused, Row, Tree};
 use cqf_topology::{Domain, PacedRequest, Request};
 use cqf_units::{Cycle, Memory, Name, Octets, cost};
@@ -14,14 +14,14 @@ use std::alloc::Global;
 
 /// A request of good form: its name, what it costs of each link of its tree in octets in a cycle of its own, its pace, and that tree.
 #[derive(Debug, Drop)]
-pub struct Judged {
+pub struct JudgedRequest {
     pub name: Name,
     pub cost: Octets,
     pub pace: Pace,
     pub tree: ArrayVec<Hop, 200>,
 }
 
-impl Judged {
+impl JudgedRequest {
     /// The row of the stream, which reserves so many octets, of a number and from a cycle on, unless memory runs out.
     pub fn into_row(
         self,
@@ -68,7 +68,7 @@ fn judge_parts(
     every: u32,
     phase: u32,
     paths: &[Vec<String>],
-) -> Result<Judged, Refused>
+) -> Result<JudgedRequest, Refused>
     requires { places_of (branches_of paths.now) < 2 ^ 64 }
     ensures { Judges domain.now (asked_with name.now octets every phase (branches_of paths.now)) result }
 {
@@ -82,7 +82,7 @@ fn judge_parts(
         return Err(Refused::BadPace);
     };
     let tree = find_tree(domain, paths)?;
-    Ok(Judged {
+    Ok(JudgedRequest {
         name,
         cost: cost(Octets(octets)),
         pace,
@@ -96,7 +96,7 @@ fn judge_parts(
 /// # Errors
 /// The first reason against its form: `BadName`, `BadOctets`, `UnknownNode`, `BrokenPath`, `LoopingPath`, `NotATree`, each
 /// over all branches before the next, and `TooManyHops`.
-pub fn judge(domain: &Domain, request: &Request) -> Result<Judged, Refused>
+pub fn judge(domain: &Domain, request: &Request) -> Result<JudgedRequest, Refused>
     requires { places_of (branches_of request.now.paths.items) < 2 ^ 64 }
     ensures { Judges domain.now (asked_of request.now) result }
 {
@@ -110,7 +110,7 @@ pub fn judge(domain: &Domain, request: &Request) -> Result<Judged, Refused>
 /// # Errors
 /// As [`judge`], and behind `BadOctets` with `BadPace`, where the number of cycles, in one of which the stream is offered, doesn't divide
 /// 80, or the first of these isn't below that number.
-pub fn judge_paced(domain: &Domain, request: &PacedRequest) -> Result<Judged, Refused>
+pub fn judge_paced(domain: &Domain, request: &PacedRequest) -> Result<JudgedRequest, Refused>
     requires { places_of (branches_of request.now.paths.items) < 2 ^ 64 }
     ensures { Judges domain.now (asked_paced request.now) result }
 {

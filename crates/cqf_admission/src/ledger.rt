@@ -2,8 +2,8 @@
 ghost use Rattle.std.specs.Prelude.{◌≡◌, ◌≤◌, ◌<◌, [], map, length, IfOk};
 ghost use Rattle.cqf_model.specs.Domain.{budget};
 ghost use Rattle.cqf_model.specs.History.{Admits, IsLegalHistory, Withdraws, seals, streams_of};
-ghost use Rattle.cqf_admission_requests.specs.declared.orders.What.TheVariants.{Withdraw};
-ghost use Rattle.cqf_admission_requests.specs.Orders.{StandsIn, request_at, word_at};
+ghost use Rattle.cqf_admission.specs.declared.orders.What.TheVariants.{Withdraw};
+ghost use Rattle.cqf_admission.specs.Orders.{StandsIn, request_at, word_at};
 ghost use Rattle.cqf_admission.specs.Asking.{asked_paced};
 ghost use Rattle.cqf_admission.specs.Admission.{Answers, EndsOne, HoldsOneMore, held_of};
 ghost use Rattle.cqf_admission.specs.Costs.{most_cost};
@@ -12,10 +12,10 @@ ghost use Rattle.cqf_admission.specs.Ledger.{ClosesCycle, recorded_in};
 ghost use Rattle.cqf_admission.specs.Running.{AreThere};
 
 use crate::entries::{SealFault, reply_of};
-use crate::forms::{Form, see, unseen};
+use crate::forms::{RequestForm, see, unseen};
 use crate::logs::{Logged, enter};
 use crate::state::{GoodForm, State};
-use cqf_admission_requests::{What, word_of};
+use crate::{What, word_of};
 use cqf_laws_history::state_follows_history;
 use cqf_model::{MOST_SEALS, Receipt, Refused, Reply, Row};
 use cqf_topology::{Domain, PacedRequest};
@@ -33,7 +33,7 @@ pub struct Ledger<'s> {
     requests: &'s [PacedRequest],
     script: &'s [u8],
     /// By place, what is known of each request's form.
-    forms: Vec<Form>,
+    forms: Vec<RequestForm>,
     state: State,
     log: Vec<Logged>,
 }
@@ -90,6 +90,14 @@ impl<'s> Ledger<'s> {
         })
     }
 
+    /// Does nothing, and makes known to a proof what each call keeps: the history is legal.
+    pub fn know(&self)
+        ensures legal { IsLegalHistory self.now.administration.domain self.now.administration.entries }
+    {
+        // a use of a field: with it the invariant is known
+        let _ = &self.log;
+    }
+
     /// All entries, in order.
     pub fn log(&self) -> &[Logged]
         ensures entries { map (recorded_in self.now.requests self.now.script) result.now ≡ self.now.administration.entries }
@@ -144,9 +152,9 @@ impl<'s> Ledger<'s> {
         see(self.alloc, self.domain, request, form)?;
         state_follows_history();
         let answer = match &self.forms[place] {
-            Form::Unseen => unreachable!(),
-            Form::Bad(refused) => Err(*refused),
-            Form::Good(row) => self
+            RequestForm::Unseen => unreachable!(),
+            RequestForm::Bad(refused) => Err(*refused),
+            RequestForm::Good(row) => self
                 .state
                 .admit(self.alloc, self.domain, GoodForm::of_row(row))?,
         };
@@ -163,7 +171,7 @@ impl<'s> Ledger<'s> {
         requires row { IsRowOfGoodForm self.old.administration.domain (request_at self.old.requests place) row.now }
         ensures { self.new ≡ self.old }
     {
-        self.forms[place] = Form::Good(row.try_copy(self.alloc)?);
+        self.forms[place] = RequestForm::Good(row.try_copy(self.alloc)?);
         Ok(())
     }
 

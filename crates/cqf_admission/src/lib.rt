@@ -1,14 +1,26 @@
-//! The admission of streams into a domain (profile).
+//! The admission of streams into a domain, and the scripts that call for it (profile).
 //!
-//! - [`Admission`] answers requests and withdrawals, keeps the history of calls, and closes cycles to changes one by one.
-//!   No link is ever over its budget in a cycle. A withdrawn stream keeps its costs and its name until its last frame has left the
-//!   last bridge of its deepest branch.
-//! - [`Ledger`] answers the same, by where requests and names stand, and copies none: it keeps a log of [`Logged`] entries, and makes
-//!   no table.
-//! - [`Table`] has the streams that are held in a cycle that was closed; [`Row::live`] tells which of them are live.
-//! - [`judge`] looks a request over by itself, whatever is held: [`Judged`] is one of good form. [`judge_paced`] looks over one whose stream
-//!   is offered in one of so many cycles.
-//! - [`Entry`] is what a history has of a call: whose it was, what was called for, and the [`Reply`].
+//! No link is ever over its budget in a cycle. A withdrawn stream keeps its costs and its name until its last frame has left the last bridge of
+//! its deepest branch.
+//!
+//! - **Two ways in.** [`Admission`] answers requests and withdrawals, keeps the history of calls, and closes cycles to changes one by one, each
+//!   with its [`Table`]: the streams that are held in it, of which [`Row::live`] tells which are live. [`Ledger`] answers the same by where
+//!   requests and names stand, and copies none: it keeps a log of [`Logged`] entries, and makes no table.
+//! - **Calls.** An [`Entry`] is what a history has of one: whose it was, the [`Call`], and the [`Reply`]. A [`Command`] is what an administrator
+//!   calls for beside Seals; a [`SealFault`] is why a cycle isn't closed.
+//! - **A request by itself**, whatever is held: [`judge`] gives a [`JudgedRequest`], one of good form, or the first reason against it, and
+//!   [`judge_paced`] does so where the stream is offered in one of so many cycles. [`find_tree`] has the hops of its branches, each a list of
+//!   names of nodes: the domain has each node; a link goes from each to the next, from a first bridge over no more in all than a branch may have
+//!   on to a station; no node stands twice in a branch; any two branches begin at one bridge and part for good; and the tree has no more hops
+//!   than may be. Each of these is asked of all branches before the next, and a place counts through the branches as one list, of
+//!   [`count_places`]. No branch at all is `BrokenPath 0`.
+//! - **Sums.** [`CycleSums`] are those by link and cycle of streams that come and go; [`add_on`] adds to sums by link alone.
+//! - **Scripts**, line by line. [`read_script`] reads the calls of one, each with its seat, and [`administrators`] the seat of its Seals;
+//!   [`read_paced_script`] those for streams that are offered in some cycles. [`read_orders`] reads the same without a copy of what is named: an
+//!   [`Ordered`] says [`What`] is called for by where it stands, among the requests, which [`Names`] finds by their names, or in the text, from
+//!   which [`word_of`] reads it. [`calls_of`] gives the calls of such orders. [`is_order`] and [`is_seal_line`] tell the forms that a line may
+//!   have, and a [`ScriptFault`] why a script is refused, and at which line. [`script_is_its_lines`] is a law, a function that does nothing: one
+//!   call a line, or the fault of the first line that has one.
 //!
 //! With a budget of 15,000 octets a cycle on each link:
 //!
@@ -18,30 +30,69 @@
 //! admit(0, 1,500 octets on a, b, c, s)    BudgetShort: link 0 has 1,280 left
 //! seal(0)                                 the table of cycle 0, with seven rows
 //! ```
+//!
+//! Trees, with links from bridge a to bridges b and c, from b to station s, and from c to station t:
+//!
+//! ```text
+//! a, b, s and a, c, t    a>b, b>s at depth 2 behind it, a>c, c>t at depth 2 behind it
+//! a, b, s and a, x, t    UnknownNode 4
+//! a, b and a, c, t       BrokenPath 1
+//! a, b, s and b, s       NotATree 1
+//! ```
+//!
+//! A script, with the streams `x` and `y` among the requests, and two cycles:
+//!
+//! ```text
+//! 0 admit y       seat 0, ordered as Admit(1)
+//! seal            seat 1: there is one administrator
+//! 0 withdraw x    seat 0, ordered by where x stands in the text
+//! ```
+//!
+//! `0 admit z` is `UnknownStream 1`, a third `seal` is `TooMany`, and `8 admit x` is `BadLine`.
 #![tactic(auto)]
 
 mod admission;
+mod branches;
+mod calls;
 mod ends;
 mod entries;
+mod faults;
 mod forms;
 mod holdings;
 mod judged;
+mod laws;
 mod ledger;
+mod lines;
 mod listed;
 mod logs;
+mod names;
 mod numbers;
+mod orders;
 mod slots;
 mod state;
+mod sums;
 mod table;
 mod tabling;
+mod trees;
+mod turns;
 
 pub use admission::Admission;
-pub use cqf_admission_requests::What;
+pub use branches::count_places;
+pub use calls::{administrators, calls_of, read_orders, read_paced_script, read_script};
 pub use cqf_model::{
     LEAST_OCTETS, MOST_CALLS, MOST_OCTETS, MOST_SEALS, MOST_STREAMS, Receipt, Refused, Reply, Row,
 };
-pub use entries::{Call, Command, Entry, SealFault, shared_request};
-pub use judged::{Judged, judge, judge_paced};
+pub(crate) use entries::shared_request;
+pub use entries::{Call, Command, Entry, SealFault};
+pub use faults::ScriptFault;
+pub use judged::{JudgedRequest, judge, judge_paced};
+pub use laws::script_is_its_lines;
 pub use ledger::Ledger;
+pub use lines::{is_order, is_seal_line};
 pub use logs::Logged;
+pub use names::Names;
+pub use orders::{Ordered, What, word_of};
+pub use sums::add_on;
 pub use table::Table;
+pub use trees::find_tree;
+pub use turns::CycleSums;

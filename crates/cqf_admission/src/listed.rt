@@ -14,14 +14,14 @@ use std::sync::Arc;
 
 /// Rows that don't change any more. A row that tables have in common is there once.
 #[derive(Debug, Drop)]
-pub(crate) struct Listed {
+pub(crate) struct ListedRows {
     rows: Vec<Arc<Row>>,
     numbers: Arc<Numbers>,
     /// How many of the rows, from the first on, are found by the numbers of their names.
     numbered: usize,
 }
 
-impl Model for Listed {
+impl Model for ListedRows {
     ghost use Rattle.std.specs.Arc.{arc_value};
     ghost use Rattle.std.specs.Prelude.{List, map};
     ghost use Rattle.cqf_model.specs.declared.topology.Row.{Row as ARow};
@@ -86,13 +86,13 @@ fn find_numbered<'a>(rows: &'a [Arc<Row>], numbers: &Numbers, name: &Name) -> Op
     if is_named(row, name) { Some(row) } else { None }
 }
 
-impl Listed {
+impl ListedRows {
     /// These rows, of which the first so many are found by the numbers of their names.
-    pub(crate) fn new(rows: Vec<Arc<Row>>, numbers: Arc<Numbers>, numbered: usize) -> Listed
+    pub(crate) fn new(rows: Vec<Arc<Row>>, numbers: Arc<Numbers>, numbered: usize) -> ListedRows
         requires { AreNumbered (arc_value numbers) numbered (map (λ row. arc_value row) rows.items) }
         ensures { result ≡ map (λ row. arc_value row) rows.items }
     {
-        Listed {
+        ListedRows {
             rows,
             numbers,
             numbered,

@@ -1,7 +1,7 @@
 //! The entries of a log.
 ghost use Rattle.std.specs.Prelude.{◌≡◌, ◌<◌, ◌++◌, [], ◌∷◌, vec_len, vec_capacity};
 
-use cqf_admission_requests::What;
+use crate::What;
 use cqf_model::Reply;
 
 /// An entry of a log: what was called for stands among the requests or in the script's text.

@@ -9,13 +9,13 @@ ghost use Rattle.cqf_model.specs.Limits.{most_calls, most_cycles, most_hops, mos
 ghost use Rattle.cqf_model.specs.Table.{links_in};
 ghost use Rattle.cqf_admission.specs.Costs.{left_in_turns, most_cost};
 ghost use Rattle.cqf_admission.specs.Holdings.{held_cost};
-ghost use Rattle.cqf_admission_trees.specs.Turns.{IsGoodPace};
+ghost use Rattle.cqf_admission.specs.Turns.{IsGoodPace};
 ghost use Rattle.cqf_admission.specs.Rows.{ended};
 ghost use Rattle.cqf_admission.specs.State.{AdmitsForm, ClosesNext, IsStateOf, SomeDomain, SomeHistory, SomeRequest, StaysSo, WithdrawsName};
 ghost use Rattle.cqf_admission.specs.Weighing.{FindsOpen, left_at, row_by, stand_refusal, stand_short};
 
 use crate::holdings::Holdings;
-use crate::judged::Judged;
+use crate::judged::JudgedRequest;
 use crate::slots::{Slots, slot_of};
 use cqf_laws_history::{state_follows_history, streams_follow_history};
 use cqf_model::{Hop, MOST_CALLS, Pace, Receipt, Refused, Row, Tree};
@@ -52,7 +52,7 @@ impl<'f> GoodForm<'f> {
     }
 
     /// The request of so many octets that was judged.
-    pub(crate) fn of_judged(judged: &'f Judged, octets: u32) -> GoodForm<'f>
+    pub(crate) fn of_judged(judged: &'f JudgedRequest, octets: u32) -> GoodForm<'f>
         ensures name { result.name.now ≡ judged.now.name }
         ensures octets { result.octets ≡ octets }
         ensures pace { result.pace ≡ judged.now.pace }

@@ -2,10 +2,10 @@
 ghost use Rattle.std.specs.Arc.{arc_value};
 ghost use Rattle.std.specs.Prelude.{◌≡◌, IfOk, map, option_copied};
 ghost use Rattle.cqf_model.specs.Table.{row_named, row_of};
-ghost use Rattle.cqf_admission_trees.specs.Turns.{AreOfGoodPaces};
+ghost use Rattle.cqf_admission.specs.Turns.{AreOfGoodPaces};
 ghost use Rattle.cqf_admission.specs.Tables.{AreInOrder, IsRowNamed, IsRowOf};
 
-use crate::listed::Listed;
+use crate::listed::ListedRows;
 use cqf_model::Row;
 use cqf_units::{Cycle, Memory, Name};
 use std::alloc::Global;
@@ -18,12 +18,12 @@ use std::sync::Arc;
 pub struct Table {
     cycle: Cycle,
     /// Tables of cycles between which nothing changes share their rows.
-    listed: Arc<Listed>,
+    listed: Arc<ListedRows>,
 }
 
 impl Model for Table {
     ghost use Rattle.std.specs.Arc.{arc_value};
-    ghost use Rattle.cqf_admission_trees.specs.Turns.{AreOfGoodPaces};
+    ghost use Rattle.cqf_admission.specs.Turns.{AreOfGoodPaces};
     ghost use Rattle.cqf_admission.specs.Tables.{AreInOrder, CycleTable};
 
     ghost Value = { CycleTable };
@@ -35,7 +35,7 @@ impl Model for Table {
 
 impl Table {
     /// The table of a cycle with these rows.
-    pub(crate) fn new(cycle: Cycle, listed: Arc<Listed>) -> Table
+    pub(crate) fn new(cycle: Cycle, listed: Arc<ListedRows>) -> Table
         requires order { AreInOrder (arc_value listed) }
         requires good { AreOfGoodPaces (arc_value listed) }
         ensures cycle { result.cycle ≡ cycle.0 }

@@ -7,7 +7,7 @@ ghost use Rattle.cqf_model.specs.History.{Recorded, held_in, next_number, seals}
 ghost use Rattle.cqf_admission.specs.State.{IsStateOf};
 ghost use Rattle.cqf_admission.specs.Tabling.{AreTablesOf, IsNoted, SomeTables};
 
-use crate::listed::Listed;
+use crate::listed::ListedRows;
 use crate::numbers::Numbers;
 use crate::state::State;
 use cqf_laws_history::state_follows_history;
@@ -25,7 +25,7 @@ const MOST_BEHIND: usize = 32;
 #[derive(Debug, Drop)]
 pub(crate) struct Tabling {
     /// The rows of the last table, and whether they are those that are held yet.
-    listed: Arc<Listed>,
+    listed: Arc<ListedRows>,
     is_current: bool,
     /// By these numbers tables find the streams of numbers below one.
     numbers: Arc<Numbers>,
@@ -59,7 +59,7 @@ impl Tabling {
         ensures { IfOk result (λ tabling. (d : Domain) → AreTablesOf d [] tabling) }
     {
         let numbers = Arc::new(alloc, Numbers::none(alloc))?;
-        let listed = Listed::new(Vec::new(alloc), Arc::try_clone(&numbers)?, 0);
+        let listed = ListedRows::new(Vec::new(alloc), Arc::try_clone(&numbers)?, 0);
         Ok(Tabling {
             listed: Arc::new(alloc, listed)?,
             is_current: true,
@@ -92,7 +92,7 @@ impl Tabling {
     }
 
     /// The rows for a table of what is held, unless memory runs out. Where nothing has changed since the last one this is that one's list.
-    pub(crate) fn share(&mut self, alloc: Global, state: &State) -> Result<Arc<Listed>, Memory>
+    pub(crate) fn share(&mut self, alloc: Global, state: &State) -> Result<Arc<ListedRows>, Memory>
         requires { SomeTables state.now self.old }
         ensures same { (d : Domain) (entries : List Recorded) → IsStateOf d entries state.now → AreTablesOf d entries self.old → AreTablesOf d entries self.new }
         ensures rows { IfOk result (λ listed. (d : Domain) (entries : List Recorded) → IsStateOf d entries state.now → AreTablesOf d entries self.old →
@@ -105,7 +105,7 @@ impl Tabling {
         let rows = state.held_rows(alloc)?;
         self.renumber(alloc, rows.as_slice(), state.accepted())?;
         let numbered = count_below(rows.as_slice(), self.below);
-        let listed = Listed::new(rows, Arc::try_clone(&self.numbers)?, numbered);
+        let listed = ListedRows::new(rows, Arc::try_clone(&self.numbers)?, numbered);
         let shared = Arc::new(alloc, listed)?;
         self.listed = Arc::try_clone(&shared)?;
         self.is_current = true;

@@ -1,3 +1,5 @@
+pub mod BookSorts
+pub mod ThreeKeys
 pub mod Adding
 pub mod Posting
 pub mod Whole

@@ -1,3 +1,4 @@
+pub mod BookOrder
 pub mod Faults
 pub mod Pages
 pub mod Shares

@@ -6,7 +6,7 @@ use Rattle.cqf_model.specs.declared.frames.Dropped.{Dropped}
 use Rattle.cqf_model.specs.declared.frames.Page.{Page}
 use Rattle.cqf_model.specs.declared.frames.Started.{Started}
 use Rattle.cqf_model.specs.Book.{Contents}
-use Rattle.cqf_book_order.specs.BookOrder.{IsDropBelow, IsStartBelow, in_book_order, starts_in_book_order}
+use Rattle.cqf_book.specs.BookOrder.{IsDropBelow, IsStartBelow, in_book_order, starts_in_book_order}
 use Rattle.cqf_book.specs.Pages.{Posted, page_count, pages_of}
 
 -- what a page says: whose it is, of which cycle, and what stands on it

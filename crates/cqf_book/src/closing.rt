@@ -1,17 +1,17 @@
 //! The book of the pages that were posted, where the shares agree with them.
-ghost use Rattle.std.specs.Prelude.{◌≡◌, ◌<◌, ◌↔◌, ◌++◌, IfErr, IfNone, IfOk, IfSome, IsErrOf, OnOk, count_by, find, length, map, option_copied, true};
+ghost use Rattle.std.specs.Prelude.{◌≡◌, ◌<◌, ◌↔◌, ◌++◌, IfErr, IfNone, IfOk, IfSome, IsErrOf, OnOk, count_by, find, map, option_copied, true};
 ghost use Rattle.std.specs.List.{flat_map};
 ghost use Rattle.cqf_model.specs.Book.{contents_of};
 ghost use Rattle.cqf_book.specs.Faults.{IsBookCloseFault, IsFaultOver};
 ghost use Rattle.cqf_book.specs.Pages.{ArePosted, pages_of};
 ghost use Rattle.cqf_book.specs.Shares.{Agree, AreOneEach, IsBookOfPages, IsBookOfShares, IsLeastToDisagree};
-ghost use Rattle.cqf_book.specs.Shares.{all_pages_of, is_of, on_pages, pages_by, said, with_shares};
+ghost use Rattle.cqf_book.specs.Shares.{is_of, on_pages, pages_by, said, with_shares};
 
 use crate::cycle_book::Share;
 use crate::faults::BookClose;
 use crate::pages::Pages;
 use crate::same_pages::are_same;
-use cqf_book_order::{sort_drops, sort_starts};
+use crate::{sort_drops, sort_starts};
 use cqf_model::{Book, Page};
 use cqf_units::Memory;
 use std::alloc::Global;
@@ -151,9 +151,8 @@ pub(crate) fn check_shares(
     ensures fault { IfErr result (λ fault. IsFaultOver opening.now shares.now posted.now fault) }
     ensures facts { ArePosted posted.now }
 {
-    // the pages of both stand in order: a fact for those that are closed
-    let _before = opening.cycles();
-    let _in_order = posted.cycles();
+    opening.know();
+    posted.know();
     if !are_one_each(shares, opening.bridges()) {
         return Err(BookClose::ShareMissing);
     }

@@ -1,5 +1,5 @@
 //! A book that bridges write in threads of their own, each by its share.
-ghost use Rattle.std.specs.Prelude.{◌≡◌, ◌≢◌, ◌↔◌, ◌≤◌, ◌+◌, ◌⊎◌, [], IfErr, IfNone, IfOk, IsErrOf, OnErr, OnOk, Some, vec_len, vec_capacity};
+ghost use Rattle.std.specs.Prelude.{◌≡◌, ◌≢◌, ◌↔◌, ◌≤◌, ◌+◌, ◌⊎◌, IfErr, IfNone, IfOk, IsErrOf, OnErr, OnOk, Some, vec_len, vec_capacity};
 ghost use Rattle.cqf_model.specs.Book.{contents_of};
 ghost use Rattle.cqf_book.specs.Faults.{IsBookCloseFault, IsPostFault};
 ghost use Rattle.cqf_book.specs.Pages.{ArePosted, AreTotalsOfSome, IsDouble, IsOfStrangeBridge, IsOfStrangeCycle};

@@ -1,9 +1,11 @@
-//! Pages on which each bridge writes what it sent and dropped in a cycle, posted cycle by cycle.
+//! Pages on which each bridge writes what it sent and dropped in a cycle, and the order of a book (profile).
 //!
-//! - [`Pages`] takes each bridge's [`Page`]s in order of cycle, each once, and refuses the others with a [`PageFault`].
-//! - [`Totals`] is how many streams' frames and octets the pages have on a link.
-//! - [`CycleBook`] is pages under a lock, which bridges write in threads of their own, each by its [`Share`]. Closed, it is
-//!   the book of all pages, or these pages, of which [`book_of`] gives the book; or it says with a [`BookClose`] why it isn't.
+//! - [`Pages`] takes each bridge's [`Page`]s in order of cycle, each once, and refuses the others with a [`PageFault`]. [`Totals`] is how many
+//!   streams' frames and octets they have on a link.
+//! - [`CycleBook`] is pages under a lock, which bridges write in threads of their own, each by its [`Share`]. Closed, it is the book of all
+//!   pages, or these pages; or it says with a [`BookClose`] why it isn't.
+//! - [`book_of`] gives the book of pages: starts by cycle, link and instant, drops by cycle, bridge and frame. [`sort_drops`] brings drops into
+//!   that order.
 //!
 //! ```text
 //! Pages::new(alloc, 3, 5)      three bridges, five cycles, no page
@@ -17,14 +19,18 @@
 mod bridge_pages;
 mod closing;
 mod cycle_book;
+mod drops;
 mod faults;
 mod pages;
 mod same_pages;
+mod starts;
 mod totals;
 
 pub use closing::book_of;
 pub use cqf_model::Page;
 pub use cycle_book::{CycleBook, Share};
+pub use drops::sort_drops;
 pub use faults::{BookClose, PageFault};
 pub use pages::Pages;
+pub(crate) use starts::sort_starts;
 pub use totals::Totals;

@@ -1,5 +1,5 @@
 //! Pages that say the same.
-ghost use Rattle.std.specs.Prelude.{◌≡◌, ◌↔◌, ◌++◌, IfOk, map, true};
+ghost use Rattle.std.specs.Prelude.{◌≡◌, ◌↔◌, IfOk, map, true};
 ghost use Rattle.cqf_book.specs.Shares.{said};
 
 use cqf_model::{Dropped, Page, Started};

@@ -1,5 +1,5 @@
 //! The sums of streams' frames and octets by link.
-ghost use Rattle.std.specs.Prelude.{◌≡◌, ◌+◌, ◌^◌, ◌<◌, IfOk, length, replicate, slice_index, slice_set, vec_len};
+ghost use Rattle.std.specs.Prelude.{◌≡◌, ◌+◌, ◌^◌, ◌<◌, IfOk, length, replicate, slice_index, slice_set};
 ghost use Rattle.cqf_book.specs.Totals.{AreAdded, AreFewTotals, HaveTotalsRoom};
 
 use cqf_model::Started;

@@ -15,10 +15,10 @@ use Rattle.cqf_model.specs.Table.{depth_behind, table_of}
 use Rattle.cqf_model.specs.Traffic.{Policed, Received, calls_of, came_by, gate_behind, is_queued_of, police, verdict_by, within_gate}
 use Rattle.cqf_gates.specs.StreamGate.{taken_at}
 use Rattle.cqf_laws_cycle.specs.Compiled.{GateCountsCycles}
-use Rattle.cqf_bridge_gates.specs.declared.cycle_gate.KeptGate.{KeptGate}
-use Rattle.cqf_bridge_gates.specs.Gates.{HaveCounted, counted_in, gate_in, kept_of, octets_of_cycle}
-use Rattle.cqf_bridge_gates.proofs.Counting.{counted_at, octets_by_cycle}
-use Rattle.cqf_bridge.specs.declared.policing.Outcome.{Outcome}
+use Rattle.cqf_bridge.specs.declared.cycle_gate.KeptGate.{KeptGate}
+use Rattle.cqf_bridge.specs.Gates.{HaveCounted, counted_in, gate_in, kept_of, octets_of_cycle}
+use Rattle.cqf_bridge.proofs.Counting.{counted_at, octets_by_cycle}
+use Rattle.cqf_bridge.specs.declared.policing.FrameVerdict.{FrameVerdict}
 use Rattle.cqf_bridge.specs.Taking.{IsPolicedBehind, Polices, passes_by, verdict_taken}
 
 -- the calls of a stream in a cycle, behind one more frame of it
@@ -82,6 +82,6 @@ module _ (d : Domain) (tables : List (List Row)) (rows : List Row) (bridge cycle
       ∙ sym (calls_more d.cycle_time cycle number policed (police d tables bridge policed x) (eq-eqb (cycle_of d x.at) cycle here))
 
   -- so what becomes of it is what becomes of it behind them
-  pub policed_behind : (gates_after : List KeptGate) (made : Outcome) → Polices d rows bridge cycle x gates gates_after made →
+  pub policed_behind : (gates_after : List KeptGate) (made : FrameVerdict) → Polices d rows bridge cycle x gates gates_after made →
       IsPolicedBehind d tables bridge cycle x policed gates_after made
   policed_behind gates_after made p = record { verdict = p.verdict ∙ verdict_behind; counted = counted_behind gates_after p.counted }

@@ -18,10 +18,16 @@ use Rattle.cqf_model.specs.Domain.{Domain, IsAccepted, leaves}
 use Rattle.cqf_model.specs.Network.{QueuedFrame, arrivals_of, backed_frame}
 use Rattle.cqf_model.specs.Port.{Transmission}
 use Rattle.cqf_laws_cycle.specs.Gathered.{is_for_link}
+use Rattle.cqf_bridge.specs.declared.cycle_gate.KeptGate.{KeptGate}
 use Rattle.cqf_bridge.specs.Batch.{LinkBatch}
 use Rattle.cqf_bridge.specs.PortRecord.{PortRecord, new_record}
 use Rattle.cqf_bridge.specs.BridgeState.{AreBackedOf, BridgeState, IsBridge, IsInStep, IsNextToSend, SendsCycle, backed_on, links_from, new_bridge, port_behind}
 use Rattle.cqf_bridge.specs.Sending.{FirstSend}
+use Rattle.cqf_bridge.specs.Taking.{IsKept}
+
+-- the state of which a bridge's invariant speaks
+abbrev pub state_kept : {b : BridgeState} {gates : List KeptGate} {incoming : List ℕ} → IsKept b gates incoming → BridgeState
+state_kept {b} {gates} {incoming} kept = b
 
 -- a member of the firsts of pairs
 first_of_pair : {A B : Type 0} (xs : List A) (ys : List B) (p : A × B) → length ys ≡ length xs → Contains (zip xs ys) p → Contains xs p.0

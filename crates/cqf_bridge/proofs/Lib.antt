@@ -1,3 +1,7 @@
+mod Counting
+mod Frames
+mod GatePlaces
+mod KeptGates
 mod Behind
 mod Bridges
 mod Columns
@@ -14,4 +18,19 @@ mod RunCycle
 mod Sends
 mod Taking
 mod TakenCycle
-mod Verdicts
+mod PolicedVerdicts
+mod Beginning
+mod LinkLists
+mod SentPorts
+mod SentCycles
+mod Anew
+mod TakenCycles
+mod Losses
+mod OwnPages
+mod SameFrames
+mod Courses
+pub mod LinkNumbers
+mod Going
+mod Cutting
+mod InCycles
+mod Paged

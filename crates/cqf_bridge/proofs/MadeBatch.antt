@@ -1,6 +1,6 @@
 -- What a port's transmissions are as a batch.
-use Rattle.std.proofs.Common.{◌≡◌, ◌+◌, ◌≤◌, ◌<◌, ℕ, List, [], ◌∷◌, ◌++◌, ◌∙◌, sym, ap, refl, arith, length, map}
-use Rattle.std.proofs.Common.{flat_map, Option, None, Some, AllPairs, Contains}
+use Rattle.std.proofs.Common.{◌≡◌, ◌+◌, ◌≤◌, ◌<◌, ℕ, List, [], ◌∷◌, ◌++◌, ◌∙◌, sym, ap, arith, length, map}
+use Rattle.std.proofs.Common.{flat_map, Option, None, AllPairs, Contains}
 use Rattle.std.specs.Prelude.{slice_index_or}
 use Rattle.std.specs.List.{zip}
 use Rattle.std.proofs.lemmas.List.{get_or-map, get_or_default}

@@ -3,8 +3,8 @@ use Rattle.std.proofs.Common.{◌≡◌, ◌≢◌, ℕ, List, [], ◌∷◌, �
 use Rattle.std.specs.Prelude.{◌==◌, if◌then◌else◌}
 use Rattle.std.proofs.lemmas.Bool.{cases_eq, cond-false, cond-true, eq-eqb, ne_eqb}
 use Rattle.cqf_lists.proofs.Members.{contains_cases, contains_here, contains_later, contains_none}
-use Rattle.cqf_bridge_gates.specs.declared.cycle_gate.KeptGate.{KeptGate}
-use Rattle.cqf_bridge_gates.specs.Gates.{with_gate}
+use Rattle.cqf_bridge.specs.declared.cycle_gate.KeptGate.{KeptGate}
+use Rattle.cqf_bridge.specs.Gates.{with_gate}
 
 -- a gate that is put in is the one of its number
 pub gate_put : (gates : List KeptGate) (g : KeptGate) → find (λ (k : KeptGate). k.number == g.number) (with_gate gates g) ≡ Some g

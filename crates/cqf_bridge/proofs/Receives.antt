@@ -18,13 +18,13 @@ use Rattle.cqf_model.proofs.Policing.{police_member}
 use Rattle.cqf_laws_cycle.specs.BridgeCycle.{received_in}
 use Rattle.cqf_bridge.specs.declared.faults.BridgeFault.{BridgeFault}
 use Rattle.cqf_bridge.specs.declared.faults.BridgeFault.TheVariants as fault
-use Rattle.cqf_bridge_gates.specs.declared.cycle_gate.KeptGate.{KeptGate}
+use Rattle.cqf_bridge.specs.declared.cycle_gate.KeptGate.{KeptGate}
 use Rattle.cqf_bridge.specs.Batch.{LinkBatch}
-use Rattle.cqf_bridge.specs.BridgeState.{BridgeState, IsBridge, IsInStep, IsSpentBy}
-use Rattle.cqf_bridge_gates.specs.Gates.{AreKept}
+use Rattle.cqf_bridge.specs.BridgeState.{BridgeState, IsInStep, IsSpentBy}
+use Rattle.cqf_bridge.specs.Gates.{AreKept}
 use Rattle.cqf_bridge.specs.PortRecord.{PortRecord}
 use Rattle.cqf_bridge.specs.Receiving.{CanReceive, Handed, IsNextToReceive, IsReceiveFault, IsRunOfBridge, ReceivesCycle, carried_by, port_queued, verdicts_in}
-use Rattle.cqf_bridge.specs.Taking.{AreWaiting, HasGates, TakesCycle, IsFaultInRun}
+use Rattle.cqf_bridge.specs.Taking.{AreWaiting, HasGates, IsFaultInRun, IsKept, TakesCycle}
 use Rattle.cqf_bridge.proofs.Bridges.{bridge_spent}
 
 -- what is queued in a cycle comes before its end
@@ -45,31 +45,39 @@ queued_early run bridge cycle batches l a held =
       ap (λ (b : Arrival). b.at.0) f.2,
     )
 
--- the cycle is the next to be received
-pub next_to_receive : (b : BridgeState) (cycle table_cycle : ℕ) → IsBridge b → cycle ≡ b.received → b.sent ≢ b.received → table_cycle ≡ cycle →
-    IsNextToReceive b cycle table_cycle
-next_to_receive b cycle table_cycle is first sent_more same =
-    (first, (elim is.turn [ inl none ↦ absurd (sent_more none) | inr one ↦ one ]), same)
+-- the bridge has its gates and isn't spent, and the cycle is the next to be received
+pub record MayTake (b : BridgeState) (gates : List KeptGate) (cycle table_cycle : ℕ) : Type 0 where
+  pub has_gates : HasGates b gates
+  pub fresh : b.spent ≡ false
+  pub next : IsNextToReceive b cycle table_cycle
 
-module _ (b : BridgeState) (gates : List KeptGate) (is : HasGates b gates) (fresh : b.spent ≡ false) (cycle table_cycle : ℕ)
-    (next : IsNextToReceive b cycle table_cycle) where
+-- so a kept bridge may take a cycle that passes its tests
+pub may_take : {b : BridgeState} {gates : List KeptGate} {incoming : List ℕ} (cycle table_cycle : ℕ) → IsKept b gates incoming → b.spent ≡ false →
+    cycle ≡ b.received → b.sent ≢ b.received → table_cycle ≡ cycle → MayTake b gates cycle table_cycle
+may_take cycle table_cycle kept fresh first sent_more same = record {
+  has_gates = kept.has_gates;
+  fresh = fresh;
+  next = (first, (elim kept.has_gates.bridge.turn [ inl none ↦ absurd (sent_more none) | inr one ↦ one ]), same);
+}
+
+module _ (b : BridgeState) (gates : List KeptGate) (cycle table_cycle : ℕ) (may : MayTake b gates cycle table_cycle) where
   -- it is one of the first 100,000
   pub early_to_receive : cycle < 100000
-  early_to_receive = omega (arith, is.bridge.few, next.0, next.1)
+  early_to_receive = omega (arith, may.has_gates.bridge.few, may.next.0, may.next.1)
 
   -- its ports wait for the cycle
   pub waits_for_cycle : AreWaiting b.domain cycle (cycle * b.domain.cycle_time) b.ports
   waits_for_cycle r held =
-      let step = is.bridge.in_step fresh r held in
+      let step = may.has_gates.bridge.in_step may.fresh r held in
       record {
         rules = step.rules;
-        reached = step.reached ∙ ap (λ (n : ℕ). n * b.domain.cycle_time) (next.1 ∙ ap (λ (n : ℕ). n + 1) (sym next.0));
-        sooner = λ a inside high. omega (arith, step.of_streams a inside high, ap (λ (n : ℕ). n * b.domain.cycle_time) next.0);
+        reached = step.reached ∙ ap (λ (n : ℕ). n * b.domain.cycle_time) (may.next.1 ∙ ap (λ (n : ℕ). n + 1) (sym may.next.0));
+        sooner = λ a inside high. omega (arith, step.of_streams a inside high, ap (λ (n : ℕ). n * b.domain.cycle_time) may.next.0);
       }
 
   -- and its gates were called before it
   pub gates_before : AreKept cycle gates
-  gates_before = subst (λ (n : ℕ). AreKept n gates) (sym next.0) (is.gates_kept fresh)
+  gates_before = subst (λ (n : ℕ). AreKept n gates) (sym may.next.0) (may.has_gates.gates_kept may.fresh)
 
   module _ (rows : List Row) (offers : List Offered) (batches : List LinkBatch) (gates_after : List KeptGate) (ports : List PortRecord) (drops : List Dropped)
       (kept : AreKept (cycle + 1) gates_after) where
@@ -90,7 +98,7 @@ module _ (b : BridgeState) (gates : List KeptGate) (is : HasGates b gates) (fres
       port_in_step : (r : PortRecord) → Contains b.ports r → IsInStep b.domain b.sent (b.received + 1)
           (port_queued run (verdicts_in run b.number cycle batches) r)
       port_in_step r held =
-          let step = is.bridge.in_step fresh r held in
+          let step = may.has_gates.bridge.in_step may.fresh r held in
           let time = b.domain.cycle_time in
           let early : (a : Arrival) → Contains (arrivals_of (queued_to run.domain r.link (verdicts_in run b.number cycle batches))) a →
           a.at.0 < (b.received + 1) * time =
@@ -98,7 +106,7 @@ module _ (b : BridgeState) (gates : List KeptGate) (is : HasGates b gates) (fres
             arith,
             queued_early run b.number cycle batches r.link a new,
             ap (λ (x : Domain). (cycle + 1) * x.cycle_time) of_run.domain,
-            ap (λ (n : ℕ). (n + 1) * time) next.0,
+            ap (λ (n : ℕ). (n + 1) * time) may.next.0,
           ) in
           record {
             rules = step.rules;
@@ -106,7 +114,7 @@ module _ (b : BridgeState) (gates : List KeptGate) (is : HasGates b gates) (fres
             background = λ a inside low. elim (Contains-append_cases r.port.arrivals
                 (arrivals_of (queued_to run.domain r.link (verdicts_in run b.number cycle batches))) a inside) [
                   | inl old ↦ step.background a old low
-                  | inr new ↦ omega (arith, early a new, ap (λ (n : ℕ). n * time) next.1)
+                  | inr new ↦ omega (arith, early a new, ap (λ (n : ℕ). n * time) may.next.1)
                 ];
             of_streams = λ a inside high. elim (Contains-append_cases r.port.arrivals
                 (arrivals_of (queued_to run.domain r.link (verdicts_in run b.number cycle batches))) a inside) [
@@ -119,20 +127,20 @@ module _ (b : BridgeState) (gates : List KeptGate) (is : HasGates b gates) (fres
       pub bridge_received : HasGates behind gates_after
       bridge_received = record {
         bridge = record {
-          accepted = is.bridge.accepted;
-          inside = is.bridge.inside;
-          turn = inl next.1;
-          few = is.bridge.few;
+          accepted = may.has_gates.bridge.accepted;
+          inside = may.has_gates.bridge.inside;
+          turn = inl may.next.1;
+          few = may.has_gates.bridge.few;
           links = λ _.
               ap (map (λ (r : PortRecord). r.link)) takes.queued
               ∙ map-map (λ (r : PortRecord). r.link) (port_queued run (verdicts_in run b.number cycle batches)) b.ports
-              ∙ is.bridge.links fresh;
+              ∙ may.has_gates.bridge.links may.fresh;
           in_step = λ _ r held.
               let f = contains_from_map (port_queued run (verdicts_in run b.number cycle batches)) b.ports r
               (subst (λ (rs : List PortRecord). Contains rs r) takes.queued held) in
               subst (IsInStep b.domain b.sent (b.received + 1)) f.2 (port_in_step f.0 f.1);
         };
-        gates_kept = λ _. subst (λ (n : ℕ). AreKept (n + 1) gates_after) next.0 kept;
+        gates_kept = λ _. subst (λ (n : ℕ). AreKept (n + 1) gates_after) may.next.0 kept;
       }
 
       -- and has received the cycle
@@ -143,7 +151,7 @@ module _ (b : BridgeState) (gates : List KeptGate) (is : HasGates b gates) (fres
           number = b.number;
           sent = b.sent;
           received = b.received + 1;
-          spent = fresh i;
+          spent = may.fresh i;
           ports = takes.queued i;
           background = b.background;
         };

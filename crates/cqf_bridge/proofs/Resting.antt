@@ -5,7 +5,7 @@ use Rattle.cqf_lists.proofs.Members.{contains_from_map}
 use Rattle.cqf_model.specs.declared.frames.Started.{Started}
 use Rattle.cqf_model.specs.Port.{Transmission}
 use Rattle.cqf_port.specs.PortState.{AreOnly, PortState, RunsUpTo}
-use Rattle.cqf_bridge_gates.specs.declared.cycle_gate.KeptGate.{KeptGate}
+use Rattle.cqf_bridge.specs.declared.cycle_gate.KeptGate.{KeptGate}
 use Rattle.cqf_bridge.specs.PortRecord.{PortRecord}
 use Rattle.cqf_bridge.specs.BridgeState.{BridgeState, IsBridge, IsInStep, end_of_cycle}
 use Rattle.cqf_bridge.specs.Quiet.{IsQuiet, MayPass, passed, rested}

@@ -32,7 +32,7 @@ use Rattle.cqf_bridge.specs.Batch.{LinkBatch}
 use Rattle.cqf_bridge.specs.PortRecord.{PortRecord, with_frames}
 use Rattle.cqf_bridge.specs.Receiving.{AreBatchesOf, carried_by, verdicts_in}
 use Rattle.cqf_bridge.specs.Taking.{CanGather, HasPoliced, MayBeTaken, TakesCycle, gathered_by, policed_by}
-use Rattle.cqf_bridge_gates.specs.declared.cycle_gate.KeptGate.{KeptGate}
+use Rattle.cqf_bridge.specs.declared.cycle_gate.KeptGate.{KeptGate}
 use Rattle.cqf_bridge.proofs.Coming.{batch_enters}
 use Rattle.cqf_bridge.proofs.TakenCycle.{table_held}
 

@@ -29,8 +29,8 @@ use Rattle.cqf_laws_cycle.specs.Compiled.{GateCountsCycles}
 use Rattle.cqf_laws_cycle.specs.Gathered.{dropped_of}
 use Rattle.cqf_bridge.specs.declared.faults.BridgeFault.{BridgeFault}
 use Rattle.cqf_bridge.specs.declared.faults.BridgeFault.TheVariants as fault
-use Rattle.cqf_bridge_gates.specs.declared.cycle_gate.KeptGate.{KeptGate}
-use Rattle.cqf_bridge_gates.specs.Gates.{AreKept, counted_by, counted_in, kept_of}
+use Rattle.cqf_bridge.specs.declared.cycle_gate.KeptGate.{KeptGate}
+use Rattle.cqf_bridge.specs.Gates.{AreKept, counted_by, counted_in, kept_of}
 use Rattle.cqf_bridge.specs.PortRecord.{PortRecord, with_frames}
 use Rattle.cqf_bridge.specs.Taking.{AreWaiting, HasPoliced, IsFaultByVerdict, IsFaultByPoliced, IsWaiting, MayBeTaken}
 use Rattle.cqf_bridge.specs.Taking.{TakesFrame, policed_by, verdict_taken, with_verdict}

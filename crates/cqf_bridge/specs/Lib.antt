@@ -1,3 +1,4 @@
+pub mod Gates
 pub mod Batch
 pub mod PortRecord
 pub mod BridgeState
@@ -5,5 +6,15 @@ pub mod Faults
 pub mod Quiet
 pub mod Receiving
 pub mod Taking
+pub mod Follows
+pub mod Cycles
+pub mod LongerRuns
+pub mod NoFaults
+pub mod Driven
+pub mod Courses
+pub mod CourseLaws
+pub mod Verdicts
+pub mod Agenda
 -- what the inner functions say
 pub mod Sending
+pub mod Picking

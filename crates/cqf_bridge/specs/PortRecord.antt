@@ -1,10 +1,8 @@
 -- A port of a bridge, with all that the bridge recorded at it.
-use Rattle.std.specs.Prelude.{ℕ, ◌≡◌, ◌≤◌, ◌++◌, List, [], ◌∷◌, Option, Some, None, map, Contains, slice_index_or}
+use Rattle.std.specs.Prelude.{ℕ, ◌≡◌, ◌≤◌, ◌++◌, List, [], Option, map, Contains}
 use Rattle.std.specs.List.{flat_map, zip}
-use Rattle.cqf_model.specs.declared.frames.Sent.{Sent}
 use Rattle.cqf_model.specs.declared.frames.Started.{Started}
 use Rattle.cqf_model.specs.declared.ports.Arrival.{Arrival}
-use Rattle.cqf_model.specs.declared.ports.Start.{Start}
 use Rattle.cqf_model.specs.Book.{started_backed}
 use Rattle.cqf_model.specs.Domain.{Domain, octet_time_of}
 use Rattle.cqf_model.specs.Network.{QueuedFrame, arrivals_of, backed_of, compiled_lists, sent_of}

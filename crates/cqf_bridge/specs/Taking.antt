@@ -23,15 +23,15 @@ use Rattle.cqf_gates.specs.StreamGate.{lets_pass}
 use Rattle.cqf_port.specs.PortState.{IsLate, IsOutOfOrder, PortState}
 use Rattle.cqf_bridge.specs.declared.faults.BridgeFault.{BridgeFault}
 use Rattle.cqf_bridge.specs.declared.faults.BridgeFault.TheVariants.{Spent, WrongCycle, StrangeBatch, OverOctets, Memory}
-use Rattle.cqf_bridge_gates.specs.declared.cycle_gate.KeptGate.{KeptGate}
+use Rattle.cqf_bridge.specs.declared.cycle_gate.KeptGate.{KeptGate}
 use Rattle.cqf_bridge.specs.declared.gathering.Came.{Came}
 use Rattle.cqf_bridge.specs.declared.gathering.Came.TheVariants.{AtEdge, ByLink}
 use Rattle.cqf_bridge.specs.declared.gathering.Incoming.{Incoming}
-use Rattle.cqf_bridge.specs.declared.policing.Outcome.{Outcome}
-use Rattle.cqf_bridge.specs.declared.policing.Outcome.TheVariants as outcome
+use Rattle.cqf_bridge.specs.declared.policing.FrameVerdict.{FrameVerdict}
+use Rattle.cqf_bridge.specs.declared.policing.FrameVerdict.TheVariants as outcome
 use Rattle.cqf_bridge.specs.Batch.{LinkBatch}
 use Rattle.cqf_bridge.specs.BridgeState.{BridgeState, IsBridge, end_of_cycle}
-use Rattle.cqf_bridge_gates.specs.Gates.{AreKept, HaveCounted, counted_in, gate_in}
+use Rattle.cqf_bridge.specs.Gates.{AreKept, HaveCounted, counted_in, gate_in}
 use Rattle.cqf_bridge.specs.PortRecord.{PortRecord, rules_on, with_frames}
 use Rattle.cqf_bridge.specs.Receiving.{IsFirstOver, MayCome, links_into, port_queued, verdicts_in}
 use Rattle.cqf_model.specs.Limits.{end_of_starts}
@@ -110,21 +110,21 @@ verdict_unless (Some reason) passes row = DroppedFor reason
 verdict_unless None passes row = if not passes then DroppedFor Octets else Queued row
 
 -- what becomes of a frame, as the definitions have it
-abbrev pub verdict_as : Outcome → Verdict
+abbrev pub verdict_as : FrameVerdict → Verdict
 verdict_as (outcome.GoesOn row class) = Queued row.now
 verdict_as (outcome.Dropped reason) = DroppedFor reason
 verdict_as outcome.LacksRow = LacksRow
 verdict_as outcome.ExceedsGate = ExceedsGate
 
 -- a frame that goes on waits in the class that its stream's gate gives it
-abbrev pub HasClass : Domain → Received → Outcome → Type 0
+abbrev pub HasClass : Domain → Received → FrameVerdict → Type 0
 HasClass d x (outcome.GoesOn row class) = class ≡ class_in d x row.now
 HasClass d x (outcome.Dropped reason) = Unit {0}
 HasClass d x outcome.LacksRow = Unit {0}
 HasClass d x outcome.ExceedsGate = Unit {0}
 
 -- a frame is policed by the gates: the verdict on it is this outcome, and where it goes on its stream's gate has counted it
-pub record Polices (d : Domain) (rows : List Row) (bridge cycle : ℕ) (x : Received) (gates gates_after : List KeptGate) (made : Outcome) : Type 0 where
+pub record Polices (d : Domain) (rows : List Row) (bridge cycle : ℕ) (x : Received) (gates gates_after : List KeptGate) (made : FrameVerdict) : Type 0 where
   pub verdict : verdict_as made ≡ verdict_taken d rows bridge cycle gates x
   pub class : HasClass d x made
   pub counted : (number : ℕ) → counted_in gates_after number cycle
@@ -134,7 +134,7 @@ pub record Polices (d : Domain) (rows : List Row) (bridge cycle : ℕ) (x : Rece
 -- so behind frames of the cycle that the gates have counted it is what becomes of it in a run with such a table in the cycle, and
 -- the gates have counted it too
 pub record IsPolicedBehind (d : Domain) (tables : List (List Row)) (bridge cycle : ℕ) (x : Received) (policed : List Policed)
-    (gates_after : List KeptGate) (made : Outcome) : Type 0 where
+    (gates_after : List KeptGate) (made : FrameVerdict) : Type 0 where
   pub verdict : verdict_as made ≡ (police d tables bridge policed x).verdict
   pub counted : HaveCounted d.cycle_time cycle (policed ++ police d tables bridge policed x ∷ []) gates_after
 

@@ -1,5 +1,5 @@
 //! Whether batches are those of a bridge in a cycle. It takes no memory.
-ghost use Rattle.std.specs.Prelude.{◌≡◌, ◌*◌, ◌<◌, ◌==◌, ◌&&◌, false, IfOk, length, map, true};
+ghost use Rattle.std.specs.Prelude.{◌≡◌, ◌<◌, ◌==◌, ◌&&◌, false, IfOk, length, map, true};
 ghost use Rattle.std.specs.List.{list_any};
 ghost use Rattle.cqf_model.specs.Domain.{cycle_of, enters, leaves};
 ghost use Rattle.cqf_model.specs.Table.{goes_on, same_way};

@@ -1,6 +1,5 @@
 //! What comes to a bridge in a cycle, in the order in which it is taken.
 ghost use Rattle.std.specs.Prelude.{◌≡◌, ◌*◌, ◌<◌, ◌++◌, IfOk, IsPermutation, OnErr, OnOk, Contains, length, map};
-ghost use Rattle.cqf_model.specs.declared.frames.Sent.{Sent as ASent};
 ghost use Rattle.cqf_model.specs.Traffic.{Received, came_by, offer_received, sent_received};
 ghost use Rattle.cqf_laws_cycle.specs.Gathered.{IsInOrderOf};
 ghost use Rattle.cqf_bridge.specs.Batch.{LinkBatch};

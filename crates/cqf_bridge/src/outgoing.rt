@@ -1,5 +1,5 @@
 //! A port of a bridge, with what the bridge recorded at it.
-ghost use Rattle.std.specs.Prelude.{◌≡◌, ◌+◌, ◌^◌, ◌<◌, ◌≤◌, [], ◌∷◌, ◌++◌, All, IfOk, OnOk, OnErr, length, map};
+ghost use Rattle.std.specs.Prelude.{◌≡◌, ◌+◌, ◌^◌, ◌<◌, [], ◌∷◌, ◌++◌, All, IfOk, OnOk, OnErr, length, map};
 ghost use Rattle.std.specs.List.{flat_map};
 ghost use Rattle.cqf_model.specs.Book.{started_backed};
 ghost use Rattle.cqf_model.specs.Network.{backed_by, backed_of, sent_by, sent_of};
@@ -59,8 +59,7 @@ impl Outgoing {
         ensures beside { length self.now.streams ≡ length self.now.port.arrivals }
         ensures facts { IsPort self.now.port }
     {
-        // what holds of the port: a fact
-        let _now = self.port.now();
+        self.port.know();
         self.link
     }
 

@@ -4,14 +4,14 @@ ghost use Rattle.cqf_model.specs.declared.topology.Row.{Row as ARow};
 ghost use Rattle.cqf_model.specs.Domain.{cycle_of};
 ghost use Rattle.cqf_model.specs.Table.{table_of};
 ghost use Rattle.cqf_model.specs.Traffic.{AtEdge as Offering, Policed, Relayed, edge_verdict};
-ghost use Rattle.cqf_bridge_gates.specs.Gates.{HaveCounted};
+ghost use Rattle.cqf_bridge.specs.Gates.{HaveCounted};
 ghost use Rattle.cqf_bridge.specs.Taking.{IsPolicedBehind, PassesGate, Polices, received_as, verdict_unless, way_taken};
 
+use crate::StreamGates;
 use crate::checking::leads_on;
 use crate::gathering::{Came, Incoming};
 use crate::phases::ReceivePhase;
 use cqf_admission::Table;
-use cqf_bridge_gates::StreamGates;
 use cqf_gates::Passed;
 use cqf_laws_cycle::gate_counts_cycles;
 use cqf_model::{Reason, Row};
@@ -20,7 +20,7 @@ use cqf_units::{Cycle, Memory, Name, Octets};
 
 /// What becomes of a frame that comes to a bridge (profile, after IEEE 802.1Q, 8.6.5.1).
 #[derive(Clone, Copy, Debug)]
-pub enum Outcome<'a> {
+pub enum FrameVerdict<'a> {
     /// It goes on with its stream's row, and waits in this class at each port of the bridge by whose link the stream goes on.
     GoesOn(&'a Row, u8),
     /// It was offered at the edge, and is dropped for this reason, the first that fits.
@@ -72,7 +72,7 @@ fn police_offer<'a>(
     frame: &Incoming,
     name: &Name,
     gates: &mut StreamGates,
-) -> Result<Outcome<'a>, Memory>
+) -> Result<FrameVerdict<'a>, Memory>
     requires way { way_taken frame.now.came ≡ Offering name.now }
     requires in_cycle { cycle_of phase.domain.now frame.now.at.0 ≡ phase.cycle.0 }
     ensures polices { IfOk result (λ outcome. Polices phase.entry.domain.now phase.entry.table.now.rows phase.entry.number phase.entry.cycle.0
@@ -80,14 +80,14 @@ fn police_offer<'a>(
     ensures err { OnErr result (gates.new ≡ gates.old) }
 {
     let Some(row) = phase.table.row_named(name) else {
-        return Ok(Outcome::Dropped(Reason::Unknown));
+        return Ok(FrameVerdict::Dropped(Reason::Unknown));
     };
     if let Some(reason) = refused(phase.domain, phase.number, phase.cycle, row) {
-        return Ok(Outcome::Dropped(reason));
+        return Ok(FrameVerdict::Dropped(reason));
     }
     match pass_gate(phase.domain, phase.cycle, row, frame, gates)? {
-        Some(class) => Ok(Outcome::GoesOn(row, class)),
-        None => Ok(Outcome::Dropped(Reason::Octets)),
+        Some(class) => Ok(FrameVerdict::GoesOn(row, class)),
+        None => Ok(FrameVerdict::Dropped(Reason::Octets)),
     }
 }
 
@@ -98,7 +98,7 @@ fn police_inside<'a>(
     link: u16,
     stream: u32,
     gates: &mut StreamGates,
-) -> Result<Outcome<'a>, Memory>
+) -> Result<FrameVerdict<'a>, Memory>
     requires way { way_taken frame.now.came ≡ Relayed link stream }
     requires in_cycle { cycle_of phase.domain.now frame.now.at.0 ≡ phase.cycle.0 }
     ensures polices { IfOk result (λ outcome. Polices phase.entry.domain.now phase.entry.table.now.rows phase.entry.number phase.entry.cycle.0
@@ -106,14 +106,14 @@ fn police_inside<'a>(
     ensures err { OnErr result (gates.new ≡ gates.old) }
 {
     let Some(row) = phase.table.row_of(stream) else {
-        return Ok(Outcome::LacksRow);
+        return Ok(FrameVerdict::LacksRow);
     };
     if !leads_on(phase.domain, row, Some(link), phase.number) {
-        return Ok(Outcome::LacksRow);
+        return Ok(FrameVerdict::LacksRow);
     }
     match pass_gate(phase.domain, phase.cycle, row, frame, gates)? {
-        Some(class) => Ok(Outcome::GoesOn(row, class)),
-        None => Ok(Outcome::ExceedsGate),
+        Some(class) => Ok(FrameVerdict::GoesOn(row, class)),
+        None => Ok(FrameVerdict::ExceedsGate),
     }
 }
 
@@ -127,7 +127,7 @@ pub fn police<'a>(
     table: &'a Table,
     frame: &Incoming,
     gates: &mut StreamGates,
-) -> Result<Outcome<'a>, Memory>
+) -> Result<FrameVerdict<'a>, Memory>
     requires in_cycle { cycle_of domain.now frame.now.at.0 ≡ cycle.0 }
     ensures police { IfOk result (λ outcome. Polices domain.now table.now.rows number cycle.0 (received_as frame.now) gates.old gates.new outcome) }
     ensures behind { IfOk result (λ outcome. (tables : List (List ARow)) (policed : List Policed) → table_of tables cycle.0 ≡ table.now.rows →

@@ -1,9 +1,9 @@
 //! The receive phase of a cycle: what comes is gathered, brought into order and taken, frame by frame.
-ghost use Rattle.std.specs.Prelude.{◌≡◌, ◌+◌, ◌*◌, ◌<◌, Contains, IfErr, IfOk, OnOk, map};
+ghost use Rattle.std.specs.Prelude.{◌+◌, ◌*◌, ◌<◌, Contains, IfErr, IfOk, OnOk, map};
 ghost use Rattle.std.specs.List.Sorted.{IsNonDecreasingBy};
 ghost use Rattle.cqf_model.specs.Run.{Run};
 ghost use Rattle.cqf_model.specs.Traffic.{Received};
-ghost use Rattle.cqf_bridge_gates.specs.Gates.{AreKept};
+ghost use Rattle.cqf_bridge.specs.Gates.{AreKept};
 ghost use Rattle.cqf_bridge.specs.Receiving.{AreBatchesOf, IsRunOfBridge};
 ghost use Rattle.cqf_bridge.specs.Taking.{AreWaiting, HasPoliced, IsFaultByPoliced, MayBeTaken, TakesCycle, policed_by, received_as, IsFaultInRun};
 ghost use Rattle.cqf_model.specs.Limits.{most_cycles};
@@ -12,8 +12,7 @@ use crate::gathering::{Incoming, in_order};
 use crate::outgoing::Outgoing;
 use crate::phases::ReceivePhase;
 use crate::recording::take_frame;
-use crate::{Batch, BridgeFault};
-use cqf_bridge_gates::StreamGates;
+use crate::{Batch, BridgeFault, StreamGates};
 use cqf_laws_cycle::{drops_are_of_the_cycle, frames_are_taken_in_order, gate_counts_cycles};
 use cqf_model::{Dropped, Offered};
 use std::alloc::Global;

@@ -10,12 +10,11 @@ ghost use Rattle.cqf_bridge.specs.Taking.{AreWaiting, CanRecord, IsFaultByVerdic
 ghost use Rattle.cqf_bridge.specs.Taking.{class_in, queue_on, received_as, verdict_taken, with_verdict};
 ghost use Rattle.cqf_model.specs.Limits.{most_cycles};
 
-use crate::BridgeFault;
 use crate::gathering::Incoming;
 use crate::outgoing::Outgoing;
 use crate::phases::ReceivePhase;
-use crate::policing::{Outcome, police};
-use cqf_bridge_gates::StreamGates;
+use crate::policing::{FrameVerdict, police};
+use crate::{BridgeFault, StreamGates};
 use cqf_laws_cycle::{gate_gives_class, queued_frames_wait};
 use cqf_model::{Arrival, Dropped, Reason, Row};
 use cqf_topology::Domain;
@@ -129,16 +128,16 @@ pub(crate) fn take_frame(
         gates,
     )?;
     match outcome {
-        Outcome::GoesOn(row, class) => {
+        FrameVerdict::GoesOn(row, class) => {
             queue_frame(phase.domain, phase.cycle, row, class, frame, ports)?;
             Ok(())
         }
-        Outcome::Dropped(reason) => {
+        FrameVerdict::Dropped(reason) => {
             drop_offer(phase.number, phase.cycle, frame, reason, drops)?;
             Ok(())
         }
         // the batch was checked
-        Outcome::LacksRow => unreachable!(),
-        Outcome::ExceedsGate => Err(BridgeFault::OverOctets(frame.frame)),
+        FrameVerdict::LacksRow => unreachable!(),
+        FrameVerdict::ExceedsGate => Err(BridgeFault::OverOctets(frame.frame)),
     }
 }

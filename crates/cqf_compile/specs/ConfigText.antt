@@ -1,33 +1,27 @@
 -- The configuration of a domain and its streams, as a text (profile).
-use Rattle.std.specs.Prelude.{ℕ, List, [], ◌∷◌, ◌++◌, codes, slice_index_or}
+use Rattle.std.specs.Prelude.{ℕ, List, ◌∷◌, ◌++◌, codes}
 use Rattle.std.specs.Fmt.{decimal}
 use Rattle.std.specs.List.{flat_map}
 use Rattle.cqf_gates.specs.GateListText.{text_of_entries}
 use Rattle.cqf_model.specs.declared.topology.Link.{Link}
-use Rattle.cqf_model.specs.declared.topology.Node.{Node}
-use Rattle.cqf_model.specs.declared.topology.Node.TheVariants.{Bridge, Station}
 use Rattle.cqf_model.specs.declared.topology.Row.{Row}
 use Rattle.cqf_model.specs.Domain.{Domain}
 use Rattle.cqf_model.specs.GateList.{port_list}
 use Rattle.cqf_model.specs.Table.{bridges_of}
+use Rattle.cqf_topology.specs.NodeNames.{name_of_bridge, name_of_node}
 use Rattle.cqf_gates.specs.StreamText.{text_of_stream_entries}
 use Rattle.cqf_compile.specs.BridgeGates.{gate_at}
 
--- the name of a node
-abbrev pub name_of : Domain → Node → List ℕ
-name_of d (Bridge b) = slice_index_or d.bridges b []
-name_of d (Station s) = slice_index_or d.stations s []
-
 -- a link: a line with its ends, and the gate list of its port
 abbrev pub line_of_link : Domain → Link → List ℕ
-line_of_link d link = codes "link " ++ name_of d (Bridge link.from) ++ codes ">" ++ name_of d link.to
+line_of_link d link = codes "link " ++ name_of_bridge d link.from ++ codes ">" ++ name_of_node d link.to
 
 abbrev pub text_of_link : Domain → Link → List ℕ
 text_of_link d link = line_of_link d link ++ 10 ∷ text_of_entries (port_list d.cycle_time d.guard)
 
 -- a stream at a bridge: a line with the stream and the bridge, and the stream's gate there
 abbrev pub line_at : Domain → Row → ℕ → List ℕ
-line_at d row bridge = codes "stream " ++ decimal row.no ++ codes " " ++ row.name ++ codes " bridge " ++ name_of d (Bridge bridge)
+line_at d row bridge = codes "stream " ++ decimal row.no ++ codes " " ++ row.name ++ codes " bridge " ++ name_of_bridge d bridge
 
 abbrev pub text_at : Domain → Row → ℕ → List ℕ
 text_at d row bridge = line_at d row bridge ++ 10 ∷ text_of_stream_entries (gate_at d row bridge)

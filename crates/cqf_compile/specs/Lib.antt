@@ -1,3 +1,5 @@
 pub mod Plan
 pub mod BridgeGates
 pub mod ConfigText
+pub mod ConfigLines
+pub mod WrittenGates

@@ -2,7 +2,7 @@
 ghost use Rattle.std.specs.Prelude.{◌≡◌};
 ghost use Rattle.cqf_model.specs.GateList.{port_list};
 ghost use Rattle.cqf_compile.specs.BridgeGates.{gate_at};
-ghost use Rattle.cqf_admission_trees.specs.Turns.{IsGoodPace};
+ghost use Rattle.cqf_admission.specs.Turns.{IsGoodPace};
 
 use crate::leaving::way_to;
 use cqf_gates::{StreamList, TxList, compiled_list, gate_of_reservation};

@@ -1,12 +1,16 @@
 //! The compiler: what a domain and its streams are configured as.
 //!
 //! - [`compile`] makes a [`Plan`] of a domain: the gate list of the port of each link.
-//! - [`gate_of`] gives the gate of a stream at a bridge of its tree. A stream that is offered in each cycle has the same at each; the
-//!   gate of one that pauses is as many cycles late as its frames are deep on their way there.
-//! - [`write_config`] writes both as one text; [`bridges_of`] has the bridges at which a stream has a gate, in its order.
+//! - [`gate_of`] gives the gate of a stream at a bridge of its tree. A stream that is offered in each cycle has the same at each; the gate of one
+//!   that pauses is as many cycles late as its frames are deep on their way there.
+//! - [`write_config`] writes both as one text, and [`put_config`] puts it on a press, by the text that each port has ([`port_text`]).
+//!   `bridges_of` has the bridges at which a stream has a gate, in its order. [`leaves`] tells whether a link leaves a bridge, and
+//!   [`first_hop`] by which hop a stream does so first.
+//! - [`written_gates_are_the_networks`] is a law, a function that does nothing: what is written for a stream at a bridge passes what the gate
+//!   passes that the network asks for there.
 //!
-//! In even cycles a stream's gate gives its frames class 6 while the ports send class 7, and in odd cycles the other way
-//! round: so each frame waits for the cycle after the one that it came in (IEEE 802.1Q, Annex T).
+//! In even cycles a stream's gate gives its frames class 6 while the ports send class 7, and in odd cycles the other way round: so each frame
+//! waits for the cycle after the one that it came in (IEEE 802.1Q, Annex T).
 //!
 //! The configuration of one link, and of a stream of 1,500 octets in each cycle over it:
 //!
@@ -32,11 +36,14 @@
 #![tactic(auto)]
 
 mod config;
+mod fronts;
 mod gates;
 mod leaving;
 mod plan;
+mod written_gates;
 
-pub use config::{bridges_of, write_config};
+pub use config::{port_text, put_config, write_config};
 pub use gates::gate_of;
 pub use leaving::{first_hop, leaves};
 pub use plan::{Plan, compile};
+pub use written_gates::written_gates_are_the_networks;

@@ -31,6 +31,14 @@ impl Model for Plan {
 }
 
 impl Plan {
+    /// Does nothing, and makes known to a proof what was seen to when the plan's domain was read: it is accepted.
+    pub fn know(&self)
+        ensures accepted { IsAccepted self.now }
+    {
+        // a use of a field: with it the invariant is known
+        let _ = &self.domain;
+    }
+
     /// The domain that the plan was compiled from. It is accepted.
     pub fn domain(&self) -> &Domain
         ensures value { result.now ≡ self.now }

@@ -7,7 +7,7 @@ use Rattle.std.proofs.lemmas.Bool.{and_from, and_parts}
 use Rattle.std.proofs.lemmas.List.{take_more_same}
 use Rattle.std.proofs.lemmas.Option.{get_or_from_slice_get, same_Some, slice_get-map, slice_get_within}
 use Rattle.std.proofs.lemmas.Slice.Eq.{bytes_eq-Decides}
-use Rattle.cqf_admission_trees.specs.Branches.{branch_of, branches_of}
+use Rattle.cqf_admission.specs.Branches.{branch_of, branches_of}
 use Rattle.cqf_desk.proofs.Rests.{is_at}
 
 -- lists whose elements compare as the same make the same of each

@@ -171,8 +171,7 @@ fn check(
 ) -> Result<(), CloseFault>
     ensures { Settles opening.now count held.now seats.now result }
 {
-    // its history is legal
-    let _legal = held.history();
+    held.know();
     let Some(rest) = entries_behind(opening, held) else {
         return Err(CloseFault::SeatsDisagree(count));
     };
@@ -200,8 +199,7 @@ pub(crate) fn settle(
     ensures legal { IsLegalHistory held.domain held.entries }
     ensures fault { IfErr result (λ fault. Settles opening.now count held seats.now (Err fault)) }
 {
-    // its history is legal
-    let _legal = held.history();
+    held.know();
     match check(alloc, opening, count, &held, seats) {
         Ok(()) => Ok(History {
             opening: opening.history().len(),

@@ -3,7 +3,7 @@ ghost use Rattle.std.specs.Arc.{arc_value};
 ghost use Rattle.std.specs.Prelude.{◌≡◌, ◌↔◌, true, map};
 ghost use Rattle.cqf_admission.specs.Admission.{act_of, recorded_of};
 ghost use Rattle.cqf_admission.specs.Asking.{asked_of, asked_paced};
-ghost use Rattle.cqf_admission_trees.specs.Branches.{branches_of};
+ghost use Rattle.cqf_admission.specs.Branches.{branches_of};
 
 use cqf_admission::{Call, Entry, Row, Table};
 use cqf_model::Hop;

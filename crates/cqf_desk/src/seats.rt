@@ -112,8 +112,7 @@ impl Seat {
         ensures answered { IsAnswered admission.old admission.new self.old.number (Admits (asked_of request.now)) result }
         ensures keeps { Keeps self.old self.new (Admits (asked_of request.now)) result }
     {
-        // its history is legal
-        let _legal = admission.history();
+        admission.know();
         if self.calls.reserve(1).is_err() {
             return unasked(admission);
         }
@@ -134,8 +133,7 @@ impl Seat {
         ensures answered { IsAnswered admission.old admission.new self.old.number (Admits (asked_paced (arc_value request.now))) result }
         ensures keeps { Keeps self.old self.new (Admits (asked_paced (arc_value request.now))) result }
     {
-        // its history is legal
-        let _legal = admission.history();
+        admission.know();
         if self.calls.reserve(1).is_err() {
             return unasked(admission);
         }
@@ -161,8 +159,7 @@ impl Seat {
         ensures answered { IsAnswered admission.old admission.new self.old.number (Withdraws name.now) result }
         ensures keeps { Keeps self.old self.new (Withdraws name.now) result }
     {
-        // its history is legal
-        let _legal = admission.history();
+        admission.know();
         if self.calls.reserve(1).is_err() {
             return unasked(admission);
         }
@@ -182,8 +179,7 @@ impl Seat {
         ensures legal { IsLegalHistory admission.old.domain admission.old.entries }
         ensures sealed { IsSealed admission.old admission.new self.old self.new result }
     {
-        // its history is legal
-        let _legal = admission.history();
+        admission.know();
         if admission.next_cycle().0 >= MOST_SEALS {
             return Err(unsealed(admission));
         }

@@ -1,10 +1,10 @@
 -- Texts that entries are written as, one entry after another.
-use Rattle.std.proofs.Common.{ℕ, ◌≡◌, ◌+◌, ◌<◌, List, [], ◌∷◌, ◌++◌, length, take, get_or, refl, ap, sym, ◌∙◌, append_assoc}
+use Rattle.std.proofs.Common.{ℕ, ◌≡◌, ◌+◌, ◌<◌, List, [], ◌∷◌, ◌++◌, length, take, get_or, refl, ap, sym, ◌∙◌, append_assoc, codes, decimal}
 use Rattle.std.proofs.lemmas.List.{take_more}
 use Rattle.cqf_model.specs.GateList.{Entry}
 use Rattle.cqf_model.specs.declared.gates.StreamEntry.{StreamEntry}
 use Rattle.cqf_gates.specs.GateListText.{line_of_gates, text_of_entries}
-use Rattle.cqf_gates.specs.StreamText.{line_of_stream_entry, text_of_stream_entries}
+use Rattle.cqf_gates.specs.StreamText.{line_of_open, line_of_stream_entry, octet_max_text, text_of_stream_entries}
 
 -- the text of one more entry
 text_of_entries-push : (entries : List Entry) (entry : Entry) → text_of_entries (entries ++ entry ∷ []) ≡ text_of_entries entries
@@ -31,3 +31,8 @@ pub text_of_stream_entries-more : (entries : List StreamEntry) (k : ℕ) (d : St
     text_of_stream_entries (take (k + 1) entries) ≡ text_of_stream_entries (take k entries) ++ (line_of_stream_entry (get_or entries k d) ++ 10 ∷ [])
 text_of_stream_entries-more entries k d inside = ap text_of_stream_entries (take_more entries k d inside)
     ∙ text_of_stream_entries-push (take k entries) (get_or entries k d)
+
+-- the line of an entry in which frames may pass, piece by piece
+pub open_pieces : (entry : StreamEntry) →
+    codes "open " ++ (decimal entry.ipv ++ (codes " " ++ (decimal entry.interval ++ (codes " " ++ octet_max_text entry.octet_max)))) ≡ line_of_open entry
+open_pieces entry = simp append_assoc

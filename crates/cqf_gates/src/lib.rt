@@ -5,7 +5,7 @@
 //!   [`TxList::open_for`] how long a class stays open from then on.
 //! - [`StreamList`] is the list of a stream gate, and [`StreamGate`] the gate, which counts octets against it.
 //! - [`compiled_list`] and [`gate_of_reservation`] are the lists that a cycle and a reservation are compiled to.
-//! - [`read_tx`], [`write_tx`] and [`write_stream`] read and write lists as texts, with states as [`hex_digit_of`] has them.
+//! - [`read_tx`], [`write_tx`], [`write_stream`] and [`put_stream`] read and write lists as texts, with states as [`hex_digit_of`] has them.
 //!
 //! ```text
 //! TxList::new(&[(0x80, 120_000), (0x00, 5000), (0x40, 120_000), (0x00, 5000)]) is Ok(list)
@@ -18,6 +18,7 @@ mod compiled;
 mod entries;
 mod faults;
 mod spans;
+mod stream_text;
 mod streams;
 mod text;
 mod transmission;
@@ -25,6 +26,7 @@ mod transmission;
 pub use compiled::{compiled_list, gate_of_reservation, spans_pass_the_same};
 pub use cqf_model::{OpenFor, Pace, StreamEntry};
 pub use faults::{ListFault, TextFault};
+pub use stream_text::{is_shut, put_stream, write_stream};
 pub use streams::{Passed, StreamGate, StreamList, gate_counts_calls};
-pub use text::{hex_digit_of, is_shut, read_tx, write_stream, write_tx};
+pub use text::{hex_digit_of, read_tx, write_tx};
 pub use transmission::TxList;

@@ -1,9 +1,9 @@
 //! Stream gates and their control lists (IEEE 802.1Q, 8.6.5.1; the rules of octets and of classes: profile).
-ghost use Rattle.std.specs.Prelude.{List, [], ◌≡◌, ◌==◌, ◌+◌, ◌/◌, ◌^◌, ◌<◌, ◌≤◌, All, length, take};
+ghost use Rattle.std.specs.Prelude.{List, [], ◌≡◌, ◌==◌, ◌+◌, ◌/◌, ◌<◌, ◌≤◌, length, take};
 ghost use Rattle.std.specs.List.{list_any};
 ghost use Rattle.std.specs.Option.{SomeIff};
 ghost use Rattle.cqf_model.specs.declared.gates.StreamEntry.{StreamEntry as Entry};
-ghost use Rattle.cqf_model.specs.StreamGate.{gate_round, place_at, round_at, same_interval};
+ghost use Rattle.cqf_model.specs.StreamGate.{gate_round, place_at, round_at};
 ghost use Rattle.cqf_gates.specs.StreamGate.{Counts, DecidesByCalls, IsStreamList, entry_at, fresh, gate_after};
 ghost use Rattle.cqf_gates.specs.StreamGate.{is_bad_ipv, stream_list_of, taken_at, verdict_on};
 

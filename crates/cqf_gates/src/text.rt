@@ -1,12 +1,10 @@
 //! Gate lists as texts (profile).
-ghost use Rattle.std.specs.Prelude.{◌≡◌, ◌<◌, ◌^◌, ◌++◌, ◌∷◌, [], IfOk, OnOk, codes, decimal};
-ghost use Rattle.std.specs.String.{string_bytes};
+ghost use Rattle.std.specs.Prelude.{◌≡◌, ◌<◌, ◌^◌, ◌++◌, ◌∷◌, [], IfOk, OnOk};
 ghost use Rattle.cqf_gates.specs.GateListText.{hex_digit, line_of_gates, text_of_entries};
-ghost use Rattle.cqf_gates.specs.StreamText.{is_shut, line_of_open, line_of_stream_entry, text_of_stream_entries};
 ghost use Rattle.cqf_gates.specs.TxText.{list_of_text};
 
 use crate::entries::read_entry;
-use crate::{StreamEntry, StreamList, TextFault, TxList};
+use crate::{TextFault, TxList};
 use arrayvec::ArrayVec;
 use cqf_text::split_line;
 use cqf_units::Memory;
@@ -73,59 +71,6 @@ pub fn write_tx(alloc: Global, list: &TxList) -> Result<Vec<u8>, Memory>
     let mut text = Vec::new(alloc);
     for entry in list.entries() {
         push_entry(alloc, &mut text, entry.0, entry.1)?;
-    }
-    Ok(text)
-}
-
-/// The line that writes an entry of a stream gate in which frames may pass.
-fn open_line(alloc: Global, entry: StreamEntry) -> Result<String, Memory>
-    ensures { IfOk result (λ line. string_bytes line ≡ line_of_open entry ++ 10 ∷ []) }
-{
-    let (ipv, interval) = (entry.ipv, entry.interval);
-    let Some(most) = entry.octet_max else {
-        let line = format!(in alloc; "open {ipv} {interval} -\n")?;
-        return Ok(line);
-    };
-    let line = format!(in alloc; "open {ipv} {interval} {most}\n")?;
-    Ok(line)
-}
-
-/// The line that writes one in which none passes.
-fn closed_line(alloc: Global, interval: u32) -> Result<String, Memory>
-    ensures { IfOk result (λ line. string_bytes line ≡ codes "closed " ++ decimal interval ++ 10 ∷ []) }
-{
-    let line = format!(in alloc; "closed {interval}\n")?;
-    Ok(line)
-}
-
-/// Whether no frame of an octet or more is within the octet maximum, so that the entry is written as closed.
-pub fn is_shut(octet_max: Option<u32>) -> bool
-    ensures { result ≡ is_shut octet_max }
-{
-    octet_max == Some(0)
-}
-
-/// The line that writes an entry of a stream gate.
-fn stream_line(alloc: Global, entry: StreamEntry) -> Result<String, Memory>
-    ensures { IfOk result (λ line. string_bytes line ≡ line_of_stream_entry entry ++ 10 ∷ []) }
-{
-    if is_shut(entry.octet_max) {
-        closed_line(alloc, entry.interval)
-    } else {
-        open_line(alloc, entry)
-    }
-}
-
-/// The text of a stream gate's list: for each entry a line with `open`, the internal priority value, the interval and
-/// the octet maximum, `-` where there is none; or, where that is 0, so that no frame passes, with `closed` and the interval
-/// (profile).
-pub fn write_stream(alloc: Global, list: &StreamList) -> Result<Vec<u8>, Memory>
-    ensures { IfOk result (λ text. text.items ≡ text_of_stream_entries list.now) }
-{
-    let mut text = Vec::new(alloc);
-    for entry in list.entries() {
-        let line = stream_line(alloc, *entry)?;
-        text.extend_from_slice(line.as_bytes())?;
     }
     Ok(text)
 }

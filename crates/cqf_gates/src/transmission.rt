@@ -1,5 +1,5 @@
 //! Transmission gate control lists (IEEE 802.1Q, 8.6.8.4).
-ghost use Rattle.std.specs.Prelude.{◌≡◌, ◌==◌, ◌+◌, ◌*◌, ◌-◌, ◌^◌, ◌<◌, ◌≤◌, ◌++◌, ℕ, map, take, drop, length, slice_index_or};
+ghost use Rattle.std.specs.Prelude.{◌≡◌, ◌==◌, ◌+◌, ◌-◌, ◌^◌, ◌<◌, ◌≤◌, ◌++◌, ℕ, map, take, drop, length, slice_index_or};
 ghost use Rattle.std.specs.List.{list_any};
 ghost use Rattle.cqf_model.specs.GateList.{Entry, InForce, IsOpen, IsOpenFor, round_of, states_at};
 ghost use Rattle.cqf_model.specs.declared.gates.OpenFor.TheVariants.{Always};

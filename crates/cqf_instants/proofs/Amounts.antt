@@ -6,9 +6,9 @@ use Rattle.std.proofs.lemmas.List.{length-append}
 use Rattle.std.proofs.lemmas.List.Sorted.{length_permutation}
 use Rattle.cqf_units.specs.Timing.{wire_of}
 use Rattle.cqf_model.specs.declared.frames.Started.{Started}
-use Rattle.cqf_instants.specs.declared.lanes.Branch.{Branch}
+use Rattle.cqf_instants.specs.declared.lanes.LaidHop.{LaidHop}
 use Rattle.cqf_instants.specs.declared.lanes.Waiting.{Waiting}
-use Rattle.cqf_instants.specs.declared.link.Sender.{Sender}
+use Rattle.cqf_instants.specs.declared.link.SendingLink.{SendingLink}
 use Rattle.cqf_instants.specs.Lanes.{TellsLane, cap_at, caps_below, in_pace, start_of_lane, sum_below}
 use Rattle.cqf_instants.proofs.Adding.{cap_there}
 
@@ -44,7 +44,7 @@ one_each cycle link begins r t (x ∷ xs) =
     )
 
 -- so as many more as the lane had
-pub lane_told : (sender : Sender) (cycle begins : ℕ) (lane : List Waiting) (old own : Vec Waiting Global) (branches : List Branch)
+pub lane_told : (sender : SendingLink) (cycle begins : ℕ) (lane : List Waiting) (old own : Vec Waiting Global) (branches : List LaidHop)
     (before after : List (Vec Waiting Global)) (told all : List Started) →
     TellsLane sender cycle begins lane old own branches before after told all → length all ≡ length told + length lane
 lane_told sender cycle begins lane old own branches before after told all h = omega (

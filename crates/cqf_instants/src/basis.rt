@@ -1,6 +1,6 @@
 //! What the starts of a run are told from.
 
-use crate::lanes::Branch;
+use crate::lanes::LaidHop;
 use crate::offers::Entering;
 use cqf_model::Link;
 
@@ -16,7 +16,7 @@ pub struct Basis {
     /// How many cycles are run.
     pub cycles: u32,
     /// The hops of the streams' trees.
-    pub branches: Vec<Branch>,
+    pub branches: Vec<LaidHop>,
     /// The offers by place, with what was decided of each.
     pub offers: Vec<Entering>,
 }

@@ -1,5 +1,5 @@
 //! Room for all frames that can wait.
-ghost use Rattle.std.specs.Prelude.{ℕ, ◌≡◌, ◌≤◌, ◌<◌, ◌^◌, IfOk, length};
+ghost use Rattle.std.specs.Prelude.{◌≡◌, ◌≤◌, ◌<◌, ◌^◌, IfOk, length};
 ghost use Rattle.cqf_units.specs.Timing.{nanos_of_octet};
 ghost use Rattle.cqf_instants.specs.Lanes.{sum_below};
 ghost use Rattle.cqf_instants.specs.Telling.{AreEmptyLanes, frames_at, frames_in};

@@ -1,5 +1,5 @@
 //! Where a pass stands, and how it goes on by a cycle.
-ghost use Rattle.std.specs.Prelude.{ℕ, ◌≡◌, ◌+◌, ◌<◌, [], IfOk};
+ghost use Rattle.std.specs.Prelude.{◌≡◌, ◌+◌, ◌<◌, [], IfOk};
 ghost use Rattle.cqf_instants.specs.Laws.{TheLaws};
 ghost use Rattle.cqf_instants.specs.Meaning.{Given};
 ghost use Rattle.cqf_instants.specs.Progress.{IsBasisOf, IsUnderWay, SomeBasis, starts_of_cycle};

@@ -1,5 +1,5 @@
 //! Which classes are eligible, and which is the highest.
-ghost use Rattle.std.specs.Prelude.{◌≡◌, ◌≤◌, ◌<◌, MatchOption};
+ghost use Rattle.std.specs.Prelude.{◌≡◌, ◌<◌, MatchOption};
 ghost use Rattle.cqf_lanes.specs.Kernels.{AreEligible, IsHighest};
 
 use std::simd::prelude::*;

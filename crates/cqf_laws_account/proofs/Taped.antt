@@ -2,6 +2,7 @@
 use Rattle.std.proofs.Common.{◌≡◌, ℕ, ◌*◌, ◌/◌, ◌<◌, ◌≤◌, ◌==◌, List, [], ◌∷◌, length, map, sym, ap, ap₂, ◌∙◌, arith, inl, inr, refl, filter, subst}
 use Rattle.std.proofs.Common.{AllPairs, Contains, eqb-true}
 use Rattle.std.proofs.lemmas.Bool.{cases_lt}
+use Rattle.std.proofs.lemmas.List.Kept.{AllPairs-filter}
 use Rattle.cqf_lists.specs.Lists.{each_below}
 use Rattle.cqf_lists.proofs.EachBelow.{same_below}
 use Rattle.cqf_lists.proofs.Filters.{filter-map}
@@ -15,19 +16,33 @@ use Rattle.cqf_model.specs.declared.ports.Start.{Start}
 use Rattle.cqf_model.specs.Book.{Contents, backed_batch, background_in, batch, drops_in, drops_of, started, started_backed, starts_in}
 use Rattle.cqf_model.specs.Domain.{Domain, IsAccepted, cycle_of}
 use Rattle.cqf_model.specs.GateList.{Entry}
-use Rattle.cqf_model.specs.Network.{IsLegalNetwork, Network}
+use Rattle.cqf_model.specs.Network.{IsLegalNetwork, Network, comes_before}
 use Rattle.cqf_model.specs.Run.{Run}
 use Rattle.cqf_model.specs.Traffic.{Policed, policed_before}
+use Rattle.cqf_model.proofs.Drops.{dropped_at}
 use Rattle.cqf_laws_cycle.specs.PageLaws.{IsSomeBook}
 use Rattle.cqf_tape.specs.declared.tape.Mark.{Mark}
-use Rattle.cqf_tape.specs.declared.tapes.Kind.{Kind}
-use Rattle.cqf_tape.specs.declared.tapes.Kind.TheVariants.{Background, Stream}
+use Rattle.cqf_tape.specs.declared.tapes.TransmissionKind.{TransmissionKind}
+use Rattle.cqf_tape.specs.declared.tapes.TransmissionKind.TheVariants.{Background, Stream}
 use Rattle.cqf_tape.specs.declared.tapes.Tapes.{Tapes}
 use Rattle.cqf_tape.specs.Tapes.{AreDropsByCycle, AreTapesOf, IsInOrder, drops_at, drops_in_cycles, is_at_bridge, is_drop_in, is_in}
 use Rattle.cqf_tape.specs.Tapes.{mark_of, marks_at, marks_on, started_by, told_from, told_in_cycles, told_on}
+use Rattle.cqf_tape.proofs.ByTwo.{of_both, of_second, pairs_of_second}
 use Rattle.cqf_laws_account.specs.Taped.{TapesTell}
-use Rattle.cqf_laws_account.proofs.ByTwo.{of_both, of_second, pairs_of_second}
-use Rattle.cqf_laws_account.proofs.Ordered.{background_by_two, bridge_of_drop, cycle_of_drop, drops_by_two, link_of, starts_by_two}
+use Rattle.cqf_laws_account.proofs.Ordered.{backed_in_order, sent_in_order}
+
+-- the numbers that starts and drops bear
+abbrev cycle_in : Started → ℕ
+cycle_in x = x.cycle.0
+
+abbrev link_of : Started → ℕ
+link_of x = x.link
+
+abbrev cycle_of_drop : Dropped → ℕ
+cycle_of_drop x = x.cycle.0
+
+abbrev bridge_of_drop : Dropped → ℕ
+bridge_of_drop x = x.bridge
 
 -- what is in an earlier cycle is earlier
 earlier : (n s t : ℕ) → 0 < n → s / n < t / n → s ≤ t
@@ -80,7 +95,7 @@ module _ (d : Domain) (cycles : ℕ) (lists : ℕ → ℕ → List Started) (are
       let on_link = filter (λ (x : Started). link_of x == link) (all_starts d cycles lists) in
       ap (map (started_by d link)) (filter-map mark_of (is_in d cycle) on_link)
       ∙ ap (λ (xs : List Started). map (started_by d link) (map mark_of xs))
-      (of_both (cycle_then d) link_of cycles (length d.links) lists are.in_cycle are.has_link cycle link in_cycles in_links)
+      (of_both link_of cycles (length d.links) lists are.has_link (cycle_then d) are.in_cycle cycle link in_cycles in_links)
       ∙ told_again_each d link (lists cycle link) (λ x h.
       told_again d link x (are.has_link cycle link x h) (are.has_cycle cycle link x h ∙ sym (are.in_cycle cycle link x h)))
 
@@ -98,69 +113,81 @@ module _ (d : Domain) (cycles : ℕ) (lists : ℕ → ℕ → List Started) (are
   marks_in_order some link marks in_links same =
       let by_cycle = each_below (λ cycle. lists cycle link) cycles in
       let is : marks ≡ map mark_of by_cycle =
-      same ∙ ap (map mark_of) (of_second (cycle_then d) link_of cycles (length d.links) lists are.in_cycle are.has_link link in_links) in
+      same ∙ ap (map mark_of) (of_second link_of cycles (length d.links) lists are.has_link link in_links) in
       subst IsInOrder (sym is)
       (pairs_map (λ (a b : Mark). a.start.0 ≤ b.start.0) mark_of by_cycle
-      (pairs_of_second (cycle_then d) link_of cycles (length d.links) lists are.in_cycle are.has_link IsNoLater link in_links
+      (pairs_of_second (cycle_then d) cycles lists are.in_cycle IsNoLater link
       (λ cycle in_cycles. are.ascends cycle link in_cycles in_links)
       (λ x y less. earlier d.cycle_time x.start.0 y.start.0 some less)))
 
--- drops by cycle and bridge are told from what there is of each bridge
-told_by_bridges : (d : Domain) (cycles places : ℕ) (policed : ℕ → List Policed) (drops : ℕ → List Dropped) →
-    ((bridge : ℕ) → bridge < length d.bridges → drops bridge ≡ filter (is_at_bridge bridge) (drops_of d cycles places policed)) →
-    drops_of d cycles places policed ≡ each_below (λ cycle. each_below (λ bridge. filter (is_drop_in cycle) (drops bridge)) (length d.bridges)) cycles
-told_by_bridges d cycles places policed drops same =
-    let bridges = length d.bridges in
-    let by_two = drops_by_two d cycles places policed in
-    same_below (λ cycle. each_below (drops_in d places policed cycle) bridges)
-    (λ cycle. each_below (λ bridge. filter (is_drop_in cycle) (drops bridge)) bridges) cycles (λ cycle in_cycles.
-    same_below (drops_in d places policed cycle) (λ bridge. filter (is_drop_in cycle) (drops bridge)) bridges (λ bridge in_bridges.
-    sym (ap (filter (is_drop_in cycle)) (same bridge in_bridges)
-    ∙ of_both cycle_of_drop bridge_of_drop cycles bridges (drops_in d places policed) by_two.has_one by_two.has_two cycle bridge in_cycles in_bridges)))
+module _ (d : Domain) (cycles places : ℕ) (policed : ℕ → List Policed) where
+  -- each drop bears its cycle and its bridge
+  has_cycle : (cycle bridge : ℕ) (x : Dropped) → Contains (drops_in d places policed cycle bridge) x → cycle_of_drop x ≡ cycle
+  has_cycle cycle bridge x h = sym (ap cycle_of_drop (dropped_at d places policed cycle bridge x h).is)
 
--- and of each bridge they are by cycle
-drops_by_cycle : (d : Domain) (cycles places : ℕ) (policed : ℕ → List Policed) (bridge : ℕ) (drops : List Dropped) → bridge < length d.bridges →
-    drops ≡ filter (is_at_bridge bridge) (drops_of d cycles places policed) →
-    AreDropsByCycle drops
-drops_by_cycle d cycles places policed bridge drops in_bridges same =
-    let R : Dropped → Dropped → Type 0 = λ (a b : Dropped). a.cycle.0 ≤ b.cycle.0 in
-    let by_two = drops_by_two d cycles places policed in
-    let lists = drops_in d places policed in
-    subst AreDropsByCycle
-    (sym (same ∙ of_second cycle_of_drop bridge_of_drop cycles (length d.bridges) lists by_two.has_one by_two.has_two bridge in_bridges))
-    (pairs_of_second cycle_of_drop bridge_of_drop cycles (length d.bridges) lists by_two.has_one by_two.has_two R bridge in_bridges
-    (λ cycle in_cycles. pairs_members R (lists cycle bridge) (λ x y in_x in_y.
-    omega (arith, by_two.has_one cycle bridge x in_x, by_two.has_one cycle bridge y in_y)))
-    (λ x y less. omega (arith, less)))
+  has_bridge : (cycle bridge : ℕ) (x : Dropped) → Contains (drops_in d places policed cycle bridge) x → bridge_of_drop x ≡ bridge
+  has_bridge cycle bridge x h = sym (ap bridge_of_drop (dropped_at d places policed cycle bridge x h).is)
+
+  -- drops by cycle and bridge are told from what there is of each bridge
+  told_by_bridges : (drops : ℕ → List Dropped) →
+      ((bridge : ℕ) → bridge < length d.bridges → drops bridge ≡ filter (is_at_bridge bridge) (drops_of d cycles places policed)) →
+      drops_of d cycles places policed ≡ each_below (λ cycle. each_below (λ bridge. filter (is_drop_in cycle) (drops bridge)) (length d.bridges)) cycles
+  told_by_bridges drops same =
+      let bridges = length d.bridges in
+      same_below (λ cycle. each_below (drops_in d places policed cycle) bridges)
+      (λ cycle. each_below (λ bridge. filter (is_drop_in cycle) (drops bridge)) bridges) cycles (λ cycle in_cycles.
+      same_below (drops_in d places policed cycle) (λ bridge. filter (is_drop_in cycle) (drops bridge)) bridges (λ bridge in_bridges.
+      sym (ap (filter (is_drop_in cycle)) (same bridge in_bridges)
+      ∙ of_both bridge_of_drop cycles bridges (drops_in d places policed) has_bridge cycle_of_drop has_cycle cycle bridge in_cycles in_bridges)))
+
+  -- and of each bridge they are by cycle
+  drops_by_cycle : (bridge : ℕ) (drops : List Dropped) → bridge < length d.bridges →
+      drops ≡ filter (is_at_bridge bridge) (drops_of d cycles places policed) → AreDropsByCycle drops
+  drops_by_cycle bridge drops in_bridges same =
+      let R : Dropped → Dropped → Type 0 = λ (a b : Dropped). a.cycle.0 ≤ b.cycle.0 in
+      let lists = drops_in d places policed in
+      subst AreDropsByCycle (sym (same ∙ of_second bridge_of_drop cycles (length d.bridges) lists has_bridge bridge in_bridges))
+      (pairs_of_second cycle_of_drop cycles lists has_cycle R bridge
+      (λ cycle in_cycles. pairs_members R (lists cycle bridge) (λ x y in_x in_y.
+      omega (arith, has_cycle cycle bridge x in_x, has_cycle cycle bridge y in_y)))
+      (λ x y less. omega (arith, less)))
 
 module _ (run : Run) (lists : ℕ → List Entry) (cycles : ℕ) (net : Network) (legal : IsLegalNetwork run lists cycles net) where
   -- the starts of streams' frames
   starts_of_a_kind : AreOfAKind run.domain cycles (starts_in run.domain net.carried)
-  starts_of_a_kind =
-      let by_two = starts_by_two run lists cycles net legal in
-      record {
-        has_cycle = by_two.has_one;
-        has_link = by_two.has_two;
-        in_cycle = λ cycle link x h.
-            let s = contains_from_map (started cycle link) (batch run.domain net.carried link cycle) x h in
-            let k = contains_from_filter (λ (sent : Sent). cycle_of run.domain sent.start.0 == cycle) (net.carried link) s.0 s.1 in
-            sym (ap (cycle_then run.domain) s.2) ∙ eqb-true (cycle_of run.domain s.0.start.0) cycle k.1;
-        ascends = λ cycle link in_cycles in_links i j d less inside. by_two.ascends cycle link in_cycles in_links i j d (omega (arith, less)) inside;
-      }
+  starts_of_a_kind = record {
+    has_cycle = λ cycle link x h. let s = contains_from_map (started cycle link) (batch run.domain net.carried link cycle) x h in
+        sym (ap cycle_in s.2);
+    has_link = λ cycle link x h. let s = contains_from_map (started cycle link) (batch run.domain net.carried link cycle) x h in
+        sym (ap link_of s.2);
+    in_cycle = λ cycle link x h.
+        let s = contains_from_map (started cycle link) (batch run.domain net.carried link cycle) x h in
+        let k = contains_from_filter (λ (sent : Sent). cycle_of run.domain sent.start.0 == cycle) (net.carried link) s.0 s.1 in
+        sym (ap (cycle_then run.domain) s.2) ∙ eqb-true (cycle_of run.domain s.0.start.0) cycle k.1;
+    ascends = λ cycle link in_cycles in_links.
+        pairs_map IsNoLater (started cycle link) (batch run.domain net.carried link cycle)
+        (AllPairs-filter (λ (a b : Sent). a.start.0 ≤ b.start.0) (λ (sent : Sent). cycle_of run.domain sent.start.0 == cycle) (net.carried link)
+        (sent_in_order run.domain (lists link) (cycles * run.domain.cycle_time) link (comes_before run net.carried link cycles) (net.carried link)
+        (net.backed link) (legal.sends link in_links)));
+  }
 
   -- and those of background frames
   background_of_a_kind : AreOfAKind run.domain cycles (background_in run.domain net.backed)
-  background_of_a_kind =
-      let by_two = background_by_two run lists cycles net legal in
-      record {
-        has_cycle = by_two.has_one;
-        has_link = by_two.has_two;
-        in_cycle = λ cycle link x h.
-            let s = contains_from_map (started_backed cycle link) (backed_batch run.domain net.backed link cycle) x h in
-            let k = contains_from_filter (λ (start : Start). cycle_of run.domain start.start.0 == cycle) (net.backed link) s.0 s.1 in
-            sym (ap (cycle_then run.domain) s.2) ∙ eqb-true (cycle_of run.domain s.0.start.0) cycle k.1;
-        ascends = λ cycle link in_cycles in_links i j d less inside. by_two.ascends cycle link in_cycles in_links i j d (omega (arith, less)) inside;
-      }
+  background_of_a_kind = record {
+    has_cycle = λ cycle link x h. let s = contains_from_map (started_backed cycle link) (backed_batch run.domain net.backed link cycle) x h in
+        sym (ap cycle_in s.2);
+    has_link = λ cycle link x h. let s = contains_from_map (started_backed cycle link) (backed_batch run.domain net.backed link cycle) x h in
+        sym (ap link_of s.2);
+    in_cycle = λ cycle link x h.
+        let s = contains_from_map (started_backed cycle link) (backed_batch run.domain net.backed link cycle) x h in
+        let k = contains_from_filter (λ (start : Start). cycle_of run.domain start.start.0 == cycle) (net.backed link) s.0 s.1 in
+        sym (ap (cycle_then run.domain) s.2) ∙ eqb-true (cycle_of run.domain s.0.start.0) cycle k.1;
+    ascends = λ cycle link in_cycles in_links.
+        pairs_map IsNoLater (started_backed cycle link) (backed_batch run.domain net.backed link cycle)
+        (AllPairs-filter (λ (a b : Start). a.start.0 ≤ b.start.0) (λ (start : Start). cycle_of run.domain start.start.0 == cycle) (net.backed link)
+        (backed_in_order run.domain (lists link) (cycles * run.domain.cycle_time) link (comes_before run net.carried link cycles) (net.carried link)
+        (net.backed link) (legal.sends link in_links)));
+  }
 
 module _ (d : Domain) (cycles : ℕ) (tapes : Tapes) (book : Contents) (accepted : IsAccepted d) (some : IsSomeBook d cycles book)
     (are : AreTapesOf d tapes book) where
@@ -173,16 +200,17 @@ module _ (d : Domain) (cycles : ℕ) (tapes : Tapes) (book : Contents) (accepted
   policed bridge = policed_before run some.is_book.net.carried bridge (cycles * d.cycle_time)
 
   -- the starts of either kind
-  abbrev lists_of : Kind → ℕ → ℕ → List Started
+  abbrev lists_of : TransmissionKind → ℕ → ℕ → List Started
   lists_of Stream = starts_in d some.is_book.net.carried
   lists_of Background = background_in d some.is_book.net.backed
 
-  kinds : (kind : Kind) → AreOfAKind d cycles (lists_of kind)
+  kinds : (kind : TransmissionKind) → AreOfAKind d cycles (lists_of kind)
   kinds Stream = starts_of_a_kind run some.lists cycles some.is_book.net some.is_book.legal
   kinds Background = background_of_a_kind run some.lists cycles some.is_book.net some.is_book.legal
 
   -- stand on the tapes
-  marks_are : (kind : Kind) (link : ℕ) → link < length d.links → marks_at kind tapes link ≡ marks_on link (all_starts d cycles (lists_of kind))
+  marks_are : (kind : TransmissionKind) (link : ℕ) → link < length d.links →
+      marks_at kind tapes link ≡ marks_on link (all_starts d cycles (lists_of kind))
   marks_are Stream link inside = are.starts link inside ∙ ap (marks_on link) some.is_book.are_starts
   marks_are Background link inside = are.background link inside ∙ ap (marks_on link) some.is_book.are_background
 
@@ -192,7 +220,7 @@ module _ (d : Domain) (cycles : ℕ) (tapes : Tapes) (book : Contents) (accepted
   drops_are bridge inside = are.drops bridge inside ∙ ap (filter (is_at_bridge bridge)) some.is_book.are_drops
 
   -- the tapes tell the starts of either kind
-  told_of_kind : (kind : Kind) → all_starts d cycles (lists_of kind) ≡ told_in_cycles d kind tapes cycles
+  told_of_kind : (kind : TransmissionKind) → all_starts d cycles (lists_of kind) ≡ told_in_cycles d kind tapes cycles
   told_of_kind kind = told_by_marks d cycles (lists_of kind) (kinds kind) (marks_at kind tapes) (marks_are kind)
 
   -- the tapes tell the book

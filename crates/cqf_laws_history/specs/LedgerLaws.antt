@@ -25,7 +25,7 @@ SealLetsGoThoseThatEnd =
     (d : Domain) (entries : List Recorded) (rows : List Row) (next : ℕ) → IsState d entries rows next →
     filter (λ (row : Row). is_held row (seals entries + 1)) rows ≡ filter (λ (row : Row). not (ends_in (seals entries + 1) row)) rows
 
--- a held stream that is withdrawn ends behind the next cycle to be closed, and at most 16 cycles behind it
+-- a held stream that is withdrawn ends behind the next cycle to be closed, and at most 64 cycles behind it
 pub record IsSoon (row : Row) (cycle : ℕ) (withdrawn : Cycle) : Type 0 where
   pub begun : withdrawn.0 ≤ cycle
   pub later : cycle < end_from row withdrawn

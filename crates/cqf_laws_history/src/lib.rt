@@ -9,7 +9,7 @@
 //!   is refused as no tree. [`state_follows_history`]: how the streams that are held
 //!   change with each entry, so that an administration needn't look through its history. [`streams_follow_history`]: how the
 //!   list of all streams that were ever granted changes with each entry. [`seal_empties_a_slot`]: which streams a Seal lets
-//!   go of, and that a ring of 32 slots has just these in one.
+//!   go of, and that a ring of 128 slots has just these in one.
 //! - **Frames at a bridge**, in a planner's words: [`verdicts_have_their_reason`], [`queued_frames_leave_their_bridge`],
 //!   [`frames_go_to_each_port`], [`relayed_frames_are_queued_or_lost`].
 //! - **Streams and tables**: [`trees_say_where_streams_go`], [`streams_let_go_in_time`], [`closed_tables_stay`].

@@ -21,3 +21,4 @@ pub mod Places
 pub mod Ranks
 pub mod Sorted
 pub mod Sums
+pub mod Written

@@ -1,14 +1,25 @@
 -- A stable sort by a key gives the elements of each key in turn, as they were.
-use Rattle.std.proofs.Common.{ℕ, ◌≡◌, ◌<◌, ◌==◌, ◌∙◌, ◌&&◌, true, false, not, List, filter, nat_lt, refl, sym, ap, inl, inr, arith, subst}
-use Rattle.std.specs.List.{All}
+use Rattle.std.proofs.Common.{ℕ, ◌≡◌, ◌<◌, ◌≤◌, ◌==◌, ◌∙◌, ◌&&◌, true, false, not, List, filter, nat_lt, refl, sym, ap, inl, inr, arith, subst}
+use Rattle.std.specs.List.{All, AllPairs}
+use Rattle.std.specs.Prelude.{slice_index_or}
 use Rattle.std.specs.List.Sorted.{IsPermutation, IsStableByKey, IsNonDecreasingBy, ties}
 use Rattle.std.specs.Ordering.{is_lt, nat_cmp}
-use Rattle.std.proofs.lemmas.Bool.{cases_order, eq-eqb, le-ltb, lt-ltb, ne_eqb}
+use Rattle.std.proofs.lemmas.Bool.{cases_eq, cases_order, eq-eqb, le-ltb, lt-ltb, ne_eqb}
 use Rattle.std.proofs.lemmas.List.Elements.{filter_agree}
 use Rattle.std.proofs.lemmas.List.Sorted.{All-permutation}
 use Rattle.cqf_lists.specs.Lists.{each_below}
 use Rattle.cqf_lists.proofs.EachBelow.{same_below}
 use Rattle.cqf_lists.proofs.Keys.{by_key}
+
+-- what ascends, or stays, from each earlier element to each later one doesn't go down
+pub up_by_pairs : {X : Type 0} (key : X → ℕ) (xs : List X) → AllPairs (λ (x y : X). key x ≤ key y) xs → IsNonDecreasingBy key xs
+up_by_pairs {X} key xs pairs i j d le inside =
+    elim (cases_eq i j) [
+      | inl e ↦
+          let same : key (slice_index_or xs i d) ≡ key (slice_index_or xs j d) = ap (λ (k : ℕ). key (slice_index_or xs k d)) e in
+          omega (arith, same)
+      | inr differ ↦ pairs i j d (omega (arith, le, differ)) inside
+    ]
 
 -- neither number is below the other just where they are equal
 ties_equal : (a b : ℕ) → (not (is_lt (nat_cmp a b)) && not (is_lt (nat_cmp b a))) ≡ (b == a)

@@ -23,8 +23,8 @@ use Rattle.cqf_laws_shift.specs.Books.{BookSaysTheShift}
 use Rattle.cqf_laws_shift.specs.MainLaw.{GatesMeanTheShift}
 use Rattle.cqf_admission.specs.Tables.{CycleTable}
 use Rattle.cqf_bridge.specs.BridgeState.{BridgeState}
-use Rattle.cqf_laws_bridge.specs.Cycles.{NewBridgeFollows, drops_of_cycle}
-use Rattle.cqf_laws_bridge.specs.Follows.{FollowsTheNetwork}
+use Rattle.cqf_bridge.specs.Cycles.{NewBridgeFollows, drops_of_cycle}
+use Rattle.cqf_bridge.specs.Follows.{FollowsTheNetwork}
 use Rattle.cqf_plain.specs.declared.faults.RunFault.{RunFault}
 use Rattle.cqf_plain.specs.declared.faults.RunFault.TheVariants.{WrongTables, Inside, Memory}
 use Rattle.cqf_plain.specs.SoFar.{SoFarState, IsAt, IsNewRun, IsRunOver, StopsRun, RunMayGoOn}

@@ -20,10 +20,10 @@ use Rattle.cqf_model.specs.Traffic.{Carried}
 use Rattle.cqf_laws_cycle.specs.Gathered.{IsInOrderOf}
 use Rattle.cqf_bridge.specs.Batch.{LinkBatch}
 use Rattle.cqf_bridge.specs.BridgeState.{BridgeState}
-use Rattle.cqf_bridge_turn.specs.Agenda.{AgendaOf, IsAgendaOf}
-use Rattle.cqf_laws_bridge.specs.Cycles.{starts_of_batch}
-use Rattle.cqf_laws_bridge.specs.Follows.{HasSentOfTheNetwork, batch_of, batches_from, batches_into}
-use Rattle.cqf_plain.specs.declared.driven.Driven.{Driven}
+use Rattle.cqf_bridge.specs.Agenda.{AgendaOf, IsAgendaOf}
+use Rattle.cqf_bridge.specs.Cycles.{starts_of_batch}
+use Rattle.cqf_bridge.specs.Follows.{HasSentOfTheNetwork, batch_of, batches_from, batches_into}
+use Rattle.cqf_plain.specs.declared.driven.RunBridge.{RunBridge}
 use Rattle.cqf_plain.specs.SoFar.{ListsCycle}
 use Rattle.cqf_plain.specs.Driven.{AllStandHalfway, AreHandedOut, HaveAllSentCycle, IsCycleOf, ListsBackground, all_of}
 use Rattle.cqf_plain.proofs.ByLink.{flat_below, in_order_by_link}
@@ -95,22 +95,22 @@ module _ (d : Domain) (accepted : IsAccepted d) (carried : Carried) (cycle : ℕ
       ∙ same_below (λ l. flat_map starts_of_batch (alone l)) (starts_in d carried cycle) (length d.links)
       (λ l inside. append-nil (starts_in d carried cycle l))
 
-module _ (run : Run) (net : Network) (cycle : ℕ) (of : IsCycleOf run net cycle) (before : List Driven) (sent : List LinkBatch)
+module _ (run : Run) (net : Network) (cycle : ℕ) (of : IsCycleOf run net cycle) (before : List RunBridge) (sent : List LinkBatch)
     (all_sent : HaveAllSentCycle run net cycle before sent) where
   abbrev accepted : IsAccepted run.domain
   accepted = of.compiled.accepted
 
   -- the background frames of all bridges, brought into order, stand link by link
   sorted_background : (sorted : List Started) →
-      IsInOrderOf (λ (x : Started). x.link) (flat_map (λ (s : Driven). s.bridge.background) before) sorted →
+      IsInOrderOf (λ (x : Started). x.link) (flat_map (λ (s : RunBridge). s.bridge.background) before) sorted →
       sorted ≡ each_below (background_in run.domain net.backed cycle) (length run.domain.links)
   sorted_background sorted order =
       let d = run.domain in
       let f = background_in d net.backed cycle in
       let on = λ (bridge : ℕ). each_below (λ l. if leaves d l bridge then f l else []) (length d.links) in
       in_order_by_link (λ (x : Started). x.link) d accepted f
-      (λ l x h. sym (ap (λ (y : Started). y.link) (contains_from_map _ _ x h).2)) (flat_map (λ (s : Driven). s.bridge.background) before) sorted
-      (flat_each (λ (s : Driven). s.bridge.background) on before (length d.bridges) all_sent.halfway.one_each
+      (λ l x h. sym (ap (λ (y : Started). y.link) (contains_from_map _ _ x h).2)) (flat_map (λ (s : RunBridge). s.bridge.background) before) sorted
+      (flat_each (λ (s : RunBridge). s.bridge.background) on before (length d.bridges) all_sent.halfway.one_each
       (λ k e inside. (let st = all_sent.halfway.each k e inside in
       st.has_sent.background ∙ (λ i. each_below (λ l. if leaves d l (st.own.number i) then background_in d net.backed (st.own.received i) l else [])
       (length d.links)))))
@@ -130,7 +130,7 @@ module _ (run : Run) (net : Network) (cycle : ℕ) (of : IsCycleOf run net cycle
       }
 
   -- and each bridge gets what the links into it send
-  pub all_handed : (sorted : List LinkBatch) (after : List Driven) → IsInOrderOf (λ (x : LinkBatch). x.link) sent sorted →
+  pub all_handed : (sorted : List LinkBatch) (after : List RunBridge) → IsInOrderOf (λ (x : LinkBatch). x.link) sent sorted →
       AreHandedOut run.domain sorted before after → AllStandHalfway run net cycle (all_of run net cycle) after
   all_handed sorted after order handed =
       let d = run.domain in
@@ -156,7 +156,7 @@ module _ (run : Run) (net : Network) (cycle : ℕ) (of : IsCycleOf run net cycle
       }
 
 -- before the first batch is handed out
-pub none_handed : (d : Domain) (bridges : List Driven) → AreHandedOut d [] bridges bridges
+pub none_handed : (d : Domain) (bridges : List RunBridge) → AreHandedOut d [] bridges bridges
 none_handed d bridges = record {
   as_many = refl;
   same_bridge = λ k e inside. refl;
@@ -171,7 +171,7 @@ one_filtered p xs x true is = filter-append p xs (x ∷ []) ∙ ap (λ (ys : Lis
 one_filtered p xs x false is = filter-append p xs (x ∷ []) ∙ ap (λ (ys : List LinkBatch). filter p xs ++ ys) (cond-false (p x) (x ∷ []) [] is)
 
 -- one of a link that ends in no bridge
-pub passed_by : (d : Domain) (batches : List LinkBatch) (before after : List Driven) (batch : LinkBatch) → ((bridge : ℕ) → enters d batch.link bridge ≡ false) →
+pub passed_by : (d : Domain) (batches : List LinkBatch) (before after : List RunBridge) (batch : LinkBatch) → ((bridge : ℕ) → enters d batch.link bridge ≡ false) →
     AreHandedOut d batches before after → AreHandedOut d (batches ++ batch ∷ []) before after
 passed_by d batches before after batch none so = record {
   as_many = so.as_many;
@@ -185,30 +185,30 @@ passed_by d batches before after batch none so = record {
 }
 
 -- one of a link that ends in one
-pub one_handed : (d : Domain) (batches : List LinkBatch) (before after : List Driven) (batch : LinkBatch) (x y : Driven) (bridge place : ℕ) →
+pub one_handed : (d : Domain) (batches : List LinkBatch) (before after : List RunBridge) (batch : LinkBatch) (x y : RunBridge) (bridge place : ℕ) →
     enters d batch.link bridge ≡ true → ((other : ℕ) → enters d batch.link other ≡ true → other ≡ bridge) → place ≡ bridge → place < length after →
     x ≡ get_or after place x → y.bridge ≡ x.bridge → y.agenda ≡ x.agenda → y.inbox.items ≡ x.inbox.items ++ batch ∷ [] →
     AreHandedOut d batches before after → AreHandedOut d (batches ++ batch ∷ []) before (set after place y)
 one_handed d batches before after batch x y bridge place ends only at inside there same_bridge same_agenda pushed so = record {
   as_many = length-set after place y ∙ so.as_many;
   same_bridge = λ k e within. elim (cases_eq k place) [
-    | inl same ↦ ap (λ (s : Driven). s.bridge) (here k e same) ∙ same_bridge ∙ ap (λ (s : Driven). s.bridge) (was k e same) ∙ so.same_bridge k e within
-    | inr differ ↦ ap (λ (s : Driven). s.bridge) (get_or-set_other after place k y e differ) ∙ so.same_bridge k e within
+    | inl same ↦ ap (λ (s : RunBridge). s.bridge) (here k e same) ∙ same_bridge ∙ ap (λ (s : RunBridge). s.bridge) (was k e same) ∙ so.same_bridge k e within
+    | inr differ ↦ ap (λ (s : RunBridge). s.bridge) (get_or-set_other after place k y e differ) ∙ so.same_bridge k e within
   ];
   same_agenda = λ k e within. elim (cases_eq k place) [
-    | inl same ↦ ap (λ (s : Driven). s.agenda) (here k e same) ∙ same_agenda ∙ ap (λ (s : Driven). s.agenda) (was k e same) ∙ so.same_agenda k e within
-    | inr differ ↦ ap (λ (s : Driven). s.agenda) (get_or-set_other after place k y e differ) ∙ so.same_agenda k e within
+    | inl same ↦ ap (λ (s : RunBridge). s.agenda) (here k e same) ∙ same_agenda ∙ ap (λ (s : RunBridge). s.agenda) (was k e same) ∙ so.same_agenda k e within
+    | inr differ ↦ ap (λ (s : RunBridge). s.agenda) (get_or-set_other after place k y e differ) ∙ so.same_agenda k e within
   ];
   behind = λ k e within. elim (cases_eq k place) [
     | inl same ↦
         let own : enters d batch.link k ≡ true = ap (enters d batch.link) (same ∙ at) ∙ ends in
-        ap (λ (s : Driven). s.inbox.items) (here k e same) ∙ pushed
-        ∙ ap (λ (s : Driven). s.inbox.items ++ batch ∷ []) (was k e same)
+        ap (λ (s : RunBridge). s.inbox.items) (here k e same) ∙ pushed
+        ∙ ap (λ (s : RunBridge). s.inbox.items ++ batch ∷ []) (was k e same)
         ∙ ap (λ (ys : List LinkBatch). ys ++ batch ∷ []) (so.behind k e within)
         ∙ append_assoc (get_or before k e).inbox.items (filter (into k) batches) (batch ∷ [])
         ∙ ap (λ (ys : List LinkBatch). (get_or before k e).inbox.items ++ ys) (sym (one_filtered (into k) batches batch true own))
     | inr differ ↦
-        ap (λ (s : Driven). s.inbox.items) (get_or-set_other after place k y e differ)
+        ap (λ (s : RunBridge). s.inbox.items) (get_or-set_other after place k y e differ)
         ∙ so.behind k e within
         ∙ ap (λ (ys : List LinkBatch). (get_or before k e).inbox.items ++ ys)
         (sym (one_filtered (into k) batches batch false (other k differ) ∙ append-nil (filter (into k) batches)))
@@ -220,11 +220,11 @@ one_handed d batches before after batch x y bridge place ends only at inside the
     into k z = enters d z.link k
 
     -- what stands there then
-    here : (k : ℕ) (e : Driven) → k ≡ place → get_or (set after place y) k e ≡ y
+    here : (k : ℕ) (e : RunBridge) → k ≡ place → get_or (set after place y) k e ≡ y
     here k e same = ap (λ (j : ℕ). get_or (set after place y) j e) same ∙ get_or-set_same after place y e inside
 
     -- and stood there
-    was : (k : ℕ) (e : Driven) → k ≡ place → x ≡ get_or after k e
+    was : (k : ℕ) (e : RunBridge) → k ≡ place → x ≡ get_or after k e
     was k e same = there ∙ get_or_default after place x e inside ∙ ap (λ (j : ℕ). get_or after j e) (sym same)
 
     -- another bridge isn't the link's end

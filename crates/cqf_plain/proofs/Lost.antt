@@ -20,14 +20,14 @@ use Rattle.cqf_laws_cycle.specs.Gathered.{FramesAreTakenInOrder, IsInOrderOf, ga
 use Rattle.cqf_bridge.specs.Batch.{LinkBatch}
 use Rattle.cqf_bridge.specs.Receiving.{links_into}
 use Rattle.cqf_bridge.specs.Taking.{CanGather, gathered_by}
-use Rattle.cqf_bridge_turn.specs.Agenda.{offers_listed_at}
-use Rattle.cqf_laws_bridge.specs.Follows.{batch_of, batches_into}
-use Rattle.cqf_laws_bridge.specs.Verdicts.{EachCycleIsAnew}
-use Rattle.cqf_plain.specs.declared.driven.Driven.{Driven}
+use Rattle.cqf_bridge.specs.Agenda.{offers_listed_at}
+use Rattle.cqf_bridge.specs.Follows.{batch_of, batches_into}
+use Rattle.cqf_bridge.specs.Verdicts.{EachCycleIsAnew}
+use Rattle.cqf_plain.specs.declared.driven.RunBridge.{RunBridge}
 use Rattle.cqf_plain.specs.Driven.{HasCome, IsCycleOf}
 use Rattle.cqf_plain.specs.Losing.{IsLossFound}
 
-module _ (run : Run) (net : Network) (cycle bridge : ℕ) (s : Driven) (of : IsCycleOf run net cycle) (come : HasCome run net cycle bridge s) where
+module _ (run : Run) (net : Network) (cycle bridge : ℕ) (s : RunBridge) (of : IsCycleOf run net cycle) (come : HasCome run net cycle bridge s) where
   -- what a link sends in the cycle
   abbrev sent_in : Carried
   sent_in m = batch run.domain net.carried m cycle

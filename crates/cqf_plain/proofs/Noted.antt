@@ -16,7 +16,7 @@ use Rattle.cqf_lists.proofs.Members.{contains_none}
 use Rattle.cqf_port.specs.NextStart.{StartsNext}
 use Rattle.cqf_bridge.specs.PortRecord.{PortRecord}
 use Rattle.cqf_bridge.specs.Quiet.{IsNextStartOf}
-use Rattle.cqf_plain.specs.declared.driven.Driven.{Driven}
+use Rattle.cqf_plain.specs.declared.driven.RunBridge.{RunBridge}
 use Rattle.cqf_plain.specs.Due.{AreNextStarts, HasNothing, IsAmong, IsNoted, Moment, Moments, NoneBefore, NothingComes, by_moment, ports_of}
 
 -- what compares as not greater isn't later
@@ -110,9 +110,9 @@ nothing_due due none = record {
 }
 
 -- the ports of one bridge more
-pub ports_more : (xs : List Driven) (s : Driven) → ports_of (xs ++ s ∷ []) ≡ ports_of xs ++ s.bridge.ports
+pub ports_more : (xs : List RunBridge) (s : RunBridge) → ports_of (xs ++ s ∷ []) ≡ ports_of xs ++ s.bridge.ports
 ports_more xs s =
-    flat_map-append (λ (y : Driven). y.bridge.ports) xs (s ∷ []) ∙ ap (λ (rs : List PortRecord). ports_of xs ++ rs) (append-nil s.bridge.ports)
+    flat_map-append (λ (y : RunBridge). y.bridge.ports) xs (s ∷ []) ∙ ap (λ (rs : List PortRecord). ports_of xs ++ rs) (append-nil s.bridge.ports)
 
 -- the first of some
 first_of : {X : Type 0} (xs : List X) → 0 < length xs → X
@@ -134,17 +134,17 @@ pub all_noted : (due : Moments) (ports own : List PortRecord) (place : ℕ) → 
 all_noted due ports own place past so = subst (λ (rs : List PortRecord). AreNextStarts due (ports ++ rs)) (take_all place own past) so
 
 -- those of one bridge more
-pub bridge_noted : (due : Moments) (bridges : List Driven) (place : ℕ) (s : Driven) → place < length bridges →
+pub bridge_noted : (due : Moments) (bridges : List RunBridge) (place : ℕ) (s : RunBridge) → place < length bridges →
     AreNextStarts due (ports_of (take place bridges) ++ (get_or bridges place s).bridge.ports) → AreNextStarts due (ports_of (take (place + 1) bridges))
 bridge_noted due bridges place s inside so =
     subst (AreNextStarts due)
     (sym (ap ports_of (take_more bridges place s inside) ∙ ports_more (take place bridges) (get_or bridges place s))) so
 
 -- nothing comes to one bridge more
-pub nothing_more : (cycle : ℕ) (bridges : List Driven) (place : ℕ) (s : Driven) → place < length bridges → s ≡ get_or bridges place s →
+pub nothing_more : (cycle : ℕ) (bridges : List RunBridge) (place : ℕ) (s : RunBridge) → place < length bridges → s ≡ get_or bridges place s →
     NothingComes cycle (take place bridges) → HasNothing cycle s → NothingComes cycle (take (place + 1) bridges)
 nothing_more cycle bridges place s inside is so more =
-    subst (NothingComes cycle) (sym (take_more bridges place s inside ∙ ap (λ (x : Driven). take place bridges ++ x ∷ []) (sym is)))
+    subst (NothingComes cycle) (sym (take_more bridges place s inside ∙ ap (λ (x : RunBridge). take place bridges ++ x ∷ []) (sym is)))
     (λ x held. elim (Contains-push_cases (take place bridges) s x held) [
       | inl old ↦ so x old
       | inr new ↦ subst (HasNothing cycle) new more

@@ -24,10 +24,10 @@ use Rattle.cqf_bridge.specs.Batch.{LinkBatch}
 use Rattle.cqf_bridge.specs.BridgeState.{end_of_cycle, links_from}
 use Rattle.cqf_bridge.specs.PortRecord.{PortRecord}
 use Rattle.cqf_bridge.specs.Quiet.{IsQuiet, MayPass, passed, rested}
-use Rattle.cqf_laws_bridge.specs.Cycles.{GivesTheDrops, ReceivingFollows, SendingFollows, drops_of_cycle}
-use Rattle.cqf_laws_bridge.specs.Follows.{batch_of, batches_from, batches_into}
-use Rattle.cqf_laws_bridge.specs.Verdicts.{LosesNothingIn, VerdictsAreTheRuns}
-use Rattle.cqf_plain.specs.declared.driven.Driven.{Driven}
+use Rattle.cqf_bridge.specs.Cycles.{GivesTheDrops, ReceivingFollows, SendingFollows, drops_of_cycle}
+use Rattle.cqf_bridge.specs.Follows.{batch_of, batches_from, batches_into}
+use Rattle.cqf_bridge.specs.Verdicts.{LosesNothingIn, VerdictsAreTheRuns}
+use Rattle.cqf_plain.specs.declared.driven.RunBridge.{RunBridge}
 use Rattle.cqf_plain.specs.SoFar.{SoFarState, IsAt, IsQuietCycle}
 use Rattle.cqf_plain.specs.Driven.{AllStandBefore, FirstLoseNothing, IsCycleOf, StandsBeforeCycle, StandsHalfway, drops_of_first, none_yet}
 use Rattle.cqf_plain.specs.Due.{AreNextStarts, HasNothing, IsNoted, NoneBefore, driven_past, ports_of}
@@ -43,7 +43,7 @@ no_members [] h = refl
 no_members (x ∷ xs) h = absurd (h x (contains_here x xs))
 
 module _ (run : Run) (net : Network) (cycle : ℕ) (of : IsCycleOf run net cycle) where
-  module _ (k : ℕ) (s : Driven) (st : StandsBeforeCycle run net cycle k s) (quiet : (r : PortRecord) → Contains s.bridge.ports r →
+  module _ (k : ℕ) (s : RunBridge) (st : StandsBeforeCycle run net cycle k s) (quiet : (r : PortRecord) → Contains s.bridge.ports r →
       IsQuiet (end_of_cycle s.bridge.domain cycle) r)
       (nothing : HasNothing cycle s) (law : SendingFollows) where
     -- halfway it has sent the cycle as the network does
@@ -124,13 +124,14 @@ module _ (run : Run) (net : Network) (cycle : ℕ) (of : IsCycleOf run net cycle
   module _ (c : SoFarState) (at : IsAt run net cycle c) (d : Domain) (is_domain : run.domain ≡ d) (quiet : IsQuietCycle d cycle c)
       (part : LegalPartIsLegal) where
     -- a bridge of the run
-    stands : (s : Driven) → Contains c.bridges s → (k : ℕ) × (k < length run.domain.bridges) × StandsBeforeCycle run net cycle k s
+    stands : (s : RunBridge) → Contains c.bridges s → (k : ℕ) × (k < length run.domain.bridges) × StandsBeforeCycle run net cycle k s
     stands s held =
         let below : held.0 < length run.domain.bridges = omega (arith, held.1, at.stand.one_each) in
         (held.0, below, subst (StandsBeforeCycle run net cycle held.0) held.2 (at.stand.each held.0 s below))
 
     -- the instant up to which a port has run
-    port_reached : (s : Driven) → Contains c.bridges s → (r : PortRecord) → Contains s.bridge.ports r → r.port.reached ≡ cycle * run.domain.cycle_time
+    port_reached : (s : RunBridge) → Contains c.bridges s → (r : PortRecord) → Contains s.bridge.ports r →
+        r.port.reached ≡ cycle * run.domain.cycle_time
     port_reached s held r port =
         let st = (stands s held).2 in
         (st.follows.ports r port).reached ∙ ap (λ (n : ℕ). n * run.domain.cycle_time) st.own.received
@@ -142,18 +143,19 @@ module _ (run : Run) (net : Network) (cycle : ℕ) (of : IsCycleOf run net cycle
     none_start = subst (λ (x : Domain). NoneBefore (end_of_cycle x cycle) c.due) (sym is_domain) quiet.none_start
 
     -- none of its ports starts a frame
-    port_quiet : (s : Driven) → Contains c.bridges s → (r : PortRecord) → Contains s.bridge.ports r → IsQuiet (end_of_cycle s.bridge.domain cycle) r
+    port_quiet : (s : RunBridge) → Contains c.bridges s → (r : PortRecord) → Contains s.bridge.ports r →
+        IsQuiet (end_of_cycle s.bridge.domain cycle) r
     port_quiet s held r port =
         let st = (stands s held).2 in
         let has = st.follows.ports r port in
         let reached = port_reached s held r port in
         subst (λ (x : Domain). IsQuiet (end_of_cycle x cycle) r) (sym st.own.domain)
-        (noted_quiet part c.due r (end_of_cycle run.domain cycle) (at.due.noted r (contains_flat (λ (x : Driven). x.bridge.ports) c.bridges s r held port))
+        (noted_quiet part c.due r (end_of_cycle run.domain cycle) (at.due.noted r (contains_flat (λ (x : RunBridge). x.bridge.ports) c.bridges s r held port))
         (omega (arith, reached, ends_later))
         (λ place t started. omega (arith, has.legal.before_end place t started, has.reached, reached, ends_later)) none_start)
 
     -- so it may pass over the cycle
-    pub may_pass : cycle < 100000 → (s : Driven) → Contains c.bridges s → MayPass s.bridge cycle
+    pub may_pass : cycle < 100000 → (s : RunBridge) → Contains c.bridges s → MayPass s.bridge cycle
     may_pass early s held =
         let st = (stands s held).2 in
         record {
@@ -167,17 +169,17 @@ module _ (run : Run) (net : Network) (cycle : ℕ) (of : IsCycleOf run net cycle
     module _ (sending : SendingFollows) (taken : FramesAreTakenInOrder) (receiving : ReceivingFollows) (verdicts : VerdictsAreTheRuns)
         (losses : LossesAreOfCycles) where
       -- the bridge of a number
-      abbrev bridge_at : ℕ → Driven → Driven
+      abbrev bridge_at : ℕ → RunBridge → RunBridge
       bridge_at k e = get_or c.bridges k e
 
-      held_at : (k : ℕ) (e : Driven) → k < length run.domain.bridges → Contains c.bridges (bridge_at k e)
+      held_at : (k : ℕ) (e : RunBridge) → k < length run.domain.bridges → Contains c.bridges (bridge_at k e)
       held_at k e inside = Contains-get_or c.bridges k e (omega (arith, inside, at.stand.one_each))
 
       -- some bridge, where there is a place
-      any_at : (k : ℕ) → k < length run.domain.bridges → Driven
+      any_at : (k : ℕ) → k < length run.domain.bridges → RunBridge
       any_at k inside = first_of c.bridges (omega (arith, inside, at.stand.one_each))
         where
-          first_of : (xs : List Driven) → 0 < length xs → Driven
+          first_of : (xs : List RunBridge) → 0 < length xs → RunBridge
           first_of [] none = absurd (omega (arith, none))
           first_of (x ∷ xs) some = x
 
@@ -237,22 +239,22 @@ module _ (run : Run) (net : Network) (cycle : ℕ) (of : IsCycleOf run net cycle
       due_past : AreNextStarts c.due (ports_of (map (driven_past cycle) c.bridges))
       due_past = record {
         noted = λ r held.
-            let f = contains_from_flat (λ (x : Driven). x.bridge.ports) (map (driven_past cycle) c.bridges) r held in
+            let f = contains_from_flat (λ (x : RunBridge). x.bridge.ports) (map (driven_past cycle) c.bridges) r held in
             let g = contains_from_map (driven_past cycle) c.bridges f.0 f.1 in
-            let there : Contains (driven_past cycle g.0).bridge.ports r = subst (λ (x : Driven). Contains x.bridge.ports r) (sym g.2) f.2 in
+            let there : Contains (driven_past cycle g.0).bridge.ports r = subst (λ (x : RunBridge). Contains x.bridge.ports r) (sym g.2) f.2 in
             let h = contains_from_map (rested (end_of_cycle g.0.bridge.domain cycle)) g.0.bridge.ports r there in
             subst (IsNoted c.due) h.2
             (subst (λ (x : Domain). IsNoted c.due (rested (end_of_cycle x cycle) h.0)) (sym (stands g.0 g.1).2.own.domain)
             (noted_rested c.due h.0 (end_of_cycle run.domain cycle)
-            (at.due.noted h.0 (contains_flat (λ (x : Driven). x.bridge.ports) c.bridges g.0 h.0 g.1 h.1))
+            (at.due.noted h.0 (contains_flat (λ (x : RunBridge). x.bridge.ports) c.bridges g.0 h.0 g.1 h.1))
             (omega (arith, port_reached g.0 g.1 h.0 h.1, ends_later)) none_start));
         only = λ k among.
             let w = at.due.only k among in
-            let f = contains_from_flat (λ (x : Driven). x.bridge.ports) c.bridges w.0 w.1 in
+            let f = contains_from_flat (λ (x : RunBridge). x.bridge.ports) c.bridges w.0 w.1 in
             let end = end_of_cycle f.0.bridge.domain cycle in
             let upto : end ≤ k.0.0 = subst (λ (x : Domain). end_of_cycle x cycle ≤ k.0.0) (sym (stands f.0 f.1).2.own.domain) (none_start k among) in (
               rested end w.0,
-              contains_flat (λ (x : Driven). x.bridge.ports) (map (driven_past cycle) c.bridges) (driven_past cycle f.0) (rested end w.0)
+              contains_flat (λ (x : RunBridge). x.bridge.ports) (map (driven_past cycle) c.bridges) (driven_past cycle f.0) (rested end w.0)
                   (contains_map (driven_past cycle) c.bridges f.0 f.1) (contains_map (rested end) f.0.bridge.ports w.0 f.2),
               starts_rested w.0 k.0.0 end w.2 upto,
               w.3,

@@ -13,8 +13,8 @@ use Rattle.cqf_model.specs.Network.{IsLoss}
 use Rattle.cqf_model.specs.Table.{table_of}
 use Rattle.cqf_model.specs.Traffic.{Policed, Received, police, police_all}
 use Rattle.cqf_model.proofs.Policing.{police_more}
-use Rattle.cqf_bridge_gates.specs.declared.cycle_gate.KeptGate.{KeptGate}
-use Rattle.cqf_bridge_gates.specs.Gates.{HaveCounted}
+use Rattle.cqf_bridge.specs.declared.cycle_gate.KeptGate.{KeptGate}
+use Rattle.cqf_bridge.specs.Gates.{HaveCounted}
 use Rattle.cqf_plain.specs.Losing.{IsFirstLost, NoneIsLost}
 
 -- frames that were policed, none of which is lost: the gates have counted them

@@ -19,11 +19,11 @@ use Rattle.cqf_bridge.specs.declared.faults.BridgeFault.TheVariants as fault
 use Rattle.cqf_bridge.specs.Batch.{LinkBatch}
 use Rattle.cqf_bridge.specs.BridgeState.{BridgeState}
 use Rattle.cqf_bridge.specs.Receiving.{AreBatchesOf, Handed, IsReceiveFault, IsRunOfBridge, ReceivesCycle, verdicts_in}
-use Rattle.cqf_bridge_turn.specs.Agenda.{AgendaOf, IsAgendaOf, offers_listed_at}
-use Rattle.cqf_laws_bridge.specs.Cycles.{GivesTheDrops, OffersAreOfTheBridge, ReceivingFollows, drops_of_cycle}
-use Rattle.cqf_laws_bridge.specs.Follows.{batches_into}
-use Rattle.cqf_laws_bridge.specs.Verdicts.{LosesNothingIn, UnlostBatchesMayCome, VerdictsAreTheRuns}
-use Rattle.cqf_plain.specs.declared.driven.Driven.{Driven}
+use Rattle.cqf_bridge.specs.Agenda.{AgendaOf, IsAgendaOf, offers_listed_at}
+use Rattle.cqf_bridge.specs.Cycles.{GivesTheDrops, OffersAreOfTheBridge, ReceivingFollows, drops_of_cycle}
+use Rattle.cqf_bridge.specs.Follows.{batches_into}
+use Rattle.cqf_bridge.specs.Verdicts.{LosesNothingIn, UnlostBatchesMayCome, VerdictsAreTheRuns}
+use Rattle.cqf_plain.specs.declared.driven.RunBridge.{RunBridge}
 use Rattle.cqf_plain.specs.declared.faults.RunFault.{RunFault}
 use Rattle.cqf_plain.specs.declared.faults.RunFault.TheVariants.{WrongTables, Inside, Memory}
 use Rattle.cqf_plain.specs.Driven.{AllStandBefore, AllStandHalfway, FirstLoseNothing, HasCome, IsCycleOf, IsTableOf}
@@ -45,7 +45,7 @@ module _ (run : Run) (net : Network) (table : CycleTable) (of : IsCycleOf run ne
   abbrev cycle : ℕ
   cycle = table.cycle
 
-  module _ (bridge : ℕ) (s : Driven) (st : StandsHalfway run net cycle (all_of run net cycle) bridge s) (batches : List LinkBatch) (offers : List Offered)
+  module _ (bridge : ℕ) (s : RunBridge) (st : StandsHalfway run net cycle (all_of run net cycle) bridge s) (batches : List LinkBatch) (offers : List Offered)
       (are : batches ≡ s.inbox.items) (offered : offers ≡ offers_listed_at s.agenda cycle) where
     batches_are : batches ≡ batches_into run.domain net.carried bridge cycle
     batches_are = are ∙ st.came_are
@@ -68,7 +68,7 @@ module _ (run : Run) (net : Network) (table : CycleTable) (of : IsCycleOf run ne
         (λ i. verdicts_in run (st.own.number i) cycle (batches_are i)) ∙ law run (length run.tables) cycle bridge net of.compiled
 
     -- it receives the cycle
-    pub received_so : ReceivingFollows → VerdictsAreTheRuns → (after : Driven) (drops : List Dropped) →
+    pub received_so : ReceivingFollows → VerdictsAreTheRuns → (after : RunBridge) (drops : List Dropped) →
         ReceivesCycle run s.bridge after.bridge cycle batches drops → after.agenda ≡ s.agenda → after.inbox.items ≡ [] →
         ReceivesOne run net cycle bridge after drops
     received_so law verdicts after drops receives agenda none =
@@ -95,7 +95,7 @@ module _ (run : Run) (net : Network) (table : CycleTable) (of : IsCycleOf run ne
         }
 
     -- or it doesn't
-    module _ (after : Driven) (f : BridgeFault)
+    module _ (after : RunBridge) (f : BridgeFault)
         (refused : IsReceiveFault run s.bridge after.bridge cycle (record { table_cycle = table.cycle; rows = table.rows; batches = batches }) f) where
       -- then all has come to it
       pub come_so : after.agenda ≡ s.agenda → after.inbox.items ≡ s.inbox.items → HasCome run net cycle bridge after
@@ -131,14 +131,14 @@ module _ (run : Run) (net : Network) (table : CycleTable) (of : IsCycleOf run ne
     lost_so verdicts may_come after fault.Memory refused other none = other refl
 
   -- the first bridges have received it
-  pub record FirstHaveReceived (count : ℕ) (bridges : List Driven) (drops drops_after : List Dropped) : Type 0 where
+  pub record FirstHaveReceived (count : ℕ) (bridges : List RunBridge) (drops drops_after : List Dropped) : Type 0 where
     pub turned : AreTurned (StandsHalfway run net cycle (all_of run net cycle)) (StandsBeforeCycle run net (cycle + 1))
         (length run.domain.bridges) count bridges
     pub dropped : drops_after ≡ drops ++ drops_of_first run net cycle count
     pub none_lost : FirstLoseNothing run net cycle count
 
   -- at first none has
-  pub none_received : (bridges : List Driven) (drops : List Dropped) → AllStandHalfway run net cycle (all_of run net cycle) bridges →
+  pub none_received : (bridges : List RunBridge) (drops : List Dropped) → AllStandHalfway run net cycle (all_of run net cycle) bridges →
       FirstHaveReceived 0 bridges drops drops
   none_received bridges drops all = record {
     turned = none_turned (StandsHalfway run net cycle (all_of run net cycle)) (StandsBeforeCycle run net (cycle + 1)) (length run.domain.bridges) bridges all;
@@ -147,14 +147,15 @@ module _ (run : Run) (net : Network) (table : CycleTable) (of : IsCycleOf run ne
   }
 
   -- the next still stands halfway through it
-  pub next_receives : (count : ℕ) (bridges : List Driven) (drops now : List Dropped) (x : Driven) → FirstHaveReceived count bridges drops now →
+  pub next_receives : (count : ℕ) (bridges : List RunBridge) (drops now : List Dropped) (x : RunBridge) → FirstHaveReceived count bridges drops now →
       count < length run.domain.bridges → x ≡ get_or bridges count x → StandsHalfway run net cycle (all_of run net cycle) count x
   next_receives count bridges drops now x so inside is =
       next_was (StandsHalfway run net cycle (all_of run net cycle)) (StandsBeforeCycle run net (cycle + 1)) (length run.domain.bridges) count
       bridges x so.turned inside is
 
   -- then one more
-  pub one_received : (count place : ℕ) (bridges after : List Driven) (drops now now_after : List Dropped) (dropped : List Dropped) (y : Driven) →
+  pub one_received : (count place : ℕ) (bridges after : List RunBridge) (drops now now_after : List Dropped) (dropped : List Dropped)
+      (y : RunBridge) →
       FirstHaveReceived count bridges drops now → count < length run.domain.bridges → place ≡ count → after ≡ set bridges place y →
       ReceivesOne run net cycle count y dropped → now_after ≡ now ++ dropped → FirstHaveReceived (count + 1) after drops now_after
   one_received count place bridges after drops now now_after dropped y so inside at is more listed =
@@ -173,7 +174,7 @@ module _ (run : Run) (net : Network) (table : CycleTable) (of : IsCycleOf run ne
       }
 
   -- or one doesn't
-  pub one_stops : (count : ℕ) (bridges : List Driven) (drops now : List Dropped) (f : RunFault) → FirstHaveReceived count bridges drops now →
+  pub one_stops : (count : ℕ) (bridges : List RunBridge) (drops now : List Dropped) (f : RunFault) → FirstHaveReceived count bridges drops now →
       count < length run.domain.bridges → IsFaultAtBridge run net cycle count f → IsFaultInCycle run net cycle f
   one_stops count bridges drops now WrongTables so inside stop = stop
   one_stops count bridges drops now (Inside frame) so inside stop = record {
@@ -185,16 +186,16 @@ module _ (run : Run) (net : Network) (table : CycleTable) (of : IsCycleOf run ne
   one_stops count bridges drops now Memory so inside stop = tt
 
   -- in the end all have
-  pub all_before : (count : ℕ) (bridges : List Driven) (drops now : List Dropped) → FirstHaveReceived count bridges drops now →
+  pub all_before : (count : ℕ) (bridges : List RunBridge) (drops now : List Dropped) → FirstHaveReceived count bridges drops now →
       count ≡ length run.domain.bridges → AllStandBefore run net (cycle + 1) bridges
   all_before count bridges drops now so past =
       all_turned (StandsHalfway run net cycle (all_of run net cycle)) (StandsBeforeCycle run net (cycle + 1)) (length run.domain.bridges)
       count bridges so.turned (omega (arith, past))
 
-  pub all_dropped : (count : ℕ) (bridges : List Driven) (drops now : List Dropped) → FirstHaveReceived count bridges drops now →
+  pub all_dropped : (count : ℕ) (bridges : List RunBridge) (drops now : List Dropped) → FirstHaveReceived count bridges drops now →
       count ≡ length run.domain.bridges → now ≡ drops ++ drops_of_first run net cycle (length run.domain.bridges)
   all_dropped count bridges drops now so past = so.dropped ∙ ap (λ (n : ℕ). drops ++ drops_of_first run net cycle n) past
 
-  pub all_unlost : (count : ℕ) (bridges : List Driven) (drops now : List Dropped) → FirstHaveReceived count bridges drops now →
+  pub all_unlost : (count : ℕ) (bridges : List RunBridge) (drops now : List Dropped) → FirstHaveReceived count bridges drops now →
       count ≡ length run.domain.bridges → FirstLoseNothing run net cycle (length run.domain.bridges)
   all_unlost count bridges drops now so past = subst (FirstLoseNothing run net cycle) past so.none_lost

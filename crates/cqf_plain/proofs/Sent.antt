@@ -10,17 +10,17 @@ use Rattle.cqf_bridge.specs.declared.faults.BridgeFault.TheVariants.{Memory}
 use Rattle.cqf_bridge.specs.Batch.{LinkBatch}
 use Rattle.cqf_bridge.specs.BridgeState.{AreBackedOf, BridgeState, SendsCycle}
 use Rattle.cqf_bridge.specs.Faults.{IsSendFault}
-use Rattle.cqf_bridge_turn.specs.Agenda.{background_at}
-use Rattle.cqf_laws_bridge.specs.Cycles.{BackgroundIsOfTheBridge, GivesTheBatches, SendingFollows}
-use Rattle.cqf_laws_bridge.specs.Follows.{batches_from}
-use Rattle.cqf_laws_bridge.specs.NoFaults.{SendsButForMemory}
-use Rattle.cqf_plain.specs.declared.driven.Driven.{Driven}
+use Rattle.cqf_bridge.specs.Agenda.{background_at}
+use Rattle.cqf_bridge.specs.Cycles.{BackgroundIsOfTheBridge, GivesTheBatches, SendingFollows}
+use Rattle.cqf_bridge.specs.Follows.{batches_from}
+use Rattle.cqf_bridge.specs.NoFaults.{SendsButForMemory}
+use Rattle.cqf_plain.specs.declared.driven.RunBridge.{RunBridge}
 use Rattle.cqf_plain.specs.Driven.{AllStandBefore, HaveAllSentCycle, IsCycleOf, StandsBeforeCycle, StandsHalfway, none_yet, sent_by_first}
 use Rattle.cqf_plain.proofs.Turning.{all_turned, next_was, none_turned, one_turned}
 use Rattle.cqf_plain.proofs.Turning.{AreTurned}
 
 module _ (run : Run) (net : Network) (cycle : ℕ) (of : IsCycleOf run net cycle) where
-  module _ (bridge : ℕ) (s : Driven) (st : StandsBeforeCycle run net cycle bridge s) (given : List Backed) (is : given ≡ background_at s.agenda cycle) where
+  module _ (bridge : ℕ) (s : RunBridge) (st : StandsBeforeCycle run net cycle bridge s) (given : List Backed) (is : given ≡ background_at s.agenda cycle) where
     -- what the agenda has of the cycle is what the run has for the bridge
     given_is : given ≡ backed_for run.domain run.background bridge cycle
     given_is = is ∙ st.own.agenda.background_are cycle
@@ -66,25 +66,25 @@ module _ (run : Run) (net : Network) (cycle : ℕ) (of : IsCycleOf run net cycle
     memory_so law after fault h = law cycle s.bridge after fault st.follows.of_run.not_spent (sym st.own.received, st.follows.turn) h
 
   -- the first bridges have sent
-  pub record FirstHaveSent (count : ℕ) (bridges : List Driven) (batches : List LinkBatch) : Type 0 where
+  pub record FirstHaveSent (count : ℕ) (bridges : List RunBridge) (batches : List LinkBatch) : Type 0 where
     pub turned : AreTurned (StandsBeforeCycle run net cycle) (StandsHalfway run net cycle none_yet) (length run.domain.bridges) count bridges
     pub batches_are : batches ≡ sent_by_first run net cycle count
 
   -- at first none has
-  pub none_sent : (bridges : List Driven) (batches : List LinkBatch) → batches ≡ [] → AllStandBefore run net cycle bridges → FirstHaveSent 0 bridges batches
+  pub none_sent : (bridges : List RunBridge) (batches : List LinkBatch) → batches ≡ [] → AllStandBefore run net cycle bridges → FirstHaveSent 0 bridges batches
   none_sent bridges batches none all = record {
     turned = none_turned (StandsBeforeCycle run net cycle) (StandsHalfway run net cycle none_yet) (length run.domain.bridges) bridges all;
     batches_are = none;
   }
 
   -- the next still stands before the cycle
-  pub next_sends : (count : ℕ) (bridges : List Driven) (batches : List LinkBatch) (x : Driven) → FirstHaveSent count bridges batches →
+  pub next_sends : (count : ℕ) (bridges : List RunBridge) (batches : List LinkBatch) (x : RunBridge) → FirstHaveSent count bridges batches →
       count < length run.domain.bridges → x ≡ get_or bridges count x → StandsBeforeCycle run net cycle count x
   next_sends count bridges batches x so inside is =
       next_was (StandsBeforeCycle run net cycle) (StandsHalfway run net cycle none_yet) (length run.domain.bridges) count bridges x so.turned inside is
 
   -- then one more
-  pub one_sent : (count place : ℕ) (bridges after : List Driven) (batches batches_after : List LinkBatch) (y : Driven) → FirstHaveSent count bridges batches →
+  pub one_sent : (count place : ℕ) (bridges after : List RunBridge) (batches batches_after : List LinkBatch) (y : RunBridge) → FirstHaveSent count bridges batches →
       count < length run.domain.bridges → place ≡ count → after ≡ set bridges place y → StandsHalfway run net cycle none_yet count y →
       batches_after ≡ batches ++ batches_from run.domain net.carried count cycle → FirstHaveSent (count + 1) after batches_after
   one_sent count place bridges after batches batches_after y so inside at more is given =
@@ -97,7 +97,7 @@ module _ (run : Run) (net : Network) (cycle : ℕ) (of : IsCycleOf run net cycle
       }
 
   -- in the end all have
-  pub all_sent : (count : ℕ) (bridges : List Driven) (batches : List LinkBatch) → FirstHaveSent count bridges batches → count ≡ length run.domain.bridges →
+  pub all_sent : (count : ℕ) (bridges : List RunBridge) (batches : List LinkBatch) → FirstHaveSent count bridges batches → count ≡ length run.domain.bridges →
       HaveAllSentCycle run net cycle bridges batches
   all_sent count bridges batches so past = record {
     halfway = all_turned (StandsBeforeCycle run net cycle) (StandsHalfway run net cycle none_yet) (length run.domain.bridges) count bridges

@@ -9,8 +9,8 @@ use Rattle.cqf_units.specs.declared.timing.Nanos.{Nanos}
 use Rattle.cqf_port.specs.NextStart.{StartsNext, StartsNoMore}
 use Rattle.cqf_bridge.specs.PortRecord.{PortRecord}
 use Rattle.cqf_bridge.specs.Quiet.{passed}
-use Rattle.cqf_bridge_turn.specs.Agenda.{background_at, offers_listed_at}
-use Rattle.cqf_plain.specs.declared.driven.Driven.{Driven}
+use Rattle.cqf_bridge.specs.Agenda.{background_at, offers_listed_at}
+use Rattle.cqf_plain.specs.declared.driven.RunBridge.{RunBridge}
 
 -- an instant, and the link on which a frame starts then
 abbrev pub Moment : Type 0
@@ -42,18 +42,18 @@ abbrev pub NoneBefore : ℕ → Moments → Type 0
 NoneBefore end due = (k : Moment) → IsAmong due k → end ≤ k.0.0
 
 -- the ports of all bridges
-abbrev pub ports_of : List Driven → List PortRecord
-ports_of bridges = flat_map (λ (s : Driven). s.bridge.ports) bridges
+abbrev pub ports_of : List RunBridge → List PortRecord
+ports_of bridges = flat_map (λ (s : RunBridge). s.bridge.ports) bridges
 
 -- the run has nothing for a bridge in a cycle, neither offers nor background frames
-pub record HasNothing (cycle : ℕ) (s : Driven) : Type 0 where
+pub record HasNothing (cycle : ℕ) (s : RunBridge) : Type 0 where
   pub no_offers : offers_listed_at s.agenda cycle ≡ []
   pub no_background : background_at s.agenda cycle ≡ []
 
 -- nor for any of the bridges
-abbrev pub NothingComes : ℕ → List Driven → Type 0
-NothingComes cycle bridges = (s : Driven) → Contains bridges s → HasNothing cycle s
+abbrev pub NothingComes : ℕ → List RunBridge → Type 0
+NothingComes cycle bridges = (s : RunBridge) → Contains bridges s → HasNothing cycle s
 
 -- a bridge that has passed over a cycle
-abbrev pub driven_past : ℕ → Driven → Driven
+abbrev pub driven_past : ℕ → RunBridge → RunBridge
 driven_past cycle s = record s { bridge = passed cycle s.bridge }

@@ -1,11 +1,8 @@
 -- Which frame is lost inside.
-use Rattle.std.specs.Prelude.{ℕ, ◌≡◌, ◌+◌, ◌≤◌, ◌<◌, [], Contains, List, Option, Some, None, length, take}
-use Rattle.cqf_model.specs.declared.topology.Row.{Row}
-use Rattle.cqf_model.specs.Domain.{Domain}
+use Rattle.std.specs.Prelude.{ℕ, ◌≡◌, ◌<◌, Contains, List, Option, Some, None, length}
 use Rattle.cqf_model.specs.Network.{IsLoss, Network}
 use Rattle.cqf_model.specs.Run.{Run}
-use Rattle.cqf_model.specs.Table.{table_of}
-use Rattle.cqf_model.specs.Traffic.{Policed, Received, police_all}
+use Rattle.cqf_model.specs.Traffic.{Policed}
 use Rattle.cqf_laws_cycle.specs.BridgeCycle.{policed_of}
 use Rattle.cqf_plain.specs.declared.faults.RunFault.{RunFault}
 use Rattle.cqf_plain.specs.declared.faults.RunFault.TheVariants.{WrongTables, Inside, Memory}

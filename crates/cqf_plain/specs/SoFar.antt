@@ -12,7 +12,7 @@ use Rattle.cqf_model.specs.Traffic.{Policed}
 use Rattle.cqf_laws_cycle.specs.BridgeCycle.{IsCompiledNetwork}
 use Rattle.cqf_admission.specs.Tables.{CycleTable}
 use Rattle.cqf_bridge.specs.BridgeState.{end_of_cycle}
-use Rattle.cqf_plain.specs.declared.driven.Driven.{Driven}
+use Rattle.cqf_plain.specs.declared.driven.RunBridge.{RunBridge}
 use Rattle.cqf_plain.specs.declared.faults.RunFault.{RunFault}
 use Rattle.cqf_plain.specs.declared.faults.RunFault.TheVariants.{WrongTables, Inside, Memory}
 use Rattle.cqf_plain.specs.Driven.{AllStandBefore, AllStandHalfway, IsCycleOf, IsNewlyDriven, IsTableOf, all_of, drops_of_first}
@@ -22,7 +22,7 @@ use Rattle.cqf_plain.specs.Turns.{EachIs}
 
 -- what a run has come to: its bridges, by number, when their ports start next, and its book so far
 pub record SoFarState : Type 0 where
-  pub bridges : List Driven
+  pub bridges : List RunBridge
   pub due : Moments
   pub book : Contents
 

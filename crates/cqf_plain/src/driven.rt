@@ -1,10 +1,9 @@
 //! A bridge that is driven through a run.
-ghost use Rattle.std.specs.Prelude.{◌≡◌, ◌^◌, ◌<◌, IfOk, length};
+ghost use Rattle.std.specs.Prelude.{◌^◌, ◌<◌, IfOk, length};
 ghost use Rattle.cqf_plain.specs.Driven.{IsNewlyDriven};
 ghost use Rattle.cqf_plain.specs.Turns.{EachIs};
 
-use cqf_bridge::{Batch, Bridge};
-use cqf_bridge_turn::Agenda;
+use cqf_bridge::{Agenda, Batch, Bridge};
 use cqf_compile::Plan;
 use cqf_model::{Background, Offer};
 use cqf_units::Memory;
@@ -12,7 +11,7 @@ use std::alloc::Global;
 
 /// A bridge, with what the run has for it and what has come to it.
 #[derive(Debug, Drop)]
-pub(crate) struct Driven {
+pub(crate) struct RunBridge {
     pub(crate) bridge: Bridge,
     pub(crate) agenda: Agenda,
     /// The batches of its cycle that have come by the links that end in it, by number of link.
@@ -26,13 +25,13 @@ fn new_driven(
     offers: &[Offer],
     background: &[Background],
     bridge: u16,
-) -> Result<Driven, Memory>
+) -> Result<RunBridge, Memory>
     requires inside { bridge < length plan.now.bridges }
     requires few_offers { length offers.now < 2 ^ 32 }
     requires few_background { length background.now < 2 ^ 32 }
     ensures { IfOk result (IsNewlyDriven plan.now offers.now background.now bridge) }
 {
-    Ok(Driven {
+    Ok(RunBridge {
         bridge: Bridge::new(alloc, plan, bridge)?,
         agenda: Agenda::new(alloc, plan.domain(), offers, background, bridge)?,
         inbox: Vec::new(alloc),
@@ -45,7 +44,7 @@ pub(crate) fn new_bridges(
     plan: &Plan,
     offers: &[Offer],
     background: &[Background],
-) -> Result<Vec<Driven>, Memory>
+) -> Result<Vec<RunBridge>, Memory>
     requires few_offers { length offers.now < 2 ^ 32 }
     requires few_background { length background.now < 2 ^ 32 }
     ensures { IfOk result (λ bridges.

@@ -4,7 +4,7 @@ ghost use Rattle.cqf_bridge.specs.PortRecord.{PortRecord};
 ghost use Rattle.cqf_bridge.specs.Quiet.{IsNextStartOf};
 ghost use Rattle.cqf_plain.specs.Due.{AreNextStarts, NoneBefore, ports_of};
 
-use crate::driven::Driven;
+use crate::driven::RunBridge;
 use cqf_bridge::Bridge;
 use cqf_units::{Memory, Nanos};
 use std::alloc::Global;
@@ -41,7 +41,7 @@ fn note_starts(bridge: &Bridge, due: &mut BTreeMap<(Nanos, u16), u16>) -> Result
 /// When each port of the bridges starts next, if nothing more comes to it: by instant, then link, with the bridge's number.
 pub(crate) fn next_starts(
     alloc: Global,
-    bridges: &[Driven],
+    bridges: &[RunBridge],
 ) -> Result<BTreeMap<(Nanos, u16), u16>, Memory>
     ensures { IfOk result (λ due. AreNextStarts due.entries (ports_of bridges.now)) }
 {

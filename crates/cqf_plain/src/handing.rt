@@ -1,5 +1,5 @@
 //! What the bridges have sent goes into the book, and along the links.
-ghost use Rattle.std.specs.Prelude.{◌≡◌, ◌++◌, ◌<◌, ℕ, IfNone, IfSome, OnOk, false, length, true};
+ghost use Rattle.std.specs.Prelude.{◌≡◌, ◌<◌, ℕ, IfNone, IfSome, OnOk, false, length, true};
 ghost use Rattle.cqf_model.specs.declared.frames.Started.{Started as AStarted};
 ghost use Rattle.cqf_model.specs.Book.{contents_of};
 ghost use Rattle.cqf_model.specs.Domain.{enters};
@@ -10,9 +10,8 @@ ghost use Rattle.cqf_bridge.specs.Batch.{LinkBatch};
 ghost use Rattle.cqf_plain.specs.SoFar.{ListsCycle};
 ghost use Rattle.cqf_plain.specs.Driven.{AllStandHalfway, AreHandedOut, HaveAllSentCycle, IsCycleOf, ListsBackground, all_of};
 
-use crate::driven::Driven;
-use cqf_bridge::Batch;
-use cqf_bridge_turn::starts_of;
+use crate::driven::RunBridge;
+use cqf_bridge::{Batch, starts_of};
 use cqf_model::{Book, Node, Started};
 use cqf_topology::Domain;
 use cqf_units::Memory;
@@ -35,7 +34,11 @@ fn bridge_at_end(domain: &Domain, link: u16) -> Option<u16>
 }
 
 /// Hands out batches: each goes to the bridge in which its link ends, where it does end in one, behind those that came there.
-fn hand_out(domain: &Domain, batches: Vec<Batch>, bridges: &mut Vec<Driven>) -> Result<(), Memory>
+fn hand_out(
+    domain: &Domain,
+    batches: Vec<Batch>,
+    bridges: &mut Vec<RunBridge>,
+) -> Result<(), Memory>
     requires { length bridges.old.items ≡ length domain.now.bridges }
     ensures { OnOk result (AreHandedOut domain.now batches.items bridges.old.items bridges.new.items) }
 {
@@ -66,7 +69,7 @@ fn sort_by_link(starts: &mut Vec<Started>) -> Result<(), Memory>
 /// Lists the background frames that the bridges started in the cycle that they have sent, by link.
 fn list_background(
     alloc: Global,
-    bridges: &[Driven],
+    bridges: &[RunBridge],
     background: &mut Vec<Started>,
 ) -> Result<(), Memory>
     ensures { OnOk result (ListsBackground bridges.now background.old.items background.new.items) }
@@ -86,7 +89,7 @@ pub(crate) fn pass_on(
     alloc: Global,
     domain: &Domain,
     sent: Vec<Batch>,
-    bridges: &mut Vec<Driven>,
+    bridges: &mut Vec<RunBridge>,
     book: &mut Book,
 ) -> Result<(), Memory>
     requires part { (run : Run) × (net : Network) × (cycle : ℕ) × (run.domain ≡ domain.now) × IsCycleOf run net cycle

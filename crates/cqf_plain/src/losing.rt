@@ -5,20 +5,22 @@ ghost use Rattle.cqf_model.specs.Domain.{cycle_of};
 ghost use Rattle.cqf_model.specs.Network.{IsLoss, Network};
 ghost use Rattle.cqf_model.specs.Run.{Run};
 ghost use Rattle.cqf_model.specs.Table.{table_of};
-ghost use Rattle.cqf_model.specs.Traffic.{Policed, Received, offer_received, police, police_all, sent_received};
+ghost use Rattle.cqf_model.specs.Traffic.{Policed, Received, police, police_all, sent_received};
 ghost use Rattle.cqf_laws_cycle.specs.BridgeCycle.{policed_of};
 ghost use Rattle.cqf_laws_cycle.specs.Gathered.{IsInOrderOf};
 ghost use Rattle.cqf_bridge.specs.Batch.{LinkBatch};
 ghost use Rattle.cqf_bridge.specs.Taking.{CanGather, gathered_by, received_as};
-ghost use Rattle.cqf_bridge_gates.specs.Gates.{HaveCounted};
+ghost use Rattle.cqf_bridge.specs.Gates.{HaveCounted};
 ghost use Rattle.cqf_plain.specs.Driven.{HasCome, IsCycleOf, IsTableOf};
 ghost use Rattle.cqf_plain.specs.Losing.{IsLossFound};
 ghost use Rattle.cqf_model.specs.Limits.{most_cycles};
 
-use crate::driven::Driven;
+use crate::driven::RunBridge;
 use cqf_admission::Table;
-use cqf_bridge::{Batch, Incoming, Outcome, StreamGates, bring_in_order, gather_offers, police};
-use cqf_laws_bridge::verdicts_are_the_runs;
+use cqf_bridge::{
+    Batch, FrameVerdict, Incoming, StreamGates, bring_in_order, gather_offers, police,
+    verdicts_are_the_runs,
+};
 use cqf_laws_cycle::{cycle_brings_its_batches, frames_are_taken_in_order};
 use cqf_model::Offered;
 use cqf_topology::Domain;
@@ -77,10 +79,10 @@ fn is_lost(
         lost ≡ false → ¬ IsLoss (police domain.now tables number policed (received_as frame.now)).verdict) }
 {
     match police(domain, number, table.cycle(), table, frame, gates)? {
-        Outcome::GoesOn(_, _) => Ok(false),
-        Outcome::Dropped(_) => Ok(false),
-        Outcome::LacksRow => Ok(true),
-        Outcome::ExceedsGate => Ok(true),
+        FrameVerdict::GoesOn(_, _) => Ok(false),
+        FrameVerdict::Dropped(_) => Ok(false),
+        FrameVerdict::LacksRow => Ok(true),
+        FrameVerdict::ExceedsGate => Ok(true),
     }
 }
 
@@ -109,7 +111,7 @@ fn lost_among(
 /// that have come to it and are offered there; none where all go on or are dropped.
 pub(crate) fn first_lost(
     alloc: Global,
-    driven: &Driven,
+    driven: &RunBridge,
     table: &Table,
 ) -> Result<Option<u32>, Memory>
     requires early { table.now.cycle < most_cycles }

@@ -1,14 +1,14 @@
 //! The bridges pass over a cycle in which nothing happens.
-ghost use Rattle.std.specs.Prelude.{◌≡◌, ◌+◌, Contains, OnOk, map, true};
+ghost use Rattle.std.specs.Prelude.{◌≡◌, Contains, OnOk, map, true};
 ghost use Rattle.cqf_bridge.specs.Quiet.{MayPass};
-ghost use Rattle.cqf_plain.specs.declared.driven.Driven.{Driven as ADriven};
+ghost use Rattle.cqf_plain.specs.declared.driven.RunBridge.{RunBridge as ARunBridge};
 ghost use Rattle.cqf_plain.specs.Due.{HasNothing, NothingComes, driven_past};
 
-use crate::driven::Driven;
+use crate::driven::RunBridge;
 use cqf_units::{Cycle, Memory};
 
 /// Whether the run has nothing for a bridge in a cycle: neither offers nor background frames.
-fn has_nothing(driven: &Driven, cycle: Cycle) -> bool
+fn has_nothing(driven: &RunBridge, cycle: Cycle) -> bool
     ensures { result ≡ true → HasNothing cycle.0 driven.now }
 {
     let offers = driven.agenda.offers(cycle);
@@ -20,7 +20,7 @@ fn has_nothing(driven: &Driven, cycle: Cycle) -> bool
 }
 
 /// Whether the run has nothing for any bridge in a cycle.
-pub(crate) fn nothing_comes(bridges: &[Driven], cycle: Cycle) -> bool
+pub(crate) fn nothing_comes(bridges: &[RunBridge], cycle: Cycle) -> bool
     ensures { result ≡ true → NothingComes cycle.0 bridges.now }
 {
     for place in 0..bridges.len() {
@@ -32,7 +32,7 @@ pub(crate) fn nothing_comes(bridges: &[Driven], cycle: Cycle) -> bool
 }
 
 /// A bridge passes over a cycle.
-fn pass_one(driven: &mut Driven, cycle: Cycle) -> Result<(), Memory>
+fn pass_one(driven: &mut RunBridge, cycle: Cycle) -> Result<(), Memory>
     requires { MayPass driven.old.bridge cycle.0 }
     ensures { OnOk result (driven.new ≡ driven_past cycle.0 driven.old) }
 {
@@ -41,8 +41,8 @@ fn pass_one(driven: &mut Driven, cycle: Cycle) -> Result<(), Memory>
 }
 
 /// All bridges pass over a cycle.
-pub(crate) fn pass_all(bridges: &mut Vec<Driven>, cycle: Cycle) -> Result<(), Memory>
-    requires { (s : ADriven) → Contains bridges.old.items s → MayPass s.bridge cycle.0 }
+pub(crate) fn pass_all(bridges: &mut Vec<RunBridge>, cycle: Cycle) -> Result<(), Memory>
+    requires { (s : ARunBridge) → Contains bridges.old.items s → MayPass s.bridge cycle.0 }
     ensures { OnOk result (bridges.new.items ≡ map (driven_past cycle.0) bridges.old.items) }
 {
     for place in 0..bridges.len() {

@@ -2,24 +2,23 @@
 ghost use Rattle.std.specs.Prelude.{◌≡◌, ◌+◌, ◌++◌, ◌<◌, ℕ, IfErr, IfOk, OnOk, length};
 ghost use Rattle.cqf_model.specs.Network.{Network};
 ghost use Rattle.cqf_model.specs.Run.{Run};
-ghost use Rattle.cqf_laws_bridge.specs.Verdicts.{LosesNothingIn};
+ghost use Rattle.cqf_bridge.specs.Verdicts.{LosesNothingIn};
 ghost use Rattle.cqf_plain.specs.Driven.{AllStandBefore, AllStandHalfway, FirstLoseNothing, HasCome, IsCycleOf};
 ghost use Rattle.cqf_plain.specs.Driven.{IsTableOf, ReceivesOne, StandsHalfway, all_of, drops_of_first};
 ghost use Rattle.cqf_plain.specs.Losing.{IsFaultAtBridge, IsFaultInCycle};
 ghost use Rattle.cqf_model.specs.Limits.{most_cycles};
 
 use crate::RunFault;
-use crate::driven::Driven;
+use crate::driven::RunBridge;
 use crate::losing::first_lost;
 use cqf_admission::Table;
-use cqf_bridge::BridgeFault;
-use cqf_laws_bridge::{new_bridge_follows, receiving_follows, verdicts_are_the_runs};
+use cqf_bridge::{BridgeFault, new_bridge_follows, receiving_follows, verdicts_are_the_runs};
 use cqf_model::Dropped;
 use cqf_units::Memory;
 use std::alloc::Global;
 
 /// Why a bridge didn't take what came to it in the cycle of a table, where that wasn't for want of memory: a frame is lost.
-fn why_lost(alloc: Global, driven: &Driven, table: &Table) -> RunFault
+fn why_lost(alloc: Global, driven: &RunBridge, table: &Table) -> RunFault
     requires early { table.now.cycle < most_cycles }
     requires part { (run : Run) × (net : Network) × (bridge : ℕ) × IsCycleOf run net table.now.cycle × IsTableOf run table.now
         × HasCome run net table.now.cycle bridge driven.now × (¬ LosesNothingIn run net bridge table.now.cycle) }
@@ -34,7 +33,11 @@ fn why_lost(alloc: Global, driven: &Driven, table: &Table) -> RunFault
 }
 
 /// A bridge receives the cycle of a table, with what has come to it and is offered there. The drops come by frame.
-fn receive_one(alloc: Global, driven: &mut Driven, table: &Table) -> Result<Vec<Dropped>, RunFault>
+fn receive_one(
+    alloc: Global,
+    driven: &mut RunBridge,
+    table: &Table,
+) -> Result<Vec<Dropped>, RunFault>
     requires early { table.now.cycle < most_cycles }
     requires part { (run : Run) × (net : Network) × (bridge : ℕ) × IsCycleOf run net table.now.cycle × IsTableOf run table.now
         × StandsHalfway run net table.now.cycle (all_of run net table.now.cycle) bridge driven.old }
@@ -68,7 +71,7 @@ fn receive_one(alloc: Global, driven: &mut Driven, table: &Table) -> Result<Vec<
 /// behind those that are listed.
 pub(crate) fn receive_all(
     alloc: Global,
-    bridges: &mut Vec<Driven>,
+    bridges: &mut Vec<RunBridge>,
     table: &Table,
     drops: &mut Vec<Dropped>,
 ) -> Result<(), RunFault>

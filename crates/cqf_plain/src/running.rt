@@ -12,8 +12,8 @@ use crate::RunFault;
 use crate::so_far::RunSoFar;
 use crate::tables::are_numbered;
 use cqf_admission::Table;
+use cqf_bridge::new_bridge_follows;
 use cqf_compile::Plan;
-use cqf_laws_bridge::new_bridge_follows;
 use cqf_laws_cycle::drops_are_of_the_cycle;
 use cqf_laws_history::tables_are_orderly;
 use cqf_laws_network::{book_is_unique, legal_network_exists, legal_network_is_unique};
@@ -68,8 +68,7 @@ fn run_numbered(
     legal_network_is_unique();
     book_is_unique();
     drops_are_of_the_cycle();
-    // the domain is accepted: a fact
-    let _accepted = plan.domain();
+    plan.know();
     let mut so_far = RunSoFar::new(alloc, plan, offers, background)?;
     match go_all(alloc, plan.domain(), tables, &mut so_far) {
         Ok(()) => Ok(so_far.into_book()),
@@ -111,8 +110,7 @@ pub fn run(
     if !are_numbered(tables, cycles) {
         return Err(RunFault::WrongTables);
     }
-    // the domain is accepted: a fact
-    let _accepted = plan.domain();
+    plan.know();
     match run_numbered(alloc, plan, tables, offers, background) {
         Ok(book) => Ok(book),
         Err(fault) => Err(fault),

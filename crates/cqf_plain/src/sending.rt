@@ -2,20 +2,19 @@
 ghost use Rattle.std.specs.Prelude.{◌≡◌, ◌++◌, ◌<◌, ℕ, IfOk, OnOk};
 ghost use Rattle.cqf_model.specs.Network.{Network};
 ghost use Rattle.cqf_model.specs.Run.{Run};
-ghost use Rattle.cqf_laws_bridge.specs.Follows.{batches_from};
+ghost use Rattle.cqf_bridge.specs.Follows.{batches_from};
 ghost use Rattle.cqf_plain.specs.Driven.{AllStandBefore, HaveAllSentCycle, IsCycleOf, StandsBeforeCycle, StandsHalfway, none_yet};
 ghost use Rattle.cqf_model.specs.Limits.{most_cycles};
 
-use crate::driven::Driven;
-use cqf_bridge::{Batch, BridgeFault};
-use cqf_laws_bridge::{new_bridge_follows, no_other_fault, sending_follows};
+use crate::driven::RunBridge;
+use cqf_bridge::{Batch, BridgeFault, new_bridge_follows, no_other_fault, sending_follows};
 use cqf_units::{Cycle, Memory};
 use std::alloc::{AllocError, Global};
 
 /// A bridge sends a cycle: its batches go behind those of the bridges before it, by number of link.
 fn send_one(
     alloc: Global,
-    driven: &mut Driven,
+    driven: &mut RunBridge,
     cycle: Cycle,
     batches: &mut Vec<Batch>,
 ) -> Result<(), Memory>
@@ -42,7 +41,7 @@ fn send_one(
 /// All bridges send a cycle. The batches are what they have sent, bridge by bridge, each bridge's by number of link.
 pub(crate) fn send_all(
     alloc: Global,
-    bridges: &mut Vec<Driven>,
+    bridges: &mut Vec<RunBridge>,
     cycle: Cycle,
 ) -> Result<Vec<Batch>, Memory>
     requires early { cycle.0 < most_cycles }

@@ -7,15 +7,15 @@ ghost use Rattle.cqf_plain.specs.SoFar.{IsAt, IsHalfway, IsNewRun, IsQuietCycle,
 ghost use Rattle.cqf_model.specs.Limits.{most_cycles};
 
 use crate::RunFault;
-use crate::driven::{Driven, new_bridges};
+use crate::driven::{RunBridge, new_bridges};
 use crate::due::{next_starts, none_before};
 use crate::handing::pass_on;
 use crate::quiet::{nothing_comes, pass_all};
 use crate::receiving::receive_all;
 use crate::sending::send_all;
 use cqf_admission::Table;
+use cqf_bridge::{receiving_follows, sending_follows, verdicts_are_the_runs};
 use cqf_compile::Plan;
-use cqf_laws_bridge::{receiving_follows, sending_follows, verdicts_are_the_runs};
 use cqf_laws_cycle::{frames_are_taken_in_order, run_is_its_cycles};
 use cqf_laws_network::legal_part_is_legal;
 use cqf_model::{Background, Book, Offer};
@@ -29,7 +29,7 @@ use std::marker::Model;
 #[derive(Debug, Drop)]
 pub(crate) struct RunSoFar {
     /// By number.
-    bridges: Vec<Driven>,
+    bridges: Vec<RunBridge>,
     /// By instant, then link: the number of the bridge whose port starts a frame on the link then, if nothing more comes to it.
     due: BTreeMap<(Nanos, u16), u16>,
     book: Book,

@@ -13,7 +13,7 @@ use Rattle.cqf_model.specs.declared.topology.Node.TheVariants.{Bridge, Station}
 use Rattle.cqf_model.specs.Domain.{Domain, IsAcceptedLink, IsNode, node_or, same_node}
 use Rattle.cqf_model.proofs.Links.{same_node_true}
 use Rattle.cqf_lists.specs.Results.{and_then, refuse}
-use Rattle.cqf_topology_fields.specs.Fields.{and_first}
+use Rattle.cqf_topology.specs.Fields.{and_first}
 use Rattle.cqf_topology.specs.declared.faults.DomainFault.{DomainFault}
 use Rattle.cqf_topology.specs.declared.faults.DomainFault.TheVariants as fault
 use Rattle.cqf_topology.specs.DomainText.{DomainText, IsDomain, NoLinkTwice, apart, checked, first_long_delay, first_long_gap, first_twice, if_so}
@@ -21,7 +21,7 @@ use Rattle.cqf_model.specs.Limits.{bridges_within, links_within, stations_within
 use Rattle.cqf_topology.specs.DomainText.{is_too_many, joined, joined_link, place_of, with_links, with_these}
 use Rattle.cqf_topology.specs.FirstFaults.{HasTwin, IsFirstTwin}
 use Rattle.cqf_topology.proofs.Told.{twice-told}
-use Rattle.cqf_plants.specs.DomainMembers.{name_of}
+use Rattle.cqf_topology.specs.NodeNames.{name_of_node}
 use Rattle.cqf_plants.proofs.NamesApart.{AreApart, apart_across, behind_apart, front_apart, no_place, none_taken, place_is}
 
 -- a domain's text with some links, each by the names of its ends
@@ -32,7 +32,7 @@ told_links d links = record {
   guard = d.guard;
   bridges = d.bridges;
   stations = d.stations;
-  links = map (λ link. record { from = name_of d (Bridge link.from); to = name_of d link.to; rate = link.rate; delay = link.delay }) links;
+  links = map (λ link. record { from = name_of_node d (Bridge link.from); to = name_of_node d link.to; rate = link.rate; delay = link.delay }) links;
 }
 
 abbrev pub told_domain : Domain → DomainText
@@ -78,11 +78,11 @@ module _ (d : Domain) (good : IsDomain d) where
   stations_apart = behind_apart d.bridges d.stations good.distinct
 
   -- a node is found by its name
-  node_is : (node : Node) → IsNode d node → node_or (place_of (name_of d node) d.bridges) (place_of (name_of d node) d.stations) ≡ Some node
-  node_is (Bridge b) inside = ap (λ o. node_or o (place_of (name_of d (Bridge b)) d.stations)) (place_is d.bridges bridges_apart b inside)
+  node_is : (node : Node) → IsNode d node → node_or (place_of (name_of_node d node) d.bridges) (place_of (name_of_node d node) d.stations) ≡ Some node
+  node_is (Bridge b) inside = ap (λ o. node_or o (place_of (name_of_node d (Bridge b)) d.stations)) (place_is d.bridges bridges_apart b inside)
   node_is (Station s) inside =
-      let no_bridge : place_of (name_of d (Station s)) d.bridges ≡ None =
-      no_place (name_of d (Station s)) d.bridges (λ i there. apart_across d.bridges d.stations good.distinct i s there inside) in
+      let no_bridge : place_of (name_of_node d (Station s)) d.bridges ≡ None =
+      no_place (name_of_node d (Station s)) d.bridges (λ i there. apart_across d.bridges d.stations good.distinct i s there inside) in
       (λ i. node_or (no_bridge i) (place_is d.stations stations_apart s inside i))
 
   -- a node that isn't a bridge is told from it
@@ -94,15 +94,15 @@ module _ (d : Domain) (good : IsDomain d) where
 
   -- a link is joined by the names of its ends
   link_is : (link : Link) → IsAcceptedLink d link →
-      joined_link d.bridges d.stations (record { from = name_of d (Bridge link.from); to = name_of d link.to; rate = link.rate; delay = link.delay }) ≡ Ok link
+      joined_link d.bridges d.stations (record { from = name_of_node d (Bridge link.from); to = name_of_node d link.to; rate = link.rate; delay = link.delay }) ≡ Ok link
   link_is link accepted =
       let from_is = place_is d.bridges bridges_apart link.from accepted.from_bridge in
       let to_is = node_is link.to accepted.to_node in
       let tell : ℕ → Node → Result Link DomainFault =
-      λ from to. apart (name_of d link.to)
-      (record { from = name_of d (Bridge link.from); to = name_of d link.to; rate = link.rate; delay = link.delay }) from to in
-      let unknown_from : DomainFault = fault.UnknownName (name_of d (Bridge link.from)) in
-      let unknown_to : DomainFault = fault.UnknownName (name_of d link.to) in
+      λ from to. apart (name_of_node d link.to)
+      (record { from = name_of_node d (Bridge link.from); to = name_of_node d link.to; rate = link.rate; delay = link.delay }) from to in
+      let unknown_from : DomainFault = fault.UnknownName (name_of_node d (Bridge link.from)) in
+      let unknown_to : DomainFault = fault.UnknownName (name_of_node d link.to) in
       (λ i. and_then (ok_or (from_is i) unknown_from) (λ from. and_then (ok_or (to_is i) unknown_to) (λ to. tell from to)))
       ∙ rw (is_other link.to link.from accepted.not_to_itself) refl
 

@@ -13,13 +13,14 @@ use Rattle.cqf_model.specs.declared.topology.Node.{Node}
 use Rattle.cqf_model.specs.declared.topology.Node.TheVariants.{Bridge, Station}
 use Rattle.cqf_model.specs.Domain.{Domain, IsAcceptedLink, IsNode}
 use Rattle.cqf_lists.specs.Results.{and_then}
-use Rattle.cqf_topology_fields.specs.declared.keys.Key.{Key}
-use Rattle.cqf_topology_fields.specs.declared.keys.Key.TheVariants as key
-use Rattle.cqf_topology_fields.specs.declared.faults.TomlFault.TheVariants.{BadValue}
-use Rattle.cqf_topology_fields.specs.Fields.{and_first, are_tables, first_absent_within, first_missing, name_from, names_from, number_from, tables_from}
-use Rattle.cqf_topology_fields.specs.Fields.{tables_of_key}
+use Rattle.cqf_topology.specs.declared.keys.Key.{Key}
+use Rattle.cqf_topology.specs.declared.keys.Key.TheVariants as key
+use Rattle.cqf_topology.specs.declared.toml_faults.TomlFault.TheVariants.{BadValue}
+use Rattle.cqf_topology.specs.Fields.{and_first, are_tables, first_absent_within, first_missing, name_from, names_from, number_from, tables_from}
+use Rattle.cqf_topology.specs.Fields.{tables_of_key}
 use Rattle.cqf_topology.specs.DomainText.{DomainText, IsDomain, domain_from, domain_keys, if_some, link_keys, link_read, rate_from}
-use Rattle.cqf_plants.specs.DomainMembers.{domain_members, link_members, megabits_of, name_of}
+use Rattle.cqf_plants.specs.DomainMembers.{domain_members, link_members, megabits_of}
+use Rattle.cqf_topology.specs.NodeNames.{name_of_node}
 use Rattle.cqf_plants.proofs.DomainChecks.{told_domain, told_links}
 
 -- a number within its range
@@ -69,16 +70,16 @@ domain_lacks_nothing d streams = links_lack_nothing d d.links
 
 module _ (d : Domain) (good : IsDomain d) where
   -- a node's name has the form of one
-  is_named : (node : Node) → IsNode d node → IsTrue (is_name (name_of d node))
+  is_named : (node : Node) → IsNode d node → IsTrue (is_name (name_of_node d node))
   is_named (Bridge b) inside = good.bridges_named b [] inside
   is_named (Station s) inside = good.stations_named s [] inside
 
   -- a link's table
   link_reads : (link : Link) → IsAcceptedLink d link →
-      link_read (link_members d link) ≡ Ok (record { from = name_of d (Bridge link.from); to = name_of d link.to; rate = link.rate; delay = link.delay })
+      link_read (link_members d link) ≡ Ok (record { from = name_of_node d (Bridge link.from); to = name_of_node d link.to; rate = link.rate; delay = link.delay })
   link_reads link accepted =
-      let from_is = name_reads (name_of d (Bridge link.from)) (is_named (Bridge link.from) accepted.from_bridge) in
-      let to_is = name_reads (name_of d link.to) (is_named link.to accepted.to_node) in
+      let from_is = name_reads (name_of_node d (Bridge link.from)) (is_named (Bridge link.from) accepted.from_bridge) in
+      let to_is = name_reads (name_of_node d link.to) (is_named link.to accepted.to_node) in
       let rate_is = rate_reads link.rate in
       let delay_is = number_reads 0 10000000 link.delay (omega arith)
       (omega (arith, accepted.delay_short, good.accepted.guard_short, good.accepted.cycle_most)) in

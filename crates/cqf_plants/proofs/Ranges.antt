@@ -3,11 +3,11 @@ use Rattle.std.proofs.Common.{◌≡◌, ◌≤◌, ℕ, Bool, true, false, cond
 use Rattle.std.specs.Result.{result_map_both}
 use Rattle.toml.specs.Data.{Data, Items, Members, as_array, as_str, as_table, member, no_members}
 use Rattle.cqf_lists.specs.Results.{and_then}
-use Rattle.cqf_topology_fields.specs.declared.keys.Key.{Key}
-use Rattle.cqf_topology_fields.specs.declared.keys.Key.TheVariants as key
-use Rattle.cqf_topology_fields.specs.declared.faults.TomlFault.TheVariants.{BadValue}
-use Rattle.cqf_topology_fields.specs.Fields.{are_tables, key_text, number_from, number_or, number_or_by, read_at, value_at}
-use Rattle.cqf_topology_fields.specs.Fields.{whole_document}
+use Rattle.cqf_topology.specs.declared.keys.Key.{Key}
+use Rattle.cqf_topology.specs.declared.keys.Key.TheVariants as key
+use Rattle.cqf_topology.specs.declared.toml_faults.TomlFault.TheVariants.{BadValue}
+use Rattle.cqf_topology.specs.Fields.{are_tables, key_text, number_from, number_or, number_or_by, read_at, value_at}
+use Rattle.cqf_topology.specs.Fields.{whole_document}
 use Rattle.cqf_topology.specs.PacedText.{PacedText, paced_from}
 use Rattle.cqf_topology.specs.PlannedText.{deadline_by, deadline_from, planned_from}
 use Rattle.cqf_topology.specs.StreamsText.{branches_from, streams_keys}

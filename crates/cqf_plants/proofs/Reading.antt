@@ -6,12 +6,12 @@ use Rattle.toml.specs.Data.{Items, Members, as_table, table}
 use Rattle.toml.specs.View.{items_of}
 use Rattle.cqf_lists.specs.Results.{and_then, refuse}
 use Rattle.cqf_model.specs.Domain.{Domain}
-use Rattle.cqf_topology_fields.specs.declared.keys.Key.{Key}
-use Rattle.cqf_topology_fields.specs.declared.keys.Key.TheVariants as key
-use Rattle.cqf_topology_fields.specs.declared.faults.TomlFault.{TomlFault}
-use Rattle.cqf_topology_fields.specs.declared.faults.TomlFault.TheVariants.{BadValue, Missing, NotToml}
-use Rattle.cqf_topology_fields.specs.Fields.{and_first, are_tables, document_of, each_from, first_absent_within, first_missing, tables_from, tables_of_key}
-use Rattle.cqf_topology_fields.specs.Fields.{whole_document}
+use Rattle.cqf_topology.specs.declared.keys.Key.{Key}
+use Rattle.cqf_topology.specs.declared.keys.Key.TheVariants as key
+use Rattle.cqf_topology.specs.declared.toml_faults.TomlFault.{TomlFault}
+use Rattle.cqf_topology.specs.declared.toml_faults.TomlFault.TheVariants.{BadValue, Missing, NotToml}
+use Rattle.cqf_topology.specs.Fields.{and_first, are_tables, document_of, each_from, first_absent_within, first_missing, tables_from, tables_of_key}
+use Rattle.cqf_topology.specs.Fields.{whole_document}
 use Rattle.cqf_topology.specs.DomainText.{IsDomain, as_domain_fault, checked, domain_from, domain_keys, domain_within, link_keys, read_text}
 use Rattle.cqf_topology.specs.PacedText.{paced_from}
 use Rattle.cqf_topology.specs.PlannedText.{planned_from}

@@ -4,8 +4,8 @@ use Rattle.toml.specs.Data.{Data, Members, string, table, no_members}
 use Rattle.toml.specs.Data.{depth, items_depth, members_depth, has_valid_dates, items_have_valid_dates, members_have_valid_dates}
 use Rattle.toml.specs.View.{items_of}
 use Rattle.cqf_model.specs.Domain.{Domain}
-use Rattle.cqf_topology_fields.specs.declared.keys.Key.{Key}
-use Rattle.cqf_topology_fields.specs.declared.keys.Key.TheVariants.{Deadline, Every, Phase}
+use Rattle.cqf_topology.specs.declared.keys.Key.{Key}
+use Rattle.cqf_topology.specs.declared.keys.Key.TheVariants.{Deadline, Every, Phase}
 use Rattle.cqf_topology.specs.PacedText.{PacedText}
 use Rattle.cqf_traffic.specs.declared.keys.TrafficKey.TheVariants.{Size}
 use Rattle.cqf_traffic.specs.TrafficText.{TrafficText}

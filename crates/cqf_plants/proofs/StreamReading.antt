@@ -8,11 +8,11 @@ use Rattle.std.specs.Result.{result_map_both}
 use Rattle.toml.specs.Data.{Members, as_array, as_str, string}
 use Rattle.toml.specs.View.{items_of}
 use Rattle.cqf_lists.specs.Results.{and_then}
-use Rattle.cqf_topology_fields.specs.declared.keys.Key.{Key}
-use Rattle.cqf_topology_fields.specs.declared.keys.Key.TheVariants as key
-use Rattle.cqf_topology_fields.specs.declared.faults.TomlFault.TheVariants.{BadValue, Missing}
-use Rattle.cqf_topology_fields.specs.Fields.{and_first, first_absent, lacks, number_from, number_or, number_or_by, read_at, text_lists_at, text_lists_from}
-use Rattle.cqf_topology_fields.specs.Fields.{texts_at, texts_from, value_at}
+use Rattle.cqf_topology.specs.declared.keys.Key.{Key}
+use Rattle.cqf_topology.specs.declared.keys.Key.TheVariants as key
+use Rattle.cqf_topology.specs.declared.toml_faults.TomlFault.TheVariants.{BadValue, Missing}
+use Rattle.cqf_topology.specs.Fields.{and_first, first_absent, lacks, number_from, number_or, number_or_by, read_at, text_lists_at, text_lists_from}
+use Rattle.cqf_topology.specs.Fields.{texts_at, texts_from, value_at}
 use Rattle.cqf_topology.specs.PacedText.{PacedText, paced_from}
 use Rattle.cqf_topology.specs.PlannedText.{deadline_by, deadline_from, planned_from}
 use Rattle.cqf_topology.specs.StreamsText.{branches_by, branches_from, request_from, stream_keys}

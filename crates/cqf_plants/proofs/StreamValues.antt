@@ -4,9 +4,9 @@ use Rattle.std.specs.Ordering.{match_ordering}
 use Rattle.std.specs.Cmp.Lexicographic.{slice_cmp}
 use Rattle.std.proofs.lemmas.Bool.{true≢false}
 use Rattle.toml.specs.Data.{Data, Members, get_member, integer, no_members, string}
-use Rattle.cqf_topology_fields.specs.declared.keys.Key.{Key}
-use Rattle.cqf_topology_fields.specs.declared.keys.Key.TheVariants.{Deadline, Every, Name, Octets, Path, Paths, Phase}
-use Rattle.cqf_topology_fields.specs.Fields.{key_text, value_at}
+use Rattle.cqf_topology.specs.declared.keys.Key.{Key}
+use Rattle.cqf_topology.specs.declared.keys.Key.TheVariants.{Deadline, Every, Name, Octets, Path, Paths, Phase}
+use Rattle.cqf_topology.specs.Fields.{key_text, value_at}
 use Rattle.cqf_topology.specs.PacedText.{PacedText}
 use Rattle.cqf_traffic.specs.declared.keys.TrafficKey.{TrafficKey}
 use Rattle.cqf_traffic.specs.declared.keys.TrafficKey.TheVariants.{Interval, Frames, Size, Jitter, Offset}

@@ -1,5 +1,5 @@
 -- The table that a domain is told by (profile): its keys in the order of their bytes.
-use Rattle.std.specs.Prelude.{ℕ, pos, List, [], map, slice_index_or}
+use Rattle.std.specs.Prelude.{ℕ, pos, List, map}
 use Rattle.std.specs.Ordering.{match_ordering, nat_cmp}
 use Rattle.std.specs.Cmp.Lexicographic.{slice_cmp}
 use Rattle.toml.specs.Data.{Data, string, integer, array, table, Members, no_members, member}
@@ -7,11 +7,11 @@ use Rattle.toml.specs.View.{items_of}
 use Rattle.cqf_units.specs.declared.timing.Rate.{Rate as LinkRate}
 use Rattle.cqf_units.specs.declared.timing.Rate.TheVariants.{Mb10, Mb100, Mb1000}
 use Rattle.cqf_model.specs.declared.topology.Link.{Link}
-use Rattle.cqf_model.specs.declared.topology.Node.{Node}
-use Rattle.cqf_model.specs.declared.topology.Node.TheVariants.{Bridge, Station}
+use Rattle.cqf_model.specs.declared.topology.Node.TheVariants.{Bridge}
 use Rattle.cqf_model.specs.Domain.{Domain}
-use Rattle.cqf_topology_fields.specs.declared.keys.Key.TheVariants.{Bridges, Cycle, Delay, From, Guard, Links, Rate, Stations, Streams, To}
-use Rattle.cqf_topology_fields.specs.Fields.{key_text}
+use Rattle.cqf_topology.specs.declared.keys.Key.TheVariants.{Bridges, Cycle, Delay, From, Guard, Links, Rate, Stations, Streams, To}
+use Rattle.cqf_topology.specs.Fields.{key_text}
+use Rattle.cqf_topology.specs.NodeNames.{name_of_node}
 
 -- a table with a value at a key, in the order of the keys
 abbrev pub put : List ℕ → Data → Members → Members
@@ -29,18 +29,13 @@ megabits_of Mb10 = 10
 megabits_of Mb100 = 100
 megabits_of Mb1000 = 1000
 
--- the name of a node
-abbrev pub name_of : Domain → Node → List ℕ
-name_of d (Bridge b) = slice_index_or d.bridges b []
-name_of d (Station s) = slice_index_or d.stations s []
-
 -- a link's table: its ends by their names
 abbrev pub link_members : Domain → Link → Members
 link_members d link =
     member (key_text Delay) (integer (pos link.delay)) (
-    member (key_text From) (string (name_of d (Bridge link.from))) (
+    member (key_text From) (string (name_of_node d (Bridge link.from))) (
     member (key_text Rate) (integer (pos (megabits_of link.rate))) (
-    member (key_text To) (string (name_of d link.to)) no_members)))
+    member (key_text To) (string (name_of_node d link.to)) no_members)))
 
 -- the links, by number
 abbrev pub links_data : Domain → Data

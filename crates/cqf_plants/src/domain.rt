@@ -1,9 +1,10 @@
 //! The tables of a domain.
-ghost use Rattle.std.specs.Prelude.{◌≡◌, ◌<◌, IfOk, length};
+ghost use Rattle.std.specs.Prelude.{◌≡◌, ◌<◌, IfOk};
 ghost use Rattle.toml.specs.View.{table_view, view};
 ghost use Rattle.cqf_model.specs.Domain.{IsNode};
 ghost use Rattle.cqf_model.specs.declared.topology.Node.TheVariants.{Bridge};
-ghost use Rattle.cqf_plants.specs.DomainMembers.{link_members, links_data, megabits_of, name_of, texts_data};
+ghost use Rattle.cqf_plants.specs.DomainMembers.{link_members, links_data, megabits_of, texts_data};
+ghost use Rattle.cqf_topology.specs.NodeNames.{name_of_node};
 
 use crate::tables::{put_number, put_text};
 use cqf_model::{Link, Node};
@@ -26,7 +27,7 @@ fn megabits_of(rate: Rate) -> u32
 /// The name of a node.
 fn name_of(domain: &Domain, node: Node) -> &Name
     requires { IsNode domain.now node }
-    ensures { result.now ≡ name_of domain.now node }
+    ensures { result.now ≡ name_of_node domain.now node }
 {
     match node {
         Node::Bridge(bridge) => domain.bridge_name(bridge),

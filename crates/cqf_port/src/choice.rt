@@ -1,5 +1,5 @@
 //! Which frame starts at an instant (IEEE Std 802.1Q-2018, 8.6.8.1 and 8.6.8.4).
-ghost use Rattle.std.specs.Prelude.{◌≡◌, ◌+◌, ◌^◌, ◌<◌, ◌≤◌, ◌↔◌, ◌*◌, ℕ, Some, MatchOption, length, slice_index_or};
+ghost use Rattle.std.specs.Prelude.{◌≡◌, ◌+◌, ◌^◌, ◌<◌, ◌≤◌, ◌↔◌, ◌*◌, ℕ, Some, MatchOption, length};
 ghost use Rattle.cqf_units.specs.Timing.{nanos_of_octet};
 ghost use Rattle.cqf_port.specs.PortState.{AreTaken, rules_of};
 ghost use Rattle.cqf_port.specs.Progress.{AreInside, NoneReady, IsChosen};

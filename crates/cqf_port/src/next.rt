@@ -1,5 +1,5 @@
 //! When the next frame starts.
-ghost use Rattle.std.specs.Prelude.{◌≡◌, ◌+◌, ◌^◌, ◌<◌, ◌≤◌, ℕ, MatchOption};
+ghost use Rattle.std.specs.Prelude.{◌+◌, ◌^◌, ◌<◌, ◌≤◌, MatchOption};
 ghost use Rattle.cqf_port.specs.PortState.{AreTaken, rules_of};
 ghost use Rattle.cqf_port.specs.Progress.{AreInside};
 ghost use Rattle.cqf_port.specs.NextStart.{HaveCome, IsNextReady, NeverReady};

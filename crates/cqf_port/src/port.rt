@@ -126,6 +126,14 @@ impl Port {
         }
     }
 
+    /// Does nothing, and makes known to a proof what each call keeps: what the port has started is legal for the arrivals that it has taken.
+    pub fn know(&self)
+        ensures facts { IsPort self.now }
+    {
+        // a use of a field: with it the invariant is known
+        let _ = &self.reached;
+    }
+
     /// The instant up to, and without, which the port has run, 0 at first. What it has started by then is legal for
     /// the arrivals that it has taken.
     pub fn now(&self) -> Nanos

@@ -1,5 +1,5 @@
 //! What a port remembers of where it stands, so that it needn't look through its starts again.
-ghost use Rattle.std.specs.Prelude.{◌≡◌, ◌+◌, ◌^◌, ◌<◌, ◌≤◌, length};
+ghost use Rattle.std.specs.Prelude.{◌≡◌, ◌+◌, ◌^◌, ◌<◌, length};
 ghost use Rattle.cqf_units.specs.Timing.{nanos_of_octet, idle_after};
 ghost use Rattle.cqf_model.specs.Port.{class_of};
 ghost use Rattle.cqf_port.specs.Progress.{IsNextOf, IsAfterStart, IsAfterArrival};

@@ -1,18 +1,18 @@
 -- From what each step of a run says to what the run comes to.
-use Rattle.std.proofs.Common.{◌≡◌, ◌≢◌, ◌⊎◌, ◌≤◌, ◌<◌, ◌∙◌, ℕ, List, [], ◌∷◌, Bool, true, false, Option, Some}
+use Rattle.std.proofs.Common.{◌≡◌, ◌≢◌, ◌⊎◌, ◌≤◌, ◌<◌, ℕ, List, [], ◌∷◌, Bool, true, false, Option, Some}
 use Rattle.std.proofs.Common.{None, length, arith, codes, inl, inr, sym, subst, subst₂, refl}
 use Rattle.std.specs.Str.{IsUtf8}
 use Rattle.std.specs.declared.io.ErrorKind.{ErrorKind}
 use Rattle.std.specs.Io.KnownBytes.{IsAtEnd}
 use Rattle.std.proofs.Math.Logic.{∥∥₁_elim}
 use Rattle.cqf_model.specs.declared.limits.Limits.{Limits}
-use Rattle.cqf_program_stop.specs.Stops.{EndsWith, line_of}
+use Rattle.cqf_press.specs.Stops.{EndsWith, line_of}
 use Rattle.clap.specs.Words.{Row, Text, first_of, subcommand_of}
 use Rattle.cqf_program_words.specs.Shown.{EndsShown, ShowsLine, ShowsWords, is_shown_whole, no_command}
 use Rattle.cqf_program_words.specs.Words.{EndsWords, IsJob, IsJobOf, IsNumberIn, Mean, app_for, limits_of}
 use Rattle.cqf_program_engine.specs.Edge.{IsHeard, Marks, Reading}
-use Rattle.cqf_program_press.specs.Edge.{Writing}
-use Rattle.cqf_program_press.specs.Kinds.{NoKind, SomeKind}
+use Rattle.cqf_press.specs.Edge.{Writing}
+use Rattle.cqf_press.specs.Kinds.{NoKind, SomeKind}
 use Rattle.cqf_program_engine.specs.Run.{first_line, input_of, version_line, words_of, AskForVersion, Ends}
 use Rattle.cqf_program_engine.specs.Run.{EndsByStatus, EndsFaulty, EndsInput, EndsRead, HandsOver, HasCause, HasFault}
 use Rattle.cqf_program_engine.specs.Run.{HasRun, HasWords, most_line, IsBehindWords, IsDone, IsEnd, IsFailure, IsOutput}
@@ -20,10 +20,10 @@ use Rattle.cqf_program_engine.specs.Run.{IsFailedRun, IsMisuse, IsRefusedRun, Te
 use Rattle.cqf_program_engine.specs.Run.{IsRefusal, IsStopped, StopsWithAnswer, IsToldOutput, IsTooLong, IsWithin, most_bytes}
 use Rattle.cqf_program_engine.specs.Run.{FaultIsOfThreads, FaultIsOfThreadsOrOutput, TellsStop, TellsFaultAlone}
 use Rattle.cqf_program_threads.specs.ThreadsOutput.{EndsThreads, IsThreadsOutput}
-use Rattle.cqf_program_press.proofs.EdgeLemmas.{Appends-whole}
-use Rattle.cqf_program_stop.specs.declared.stops.Stop.{Stop}
-use Rattle.cqf_program_engine.specs.declared.heard.Broken.{Broken}
-use Rattle.cqf_program_engine.specs.declared.heard.Broken.TheVariants.{Memory, Fault}
+use Rattle.cqf_press.proofs.EdgeLemmas.{Appends-whole}
+use Rattle.cqf_press.specs.declared.stops.Stop.{Stop}
+use Rattle.cqf_program_engine.specs.declared.heard.ReadFailure.{ReadFailure}
+use Rattle.cqf_program_engine.specs.declared.heard.ReadFailure.TheVariants.{Memory, Fault}
 use Rattle.cqf_program_words.specs.declared.words.Job.{Job}
 use Rattle.cqf_program_words.specs.declared.words.Job.TheVariants.{Check, Compile, Deliveries, Hops, Latency, Line, Load, Offers, Plan, Port, Report, Run, Summary}
 
@@ -95,7 +95,7 @@ pub HasCause-by_memory : (words : List (List ℕ)) (bytes : List ℕ) (stop : St
 HasCause-by_memory words bytes stop three none = inr (inr (inr (inl (three, none))))
 
 -- a read that was broken off ends the input
-pub EndsInput-broken : (most : ℕ) (input : Reading) (before : Bool) (cause : Broken) (stop : Stop) → Marks before input.failed cause → EndsRead cause stop
+pub EndsInput-broken : (most : ℕ) (input : Reading) (before : Bool) (cause : ReadFailure) (stop : Stop) → Marks before input.failed cause → EndsRead cause stop
     → EndsInput most input stop
 EndsInput-broken most input before Memory stop marks ended = inr (inr ended)
 EndsInput-broken most input before Fault stop marks ended = elim ended.statuses [

@@ -1,16 +1,21 @@
 -- What was told to a list of bytes.
-use Rattle.std.proofs.Common.{◌≡◌, ◌++◌, ◌∙◌, ℕ, List, [], Some, false, ap}
+use Rattle.std.proofs.Common.{◌≡◌, ℕ, Bool, Err, IfOk, List, Ok, Result, Some, [], subst, sym}
 use Rattle.std.specs.Global.{Global}
 use Rattle.std.specs.declared.io.traits.Write as write
 use Rattle.std.specs.declared.vec.Vec.{Vec}
-use Rattle.cqf_program_press.specs.Edge.{HasTold, writing}
-use Rattle.cqf_program_press.specs.declared.sinks.Sink as sink
-use Rattle.cqf_program_press.specs.declared.told.Told.{Told}
-use Rattle.cqf_program_press.proofs.EdgeLemmas.{Appends-whole}
+use Rattle.cqf_press.specs.Edge.{HasTold, since, writing}
+use Rattle.cqf_press.specs.declared.sinks.Sink as sink
+use Rattle.cqf_press.specs.declared.told.Told.{Told}
 
--- it has the text, where it was empty before and refused nothing
-pub told-items : {s : sink.Ghosts (Vec ℕ Global)} {w : write.Ghosts (Vec ℕ Global)} (old new : Told (Vec ℕ Global) s w) (text : List ℕ)
-    → old.writer.items ≡ []
-    → HasTold (writing (λ (bytes : Vec ℕ Global). Some bytes.items) old new) text → new.refused ≡ false → new.writer.items ≡ text
-told-items old new text none told accepted =
-    Appends-whole (writing (λ (bytes : Vec ℕ Global). Some bytes.items) old new) text told accepted ∙ ap (λ x. x ++ text) none
+-- what is handed out of a list that was empty before is each text that it was told
+pub text-told : {s : sink.Ghosts (Vec ℕ Global)} {w : write.Ghosts (Vec ℕ Global)} {E : Type 0} {list : List ℕ}
+    {refused : Bool} (old new : Told (Vec ℕ Global) s w) (IsText : List ℕ → Type 0) (result : Result (Vec ℕ Global) E) → old.writer.items ≡ []
+    → ((text : List ℕ) → IsText text → HasTold (writing (λ (list : Vec ℕ Global). Some list.items) old new) text)
+    → IfOk result (λ v. (t : List ℕ) → HasTold (record { before = Some []; after = Some list; refused = refused }) t → v.items ≡ t)
+    → list ≡ new.writer.items → refused ≡ new.refused → IfOk result (λ v. (text : List ℕ) → IsText text → v.items ≡ text)
+text-told old new IsText (Err fault) nothing told handed same_list same_word = tt
+text-told {refused = refused} old new IsText (Ok v) nothing told handed same_list same_word = λ text is.
+    let from_nothing : HasTold (since (λ (list : Vec ℕ Global). Some list.items) (Some []) new) text =
+    subst (λ (before : List ℕ). HasTold (since (λ (list : Vec ℕ Global). Some list.items) (Some before) new) text) nothing (told text is) in
+    handed text (subst (λ (x : List ℕ). HasTold (record { before = Some []; after = Some x; refused = refused }) text) (sym same_list)
+    (subst (λ (b : Bool). HasTold (record { before = Some []; after = Some new.writer.items; refused = b }) text) (sym same_word) from_nothing))

@@ -3,9 +3,9 @@ use Rattle.std.specs.Prelude.{ℕ, ◌≡◌, ◌≤◌, ◌+◌, ◌-◌, ◌&&
 use Rattle.std.specs.Io.KnownBytes.{Consumes}
 use Rattle.std.specs.declared.io.ErrorKind.{ErrorKind}
 use Rattle.std.specs.declared.io.traits.Read as read
-use Rattle.cqf_program_press.specs.Kinds.{SomeKind}
-use Rattle.cqf_program_engine.specs.declared.heard.Broken.{Broken}
-use Rattle.cqf_program_engine.specs.declared.heard.Broken.TheVariants.{Memory, Fault}
+use Rattle.cqf_press.specs.Kinds.{SomeKind}
+use Rattle.cqf_program_engine.specs.declared.heard.ReadFailure.{ReadFailure}
+use Rattle.cqf_program_engine.specs.declared.heard.ReadFailure.TheVariants.{Memory, Fault}
 use Rattle.cqf_program_engine.specs.declared.heard.Heard.{Heard}
 use Rattle.cqf_program_engine.specs.declared.sources.Source as source
 
@@ -17,12 +17,12 @@ pub record HasRead (before after : Option (List ℕ)) (old new : List ℕ) (most
   pub few : length new ≤ most
 
 -- whether a read failed, from what broke it off
-abbrev pub Marks : Bool → Bool → Broken → Type 0
+abbrev pub Marks : Bool → Bool → ReadFailure → Type 0
 Marks old new Memory = new ≡ old
 Marks old new Fault = new ≡ true
 
 -- what may break a read off: want of memory, or a failure of a reader that may fail for these kinds of error
-abbrev pub MayBreak : (ErrorKind → Type 0) → Broken → Type 0
+abbrev pub MayBreak : (ErrorKind → Type 0) → ReadFailure → Type 0
 MayBreak fails Memory = ⊤
 MayBreak fails Fault = SomeKind fails
 

@@ -1,21 +1,21 @@
 -- What an output tells.
 use Rattle.std.specs.Prelude.{ℕ, ◌≡◌, List}
-use Rattle.cqf_program_engine.specs.declared.prepared.Prepared.{Prepared}
-use Rattle.cqf_program_engine.specs.declared.prepared.Prepared.TheVariants.{Account, Config, Deliveries, Hops, Latency, Line, Load, Port, Run, Script, Summary, Text}
-use Rattle.cqf_program_plans.specs.ConfigTold.{text_of_config}
-use Rattle.cqf_program_hops.specs.LegsText.{text_of_legs}
-use Rattle.cqf_program_runs.specs.Following.{AreDeliveriesTold}
-use Rattle.cqf_program_summary.specs.SummaryText.{text_of_summary}
-use Rattle.cqf_program_plans.specs.LatencyText.{text_of_latency}
-use Rattle.cqf_program_runs.specs.LineTold.{IsLineTold}
-use Rattle.cqf_program_plans.specs.LoadText.{text_of_load}
-use Rattle.cqf_program_plans.specs.PortTold.{text_of_port}
-use Rattle.cqf_program_runs.specs.RunTold.{IsRunTold}
-use Rattle.cqf_program_plans.specs.TcOutput.{text_of_tc}
+use Rattle.cqf_program_engine.specs.declared.prepared.PreparedOutput.{PreparedOutput}
+use Rattle.cqf_program_engine.specs.declared.prepared.PreparedOutput.TheVariants.{Account, Config, Deliveries, Hops, Latency, Line, Load, Port, Run, Script, Summary, Text}
+use Rattle.cqf_program_plans.specs.Compile.Told.{text_of_config}
+use Rattle.cqf_program_summary.specs.Hops.Text.{text_of_legs}
+use Rattle.cqf_program_runs.specs.Deliveries.Following.{AreDeliveriesTold}
+use Rattle.cqf_program_summary.specs.Summary.Text.{text_of_summary}
+use Rattle.cqf_program_plans.specs.Latency.Text.{text_of_latency}
+use Rattle.cqf_program_runs.specs.Line.Told.{IsLineTold}
+use Rattle.cqf_program_plans.specs.Load.Text.{text_of_load}
+use Rattle.cqf_program_plans.specs.Port.Told.{text_of_port}
+use Rattle.cqf_program_runs.specs.Run.Told.{IsRunTold}
+use Rattle.cqf_program_tc.specs.Output.{text_of_tc}
 use Rattle.cqf_program_threads.specs.AccountTold.{text_of_account}
 
 -- the text is one that the output tells
-abbrev pub IsTextOf : Prepared → List ℕ → Type 0
+abbrev pub IsTextOf : PreparedOutput → List ℕ → Type 0
 IsTextOf (Text output) text = text ≡ output.items
 IsTextOf (Port output) text = text ≡ text_of_port output
 IsTextOf (Line output) text = IsLineTold output text
@@ -30,5 +30,5 @@ IsTextOf (Summary output) text = text ≡ text_of_summary output
 IsTextOf (Hops output) text = text ≡ text_of_legs output.domain output.offers output.legs
 
 -- the output tells a text, of which this holds
-abbrev pub HasText : (List ℕ → Type 0) → Prepared → Type 0
+abbrev pub HasText : (List ℕ → Type 0) → PreparedOutput → Type 0
 HasText wanted output = (text : List ℕ) × IsTextOf output text × wanted text

@@ -1,45 +1,45 @@
 -- What a run of the program comes to, for the words that it is given and the bytes that its reader has (profile).
 use Rattle.std.specs.Prelude.{ℕ, ◌≡◌, ◌≢◌, ◌⊎◌, ◌≤◌, ◌<◌, ◌==◌, ◌++◌, Bool, true, false, List, [], ◌∷◌, Ok, Option, String, ⊤, codes, if◌then◌else◌, length, option_map, string_bytes}
-use Rattle.std.specs.declared.alloc.Global.{Global}
 use Rattle.std.specs.Io.KnownBytes.{Appends, IsAtEnd, Keeps}
 use Rattle.std.specs.List.{slice_split, before_first, after_first}
 use Rattle.std.specs.Str.{IsUtf8}
 use Rattle.std.specs.declared.io.ErrorKind.{ErrorKind}
 use Rattle.cqf_text.specs.Lines.{is_line_feed}
-use Rattle.cqf_program_engine.specs.declared.heard.Broken.{Broken}
-use Rattle.cqf_program_engine.specs.declared.heard.Broken.TheVariants.{Memory, Fault}
+use Rattle.cqf_program_engine.specs.declared.heard.ReadFailure.{ReadFailure}
+use Rattle.cqf_program_engine.specs.declared.heard.ReadFailure.TheVariants.{Memory, Fault}
 use Rattle.cqf_program_engine.specs.Edge.{IsHeard, Reading}
-use Rattle.cqf_program_press.specs.Edge.{HasTold, Writing}
-use Rattle.cqf_program_press.specs.Kinds.{SomeKind}
-use Rattle.cqf_program_plans.specs.CompileOutput.{compiled_input}
-use Rattle.cqf_program_offers.specs.OffersOutput.{offered_input}
-use Rattle.cqf_program_hops.specs.HopsOutput.{IsHopsOutput}
-use Rattle.cqf_program_hops.specs.Legs.{Wanted}
-use Rattle.cqf_program_runs.specs.CheckOutput.{IsChecked, IsCheckRefusal}
-use Rattle.cqf_program_runs.specs.DeliveriesOutput.{IsDeliveriesOutput}
-use Rattle.cqf_program_runs.specs.PlannedScenario.{planned_scenario}
-use Rattle.cqf_program_plans.specs.LatencyInput.{latency_of_input}
-use Rattle.cqf_program_plans.specs.LoadOutput.{loaded_input}
-use Rattle.cqf_program_summary.specs.SummaryOutput.{IsSummaryOutput}
-use Rattle.cqf_program_stop.specs.Stops.{EndsWith, IsRefused, line_of}
-use Rattle.cqf_program_runs.specs.LineOutput.{IsLineOutput, line_input}
-use Rattle.cqf_program_plans.specs.PortOutput.{IsPortOutput, port_input}
-use Rattle.cqf_program_runs.specs.ReportOutput.{IsReportOutput}
-use Rattle.cqf_program_runs.specs.RunOutput.{IsRunOutput}
+use Rattle.cqf_press.specs.Edge.{HasTold, Writing}
+use Rattle.cqf_press.specs.Kinds.{SomeKind}
+use Rattle.cqf_press.specs.Stops.{EndsWith, IsRefused, line_of}
 use Rattle.cqf_program_scenario.specs.Scenario.{scenario_input}
+use Rattle.std.specs.declared.alloc.Global.{Global}
+use Rattle.cqf_model.specs.declared.limits.Limits.{Limits}
+use Rattle.cqf_model.specs.Limits.{last_until, most_cycles}
+use Rattle.cqf_program_offers.specs.OffersOutput.{offered_input}
+use Rattle.cqf_program_plans.specs.Compile.Output.{compiled_input}
+use Rattle.cqf_program_plans.specs.Latency.Input.{latency_of_input}
+use Rattle.cqf_program_plans.specs.Load.Output.{loaded_input}
+use Rattle.cqf_program_plans.specs.Port.Output.{IsPortOutput, port_input}
+use Rattle.cqf_program_tc.specs.Output.{tc_of_input}
+use Rattle.cqf_press.specs.declared.stops.Stop.{Stop}
+use Rattle.cqf_program_runs.specs.Check.Output.{IsChecked, IsCheckRefusal}
+use Rattle.cqf_program_runs.specs.Deliveries.Output.{IsDeliveriesOutput}
+use Rattle.cqf_program_runs.specs.Line.Output.{IsLineOutput, line_input}
+use Rattle.cqf_program_runs.specs.Deliveries.PlannedScenario.{planned_scenario}
+use Rattle.cqf_program_runs.specs.Report.Output.{IsReportOutput}
+use Rattle.cqf_program_runs.specs.Run.Output.{IsRunOutput}
 use Rattle.cqf_program_sketch.specs.PlanOutput.{IsPlanOf, IsPlanRefusal}
-use Rattle.cqf_program_plans.specs.TcOutput.{tc_of_input}
+use Rattle.cqf_program_summary.specs.Hops.Output.{IsHopsOutput}
+use Rattle.cqf_program_summary.specs.Hops.Legs.{Wanted}
+use Rattle.cqf_program_summary.specs.Summary.Output.{IsSummaryOutput}
 use Rattle.cqf_program_threads.specs.ThreadsOutput.{IsThreadsOutput, TellsFault}
 use Rattle.cqf_program_words.specs.Candidates.{times_of}
-use Rattle.cqf_program_words.specs.Shown.{ShowsBehind, ShowsLine, ShowsWords, are_printable, is_shown_whole, no_command}
-use Rattle.cqf_program_words.specs.Words.{AreMistaken, AskForHelp, Mean, TellsNoCandidates, ask_for_large, limits_of}
-use Rattle.cqf_program_stop.specs.declared.stops.Stop.{Stop}
-use Rattle.cqf_program_engine.specs.declared.runs.TheConstants.{VERSION}
 use Rattle.cqf_program_words.specs.declared.words.Format.TheVariants as form
 use Rattle.cqf_program_words.specs.declared.words.Job.{Job}
 use Rattle.cqf_program_words.specs.declared.words.Job.TheVariants.{Check, Compile, Deliveries, Hops, Latency, Line, Load, Offers, Plan, Port, Report, Run, Summary}
-use Rattle.cqf_model.specs.declared.limits.Limits.{Limits}
-use Rattle.cqf_model.specs.Limits.{last_until, most_cycles}
+use Rattle.cqf_program_words.specs.Shown.{ShowsBehind, ShowsLine, ShowsWords, are_printable, is_shown_whole, no_command}
+use Rattle.cqf_program_words.specs.Words.{AreMistaken, AskForHelp, Mean, TellsNoCandidates, ask_for_large, limits_of}
+use Rattle.cqf_program_engine.specs.declared.runs.TheConstants.{VERSION}
 
 -- the job's numbers aren't above their limits
 abbrev pub IsWithin : Job → Type 0
@@ -208,7 +208,7 @@ abbrev pub IsBehindWords : List (List ℕ) → Reading → Type 0
 IsBehindWords words input = words ≢ [] → ((job : Job) × Mean words job) ⊎ ((input.bytes ≡ []) × (input.failed ≡ false))
 
 -- the end of a read that was broken off: status 4 and the line that tells so where the reader failed, 3 for want of memory
-abbrev pub EndsRead : Broken → Stop → Type 0
+abbrev pub EndsRead : ReadFailure → Stop → Type 0
 EndsRead Memory stop = (stop.status ≡ 3) × (stop.text.items ≡ [])
 EndsRead Fault stop = EndsWith 4 (line_of (codes "cqf: input fault")) stop
 

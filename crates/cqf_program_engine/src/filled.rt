@@ -2,9 +2,9 @@
 ghost use Rattle.std.specs.Prelude.{ℕ, ◌≡◌, ◌≤◌, ◌<◌, ◌+◌, List, [], IfOk, IfErr, OnOk, OnErr, length, take, drop};
 ghost use Rattle.std.specs.Io.KnownBytes.{Consumes, IsAtEnd, Keeps};
 ghost use Rattle.cqf_program_engine.specs.Edge.{HasRead, MayBreak};
-ghost use Rattle.cqf_program_press.specs.Kinds.{SomeKind};
+ghost use Rattle.cqf_press.specs.Kinds.{SomeKind};
 
-use crate::heard::Broken;
+use crate::heard::ReadFailure;
 use crate::retries::read_again;
 use crate::sources::Source;
 use cqf_units::Memory;
@@ -118,7 +118,7 @@ impl Filled {
         reader: &mut R,
         most: usize,
         room: usize,
-    ) -> Result<usize, Broken>
+    ) -> Result<usize, ReadFailure>
         requires some { 0 < most }
         requires few { length self.old + most ≤ room }
         ensures read { HasRead (R.remaining reader.old) (R.remaining reader.new) self.old self.new (length self.old + most) }
@@ -132,7 +132,7 @@ impl Filled {
                 self.count += count;
                 Ok(count)
             }
-            Err(_) => Err(Broken::Fault),
+            Err(_) => Err(ReadFailure::Fault),
         }
     }
 }

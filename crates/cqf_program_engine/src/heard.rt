@@ -1,7 +1,7 @@
 //! A reader that remembers what it gave.
 ghost use Rattle.std.specs.Prelude.{◌≡◌, ◌≤◌, ◌<◌, ◌+◌, [], true, false, IfOk, IfErr, OnOk, length};
 ghost use Rattle.std.specs.Io.KnownBytes.{IsAtEnd};
-ghost use Rattle.cqf_program_press.specs.Kinds.{SomeKind};
+ghost use Rattle.cqf_press.specs.Kinds.{SomeKind};
 
 use crate::filled::Filled;
 use crate::sources::Source;
@@ -10,7 +10,7 @@ use std::alloc::Global;
 
 /// Why a read gave nothing.
 #[derive(Clone, Copy, Debug, PartialEq, Eq)]
-pub(crate) enum Broken {
+pub(crate) enum ReadFailure {
     /// There was no memory for what it would have given.
     Memory,
     /// The reader failed.
@@ -18,13 +18,13 @@ pub(crate) enum Broken {
 }
 
 /// Want of memory, as a cause.
-impl From<Memory> for Broken {
-    ghost use Rattle.cqf_program_engine.specs.declared.heard.Broken.TheVariants as variant;
+impl From<Memory> for ReadFailure {
+    ghost use Rattle.cqf_program_engine.specs.declared.heard.ReadFailure.TheVariants as variant;
 
     ghost from_gives = { λ _ cause. cause ≡ variant.Memory };
 
-    fn from(_refused: Memory) -> Broken {
-        Broken::Memory
+    fn from(_refused: Memory) -> ReadFailure {
+        ReadFailure::Memory
     }
 }
 
@@ -63,7 +63,7 @@ impl<R: Source> Heard<R> {
 
     /// One read, of at most so many bytes, where there is never room for more of them all than is said: how many it gave, none only at the
     /// end of the input. `Err` with `Fault` where the reader fails. With `Memory` it wasn't asked.
-    pub(crate) fn read(&mut self, most: usize, room: usize) -> Result<usize, Broken>
+    pub(crate) fn read(&mut self, most: usize, room: usize) -> Result<usize, ReadFailure>
         requires some { 0 < most }
         requires few { length self.old.bytes + most ≤ room }
         ensures read { HasRead (R.remaining self.old.reader) (R.remaining self.new.reader) self.old.bytes self.new.bytes
@@ -75,7 +75,7 @@ impl<R: Source> Heard<R> {
         ensures may { IfErr result (MayBreak R.fails) }
     {
         let read = self.bytes.fill(&mut self.reader, most, room);
-        if let Err(Broken::Fault) = read {
+        if let Err(ReadFailure::Fault) = read {
             self.failed = true;
         }
         read

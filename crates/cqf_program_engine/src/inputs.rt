@@ -1,14 +1,14 @@
 //! The bytes that the program reads.
 ghost use Rattle.std.specs.Prelude.{◌≡◌, ◌≤◌, ◌<◌, ◌^◌, codes, false, IfErr, OnOk, length, map};
-ghost use Rattle.cqf_program_stop.specs.Stops.{EndsWith, line_of};
+ghost use Rattle.cqf_press.specs.Stops.{EndsWith, line_of};
 ghost use Rattle.std.specs.Io.KnownBytes.{IsAtEnd};
 ghost use Rattle.cqf_program_engine.specs.Edge.{IsHeard, IsUnheard, reading};
 ghost use Rattle.cqf_program_engine.specs.Run.{EndsInput, EndsRead, most_bytes};
 
 use crate::filled::STEP;
-use crate::heard::{Broken, Heard};
+use crate::heard::{Heard, ReadFailure};
 use crate::sources::Source;
-use cqf_program_stop::{FAULT, REFUSED, Stop};
+use cqf_press::{FAULT, REFUSED, Stop};
 use cqf_program_words::ask_for_large;
 use std::alloc::Global;
 
@@ -31,12 +31,12 @@ pub fn most_bytes(words: &[&str]) -> usize
 }
 
 /// The end of a read that was broken off.
-pub(crate) fn stop_of(alloc: Global, cause: Broken) -> Stop
+pub(crate) fn stop_of(alloc: Global, cause: ReadFailure) -> Stop
     ensures { EndsRead cause result }
 {
     match cause {
-        Broken::Memory => Stop::memory(alloc),
-        Broken::Fault => Stop::with_line(alloc, FAULT, "cqf: input fault\n"),
+        ReadFailure::Memory => Stop::memory(alloc),
+        ReadFailure::Fault => Stop::with_line(alloc, FAULT, "cqf: input fault\n"),
     }
 }
 

@@ -1,9 +1,9 @@
 //! What status 4 comes of, where reads never fail.
-ghost use Rattle.cqf_program_press.specs.Kinds.{MemoryAlone, NoKind};
+ghost use Rattle.cqf_press.specs.Kinds.{MemoryAlone, NoKind};
 ghost use Rattle.cqf_program_engine.specs.Run.{FaultIsOfThreads, FaultIsOfThreadsOrOutput};
 
 use crate::sources::Source;
-use cqf_program_press::Sink;
+use cqf_press::Sink;
 
 /// Where reads never fail and the output refuses nothing, a run that ends with status 4 was one on threads, which failed.
 pub fn fault_is_of_threads<R: Source, O: Sink>()

@@ -1,18 +1,18 @@
 //! An output, before it is told.
 ghost use Rattle.std.specs.Prelude.{ℕ, List};
 ghost use Rattle.cqf_program_engine.specs.Prepared.{IsTextOf};
-ghost use Rattle.cqf_program_press.specs.Edge.{HasTold, writing};
+ghost use Rattle.cqf_press.specs.Edge.{HasTold, writing};
 
-use cqf_program_hops::HopsOutput;
-use cqf_program_plans::{ConfigOutput, LatencyOutput, LoadOutput, PortOutput, TcOutput};
-use cqf_program_press::{Sink, Told, write_out};
+use cqf_press::{Sink, Told, write_out};
+use cqf_program_plans::{ConfigOutput, LatencyOutput, LoadOutput, PortOutput};
 use cqf_program_runs::{DeliveriesOutput, LineOutput, RunOutput};
-use cqf_program_summary::SummaryOutput;
+use cqf_program_summary::{HopsOutput, SummaryOutput};
+use cqf_program_tc::TcOutput;
 use cqf_program_threads::ThreadsOutput;
 
 /// What an output is told from, with all the memory that its telling needs.
 #[derive(Drop)]
-pub enum Prepared {
+pub enum PreparedOutput {
     /// The output itself.
     Text(Vec<u8>),
     /// That of `port`: the starts of a port.
@@ -39,24 +39,24 @@ pub enum Prepared {
     Hops(HopsOutput),
 }
 
-impl Prepared {
+impl PreparedOutput {
     /// Tells the output: all of it, unless the writer refuses a part, and then a front of it. It asks for no memory.
     pub fn tell<W: Sink>(self, told: &mut Told<W>)
         ensures { (text : List ℕ) → IsTextOf self text → HasTold (writing W.contents told.old told.new) text }
     {
         match self {
-            Prepared::Text(text) => write_out(told, text.as_slice()),
-            Prepared::Port(output) => output.tell(told),
-            Prepared::Line(output) => output.tell(told),
-            Prepared::Config(output) => output.tell(told),
-            Prepared::Script(output) => output.tell(told),
-            Prepared::Load(output) => output.tell(told),
-            Prepared::Latency(output) => output.tell(told),
-            Prepared::Run(output) => output.tell(told),
-            Prepared::Account(output) => output.tell(told),
-            Prepared::Deliveries(output) => output.tell(told),
-            Prepared::Summary(output) => output.tell(told),
-            Prepared::Hops(output) => output.tell(told),
+            PreparedOutput::Text(text) => write_out(told, text.as_slice()),
+            PreparedOutput::Port(output) => output.tell(told),
+            PreparedOutput::Line(output) => output.tell(told),
+            PreparedOutput::Config(output) => output.tell(told),
+            PreparedOutput::Script(output) => output.tell(told),
+            PreparedOutput::Load(output) => output.tell(told),
+            PreparedOutput::Latency(output) => output.tell(told),
+            PreparedOutput::Run(output) => output.tell(told),
+            PreparedOutput::Account(output) => output.tell(told),
+            PreparedOutput::Deliveries(output) => output.tell(told),
+            PreparedOutput::Summary(output) => output.tell(told),
+            PreparedOutput::Hops(output) => output.tell(told),
         }
     }
 }

@@ -1,10 +1,10 @@
-//! Reads that a signal interrupts (EINTR) are made again, as `cqf_program_press` makes writes again. Any other failure stands, that of a reader
+//! Reads that a signal interrupts (EINTR) are made again, as `cqf_press` makes writes again. Any other failure stands, that of a reader
 //! which would have to wait (EAGAIN) among them. What is interrupted each of 2^64 - 1 times has failed too.
 ghost use Rattle.std.specs.Prelude.{◌≡◌, ◌≢◌, IfOk, IfErr, OnErr, length, take};
 ghost use Rattle.std.specs.IoError.{error_kind};
 ghost use Rattle.std.specs.Io.{ReadsAtMost};
 ghost use Rattle.std.specs.Io.KnownBytes.{Consumes, IsAtEnd, Keeps};
-ghost use Rattle.cqf_program_press.specs.Kinds.{SomeKind};
+ghost use Rattle.cqf_press.specs.Kinds.{SomeKind};
 
 use crate::sources::Source;
 use std::io;

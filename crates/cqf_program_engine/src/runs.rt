@@ -3,16 +3,16 @@ ghost use Rattle.std.specs.Prelude.{ℕ, ◌≡◌, ◌≢◌, ◌≤◌, List, 
 ghost use Rattle.std.specs.List.{slice_split};
 ghost use Rattle.cqf_program_engine.specs.Edge.{IsHeard, IsUnheard, reading};
 ghost use Rattle.cqf_program_engine.specs.Prepared.{HasText, IsTextOf};
-ghost use Rattle.cqf_program_press.specs.Edge.{writing};
+ghost use Rattle.cqf_press.specs.Edge.{writing};
 ghost use Rattle.cqf_program_threads.specs.ThreadsOutput.{EndsThreads, IsThreadsOutput};
 ghost use Rattle.cqf_program_words.specs.Shown.{ShowsLine, is_shown_whole};
 ghost use Rattle.cqf_program_words.specs.Words.{EndsWords, Mean};
-ghost use Rattle.cqf_program_hops.specs.HopsOutput.{IsHopsOutput};
+ghost use Rattle.cqf_program_summary.specs.Hops.Output.{IsHopsOutput};
 ghost use Rattle.cqf_program_sketch.specs.PlanOutput.{IsPlanOf, IsPlanRefusal};
 ghost use Rattle.cqf_program_words.specs.Candidates.{times_of};
 ghost use Rattle.cqf_sketch.specs.SketchDomain.{AreCandidates};
 ghost use Rattle.cqf_program_scenario.specs.Scenario.{scenario_input};
-ghost use Rattle.cqf_program_stop.specs.Stops.{EndsWith, IsRefused};
+ghost use Rattle.cqf_press.specs.Stops.{EndsWith, IsRefused};
 ghost use Rattle.cqf_program_engine.specs.Run.{version_line, IsAsking, IsVersionWord, IsWithin, IsOutput, IsEnd};
 ghost use Rattle.cqf_program_engine.specs.Run.{IsRefusal, IsBehindWords, Ends, EndsTold, HandsOver, HasCause, HasRun};
 ghost use Rattle.cqf_program_engine.specs.Run.{IsDone, IsStopped, TellsCandidates, TellsStop, is_space, is_threaded, first_line, wanted_of};
@@ -21,24 +21,23 @@ ghost use Rattle.cqf_model.specs.Limits.{most_cycles};
 
 use crate::heard::Heard;
 use crate::inputs::{MOST_BYTES, most_bytes, read_input};
-use crate::prepared::Prepared;
+use crate::prepared::PreparedOutput;
 use crate::sources::Source;
 use cqf_model::Limits;
-use cqf_program_hops::{Choice, hops_output};
+use cqf_press::{DONE, FAULT, NO_MEMORY, Sink, Stop, Told, USAGE, told_text, write_out};
 use cqf_program_offers::offers_output;
-use cqf_program_plans::{compile_output, latency_output, load_output, port_output, tc_output};
-use cqf_program_press::{Sink, Told, write_out};
+use cqf_program_plans::{compile_output, latency_output, load_output, port_output};
 use cqf_program_runs::{check_output, deliveries_output, line_output, report_output, run_output};
 use cqf_program_sketch::plan_output;
-use cqf_program_stop::{DONE, FAULT, NO_MEMORY, Stop, USAGE};
-use cqf_program_summary::summary_output;
+use cqf_program_summary::{FrameFilter, hops_output, summary_output};
+use cqf_program_tc::tc_output;
 use cqf_program_threads::threads_output;
 use cqf_program_words::{
     Candidates, Format, Job, limits_of, read_words, stop_of_line, stop_of_long_line,
 };
 use cqf_text::split_line;
 use cqf_units::Memory;
-use std::alloc::{AllocError, Global};
+use std::alloc::Global;
 use std::sync::Wait;
 use std::thread::Threads;
 
@@ -48,13 +47,13 @@ fn prepare_compiled(
     limits: Limits,
     format: Format,
     input: &[u8],
-) -> Result<Prepared, Stop>
+) -> Result<PreparedOutput, Stop>
     ensures ok { IfOk result (HasText (IsOutput limits (Job.Compile format) input.now)) }
     ensures err { IfErr result (IsRefusal limits (Job.Compile format) input.now) }
 {
     match format {
-        Format::List => Ok(Prepared::Config(compile_output(alloc, limits, input)?)),
-        Format::Tc => Ok(Prepared::Script(tc_output(alloc, limits, input)?)),
+        Format::List => Ok(PreparedOutput::Config(compile_output(alloc, limits, input)?)),
+        Format::Tc => Ok(PreparedOutput::Script(tc_output(alloc, limits, input)?)),
     }
 }
 
@@ -77,16 +76,16 @@ fn prepare_hops(
     stream: &Option<String>,
     frame: Option<u32>,
     input: &[u8],
-) -> Result<Prepared, Stop>
+) -> Result<PreparedOutput, Stop>
     requires { cycles ≤ most_cycles }
     ensures ok { IfOk result (HasText (IsHopsOutput limits cycles (wanted_of stream.now frame) input.now)) }
     ensures err { IfErr result (IsRefused (scenario_input limits cycles input.now)) }
 {
-    let choice = Choice {
+    let choice = FrameFilter {
         stream: name_of(stream),
         frame,
     };
-    Ok(Prepared::Hops(hops_output(alloc, limits, cycles, choice, input)?))
+    Ok(PreparedOutput::Hops(hops_output(alloc, limits, cycles, choice, input)?))
 }
 
 /// The candidates for the cycle time, where some are given.
@@ -129,60 +128,60 @@ fn prepare(
     limits: Limits,
     job: &Job,
     input: &[u8],
-) -> Result<Prepared, Stop>
+) -> Result<PreparedOutput, Stop>
     requires within { IsWithin job.now }
     requires unthreaded { is_threaded job.now ≡ false }
     ensures ok { IfOk result (HasText (IsOutput limits job.now input.now)) }
     ensures err { IfErr result (IsRefusal limits job.now input.now) }
 {
     match *job {
-        Job::Port { until, rate } => Ok(Prepared::Port(port_output(alloc, until, rate, input)?)),
-        Job::Line { cycles } => Ok(Prepared::Line(line_output(alloc, cycles, input)?)),
+        Job::Port { until, rate } => Ok(PreparedOutput::Port(port_output(
+            alloc, until, rate, input,
+        )?)),
+        Job::Line { cycles } => Ok(PreparedOutput::Line(line_output(alloc, cycles, input)?)),
         Job::Compile { format } => prepare_compiled(alloc, limits, format, input),
-        Job::Load => Ok(Prepared::Load(load_output(alloc, limits, input)?)),
-        Job::Latency { strict } => Ok(Prepared::Latency(latency_output(
+        Job::Load => Ok(PreparedOutput::Load(load_output(alloc, limits, input)?)),
+        Job::Latency { strict } => Ok(PreparedOutput::Latency(latency_output(
             alloc, limits, strict, input,
         )?)),
         Job::Run {
             cycles,
             threads: false,
-        } => Ok(Prepared::Run(run_output(alloc, limits, cycles, input)?)),
+        } => Ok(PreparedOutput::Run(run_output(alloc, limits, cycles, input)?)),
         Job::Run { threads: true, .. } => unreachable!(),
-        Job::Report { cycles } => Ok(Prepared::Text(report_output(
+        Job::Report { cycles } => Ok(PreparedOutput::Text(report_output(
             rt, alloc, limits, cycles, input,
         )?)),
         Job::Deliveries { cycles } => {
-            Ok(Prepared::Deliveries(deliveries_output(alloc, limits, cycles, input)?))
+            Ok(PreparedOutput::Deliveries(deliveries_output(alloc, limits, cycles, input)?))
         }
-        Job::Check { cycles } => Ok(Prepared::Text(check_output(alloc, limits, cycles, input)?)),
-        Job::Summary { cycles } => Ok(Prepared::Summary(summary_output(
+        Job::Check { cycles } => Ok(PreparedOutput::Text(check_output(
+            alloc, limits, cycles, input,
+        )?)),
+        Job::Summary { cycles } => Ok(PreparedOutput::Summary(summary_output(
             alloc, limits, cycles, input,
         )?)),
         Job::Offers { cycles, seed } => {
-            Ok(Prepared::Text(offers_output(alloc, limits, cycles, seed, input)?))
+            Ok(PreparedOutput::Text(offers_output(alloc, limits, cycles, seed, input)?))
         }
         Job::Hops {
             cycles,
             ref stream,
             frame,
         } => prepare_hops(alloc, limits, cycles, stream, frame, input),
-        Job::Plan { table, given } => Ok(Prepared::Text(planned(
+        Job::Plan { table, given } => Ok(PreparedOutput::Text(planned(
             alloc, limits, table, given, input,
         )?)),
     }
 }
 
 /// What an output tells, as one text. The error is want of memory.
-fn text_told(alloc: Global, output: Prepared) -> Result<Vec<u8>, Memory>
+fn text_told(alloc: Global, output: PreparedOutput) -> Result<Vec<u8>, Memory>
     ensures { IfOk result (λ told. (text : List ℕ) → IsTextOf output text → told.items ≡ text) }
 {
     let mut told = Told::new(Vec::new(alloc));
     output.tell(&mut told);
-    // a list of bytes refuses only what it has no memory for
-    if told.is_refused() {
-        return Err(AllocError);
-    }
-    Ok(told.into_writer())
+    told_text(told)
 }
 
 /// The output of a job for its input, which is read within some limits, unless it is a run on threads; `rt` is for the threads of `report`.
@@ -226,13 +225,13 @@ fn prepare_threads(
     limits: Limits,
     cycles: u32,
     input: &[u8],
-) -> Result<Prepared, Stop>
+) -> Result<PreparedOutput, Stop>
     requires { cycles ≤ most_cycles }
     ensures ok { IfOk result (HasText (IsThreadsOutput limits cycles input.now)) }
     ensures err { IfErr result (EndsThreads limits cycles input.now) }
 {
     match threads_output(rt, alloc, limits, cycles, input) {
-        Ok(output) => Ok(Prepared::Account(output)),
+        Ok(output) => Ok(PreparedOutput::Account(output)),
         Err(stop) => Err(stop),
     }
 }
@@ -246,7 +245,7 @@ fn output_of(
     limits: Limits,
     job: &Job,
     input: &[u8],
-) -> Result<Prepared, Stop>
+) -> Result<PreparedOutput, Stop>
     requires { IsWithin job.now }
     ensures ok { IfOk result (HasText (IsOutput limits job.now input.now)) }
     ensures err { IfErr result (IsEnd limits job.now input.now) }
@@ -315,7 +314,7 @@ fn run_given<R: Source>(
     alloc: Global,
     words: &[&str],
     input: &mut Heard<R>,
-) -> Result<Prepared, Stop>
+) -> Result<PreparedOutput, Stop>
     requires given { map (λ word. word.now) words.now ≢ [] }
     requires unheard { IsUnheard input.old }
     ensures heard { IsHeard (most_bytes (map (λ word. word.now) words.now)) (reading R.remaining input.old input.new) }
@@ -366,7 +365,7 @@ fn run_line(
     rt: &(impl Threads + Wait + Sync),
     alloc: Global,
     bytes: &[u8],
-) -> Result<Prepared, Stop>
+) -> Result<PreparedOutput, Stop>
     requires { length bytes.now ≤ most_bytes [] }
     ensures ok { IfOk result (HasText (IsDone [] bytes.now)) }
     ensures err { IfErr result (HasCause [] bytes.now) }
@@ -393,7 +392,7 @@ fn run_taken<R: Source>(
     rt: &(impl Threads + Wait + Sync),
     alloc: Global,
     input: &mut Heard<R>,
-) -> Result<Prepared, Stop>
+) -> Result<PreparedOutput, Stop>
     requires { IsUnheard input.old }
     ensures heard { IsHeard (most_bytes []) (reading R.remaining input.old input.new) }
     ensures ok { IfOk result (HasText (HasRun [] (reading R.remaining input.old input.new))) }
@@ -411,7 +410,7 @@ fn run<R: Source>(
     alloc: Global,
     words: &[&str],
     input: &mut Heard<R>,
-) -> Result<Prepared, Stop>
+) -> Result<PreparedOutput, Stop>
     requires { IsUnheard input.old }
     ensures heard { IsHeard (most_bytes (map (λ word. word.now) words.now)) (reading R.remaining input.old input.new) }
     ensures behind_words { IsBehindWords (map (λ word. word.now) words.now) (reading R.remaining input.old input.new) }
@@ -446,7 +445,7 @@ fn hand_over<O: Sink, F: Sink>(text: &[u8], output: &mut Told<O>, faults: &mut T
 
 /// Tells all of an output, and the status of that: 4 where the writer refuses some of it.
 fn tell_output<O: Sink, F: Sink>(
-    prepared: Prepared,
+    prepared: PreparedOutput,
     output: &mut Told<O>,
     faults: &mut Told<F>,
 ) -> u8

@@ -7,7 +7,7 @@ ghost use Rattle.cqf_program_engine.specs.Run.{EndsText};
 use crate::filled::{Filled, STEP};
 use crate::inputs::{stop_of, stop_of_length};
 use crate::sources::Source;
-use cqf_program_stop::Stop;
+use cqf_press::Stop;
 use cqf_units::Memory;
 use std::alloc::Global;
 

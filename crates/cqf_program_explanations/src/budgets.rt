@@ -1,11 +1,11 @@
 //! Streams that are refused beside those that stand before them: names that are held, and budgets (profile).
 
-use crate::given::Given;
+use crate::given::CommandInput;
 use crate::network::Network;
 use crate::places::Grouped;
-use crate::plant::Item;
-use crate::stream_faults::{Asked, MOST_EVERY, Pace, streams_of};
-use crate::told::Told;
+use crate::plant::WrittenItem;
+use crate::stream_faults::{MOST_EVERY, WrittenPace, WrittenStream, streams_of};
+use crate::told::ToldLines;
 use std::alloc::{AllocError, Global};
 use std::collections::BTreeMap;
 
@@ -17,7 +17,7 @@ const SHORTEST_COST: u64 = 84;
 
 /// Which streams are tried, and what is told of those that don't go.
 #[derive(Clone, Copy, Debug, PartialEq, Eq)]
-pub(crate) enum Wanted {
+pub(crate) enum TriedStreams {
     NameHeld,
     TooManyStreams,
     BudgetShort,
@@ -27,13 +27,13 @@ pub(crate) enum Wanted {
 #[derive(Drop)]
 struct Placed<'p> {
     network: Network<'p>,
-    streams: BTreeMap<&'p str, Item<'p>>,
+    streams: BTreeMap<&'p str, WrittenItem<'p>>,
     held: Vec<u64>,
 }
 
 /// A link of a stream's tree, and how many links lead to it there.
 #[derive(Clone, Copy)]
-struct Hop {
+struct TreeLink {
     link: usize,
     depth: u64,
 }
@@ -63,16 +63,16 @@ fn greatest_within(left: u64) -> u64 {
 fn tree_of(
     alloc: Global,
     network: &Network<'_>,
-    asked: &Asked<'_>,
-) -> Result<Vec<Hop>, AllocError> {
-    let mut tree: Vec<Hop> = Vec::new(alloc);
+    asked: &WrittenStream<'_>,
+) -> Result<Vec<TreeLink>, AllocError> {
+    let mut tree: Vec<TreeLink> = Vec::new(alloc);
     for path in &asked.paths {
         let behind = path.iter().skip(1);
         for (depth, (from, to)) in path.iter().zip(behind).enumerate() {
             if let Some(link) = network.link_between(from, to) {
                 if !tree.iter().any(|hop| hop.link == link) {
                     let depth = depth as u64;
-                    tree.push(Hop { link, depth })?;
+                    tree.push(TreeLink { link, depth })?;
                 }
             }
         }
@@ -88,7 +88,7 @@ fn spot(link: usize, cycle: u64) -> usize {
 
 impl<'p> Placed<'p> {
     /// The most that a link holds in a cycle in which a stream's frames are on it.
-    fn held_beside(&self, hop: Hop, pace: Pace) -> u64 {
+    fn held_beside(&self, hop: TreeLink, pace: WrittenPace) -> u64 {
         let mut most: u64 = 0;
         for cycle in 0..MOST_EVERY {
             if pace.is_turn(hop.depth, cycle) {
@@ -100,7 +100,7 @@ impl<'p> Placed<'p> {
     }
 
     /// What a link has left for a stream, with its budget.
-    fn left_on(&self, hop: Hop, pace: Pace) -> Short {
+    fn left_on(&self, hop: TreeLink, pace: WrittenPace) -> Short {
         let held = self.held_beside(hop, pace);
         let budget = match self.network.links.get(hop.link) {
             Some(link) => self.network.budget(link),
@@ -114,7 +114,7 @@ impl<'p> Placed<'p> {
     }
 
     /// The first link of a tree that has less left than a stream costs.
-    fn short_link(&self, tree: &[Hop], pace: Pace, cost: u64) -> Option<Short> {
+    fn short_link(&self, tree: &[TreeLink], pace: WrittenPace, cost: u64) -> Option<Short> {
         for hop in tree {
             let short = self.left_on(*hop, pace);
             if short.left < cost {
@@ -125,7 +125,7 @@ impl<'p> Placed<'p> {
     }
 
     /// Adds a cost in those cycles in which a stream's frames are on a link.
-    fn put_cost(&mut self, hop: Hop, pace: Pace, cost: u64) {
+    fn put_cost(&mut self, hop: TreeLink, pace: WrittenPace, cost: u64) {
         for cycle in 0..MOST_EVERY {
             if pace.is_turn(hop.depth, cycle) {
                 if let Some(held) = self.held.get_mut(spot(hop.link, cycle)) {
@@ -136,7 +136,12 @@ impl<'p> Placed<'p> {
     }
 
     /// Places a stream on the links of its tree.
-    fn place(&mut self, asked: &Asked<'p>, tree: &[Hop], cost: u64) -> Result<(), AllocError> {
+    fn place(
+        &mut self,
+        asked: &WrittenStream<'p>,
+        tree: &[TreeLink],
+        cost: u64,
+    ) -> Result<(), AllocError> {
         self.streams.insert(asked.name, asked.item)?;
         for hop in tree {
             self.put_cost(*hop, asked.pace, cost);
@@ -145,7 +150,7 @@ impl<'p> Placed<'p> {
     }
 
     /// The greatest reservation that all links of a tree have room for, in octets, or 0.
-    fn greatest_on(&self, tree: &[Hop], pace: Pace) -> u64 {
+    fn greatest_on(&self, tree: &[TreeLink], pace: WrittenPace) -> u64 {
         let mut least = u64::MAX;
         for hop in tree {
             least = least.min(self.left_on(*hop, pace).left);
@@ -154,7 +159,7 @@ impl<'p> Placed<'p> {
     }
 
     /// The least cycle time at which all links of a tree have room for a cost, in ns.
-    fn least_cycle(&self, tree: &[Hop], pace: Pace, cost: u64) -> u64 {
+    fn least_cycle(&self, tree: &[TreeLink], pace: WrittenPace, cost: u64) -> u64 {
         let mut least: u64 = 0;
         for hop in tree {
             let held = self.held_beside(*hop, pace);
@@ -185,11 +190,11 @@ fn remedy(alloc: Global, octets: u64, cycle: u64) -> Result<String, AllocError> 
 
 /// Tells of a stream that a link has too little left for.
 fn tell_short(
-    given: &Given<'_>,
-    told: &mut Told,
+    given: &CommandInput<'_>,
+    told: &mut ToldLines,
     placed: &Placed<'_>,
-    asked: &Asked<'_>,
-    tree: &[Hop],
+    asked: &WrittenStream<'_>,
+    tree: &[TreeLink],
     short: Short,
 ) -> Result<(), AllocError> {
     let Some(link) = placed.network.links.get(short.link) else {
@@ -214,10 +219,10 @@ fn tell_short(
 
 /// Tells of a stream whose name is held.
 fn tell_held(
-    given: &Given<'_>,
-    told: &mut Told,
-    asked: &Asked<'_>,
-    first: &Item<'_>,
+    given: &CommandInput<'_>,
+    told: &mut ToldLines,
+    asked: &WrittenStream<'_>,
+    first: &WrittenItem<'_>,
 ) -> Result<(), AllocError> {
     let (place, label) = (
         asked.item.place_of("name"),
@@ -230,7 +235,11 @@ fn tell_held(
 }
 
 /// Tells of a stream behind the most that are held at once.
-fn tell_beyond(given: &Given<'_>, told: &mut Told, asked: &Asked<'_>) -> Result<(), AllocError> {
+fn tell_beyond(
+    given: &CommandInput<'_>,
+    told: &mut ToldLines,
+    asked: &WrittenStream<'_>,
+) -> Result<(), AllocError> {
     let (place, label) = (asked.item.place(), asked.item.counted(given.alloc)?);
     let most = Grouped(given.limits.streams_within() as u64);
     told.tell(format!(in given.alloc; "{place}: {label}: at most {most} streams are held at once")?)
@@ -238,11 +247,11 @@ fn tell_beyond(given: &Given<'_>, told: &mut Told, asked: &Asked<'_>) -> Result<
 
 /// Tries a stream behind those placed: places it, or tells why it doesn't go where that is asked for.
 fn try_stream<'p>(
-    given: &Given<'_>,
-    told: &mut Told,
+    given: &CommandInput<'_>,
+    told: &mut ToldLines,
     placed: &mut Placed<'p>,
-    asked: &Asked<'p>,
-    wanted: Wanted,
+    asked: &WrittenStream<'p>,
+    wanted: TriedStreams,
 ) -> Result<(), AllocError> {
     if asked.form_fault(&placed.network).is_some() {
         return Ok(());
@@ -250,15 +259,15 @@ fn try_stream<'p>(
     let cost = cost_of(asked.octets);
     let tree = tree_of(given.alloc, &placed.network, asked)?;
     if let Some(first) = placed.streams.get(asked.name) {
-        if wanted == Wanted::NameHeld {
+        if wanted == TriedStreams::NameHeld {
             tell_held(given, told, asked, first)?;
         }
     } else if placed.streams.len() >= given.limits.streams_within() {
-        if wanted == Wanted::TooManyStreams {
+        if wanted == TriedStreams::TooManyStreams {
             tell_beyond(given, told, asked)?;
         }
     } else if let Some(short) = placed.short_link(tree.as_slice(), asked.pace, cost) {
-        if wanted == Wanted::BudgetShort {
+        if wanted == TriedStreams::BudgetShort {
             tell_short(given, told, placed, asked, tree.as_slice(), short)?;
         }
     } else {
@@ -269,9 +278,9 @@ fn try_stream<'p>(
 
 /// Tells of each stream that is refused beside those that stand before it, for what is asked for.
 pub(crate) fn tell_refused(
-    given: &Given<'_>,
-    told: &mut Told,
-    wanted: Wanted,
+    given: &CommandInput<'_>,
+    told: &mut ToldLines,
+    wanted: TriedStreams,
 ) -> Result<(), AllocError> {
     let streams = streams_of(&*given)?;
     let network = given.network()?;

@@ -1,11 +1,11 @@
 //! Domains that no network can be like.
 
-use crate::given::Given;
-use crate::network::{Link, Network};
+use crate::given::CommandInput;
+use crate::network::{Network, WrittenLink};
 use crate::places::{Grouped, Place};
-use crate::plant::{Found, Item, Kind};
+use crate::plant::{FoundKey, KeyOwner, WrittenItem};
 use crate::sketch::{candidates_of, is_duplex, is_of_plant, reads_sketch, talker_of};
-use crate::told::Told;
+use crate::told::ToldLines;
 use crate::words::shortened;
 use std::alloc::{AllocError, Global};
 use std::collections::BTreeMap;
@@ -18,11 +18,11 @@ const GAP_OCTETS: u64 = 12;
 
 /// Tells of each name of an array that stood before, and keeps where the others stand.
 fn tell_taken<'p>(
-    given: &Given<'_>,
-    told: &mut Told,
+    given: &CommandInput<'_>,
+    told: &mut ToldLines,
     firsts: &mut BTreeMap<&'p str, Place<'p>>,
     key: &str,
-    names: &[Found<'p>],
+    names: &[FoundKey<'p>],
 ) -> Result<(), AllocError> {
     for found in names {
         let Some(name) = found.value.as_str() else {
@@ -41,7 +41,10 @@ fn tell_taken<'p>(
 }
 
 /// Tells of each name that stood before, bridges before stations.
-pub(crate) fn tell_name_taken(given: &Given<'_>, told: &mut Told) -> Result<(), AllocError> {
+pub(crate) fn tell_name_taken(
+    given: &CommandInput<'_>,
+    told: &mut ToldLines,
+) -> Result<(), AllocError> {
     let (bridges, stations) = (
         given.plant.names("bridges")?,
         given.plant.names("stations")?,
@@ -62,16 +65,16 @@ fn no_beginning(alloc: Global, network: &Network<'_>, name: &str) -> Result<Stri
 }
 
 /// Whether a link may begin at a node: at a bridge, and in a sketch at a station too, which then leads to a bridge.
-fn may_begin(given: &Given<'_>, network: &Network<'_>, link: &Link<'_>) -> bool {
+fn may_begin(given: &CommandInput<'_>, network: &Network<'_>, link: &WrittenLink<'_>) -> bool {
     network.is_bridge(link.from) || reads_sketch(given) && network.is_node(link.from)
 }
 
 /// Tells of a talker's link that doesn't lead to a bridge.
 fn tell_talkers_end(
-    given: &Given<'_>,
-    told: &mut Told,
+    given: &CommandInput<'_>,
+    told: &mut ToldLines,
     network: &Network<'_>,
-    link: &Link<'_>,
+    link: &WrittenLink<'_>,
 ) -> Result<(), AllocError> {
     if network.is_bridge(link.from) || !network.is_node(link.from) || network.is_bridge(link.to) {
         return Ok(());
@@ -85,10 +88,10 @@ fn tell_talkers_end(
 
 /// Tells what is wrong with the ends of a link.
 fn tell_ends(
-    given: &Given<'_>,
-    told: &mut Told,
+    given: &CommandInput<'_>,
+    told: &mut ToldLines,
     network: &Network<'_>,
-    link: &Link<'_>,
+    link: &WrittenLink<'_>,
 ) -> Result<(), AllocError> {
     let (alloc, label) = (given.alloc, link.item.label(given.alloc)?);
     if !may_begin(given, network, link) {
@@ -118,7 +121,10 @@ fn tell_ends(
 }
 
 /// Tells of each end of a link that is no node which may stand there.
-pub(crate) fn tell_unknown_names(given: &Given<'_>, told: &mut Told) -> Result<(), AllocError> {
+pub(crate) fn tell_unknown_names(
+    given: &CommandInput<'_>,
+    told: &mut ToldLines,
+) -> Result<(), AllocError> {
     let network = given.network()?;
     for link in &network.links {
         tell_ends(given, told, &network, link)?;
@@ -128,10 +134,10 @@ pub(crate) fn tell_unknown_names(given: &Given<'_>, told: &mut Told) -> Result<(
 
 /// Tells of a link whose ends an earlier one has, there or back; keeps where others stand.
 fn tell_if_twice<'p>(
-    given: &Given<'_>,
-    told: &mut Told,
-    firsts: &mut BTreeMap<(&'p str, &'p str), Item<'p>>,
-    link: &Link<'p>,
+    given: &CommandInput<'_>,
+    told: &mut ToldLines,
+    firsts: &mut BTreeMap<(&'p str, &'p str), WrittenItem<'p>>,
+    link: &WrittenLink<'p>,
     ends: (&'p str, &'p str),
 ) -> Result<(), AllocError> {
     if let Some(first) = firsts.get(&ends) {
@@ -146,9 +152,12 @@ fn tell_if_twice<'p>(
 }
 
 /// Tells of each link whose ends are those of an earlier one, where a link may stand for two.
-pub(crate) fn tell_links_twice(given: &Given<'_>, told: &mut Told) -> Result<(), AllocError> {
+pub(crate) fn tell_links_twice(
+    given: &CommandInput<'_>,
+    told: &mut ToldLines,
+) -> Result<(), AllocError> {
     let network = given.network()?;
-    let mut firsts: BTreeMap<(&str, &str), Item<'_>> = BTreeMap::new(given.alloc);
+    let mut firsts: BTreeMap<(&str, &str), WrittenItem<'_>> = BTreeMap::new(given.alloc);
     for link in &network.links {
         tell_if_twice(given, told, &mut firsts, link, (link.from, link.to))?;
         if reads_sketch(given) && is_duplex(link) {
@@ -159,9 +168,12 @@ pub(crate) fn tell_links_twice(given: &Given<'_>, told: &mut Told) -> Result<(),
 }
 
 /// Tells of each station that gets a second talker's link.
-pub(crate) fn tell_two_talkers(given: &Given<'_>, told: &mut Told) -> Result<(), AllocError> {
+pub(crate) fn tell_two_talkers(
+    given: &CommandInput<'_>,
+    told: &mut ToldLines,
+) -> Result<(), AllocError> {
     let network = given.network()?;
-    let mut firsts: BTreeMap<&str, Item<'_>> = BTreeMap::new(given.alloc);
+    let mut firsts: BTreeMap<&str, WrittenItem<'_>> = BTreeMap::new(given.alloc);
     for link in &network.links {
         let Some(station) = talker_of(&network, link) else {
             continue;
@@ -180,7 +192,7 @@ pub(crate) fn tell_two_talkers(given: &Given<'_>, told: &mut Told) -> Result<(),
 }
 
 /// The greatest cycle time that is given, in ns.
-fn greatest_cycle(given: &Given<'_>) -> Result<u64, AllocError> {
+fn greatest_cycle(given: &CommandInput<'_>) -> Result<u64, AllocError> {
     let mut most = 0;
     for cycle in &candidates_of(given)? {
         most = *cycle.max(&most);
@@ -189,14 +201,14 @@ fn greatest_cycle(given: &Given<'_>) -> Result<u64, AllocError> {
 }
 
 /// Whether the checks of delays and gaps ask for a link: in a sketch a talker's link is none of the plant's.
-fn is_checked(given: &Given<'_>, network: &Network<'_>, link: &Link<'_>) -> bool {
+fn is_checked(given: &CommandInput<'_>, network: &Network<'_>, link: &WrittenLink<'_>) -> bool {
     !reads_sketch(given) || is_of_plant(network, link)
 }
 
 /// Tells of a guard time that isn't below a cycle time.
 pub(crate) fn tell_guard_at(
-    given: &Given<'_>,
-    told: &mut Told,
+    given: &CommandInput<'_>,
+    told: &mut ToldLines,
     cycle: u64,
 ) -> Result<(), AllocError> {
     if let Some(found) = given.plant.top("guard") {
@@ -210,7 +222,7 @@ pub(crate) fn tell_guard_at(
 }
 
 /// Tells of a guard time that is below no cycle time: the greatest of the file's, or where it is below that, of others that are given.
-pub(crate) fn tell_guard(given: &Given<'_>, told: &mut Told) -> Result<(), AllocError> {
+pub(crate) fn tell_guard(given: &CommandInput<'_>, told: &mut ToldLines) -> Result<(), AllocError> {
     let (guard, cycle) = (given.plant.number("guard"), greatest_cycle(given)?);
     if cycle <= guard {
         return tell_guard_at(given, told, cycle);
@@ -225,7 +237,10 @@ pub(crate) fn tell_guard(given: &Given<'_>, told: &mut Told) -> Result<(), Alloc
 }
 
 /// Tells of each link whose delay isn't below the guard time.
-pub(crate) fn tell_delays(given: &Given<'_>, told: &mut Told) -> Result<(), AllocError> {
+pub(crate) fn tell_delays(
+    given: &CommandInput<'_>,
+    told: &mut ToldLines,
+) -> Result<(), AllocError> {
     let network = given.network()?;
     for link in &network.links {
         if link.delay >= network.guard && is_checked(given, &network, link) {
@@ -240,7 +255,7 @@ pub(crate) fn tell_delays(given: &Given<'_>, told: &mut Told) -> Result<(), Allo
 }
 
 /// Tells of each link on which the gap behind a frame takes longer than the guard time.
-pub(crate) fn tell_gaps(given: &Given<'_>, told: &mut Told) -> Result<(), AllocError> {
+pub(crate) fn tell_gaps(given: &CommandInput<'_>, told: &mut ToldLines) -> Result<(), AllocError> {
     let network = given.network()?;
     for link in &network.links {
         let gap = link.octet_time().saturating_mul(GAP_OCTETS);
@@ -256,7 +271,7 @@ pub(crate) fn tell_gaps(given: &Given<'_>, told: &mut Told) -> Result<(), AllocE
 }
 
 /// How many links a sketch's plant has.
-fn count_of_plant(given: &Given<'_>) -> Result<u64, AllocError> {
+fn count_of_plant(given: &CommandInput<'_>) -> Result<u64, AllocError> {
     let network = given.network()?;
     let mut count: u64 = 0;
     for link in &network.links {
@@ -268,12 +283,12 @@ fn count_of_plant(given: &Given<'_>) -> Result<u64, AllocError> {
 }
 
 /// How many elements the arrays at a key of the top have together.
-fn count_of(given: &Given<'_>, key: &str) -> Result<u64, AllocError> {
+fn count_of(given: &CommandInput<'_>, key: &str) -> Result<u64, AllocError> {
     if key == "links" && reads_sketch(given) {
         return count_of_plant(given);
     }
     let count = if key == "links" {
-        given.plant.items(Kind::Link)?.len()
+        given.plant.items(KeyOwner::Link)?.len()
     } else {
         given.plant.names(key)?.len()
     };
@@ -281,7 +296,7 @@ fn count_of(given: &Given<'_>, key: &str) -> Result<u64, AllocError> {
 }
 
 /// How many there may be of what stands at a key.
-fn most_of(given: &Given<'_>, key: &str) -> usize {
+fn most_of(given: &CommandInput<'_>, key: &str) -> usize {
     match key {
         "bridges" => given.limits.bridges_within(),
         "stations" => given.limits.stations_within(),
@@ -290,7 +305,10 @@ fn most_of(given: &Given<'_>, key: &str) -> usize {
 }
 
 /// Tells of which there are too many.
-pub(crate) fn tell_too_many(given: &Given<'_>, told: &mut Told) -> Result<(), AllocError> {
+pub(crate) fn tell_too_many(
+    given: &CommandInput<'_>,
+    told: &mut ToldLines,
+) -> Result<(), AllocError> {
     for key in &COUNTED {
         let (count, most) = (count_of(given, key)?, most_of(given, key) as u64);
         if count > most {

@@ -2,12 +2,12 @@
 ghost use Rattle.std.specs.Prelude.{IfOk};
 ghost use Rattle.cqf_program_explanations.specs.Explanations.{IsExplanation};
 
-use crate::budgets::{Wanted, tell_refused};
+use crate::budgets::{TriedStreams, tell_refused};
 use crate::domain_faults::{
     tell_delays, tell_gaps, tell_guard, tell_links_twice, tell_name_taken, tell_too_many,
     tell_two_talkers, tell_unknown_names,
 };
-use crate::given::{Given, given_of};
+use crate::given::{CommandInput, given_of};
 use crate::part_faults::tell_parts;
 use crate::plan_faults::tell_plan;
 use crate::plant_faults::{tell_key_twice, tell_long_lines, tell_unknown_keys};
@@ -16,21 +16,25 @@ use crate::script_faults::{
     tell_bad_lines, tell_too_many_lines, tell_unknown_offer, tell_unknown_streams,
 };
 use crate::stream_faults::{form_fault_of, tell_form_faults};
-use crate::table_faults::{Table, tell_table};
-use crate::told::Told;
+use crate::table_faults::{InputTable, tell_table};
+use crate::told::ToldLines;
 use crate::toml_faults::{tell_bad_value, tell_missing, tell_not_toml};
 use cqf_model::Limits;
 use std::alloc::{AllocError, Global};
 
 /// A file that the words name, with its text; the name `-` is standard input.
 #[derive(Clone, Copy, Debug)]
-pub struct Source<'a> {
+pub struct NamedFile<'a> {
     pub name: &'a str,
     pub text: &'a [u8],
 }
 
 /// Tells why a domain or the streams are refused.
-fn tell_text(given: &Given<'_>, told: &mut Told, refusal: Refusal<'_>) -> Result<(), AllocError> {
+fn tell_text(
+    given: &CommandInput<'_>,
+    told: &mut ToldLines,
+    refusal: Refusal<'_>,
+) -> Result<(), AllocError> {
     match refusal.fault {
         "NotToml" => tell_not_toml(given, told),
         "Missing" => tell_missing(given, told, refusal.part, refusal.value),
@@ -48,7 +52,11 @@ fn tell_text(given: &Given<'_>, told: &mut Told, refusal: Refusal<'_>) -> Result
 }
 
 /// Tells why files make no plant.
-fn tell_plant(given: &Given<'_>, told: &mut Told, refusal: Refusal<'_>) -> Result<(), AllocError> {
+fn tell_plant(
+    given: &CommandInput<'_>,
+    told: &mut ToldLines,
+    refusal: Refusal<'_>,
+) -> Result<(), AllocError> {
     match refusal.fault {
         "UnknownKey" => tell_unknown_keys(given, told),
         "KeyTwice" => tell_key_twice(given, told, refusal.value),
@@ -59,7 +67,11 @@ fn tell_plant(given: &Given<'_>, told: &mut Told, refusal: Refusal<'_>) -> Resul
 }
 
 /// Tells why a script is refused.
-fn tell_script(given: &Given<'_>, told: &mut Told, refusal: Refusal<'_>) -> Result<(), AllocError> {
+fn tell_script(
+    given: &CommandInput<'_>,
+    told: &mut ToldLines,
+    refusal: Refusal<'_>,
+) -> Result<(), AllocError> {
     match refusal.fault {
         "BadLine" => tell_bad_lines(given, told),
         "UnknownStream" => tell_unknown_streams(given, told),
@@ -69,11 +81,15 @@ fn tell_script(given: &Given<'_>, told: &mut Told, refusal: Refusal<'_>) -> Resu
 }
 
 /// Tells why a stream is refused.
-fn tell_stream(given: &Given<'_>, told: &mut Told, refusal: Refusal<'_>) -> Result<(), AllocError> {
+fn tell_stream(
+    given: &CommandInput<'_>,
+    told: &mut ToldLines,
+    refusal: Refusal<'_>,
+) -> Result<(), AllocError> {
     match refusal.fault {
-        "NameHeld" => tell_refused(given, told, Wanted::NameHeld),
-        "TooManyStreams" => tell_refused(given, told, Wanted::TooManyStreams),
-        "BudgetShort" => tell_refused(given, told, Wanted::BudgetShort),
+        "NameHeld" => tell_refused(given, told, TriedStreams::NameHeld),
+        "TooManyStreams" => tell_refused(given, told, TriedStreams::TooManyStreams),
+        "BudgetShort" => tell_refused(given, told, TriedStreams::BudgetShort),
         fault => match form_fault_of(fault) {
             Some(fault) => tell_form_faults(given, told, fault),
             None => Ok(()),
@@ -83,7 +99,11 @@ fn tell_stream(given: &Given<'_>, told: &mut Told, refusal: Refusal<'_>) -> Resu
 
 /// Tells of the stream of a frame that is dropped because no stream has its name, as in `frame 1 of x, offered to a at 0: dropped,
 /// unknown`.
-fn tell_check(given: &Given<'_>, told: &mut Told, refusal: Refusal<'_>) -> Result<(), AllocError> {
+fn tell_check(
+    given: &CommandInput<'_>,
+    told: &mut ToldLines,
+    refusal: Refusal<'_>,
+) -> Result<(), AllocError> {
     if !refusal.value.ends_with(": dropped, unknown") {
         return Ok(());
     }
@@ -98,8 +118,8 @@ fn tell_check(given: &Given<'_>, told: &mut Told, refusal: Refusal<'_>) -> Resul
 
 /// Tells why an input is refused.
 fn tell_refusal(
-    given: &Given<'_>,
-    told: &mut Told,
+    given: &CommandInput<'_>,
+    told: &mut ToldLines,
     refusal: Refusal<'_>,
 ) -> Result<(), AllocError> {
     match refusal.part {
@@ -110,7 +130,7 @@ fn tell_refusal(
         "check" => tell_check(given, told, refusal),
         "parts" => tell_parts(given, told),
         part if part.starts_with("stream ") => tell_stream(given, told, refusal),
-        part => match Table::of(part) {
+        part => match InputTable::of(part) {
             Some(table) => tell_table(given, told, table, refusal.fault),
             None => Ok(()),
         },
@@ -131,12 +151,12 @@ pub fn explanation(
     command: &str,
     cycles: Option<u32>,
     limits: Limits,
-    sources: &[Source<'_>],
+    sources: &[NamedFile<'_>],
     line: &[u8],
 ) -> Result<Vec<u8>, AllocError>
     ensures { IfOk result (λ text. IsExplanation text.items) }
 {
-    let mut told = Told::new(alloc);
+    let mut told = ToldLines::new(alloc);
     if let Some(refusal) = refusal_of(line) {
         if !sources.is_empty() {
             let given = given_of(alloc, command, cycles, limits, sources)?;

@@ -1,7 +1,7 @@
 //! What may stand at each key of a plant (profile).
 
 use crate::lexer::before_comment;
-use crate::plant::{Found, Kind};
+use crate::plant::{FoundKey, KeyOwner};
 use crate::words::{shortened, shown};
 use cqf_units::Name;
 use std::alloc::{AllocError, Global};
@@ -52,11 +52,11 @@ pub(crate) enum Form {
 }
 
 /// The form of the value at a key, and the same in words.
-pub(crate) fn form_of(kind: Kind, key: &str) -> Option<(Form, &'static str)> {
+pub(crate) fn form_of(kind: KeyOwner, key: &str) -> Option<(Form, &'static str)> {
     match kind {
-        Kind::Top => form_of_top(key),
-        Kind::Link => form_of_link(key),
-        Kind::Stream => form_of_stream(key),
+        KeyOwner::Top => form_of_top(key),
+        KeyOwner::Link => form_of_link(key),
+        KeyOwner::Stream => form_of_stream(key),
     }
 }
 
@@ -275,7 +275,7 @@ pub(crate) fn told_value(alloc: Global, value: &Value) -> Result<String, AllocEr
 }
 
 /// What stands at a key, as written, or as it may be written where its line isn't known.
-pub(crate) fn written(alloc: Global, found: &Found<'_>) -> Result<String, AllocError> {
+pub(crate) fn written(alloc: Global, found: &FoundKey<'_>) -> Result<String, AllocError> {
     let text = before_comment(found.text).trim_ascii();
     if text.is_empty() {
         told_value(alloc, found.value)

@@ -1,6 +1,6 @@
 //! What an explanation is made from.
 
-use crate::explaining::Source;
+use crate::explaining::NamedFile;
 use crate::network::{Network, network_of, smallest_network};
 use crate::parts::{Input, input_of};
 use crate::plant::Plant;
@@ -10,14 +10,14 @@ use std::alloc::{AllocError, Global};
 
 /// The command, its files, and what they come to.
 #[derive(Drop)]
-pub(crate) struct Given<'a> {
+pub(crate) struct CommandInput<'a> {
     pub alloc: Global,
     pub command: &'a str,
     /// How many cycles are run, where the words say it.
     pub cycles: Option<u32>,
     /// Those within which a plant is read.
     pub limits: Limits,
-    pub sources: &'a [Source<'a>],
+    pub sources: &'a [NamedFile<'a>],
     pub input: Input<'a>,
     pub plant: Plant<'a>,
 }
@@ -28,11 +28,11 @@ pub(crate) fn given_of<'a>(
     command: &'a str,
     cycles: Option<u32>,
     limits: Limits,
-    sources: &'a [Source<'a>],
-) -> Result<Given<'a>, AllocError> {
+    sources: &'a [NamedFile<'a>],
+) -> Result<CommandInput<'a>, AllocError> {
     let input = input_of(alloc, command, sources)?;
     let plant = Plant::read(alloc, input.plant.as_slice())?;
-    Ok(Given {
+    Ok(CommandInput {
         alloc,
         command,
         cycles,
@@ -43,7 +43,7 @@ pub(crate) fn given_of<'a>(
     })
 }
 
-impl Given<'_> {
+impl CommandInput<'_> {
     /// The network of the plant, or of the command that has its own.
     pub(crate) fn network(&self) -> Result<Network<'_>, AllocError> {
         if self.command == "line" {

@@ -1,7 +1,7 @@
 //! Why an input is refused, in words: the lines that stand behind that of a refusal, which tell where it is wrong, what stands there,
 //! and what may.
 //!
-//! - [`explanation`] makes these lines from the refusal's line and the files that the words name, which are a [`Source`] each.
+//! - [`explanation`] makes these lines from the refusal's line and the files that the words name, which are a [`NamedFile`] each.
 //!
 //! ```text
 //! cqf: domain: BadValue rate
@@ -37,4 +37,4 @@ mod told;
 mod toml_faults;
 mod words;
 
-pub use explaining::{Source, explanation};
+pub use explaining::{NamedFile, explanation};

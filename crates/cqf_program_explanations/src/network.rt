@@ -1,6 +1,6 @@
 //! The network of a plant: its nodes and links by name.
 
-use crate::plant::{Found, Item, Kind, Plant};
+use crate::plant::{FoundKey, KeyOwner, Plant, WrittenItem};
 use crate::sketch::is_duplex;
 use crate::words::question;
 use cqf_model::Limits;
@@ -8,8 +8,8 @@ use std::alloc::{AllocError, Global};
 
 /// A link as it is written; what isn't there is empty or 0.
 #[derive(Clone, Copy)]
-pub(crate) struct Link<'p> {
-    pub item: Item<'p>,
+pub(crate) struct WrittenLink<'p> {
+    pub item: WrittenItem<'p>,
     pub from: &'p str,
     pub to: &'p str,
     /// In Mb/s.
@@ -23,7 +23,7 @@ pub(crate) struct Link<'p> {
 pub(crate) struct Network<'p> {
     pub bridges: Vec<&'p str>,
     pub nodes: Vec<&'p str>,
-    pub links: Vec<Link<'p>>,
+    pub links: Vec<WrittenLink<'p>>,
     /// In ns.
     pub cycle: u64,
     pub guard: u64,
@@ -33,7 +33,7 @@ pub(crate) struct Network<'p> {
 }
 
 /// Puts the texts of an array behind others.
-fn put_texts<'p>(texts: &mut Vec<&'p str>, names: &[Found<'p>]) -> Result<(), AllocError> {
+fn put_texts<'p>(texts: &mut Vec<&'p str>, names: &[FoundKey<'p>]) -> Result<(), AllocError> {
     for name in names {
         if let Some(text) = name.value.as_str() {
             texts.push(text)?;
@@ -43,8 +43,8 @@ fn put_texts<'p>(texts: &mut Vec<&'p str>, names: &[Found<'p>]) -> Result<(), Al
 }
 
 /// A link as it is written.
-fn link_of<'p>(item: &Item<'p>) -> Link<'p> {
-    Link {
+fn link_of<'p>(item: &WrittenItem<'p>) -> WrittenLink<'p> {
+    WrittenLink {
         item: *item,
         from: item.text("from").unwrap_or(""),
         to: item.text("to").unwrap_or(""),
@@ -65,7 +65,7 @@ pub(crate) fn network_of<'p>(
     put_texts(&mut bridges, bridge_names.as_slice())?;
     put_texts(&mut nodes, bridge_names.as_slice())?;
     put_texts(&mut nodes, station_names.as_slice())?;
-    let items = plant.items(Kind::Link)?;
+    let items = plant.items(KeyOwner::Link)?;
     let mut links = Vec::new(alloc);
     for item in &items {
         links.push(link_of(item))?;
@@ -97,7 +97,7 @@ pub(crate) fn smallest_network<'p>(
     })
 }
 
-impl Link<'_> {
+impl WrittenLink<'_> {
     /// How long an octet takes, in ns: 8,000 octet times a millisecond at 1 Mb/s (IEEE 802.3).
     pub(crate) fn octet_time(&self) -> u64 {
         8000u64.checked_div(self.rate).unwrap_or(0)
@@ -111,7 +111,7 @@ impl<'p> Network<'p> {
     }
 
     /// The bridge at which a talker's link ends, which a link is or stands for.
-    pub(crate) fn edge_of(&self, link: &Link<'p>) -> &'p str {
+    pub(crate) fn edge_of(&self, link: &WrittenLink<'p>) -> &'p str {
         if self.is_bridge(link.from) {
             link.from
         } else {
@@ -153,7 +153,7 @@ impl<'p> Network<'p> {
     }
 
     /// What a link may hold in a cycle, in octets (profile).
-    pub(crate) fn budget(&self, link: &Link<'_>) -> u64 {
+    pub(crate) fn budget(&self, link: &WrittenLink<'_>) -> u64 {
         let open = self.cycle.saturating_sub(self.guard);
         open.checked_div(link.octet_time()).unwrap_or(0)
     }

@@ -40,7 +40,7 @@ enum Section {
 
 /// The array of the top that is read.
 #[derive(Clone, Copy, Debug)]
-enum Listed {
+enum TopArray {
     Bridges,
     Stations,
     Links,
@@ -55,7 +55,7 @@ struct Scan<'a> {
     outline: Outline<'a>,
     lexer: Lexer,
     section: Section,
-    listed: Listed,
+    listed: TopArray,
 }
 
 /// What stands before the first byte that is one of these, or all.
@@ -95,7 +95,7 @@ impl<'a> Scan<'a> {
             },
             lexer: Lexer::new(),
             section: Section::Top,
-            listed: Listed::Other,
+            listed: TopArray::Other,
         }
     }
 
@@ -166,11 +166,11 @@ impl<'a> Scan<'a> {
     fn take_key(&mut self, line: u64, text: &'a [u8]) -> Result<(), AllocError> {
         let key = first_part(text);
         let listed = match key {
-            b"bridges" => Listed::Bridges,
-            b"stations" => Listed::Stations,
-            b"links" => Listed::Links,
-            b"streams" => Listed::Streams,
-            _ => Listed::Other,
+            b"bridges" => TopArray::Bridges,
+            b"stations" => TopArray::Stations,
+            b"links" => TopArray::Links,
+            b"streams" => TopArray::Streams,
+            _ => TopArray::Other,
         };
         if matches!(self.section, Section::Top) {
             self.listed = listed;
@@ -181,7 +181,7 @@ impl<'a> Scan<'a> {
 
     /// Takes what begins on a line, where no value goes on there.
     fn begin(&mut self, line: u64, text: &'a [u8]) -> Result<(), AllocError> {
-        self.listed = Listed::Other;
+        self.listed = TopArray::Other;
         match *text {
             [] | [b'#', ..] => Ok(()),
             [b'[', b'[', ref head @ ..] => self.take_array(line, head.trim_ascii()),
@@ -197,16 +197,16 @@ impl<'a> Scan<'a> {
         let table = outermost && byte == b'{' && self.lexer.is_free();
         let text = outermost && self.lexer.opens();
         match self.listed {
-            Listed::Links if table => {
+            TopArray::Links if table => {
                 let element = self.element(line);
                 self.outline.links.push(element)?;
             }
-            Listed::Streams if table => {
+            TopArray::Streams if table => {
                 let element = self.element(line);
                 self.outline.streams.push(element)?;
             }
-            Listed::Bridges if text => self.outline.bridges.push(line)?,
-            Listed::Stations if text => self.outline.stations.push(line)?,
+            TopArray::Bridges if text => self.outline.bridges.push(line)?,
+            TopArray::Stations if text => self.outline.stations.push(line)?,
             _ => {}
         }
         Ok(())

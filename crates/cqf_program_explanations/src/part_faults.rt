@@ -1,9 +1,9 @@
 //! Another number of parts than a command takes.
 
-use crate::given::Given;
+use crate::given::CommandInput;
 use crate::parts::put_parts;
 use crate::places::called;
-use crate::told::Told;
+use crate::told::ToldLines;
 use std::alloc::AllocError;
 
 /// How many files are named.
@@ -23,7 +23,7 @@ fn taken_by(command: &str) -> &'static str {
 }
 
 /// The files' names, with the number of their parts where it isn't one.
-fn names_of(given: &Given<'_>) -> Result<String, AllocError> {
+fn names_of(given: &CommandInput<'_>) -> Result<String, AllocError> {
     let mut names = String::new(given.alloc);
     for source in given.sources.iter().take(MOST_NAMED) {
         let mut parts = Vec::new(given.alloc);
@@ -45,7 +45,7 @@ fn names_of(given: &Given<'_>) -> Result<String, AllocError> {
 }
 
 /// Tells what the command takes, and which files were given.
-pub(crate) fn tell_parts(given: &Given<'_>, told: &mut Told) -> Result<(), AllocError> {
+pub(crate) fn tell_parts(given: &CommandInput<'_>, told: &mut ToldLines) -> Result<(), AllocError> {
     let (command, takes) = (given.command, taken_by(given.command));
     let (count, names) = (given.sources.len(), names_of(given)?);
     let noun = if count == 1 { "file was" } else { "files were" };

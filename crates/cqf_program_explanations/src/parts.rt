@@ -1,6 +1,6 @@
 //! The parts of the input, each with the file that it stands in (profile).
 
-use crate::explaining::Source;
+use crate::explaining::NamedFile;
 use cqf_text::parts;
 use std::alloc::{AllocError, Global};
 
@@ -9,7 +9,7 @@ const MOST_FILES: usize = 16;
 
 /// A text that is one part of the input, or a file of a plant of several.
 #[derive(Clone, Copy, Debug)]
-pub(crate) struct Part<'a> {
+pub(crate) struct InputPart<'a> {
     pub file: &'a str,
     pub text: &'a [u8],
     /// How many lines of the file stand before it.
@@ -21,8 +21,8 @@ pub(crate) struct Part<'a> {
 /// What the files come to: the plant's parts, and those behind it.
 #[derive(Drop)]
 pub(crate) struct Input<'a> {
-    pub plant: Vec<Part<'a>>,
-    pub rest: Vec<Part<'a>>,
+    pub plant: Vec<InputPart<'a>>,
+    pub rest: Vec<InputPart<'a>>,
 }
 
 /// Whether the command takes a domain.
@@ -36,7 +36,7 @@ pub(crate) fn is_toml(name: &str) -> bool {
 }
 
 /// How many files at the beginning, named like TOML texts, are one plant: 2 to 16, or 0 where they aren't several.
-fn joint_files(sources: &[Source<'_>]) -> usize {
+fn joint_files(sources: &[NamedFile<'_>]) -> usize {
     let leading = sources
         .iter()
         .take_while(|source| is_toml(source.name))
@@ -62,14 +62,14 @@ fn line_feeds(text: &[u8]) -> u64 {
 /// The parts of a file, behind others.
 pub(crate) fn put_parts<'a>(
     alloc: Global,
-    found: &mut Vec<Part<'a>>,
-    source: Source<'a>,
+    found: &mut Vec<InputPart<'a>>,
+    source: NamedFile<'a>,
 ) -> Result<(), AllocError> {
     let texts = parts(alloc, source.text)?;
     let is_whole = texts.len() == 1;
     let mut before: u64 = 0;
     for text in &texts {
-        found.push(Part {
+        found.push(InputPart {
             file: source.name,
             text,
             before,
@@ -84,12 +84,12 @@ pub(crate) fn put_parts<'a>(
 fn all_parts<'a>(
     alloc: Global,
     joint: usize,
-    sources: &[Source<'a>],
-) -> Result<Vec<Part<'a>>, AllocError> {
+    sources: &[NamedFile<'a>],
+) -> Result<Vec<InputPart<'a>>, AllocError> {
     let mut found = Vec::new(alloc);
     for (place, source) in sources.iter().enumerate() {
         if place < joint {
-            found.push(Part {
+            found.push(InputPart {
                 file: source.name,
                 text: source.text,
                 before: 0,
@@ -103,7 +103,12 @@ fn all_parts<'a>(
 }
 
 /// How many of the parts are the plant: the files that are one, one file that has no divider, or else the domain and its streams.
-fn plant_parts(command: &str, joint: usize, sources: &[Source<'_>], parts: &[Part<'_>]) -> usize {
+fn plant_parts(
+    command: &str,
+    joint: usize,
+    sources: &[NamedFile<'_>],
+    parts: &[InputPart<'_>],
+) -> usize {
     if !takes_domain(command) {
         0
     } else if joint > 0 {
@@ -121,7 +126,7 @@ fn plant_parts(command: &str, joint: usize, sources: &[Source<'_>], parts: &[Par
 pub(crate) fn input_of<'a>(
     alloc: Global,
     command: &str,
-    sources: &[Source<'a>],
+    sources: &[NamedFile<'a>],
 ) -> Result<Input<'a>, AllocError> {
     let joint = if takes_domain(command) {
         joint_files(sources)

@@ -1,14 +1,14 @@
 //! Streams of a sketch that aren't placed, or may be late (profile).
 
 use crate::domain_faults::tell_guard_at;
-use crate::given::Given;
+use crate::given::CommandInput;
 use crate::network::Network;
 use crate::places::Grouped;
-use crate::plant::{Item, Kind};
+use crate::plant::{KeyOwner, WrittenItem};
 use crate::refusal::Refusal;
 use crate::sketch::{is_in_step, listeners_of, longest_frame, talkers_link, time_on};
 use crate::stream_faults::{FormFault, form_fault_of, tell_form_faults};
-use crate::told::Told;
+use crate::told::ToldLines;
 use crate::words::{question, shortened};
 use std::alloc::{AllocError, Global};
 use std::collections::BTreeMap;
@@ -72,9 +72,9 @@ fn no_talker(alloc: Global, network: &Network<'_>, name: &str) -> Result<String,
 }
 
 /// Tells of each stream that comes from where no talker is.
-fn tell_no_talkers(given: &Given<'_>, told: &mut Told) -> Result<(), AllocError> {
+fn tell_no_talkers(given: &CommandInput<'_>, told: &mut ToldLines) -> Result<(), AllocError> {
     let network = given.network()?;
-    for item in &given.plant.items(Kind::Stream)? {
+    for item in &given.plant.items(KeyOwner::Stream)? {
         let Some(name) = item.text("from") else {
             continue;
         };
@@ -111,9 +111,9 @@ fn no_listener(alloc: Global, network: &Network<'_>, name: &str) -> Result<Strin
 }
 
 /// Tells of each listener that is no station.
-fn tell_no_listeners(given: &Given<'_>, told: &mut Told) -> Result<(), AllocError> {
+fn tell_no_listeners(given: &CommandInput<'_>, told: &mut ToldLines) -> Result<(), AllocError> {
     let network = given.network()?;
-    for item in &given.plant.items(Kind::Stream)? {
+    for item in &given.plant.items(KeyOwner::Stream)? {
         for name in &listeners_of(given.alloc, item)? {
             if network.is_node(name) && !network.is_bridge(name) || told.is_counted() {
                 continue;
@@ -127,9 +127,9 @@ fn tell_no_listeners(given: &Given<'_>, told: &mut Told) -> Result<(), AllocErro
 }
 
 /// Tells of each stream whose name an earlier one has.
-fn tell_names_twice(given: &Given<'_>, told: &mut Told) -> Result<(), AllocError> {
-    let mut firsts: BTreeMap<&str, Item<'_>> = BTreeMap::new(given.alloc);
-    for item in &given.plant.items(Kind::Stream)? {
+fn tell_names_twice(given: &CommandInput<'_>, told: &mut ToldLines) -> Result<(), AllocError> {
+    let mut firsts: BTreeMap<&str, WrittenItem<'_>> = BTreeMap::new(given.alloc);
+    for item in &given.plant.items(KeyOwner::Stream)? {
         let name = item.text("name").unwrap_or("");
         if let Some(first) = firsts.get(name) {
             let (place, label) = (item.place_of("name"), item.counted(given.alloc)?);
@@ -145,7 +145,11 @@ fn tell_names_twice(given: &Given<'_>, told: &mut Told) -> Result<(), AllocError
 }
 
 /// Tells of a deadline that is over before a frame is whole at its edge bridge.
-fn tell_too_soon(given: &Given<'_>, told: &mut Told, item: &Item<'_>) -> Result<(), AllocError> {
+fn tell_too_soon(
+    given: &CommandInput<'_>,
+    told: &mut ToldLines,
+    item: &WrittenItem<'_>,
+) -> Result<(), AllocError> {
     let network = given.network()?;
     let (place, label) = (item.place_of("deadline"), item.label(given.alloc)?);
     let Some(link) = talkers_link(&network, item.text("from").unwrap_or("")) else {
@@ -163,9 +167,9 @@ fn tell_too_soon(given: &Given<'_>, told: &mut Told, item: &Item<'_>) -> Result<
 
 /// Tells of a stream whose traffic needs more than it may reserve, or does.
 fn tell_needs(
-    given: &Given<'_>,
-    told: &mut Told,
-    item: &Item<'_>,
+    given: &CommandInput<'_>,
+    told: &mut ToldLines,
+    item: &WrittenItem<'_>,
     unplaced: Unplaced<'_>,
 ) -> Result<(), AllocError> {
     let label = item.label(given.alloc)?;
@@ -184,9 +188,9 @@ fn tell_needs(
 
 /// Tells of a stream for which a link has too little left, by the words of its line: `LISTENER COST LINK LEFT`.
 fn tell_full(
-    given: &Given<'_>,
-    told: &mut Told,
-    item: &Item<'_>,
+    given: &CommandInput<'_>,
+    told: &mut ToldLines,
+    item: &WrittenItem<'_>,
     value: &str,
 ) -> Result<(), AllocError> {
     let mut words = value.split(' ');
@@ -202,9 +206,9 @@ fn tell_full(
 
 /// Tells of a stream for which a link of its branches has too little left, by the words of its line: `LINK LEFT`.
 fn tell_short(
-    given: &Given<'_>,
-    told: &mut Told,
-    item: &Item<'_>,
+    given: &CommandInput<'_>,
+    told: &mut ToldLines,
+    item: &WrittenItem<'_>,
     value: &str,
 ) -> Result<(), AllocError> {
     let (link, left) = value.split_once(' ').unwrap_or((value, ""));
@@ -222,9 +226,9 @@ fn tell_short(
 
 /// Tells of a stream that may be late, by the words of its line: `LISTENER MOST DEADLINE`.
 fn tell_late(
-    given: &Given<'_>,
-    told: &mut Told,
-    item: &Item<'_>,
+    given: &CommandInput<'_>,
+    told: &mut ToldLines,
+    item: &WrittenItem<'_>,
     value: &str,
 ) -> Result<(), AllocError> {
     let mut words = value.split(' ');
@@ -240,9 +244,9 @@ fn tell_late(
 
 /// Tells of a listener to which no links lead.
 fn tell_no_way(
-    given: &Given<'_>,
-    told: &mut Told,
-    item: &Item<'_>,
+    given: &CommandInput<'_>,
+    told: &mut ToldLines,
+    item: &WrittenItem<'_>,
     listener: &str,
 ) -> Result<(), AllocError> {
     let (place, label) = (item.place_of("to"), item.label(given.alloc)?);
@@ -252,7 +256,11 @@ fn tell_no_way(
 }
 
 /// Tells of a stream whose ways have too many links together.
-fn tell_wide(given: &Given<'_>, told: &mut Told, item: &Item<'_>) -> Result<(), AllocError> {
+fn tell_wide(
+    given: &CommandInput<'_>,
+    told: &mut ToldLines,
+    item: &WrittenItem<'_>,
+) -> Result<(), AllocError> {
     let (place, label) = (item.place_of("to"), item.label(given.alloc)?);
     let most = Grouped(given.limits.hops_within() as u64);
     told.tell(format!(in given.alloc;
@@ -261,8 +269,12 @@ fn tell_wide(given: &Given<'_>, told: &mut Told, item: &Item<'_>) -> Result<(), 
 }
 
 /// Tells of each stream whose paths have too many links together, or of the one of this name whose ways have.
-fn tell_many_hops(given: &Given<'_>, told: &mut Told, stream: &str) -> Result<(), AllocError> {
-    for item in &given.plant.items(Kind::Stream)? {
+fn tell_many_hops(
+    given: &CommandInput<'_>,
+    told: &mut ToldLines,
+    stream: &str,
+) -> Result<(), AllocError> {
+    for item in &given.plant.items(KeyOwner::Stream)? {
         if item.text("name") == Some(stream) && item.get("to").is_some() {
             return tell_wide(given, told, item);
         }
@@ -272,9 +284,9 @@ fn tell_many_hops(given: &Given<'_>, told: &mut Told, stream: &str) -> Result<()
 
 /// Tells of a stream of a name why it isn't placed.
 fn tell_unplaced(
-    given: &Given<'_>,
-    told: &mut Told,
-    item: &Item<'_>,
+    given: &CommandInput<'_>,
+    told: &mut ToldLines,
+    item: &WrittenItem<'_>,
     unplaced: Unplaced<'_>,
 ) -> Result<(), AllocError> {
     match unplaced.fault {
@@ -298,8 +310,8 @@ fn tell_unplaced(
 /// Tells why a sketch comes to no plant: of each stream that is wrong in this way whatever the cycle time is, or of the one that isn't
 /// placed.
 pub(crate) fn tell_plan(
-    given: &Given<'_>,
-    told: &mut Told,
+    given: &CommandInput<'_>,
+    told: &mut ToldLines,
     refusal: Refusal<'_>,
 ) -> Result<(), AllocError> {
     let Some(unplaced) = unplaced_of(refusal) else {
@@ -315,7 +327,7 @@ pub(crate) fn tell_plan(
     if let Some(fault) = form_fault_of(unplaced.fault) {
         return tell_form_faults(given, told, fault);
     }
-    for item in &given.plant.items(Kind::Stream)? {
+    for item in &given.plant.items(KeyOwner::Stream)? {
         if item.text("name") == Some(unplaced.stream) {
             return tell_unplaced(given, told, item, unplaced);
         }

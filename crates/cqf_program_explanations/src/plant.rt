@@ -1,7 +1,7 @@
 //! A plant as its files have it: what is written, and where.
 
 use crate::outline::{Element, KeyLine, Outline, outline_of};
-use crate::parts::Part;
+use crate::parts::InputPart;
 use crate::places::Place;
 use crate::words::shortened;
 use std::alloc::{AllocError, Global};
@@ -10,7 +10,7 @@ use toml::{Table, Value};
 /// A file of a plant, or a part of one.
 #[derive(Drop)]
 pub(crate) struct PlantFile<'a> {
-    pub part: Part<'a>,
+    pub part: InputPart<'a>,
     /// What its text means, where it is TOML.
     pub table: Option<Table>,
     pub outline: Outline<'a>,
@@ -25,7 +25,7 @@ pub(crate) struct Plant<'a> {
 
 /// Whose key it is.
 #[derive(Clone, Copy, Debug, PartialEq, Eq)]
-pub(crate) enum Kind {
+pub(crate) enum KeyOwner {
     Top,
     Link,
     Stream,
@@ -33,8 +33,8 @@ pub(crate) enum Kind {
 
 /// A link or a stream as it is written: its number in the plant from 0, and where it stands.
 #[derive(Clone, Copy)]
-pub(crate) struct Item<'p> {
-    pub kind: Kind,
+pub(crate) struct WrittenItem<'p> {
+    pub kind: KeyOwner,
     pub number: u64,
     /// The place of its file in the plant.
     pub file_number: usize,
@@ -46,7 +46,7 @@ pub(crate) struct Item<'p> {
 
 /// What stands at a key: of the top, or of a link or a stream.
 #[derive(Clone, Copy)]
-pub(crate) struct Found<'p> {
+pub(crate) struct FoundKey<'p> {
     pub place: Place<'p>,
     pub value: &'p Value,
     /// What is written behind the key, where its line is known.
@@ -107,10 +107,10 @@ impl<'a> PlantFile<'a> {
     }
 
     /// What stands at a key of the top, with its place.
-    pub(crate) fn found(&self, key: &str) -> Option<Found<'_>> {
+    pub(crate) fn found(&self, key: &str) -> Option<FoundKey<'_>> {
         let value = self.get(key)?;
         let line = line_of_key(self.outline.top.as_slice(), key);
-        Some(Found {
+        Some(FoundKey {
             place: self.at(line.map(|line| line.line)),
             value,
             text: text_behind(line),
@@ -119,7 +119,7 @@ impl<'a> PlantFile<'a> {
 }
 
 /// A file of a plant, read.
-fn plant_file(alloc: Global, part: Part<'_>) -> Result<PlantFile<'_>, AllocError> {
+fn plant_file(alloc: Global, part: InputPart<'_>) -> Result<PlantFile<'_>, AllocError> {
     let table = table_of(alloc, part.text)?;
     let outline = outline_of(alloc, part.text, part.before)?;
     Ok(PlantFile {
@@ -131,18 +131,18 @@ fn plant_file(alloc: Global, part: Part<'_>) -> Result<PlantFile<'_>, AllocError
 
 /// Puts the links or the streams of a file behind others.
 fn put_items<'p>(
-    items: &mut Vec<Item<'p>>,
-    kind: Kind,
+    items: &mut Vec<WrittenItem<'p>>,
+    kind: KeyOwner,
     file_number: usize,
     file: &'p PlantFile<'_>,
 ) -> Result<(), AllocError> {
     let (key, elements) = match kind {
-        Kind::Link => ("links", file.outline.links.as_slice()),
+        KeyOwner::Link => ("links", file.outline.links.as_slice()),
         _ => ("streams", file.outline.streams.as_slice()),
     };
     for (place, value) in file.values(key).iter().enumerate() {
         let element: Option<&Element<'_>> = elements.get(place);
-        items.push(Item {
+        items.push(WrittenItem {
             kind,
             number: items.len() as u64,
             file_number,
@@ -157,7 +157,7 @@ fn put_items<'p>(
 
 /// Puts the elements of an array of names behind others.
 fn put_names<'p>(
-    names: &mut Vec<Found<'p>>,
+    names: &mut Vec<FoundKey<'p>>,
     key: &str,
     file: &'p PlantFile<'_>,
 ) -> Result<(), AllocError> {
@@ -173,7 +173,7 @@ fn put_names<'p>(
         } else {
             head
         };
-        names.push(Found {
+        names.push(FoundKey {
             place: file.at(line),
             value,
             text: &[],
@@ -184,7 +184,7 @@ fn put_names<'p>(
 
 impl<'a> Plant<'a> {
     /// The plant of some parts.
-    pub(crate) fn read(alloc: Global, parts: &[Part<'a>]) -> Result<Plant<'a>, AllocError> {
+    pub(crate) fn read(alloc: Global, parts: &[InputPart<'a>]) -> Result<Plant<'a>, AllocError> {
         let mut files = Vec::new(alloc);
         for part in parts {
             files.push(plant_file(alloc, *part)?)?;
@@ -193,7 +193,7 @@ impl<'a> Plant<'a> {
     }
 
     /// What stands at a key of the top of the first file that has it.
-    pub(crate) fn top(&self, key: &str) -> Option<Found<'_>> {
+    pub(crate) fn top(&self, key: &str) -> Option<FoundKey<'_>> {
         for file in &self.files {
             let found = file.found(key);
             if found.is_some() {
@@ -212,7 +212,7 @@ impl<'a> Plant<'a> {
     }
 
     /// The links or the streams.
-    pub(crate) fn items(&self, kind: Kind) -> Result<Vec<Item<'_>>, AllocError> {
+    pub(crate) fn items(&self, kind: KeyOwner) -> Result<Vec<WrittenItem<'_>>, AllocError> {
         let mut items = Vec::new(self.alloc);
         for (number, file) in self.files.iter().enumerate() {
             put_items(&mut items, kind, number, file)?;
@@ -221,7 +221,7 @@ impl<'a> Plant<'a> {
     }
 
     /// The elements of an array of names of the top.
-    pub(crate) fn names(&self, key: &str) -> Result<Vec<Found<'_>>, AllocError> {
+    pub(crate) fn names(&self, key: &str) -> Result<Vec<FoundKey<'_>>, AllocError> {
         let mut names = Vec::new(self.alloc);
         for file in &self.files {
             put_names(&mut names, key, file)?;
@@ -238,7 +238,7 @@ pub(crate) fn number_of(value: &Value) -> u64 {
     }
 }
 
-impl<'p> Item<'p> {
+impl<'p> WrittenItem<'p> {
     /// Where it begins.
     pub(crate) fn place(&self) -> Place<'p> {
         Place {
@@ -265,9 +265,9 @@ impl<'p> Item<'p> {
     }
 
     /// What stands at a key, with its place.
-    pub(crate) fn found(&self, key: &str) -> Option<Found<'p>> {
+    pub(crate) fn found(&self, key: &str) -> Option<FoundKey<'p>> {
         let value = self.get(key)?;
-        Some(Found {
+        Some(FoundKey {
             place: self.place_of(key),
             value,
             text: text_behind(line_of_key(self.keys, key)),
@@ -290,7 +290,7 @@ impl<'p> Item<'p> {
     /// How it is called: a link by its number and its ends, a stream by its name, or by its number from 1 where it has none.
     pub(crate) fn label(&self, alloc: Global) -> Result<String, AllocError> {
         let number = self.number;
-        if self.kind == Kind::Link {
+        if self.kind == KeyOwner::Link {
             return match (self.text("from"), self.text("to")) {
                 (Some(from), Some(to)) => {
                     let (from, to) = (shortened(alloc, from)?, shortened(alloc, to)?);

@@ -1,11 +1,11 @@
 //! Files that make no plant: keys that no command knows, keys and streams in two files, lines that are too long (profile).
 
-use crate::given::Given;
+use crate::given::CommandInput;
 use crate::lines::Lines;
 use crate::parts::is_toml;
 use crate::places::{Grouped, Place};
-use crate::plant::{Item, Kind, PlantFile};
-use crate::told::Told;
+use crate::plant::{KeyOwner, PlantFile, WrittenItem};
+use crate::told::ToldLines;
 use crate::toml_faults::known_keys;
 use crate::words::{nearest, shortened};
 use cqf_program_files::{MOST_OCTETS, MOST_PARTS, OWN, TOP};
@@ -13,26 +13,26 @@ use std::alloc::{AllocError, Global};
 use toml::Table;
 
 /// A line to be told, with the file and line by which it comes in order.
-type Ordered = (usize, u64, String);
+type OrderedLine = (usize, u64, String);
 
 /// Whether a key is known of a kind, or the user's own.
-fn is_known(kind: Kind, key: &str) -> bool {
+fn is_known(kind: KeyOwner, key: &str) -> bool {
     key.starts_with(OWN) || known_keys(kind).contains(&key)
 }
 
 /// What is said of a key that no command knows.
-fn unknown_words(alloc: Global, kind: Kind, key: &str) -> Result<String, AllocError> {
+fn unknown_words(alloc: Global, kind: KeyOwner, key: &str) -> Result<String, AllocError> {
     let shown = shortened(alloc, key)?;
-    if kind != Kind::Top && TOP.contains(&key) {
+    if kind != KeyOwner::Top && TOP.contains(&key) {
         return format!(in alloc; "{shown}: keys of the plant stand before the first [[..]]");
     }
     if let Some(meant) = nearest(alloc, key, known_keys(kind))? {
         return format!(in alloc; "{shown}: did you mean {meant}?");
     }
     let whose = match kind {
-        Kind::Top => "the top",
-        Kind::Link => "a link",
-        Kind::Stream => "a stream",
+        KeyOwner::Top => "the top",
+        KeyOwner::Link => "a link",
+        KeyOwner::Stream => "a stream",
     };
     format!(in alloc;
         "{shown}: no command knows this key of {whose}; keys of your own begin with x-"
@@ -40,7 +40,11 @@ fn unknown_words(alloc: Global, kind: Kind, key: &str) -> Result<String, AllocEr
 }
 
 /// The keys of a table that no command knows.
-fn unknown_of<'p>(alloc: Global, kind: Kind, table: &'p Table) -> Result<Vec<&'p str>, AllocError> {
+fn unknown_of<'p>(
+    alloc: Global,
+    kind: KeyOwner,
+    table: &'p Table,
+) -> Result<Vec<&'p str>, AllocError> {
     let mut unknown = Vec::new(alloc);
     for key in table.keys() {
         if !is_known(kind, key.as_str()) {
@@ -53,7 +57,7 @@ fn unknown_of<'p>(alloc: Global, kind: Kind, table: &'p Table) -> Result<Vec<&'p
 /// Puts what is said of a file's keys of the top.
 fn put_top(
     alloc: Global,
-    lines: &mut Vec<Ordered>,
+    lines: &mut Vec<OrderedLine>,
     number: usize,
     file: &PlantFile<'_>,
 ) -> Result<(), AllocError> {
@@ -63,9 +67,9 @@ fn put_top(
     if !is_toml(file.part.file) {
         return Ok(());
     }
-    for key in &unknown_of(alloc, Kind::Top, table)? {
+    for key in &unknown_of(alloc, KeyOwner::Top, table)? {
         let place = file.place_of(key);
-        let words = unknown_words(alloc, Kind::Top, key)?;
+        let words = unknown_words(alloc, KeyOwner::Top, key)?;
         let line = format!(in alloc; "{place}: {words}")?;
         lines.push((number, place.line.unwrap_or(0), line))?;
     }
@@ -73,7 +77,11 @@ fn put_top(
 }
 
 /// Puts what is said of the keys of a link or a stream.
-fn put_item(alloc: Global, lines: &mut Vec<Ordered>, item: &Item<'_>) -> Result<(), AllocError> {
+fn put_item(
+    alloc: Global,
+    lines: &mut Vec<OrderedLine>,
+    item: &WrittenItem<'_>,
+) -> Result<(), AllocError> {
     let Some(table) = item.value.as_table() else {
         return Ok(());
     };
@@ -90,15 +98,18 @@ fn put_item(alloc: Global, lines: &mut Vec<Ordered>, item: &Item<'_>) -> Result<
 }
 
 /// Tells of each key that no command knows, in files named like TOML texts, in the order of the texts.
-pub(crate) fn tell_unknown_keys(given: &Given<'_>, told: &mut Told) -> Result<(), AllocError> {
-    let mut lines: Vec<Ordered> = Vec::new(given.alloc);
+pub(crate) fn tell_unknown_keys(
+    given: &CommandInput<'_>,
+    told: &mut ToldLines,
+) -> Result<(), AllocError> {
+    let mut lines: Vec<OrderedLine> = Vec::new(given.alloc);
     for (number, file) in given.plant.files.iter().enumerate() {
         put_top(given.alloc, &mut lines, number, file)?;
     }
-    for item in &given.plant.items(Kind::Link)? {
+    for item in &given.plant.items(KeyOwner::Link)? {
         put_item(given.alloc, &mut lines, item)?;
     }
-    for item in &given.plant.items(Kind::Stream)? {
+    for item in &given.plant.items(KeyOwner::Stream)? {
         put_item(given.alloc, &mut lines, item)?;
     }
     lines.sort_by_key(|line| (line.0, line.1))?;
@@ -118,8 +129,8 @@ fn first_streams<'a>(file: &PlantFile<'a>) -> Place<'a> {
 
 /// Tells of each file that has a key of the top which a file before it has.
 pub(crate) fn tell_key_twice(
-    given: &Given<'_>,
-    told: &mut Told,
+    given: &CommandInput<'_>,
+    told: &mut ToldLines,
     key: &str,
 ) -> Result<(), AllocError> {
     let mut first = None;
@@ -194,7 +205,11 @@ fn parts_on(line: &[u8]) -> u64 {
 }
 
 /// Tells of each line of a file that is longer than it may be.
-fn tell_lines(given: &Given<'_>, told: &mut Told, file: &PlantFile<'_>) -> Result<(), AllocError> {
+fn tell_lines(
+    given: &CommandInput<'_>,
+    told: &mut ToldLines,
+    file: &PlantFile<'_>,
+) -> Result<(), AllocError> {
     for (number, line) in Lines::of(file.part.text, file.part.before) {
         let (place, parts) = (file.at(Some(number)), parts_on(line));
         if line.len() > MOST_OCTETS {
@@ -213,7 +228,10 @@ fn tell_lines(given: &Given<'_>, told: &mut Told, file: &PlantFile<'_>) -> Resul
 }
 
 /// Tells of each line that is longer than it may be.
-pub(crate) fn tell_long_lines(given: &Given<'_>, told: &mut Told) -> Result<(), AllocError> {
+pub(crate) fn tell_long_lines(
+    given: &CommandInput<'_>,
+    told: &mut ToldLines,
+) -> Result<(), AllocError> {
     for file in &given.plant.files {
         if is_toml(file.part.file) {
             tell_lines(given, told, file)?;

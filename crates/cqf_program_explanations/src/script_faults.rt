@@ -1,12 +1,12 @@
 //! Lines of a script that are refused (profile).
 
-use crate::given::Given;
+use crate::given::CommandInput;
 use crate::lines::Lines;
-use crate::parts::Part;
+use crate::parts::InputPart;
 use crate::places::{Grouped, Place};
-use crate::plant::Kind;
+use crate::plant::KeyOwner;
 use crate::table_faults::place_of_offer;
-use crate::told::Told;
+use crate::told::ToldLines;
 use crate::words::{question, shown};
 use cqf_text::read_decimal;
 use std::alloc::{AllocError, Global};
@@ -32,7 +32,7 @@ struct ScriptLine<'a> {
 
 /// How many lines of a script seal and call so far, and the cycle that is reached.
 #[derive(Clone, Copy, Debug)]
-struct Counts {
+struct ScriptCounts {
     seals: u64,
     calls: u64,
     cycle: u64,
@@ -44,7 +44,10 @@ fn without_return(text: &[u8]) -> &[u8] {
 }
 
 /// The lines of a script that aren't passed over.
-fn lines_of<'a>(given: &Given<'_>, part: Part<'a>) -> Result<Vec<ScriptLine<'a>>, AllocError> {
+fn lines_of<'a>(
+    given: &CommandInput<'_>,
+    part: InputPart<'a>,
+) -> Result<Vec<ScriptLine<'a>>, AllocError> {
     let mut lines = Vec::new(given.alloc);
     let is_call = part.is_whole && given.input.has_plant();
     for (number, text) in Lines::of(part.text, part.before) {
@@ -78,10 +81,10 @@ fn is_seal(line: &ScriptLine<'_>) -> bool {
     line.text == b"seal".as_slice()
 }
 
-impl Counts {
+impl ScriptCounts {
     /// Before the first line.
-    fn none() -> Counts {
-        Counts {
+    fn none() -> ScriptCounts {
+        ScriptCounts {
             seals: 0,
             calls: 0,
             cycle: 0,
@@ -89,21 +92,21 @@ impl Counts {
     }
 
     /// Behind a line.
-    fn behind(self, line: &ScriptLine<'_>) -> Counts {
+    fn behind(self, line: &ScriptLine<'_>) -> ScriptCounts {
         if is_seal(line) {
-            Counts {
+            ScriptCounts {
                 seals: self.seals.saturating_add(1),
                 calls: self.calls,
                 cycle: self.cycle.saturating_add(1),
             }
         } else if let Some(cycle) = cycle_of(line) {
-            Counts {
+            ScriptCounts {
                 seals: self.seals,
                 calls: self.calls,
                 cycle: self.cycle.max(cycle),
             }
         } else {
-            Counts {
+            ScriptCounts {
                 seals: self.seals,
                 calls: self.calls.saturating_add(1),
                 cycle: self.cycle,
@@ -222,7 +225,7 @@ fn wrong_words(alloc: Global, text: &[u8]) -> Result<Option<String>, AllocError>
 fn wrong_of(
     alloc: Global,
     line: &ScriptLine<'_>,
-    counts: Counts,
+    counts: ScriptCounts,
 ) -> Result<Option<String>, AllocError> {
     if is_seal(line) {
         return Ok(None);
@@ -241,11 +244,14 @@ fn wrong_of(
 }
 
 /// Tells of each line that has no form which a line may have.
-pub(crate) fn tell_bad_lines(given: &Given<'_>, told: &mut Told) -> Result<(), AllocError> {
+pub(crate) fn tell_bad_lines(
+    given: &CommandInput<'_>,
+    told: &mut ToldLines,
+) -> Result<(), AllocError> {
     let Some(part) = given.input.rest.first() else {
         return Ok(());
     };
-    let mut counts = Counts::none();
+    let mut counts = ScriptCounts::none();
     for line in &lines_of(given, *part)? {
         if let Some(why) = wrong_of(given.alloc, line, counts)? {
             let (place, text) = (line.place, shown(given.alloc, line.text)?);
@@ -268,9 +274,9 @@ fn admitted<'a>(line: &ScriptLine<'a>) -> Option<&'a str> {
 }
 
 /// The names of the plant's streams.
-fn names_of<'p>(given: &'p Given<'_>) -> Result<Vec<&'p str>, AllocError> {
+fn names_of<'p>(given: &'p CommandInput<'_>) -> Result<Vec<&'p str>, AllocError> {
     let mut names = Vec::new(given.alloc);
-    for item in &given.plant.items(Kind::Stream)? {
+    for item in &given.plant.items(KeyOwner::Stream)? {
         if let Some(name) = item.text("name") {
             names.push(name)?;
         }
@@ -279,7 +285,10 @@ fn names_of<'p>(given: &'p Given<'_>) -> Result<Vec<&'p str>, AllocError> {
 }
 
 /// Tells of each line that admits a stream which the plant hasn't, but of calls of cycles that aren't run.
-pub(crate) fn tell_unknown_streams(given: &Given<'_>, told: &mut Told) -> Result<(), AllocError> {
+pub(crate) fn tell_unknown_streams(
+    given: &CommandInput<'_>,
+    told: &mut ToldLines,
+) -> Result<(), AllocError> {
     let Some(part) = given.input.rest.first() else {
         return Ok(());
     };
@@ -288,7 +297,10 @@ pub(crate) fn tell_unknown_streams(given: &Given<'_>, told: &mut Told) -> Result
     for name in &names {
         known.insert(*name)?;
     }
-    let (cycles, mut counts) = (given.cycles.map_or(u64::MAX, u64::from), Counts::none());
+    let (cycles, mut counts) = (
+        given.cycles.map_or(u64::MAX, u64::from),
+        ScriptCounts::none(),
+    );
     for line in &lines_of(given, *part)? {
         let is_left_out = line.is_call && counts.cycle >= cycles;
         counts = counts.behind(line);
@@ -305,8 +317,8 @@ pub(crate) fn tell_unknown_streams(given: &Given<'_>, told: &mut Told) -> Result
 
 /// Tells of an offer's name that no stream of the plant has.
 pub(crate) fn tell_unknown_offer(
-    given: &Given<'_>,
-    told: &mut Told,
+    given: &CommandInput<'_>,
+    told: &mut ToldLines,
     number: &str,
     name: &str,
 ) -> Result<(), AllocError> {
@@ -323,12 +335,15 @@ pub(crate) fn tell_unknown_offer(
 }
 
 /// Tells of the first line behind which the script has too many lines.
-pub(crate) fn tell_too_many_lines(given: &Given<'_>, told: &mut Told) -> Result<(), AllocError> {
+pub(crate) fn tell_too_many_lines(
+    given: &CommandInput<'_>,
+    told: &mut ToldLines,
+) -> Result<(), AllocError> {
     let Some(part) = given.input.rest.first() else {
         return Ok(());
     };
     let cycles = given.cycles.map_or(u64::MAX, u64::from);
-    let (mut counts, mut first) = (Counts::none(), None);
+    let (mut counts, mut first) = (ScriptCounts::none(), None);
     for line in &lines_of(given, *part)? {
         counts = counts.behind(line);
         if first.is_none() && (counts.seals > cycles || counts.calls > MOST_CALLS) {

@@ -1,8 +1,8 @@
 //! A sketch as it is written: what it has beyond a plant (profile).
 
-use crate::given::Given;
-use crate::network::{Link, Network};
-use crate::plant::{Item, number_of};
+use crate::given::CommandInput;
+use crate::network::{Network, WrittenLink};
+use crate::plant::{WrittenItem, number_of};
 use std::alloc::{AllocError, Global};
 use toml::Value;
 
@@ -13,12 +13,12 @@ const LONGEST_FRAME: u64 = 1522;
 const PREAMBLE: u64 = 8;
 
 /// Whether the command reads a sketch.
-pub(crate) fn reads_sketch(given: &Given<'_>) -> bool {
+pub(crate) fn reads_sketch(given: &CommandInput<'_>) -> bool {
     given.command == "plan"
 }
 
 /// The candidates for the cycle time, as far as they are numbers.
-pub(crate) fn candidates_of(given: &Given<'_>) -> Result<Vec<u64>, AllocError> {
+pub(crate) fn candidates_of(given: &CommandInput<'_>) -> Result<Vec<u64>, AllocError> {
     let mut candidates = Vec::new(given.alloc);
     if let Some(found) = given.plant.top("cycle") {
         match found.value.as_array() {
@@ -34,7 +34,7 @@ pub(crate) fn candidates_of(given: &Given<'_>) -> Result<Vec<u64>, AllocError> {
 }
 
 /// Whether a link stands for two, there and back.
-pub(crate) fn is_duplex(link: &Link<'_>) -> bool {
+pub(crate) fn is_duplex(link: &WrittenLink<'_>) -> bool {
     link.item
         .get("duplex")
         .and_then(Value::as_bool)
@@ -42,12 +42,12 @@ pub(crate) fn is_duplex(link: &Link<'_>) -> bool {
 }
 
 /// Whether a link is in the plant: one direction of it leaves a bridge.
-pub(crate) fn is_of_plant(network: &Network<'_>, link: &Link<'_>) -> bool {
+pub(crate) fn is_of_plant(network: &Network<'_>, link: &WrittenLink<'_>) -> bool {
     network.is_bridge(link.from) || is_duplex(link) && network.is_bridge(link.to)
 }
 
 /// The station that a talker's link leaves, which a link has or stands for.
-pub(crate) fn talker_of<'p>(network: &Network<'_>, link: &Link<'p>) -> Option<&'p str> {
+pub(crate) fn talker_of<'p>(network: &Network<'_>, link: &WrittenLink<'p>) -> Option<&'p str> {
     if !network.is_bridge(link.from) {
         Some(link.from)
     } else if is_duplex(link) && !network.is_bridge(link.to) {
@@ -61,7 +61,7 @@ pub(crate) fn talker_of<'p>(network: &Network<'_>, link: &Link<'p>) -> Option<&'
 pub(crate) fn talkers_link<'n, 'p>(
     network: &'n Network<'p>,
     station: &str,
-) -> Option<&'n Link<'p>> {
+) -> Option<&'n WrittenLink<'p>> {
     network
         .links
         .iter()
@@ -69,14 +69,14 @@ pub(crate) fn talkers_link<'n, 'p>(
 }
 
 /// Whether a stream's talker is in step with the network.
-pub(crate) fn is_in_step(item: &Item<'_>) -> bool {
+pub(crate) fn is_in_step(item: &WrittenItem<'_>) -> bool {
     item.get("in-step")
         .and_then(Value::as_bool)
         .unwrap_or(false)
 }
 
 /// How many octets a stream's frame may have.
-pub(crate) fn longest_frame(item: &Item<'_>) -> u64 {
+pub(crate) fn longest_frame(item: &WrittenItem<'_>) -> u64 {
     let size = item.number("size");
     if size > 0 {
         size
@@ -86,7 +86,7 @@ pub(crate) fn longest_frame(item: &Item<'_>) -> u64 {
 }
 
 /// What a talker's link takes until a frame is whole at the edge bridge, in ns.
-pub(crate) fn time_on(link: &Link<'_>, octets: u64) -> u64 {
+pub(crate) fn time_on(link: &WrittenLink<'_>, octets: u64) -> u64 {
     let octets = octets.saturating_add(PREAMBLE);
     octets
         .saturating_mul(link.octet_time())
@@ -94,7 +94,10 @@ pub(crate) fn time_on(link: &Link<'_>, octets: u64) -> u64 {
 }
 
 /// The listeners of a stream that has ends: one name, or an array of them.
-pub(crate) fn listeners_of<'p>(alloc: Global, item: &Item<'p>) -> Result<Vec<&'p str>, AllocError> {
+pub(crate) fn listeners_of<'p>(
+    alloc: Global,
+    item: &WrittenItem<'p>,
+) -> Result<Vec<&'p str>, AllocError> {
     let mut names = Vec::new(alloc);
     let Some(value) = item.get("to") else {
         return Ok(names);

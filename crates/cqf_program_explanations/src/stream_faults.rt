@@ -1,11 +1,11 @@
 //! Streams that are refused for their own form (profile).
 
 use crate::forms::{EVERY_FORM, NAME_FORM, PHASE_FORM};
-use crate::given::Given;
+use crate::given::CommandInput;
 use crate::network::Network;
 use crate::places::{Grouped, Place};
-use crate::plant::{Item, Kind, number_of};
-use crate::told::Told;
+use crate::plant::{KeyOwner, WrittenItem, number_of};
+use crate::told::ToldLines;
 use crate::words::shortened;
 use cqf_units::Name;
 use std::alloc::{AllocError, Global};
@@ -13,20 +13,20 @@ use toml::Value;
 
 /// In which cycles a stream is offered: in one of `every`, the first of which is `phase`.
 #[derive(Clone, Copy, Debug)]
-pub(crate) struct Pace {
+pub(crate) struct WrittenPace {
     pub every: u64,
     pub phase: u64,
 }
 
 /// A stream as it is written.
 #[derive(Drop)]
-pub(crate) struct Asked<'p> {
-    pub item: Item<'p>,
+pub(crate) struct WrittenStream<'p> {
+    pub item: WrittenItem<'p>,
     pub name: &'p str,
     /// What it reserves, in octets a cycle.
     pub octets: u64,
     /// In which cycles it is offered.
-    pub pace: Pace,
+    pub pace: WrittenPace,
     /// Its paths, each its bridges in order and then a station.
     pub paths: Vec<Vec<&'p str>>,
 }
@@ -46,7 +46,7 @@ pub(crate) enum FormFault {
 
 /// The first thing that is wrong with a path.
 #[derive(Clone, Copy, Debug)]
-enum Broken<'p> {
+enum WrongPath<'p> {
     Empty,
     BeginsAtStation(&'p str),
     NoLink(&'p str, &'p str),
@@ -69,7 +69,7 @@ fn texts_of<'p>(alloc: Global, value: &'p Value) -> Result<Vec<&'p str>, AllocEr
 }
 
 /// The paths of a stream.
-fn paths_of<'p>(alloc: Global, item: &Item<'p>) -> Result<Vec<Vec<&'p str>>, AllocError> {
+fn paths_of<'p>(alloc: Global, item: &WrittenItem<'p>) -> Result<Vec<Vec<&'p str>>, AllocError> {
     let mut paths = Vec::new(alloc);
     if let Some(path) = item.get("path") {
         paths.push(texts_of(alloc, path)?)?;
@@ -82,16 +82,16 @@ fn paths_of<'p>(alloc: Global, item: &Item<'p>) -> Result<Vec<Vec<&'p str>>, All
 }
 
 /// In which cycles a stream is offered: in each, where it isn't written.
-fn pace_of(item: &Item<'_>) -> Pace {
-    Pace {
+fn pace_of(item: &WrittenItem<'_>) -> WrittenPace {
+    WrittenPace {
         every: item.get("every").map_or(1, number_of),
         phase: item.number("phase"),
     }
 }
 
 /// A stream as it is written.
-fn asked_of<'p>(alloc: Global, item: &Item<'p>) -> Result<Asked<'p>, AllocError> {
-    Ok(Asked {
+fn asked_of<'p>(alloc: Global, item: &WrittenItem<'p>) -> Result<WrittenStream<'p>, AllocError> {
+    Ok(WrittenStream {
         item: *item,
         name: item.text("name").unwrap_or(""),
         octets: item.number("octets"),
@@ -101,9 +101,11 @@ fn asked_of<'p>(alloc: Global, item: &Item<'p>) -> Result<Asked<'p>, AllocError>
 }
 
 /// The streams of the plant.
-pub(crate) fn streams_of<'p>(given: &'p Given<'_>) -> Result<Vec<Asked<'p>>, AllocError> {
+pub(crate) fn streams_of<'p>(
+    given: &'p CommandInput<'_>,
+) -> Result<Vec<WrittenStream<'p>>, AllocError> {
     let mut streams = Vec::new(given.alloc);
-    for item in &given.plant.items(Kind::Stream)? {
+    for item in &given.plant.items(KeyOwner::Stream)? {
         streams.push(asked_of(given.alloc, item)?)?;
     }
     Ok(streams)
@@ -126,21 +128,21 @@ fn first_gap<'p>(network: &Network<'_>, path: &[&'p str]) -> Option<(&'p str, &'
 }
 
 /// The first thing that is wrong with a path whose nodes are there.
-fn broken_of<'p>(network: &Network<'_>, path: &[&'p str]) -> Option<Broken<'p>> {
+fn broken_of<'p>(network: &Network<'_>, path: &[&'p str]) -> Option<WrongPath<'p>> {
     let (Some(first), Some(last)) = (path.first(), path.last()) else {
-        return Some(Broken::Empty);
+        return Some(WrongPath::Empty);
     };
     if !network.is_bridge(first) {
-        return Some(Broken::BeginsAtStation(first));
+        return Some(WrongPath::BeginsAtStation(first));
     }
     let most = network.limits.nodes_within();
     let within = path.get(..most).unwrap_or(path);
     if let Some((from, to)) = first_gap(network, within) {
-        Some(Broken::NoLink(from, to))
+        Some(WrongPath::NoLink(from, to))
     } else if path.len() > most {
-        Some(Broken::TooLong)
+        Some(WrongPath::TooLong)
     } else if network.is_bridge(last) {
-        Some(Broken::EndsAtBridge(last))
+        Some(WrongPath::EndsAtBridge(last))
     } else {
         None
     }
@@ -225,7 +227,7 @@ fn are_broken(network: &Network<'_>, paths: &[Vec<&str>]) -> bool {
             .any(|path| broken_of(network, path.as_slice()).is_some())
 }
 
-impl Pace {
+impl WrittenPace {
     /// Whether so many cycles apart are a part of those after which all is as it was.
     fn divides(self) -> bool {
         MOST_EVERY.checked_rem(self.every) == Some(0)
@@ -243,7 +245,7 @@ impl Pace {
     }
 }
 
-impl Asked<'_> {
+impl WrittenStream<'_> {
     /// Why the stream is refused for its own form.
     pub(crate) fn form_fault(&self, network: &Network<'_>) -> Option<FormFault> {
         let paths = self.paths.as_slice();
@@ -294,8 +296,12 @@ impl Asked<'_> {
 }
 
 /// Tells of the cycles of a stream that are none.
-fn tell_pace(given: &Given<'_>, told: &mut Told, asked: &Asked<'_>) -> Result<(), AllocError> {
-    let (label, Pace { every, phase }) = (asked.item.counted(given.alloc)?, asked.pace);
+fn tell_pace(
+    given: &CommandInput<'_>,
+    told: &mut ToldLines,
+    asked: &WrittenStream<'_>,
+) -> Result<(), AllocError> {
+    let (label, WrittenPace { every, phase }) = (asked.item.counted(given.alloc)?, asked.pace);
     if !asked.pace.divides() {
         let place = asked.item.place_of("every");
         return told.tell(format!(in given.alloc;
@@ -318,10 +324,10 @@ fn tell_pace(given: &Given<'_>, told: &mut Told, asked: &Asked<'_>) -> Result<()
 
 /// Tells of each node of a stream's paths that isn't there.
 fn tell_unknown_nodes(
-    given: &Given<'_>,
-    told: &mut Told,
+    given: &CommandInput<'_>,
+    told: &mut ToldLines,
     network: &Network<'_>,
-    asked: &Asked<'_>,
+    asked: &WrittenStream<'_>,
 ) -> Result<(), AllocError> {
     let (place, label) = (asked.paths_place(), asked.item.counted(given.alloc)?);
     for path in &asked.paths {
@@ -342,21 +348,21 @@ fn tell_unknown_nodes(
 fn broken_words(
     alloc: Global,
     network: &Network<'_>,
-    broken: Broken<'_>,
+    broken: WrongPath<'_>,
 ) -> Result<String, AllocError> {
     match broken {
-        Broken::Empty => String::from_str(
+        WrongPath::Empty => String::from_str(
             alloc,
             "the path is empty: it names bridges in order and then a station",
         ),
-        Broken::BeginsAtStation(name) => {
+        WrongPath::BeginsAtStation(name) => {
             format!(in alloc; "the path begins at the station {name}: it begins at a bridge")
         }
-        Broken::NoLink(from, to) => format!(in alloc; "no link {from}>{to}"),
-        Broken::EndsAtBridge(name) => {
+        WrongPath::NoLink(from, to) => format!(in alloc; "no link {from}>{to}"),
+        WrongPath::EndsAtBridge(name) => {
             format!(in alloc; "the path ends at the bridge {name}: a path ends at a station")
         }
-        Broken::TooLong => {
+        WrongPath::TooLong => {
             let most = network.limits.nodes_within().saturating_sub(1);
             format!(in alloc; "the path has more than {most} bridges")
         }
@@ -365,10 +371,10 @@ fn broken_words(
 
 /// Tells of each broken path of a stream.
 fn tell_broken_paths(
-    given: &Given<'_>,
-    told: &mut Told,
+    given: &CommandInput<'_>,
+    told: &mut ToldLines,
     network: &Network<'_>,
-    asked: &Asked<'_>,
+    asked: &WrittenStream<'_>,
 ) -> Result<(), AllocError> {
     let (place, label) = (asked.paths_place(), asked.item.counted(given.alloc)?);
     if asked.paths.is_empty() {
@@ -384,7 +390,11 @@ fn tell_broken_paths(
 }
 
 /// Tells of each path of a stream that comes to a node twice.
-fn tell_loops(given: &Given<'_>, told: &mut Told, asked: &Asked<'_>) -> Result<(), AllocError> {
+fn tell_loops(
+    given: &CommandInput<'_>,
+    told: &mut ToldLines,
+    asked: &WrittenStream<'_>,
+) -> Result<(), AllocError> {
     let (place, label) = (asked.paths_place(), asked.item.counted(given.alloc)?);
     for path in &asked.paths {
         if let Some((name, first, second)) = loop_of(path.as_slice()) {
@@ -416,7 +426,11 @@ fn stray_words(
 }
 
 /// Tells of each path of a stream that makes no tree with one before it.
-fn tell_strays(given: &Given<'_>, told: &mut Told, asked: &Asked<'_>) -> Result<(), AllocError> {
+fn tell_strays(
+    given: &CommandInput<'_>,
+    told: &mut ToldLines,
+    asked: &WrittenStream<'_>,
+) -> Result<(), AllocError> {
     let (place, label) = (asked.paths_place(), asked.item.counted(given.alloc)?);
     for (second, path) in asked.paths.iter().enumerate() {
         for (first, before) in asked.paths.iter().take(second).enumerate() {
@@ -430,7 +444,11 @@ fn tell_strays(given: &Given<'_>, told: &mut Told, asked: &Asked<'_>) -> Result<
 }
 
 /// Tells how many links the tree of a stream has, which are too many.
-fn tell_hops(given: &Given<'_>, told: &mut Told, asked: &Asked<'_>) -> Result<(), AllocError> {
+fn tell_hops(
+    given: &CommandInput<'_>,
+    told: &mut ToldLines,
+    asked: &WrittenStream<'_>,
+) -> Result<(), AllocError> {
     let (place, label) = (asked.paths_place(), asked.item.counted(given.alloc)?);
     let hops = Grouped(hops_of(asked.paths.as_slice()) as u64);
     let most = Grouped(given.limits.hops_within() as u64);
@@ -441,10 +459,10 @@ fn tell_hops(given: &Given<'_>, told: &mut Told, asked: &Asked<'_>) -> Result<()
 
 /// Tells what is wrong with the form of a stream.
 fn tell_form(
-    given: &Given<'_>,
-    told: &mut Told,
+    given: &CommandInput<'_>,
+    told: &mut ToldLines,
     network: &Network<'_>,
-    asked: &Asked<'_>,
+    asked: &WrittenStream<'_>,
     fault: FormFault,
 ) -> Result<(), AllocError> {
     let label = asked.item.counted(given.alloc)?;
@@ -485,8 +503,8 @@ pub(crate) fn form_fault_of(fault: &str) -> Option<FormFault> {
 
 /// Tells of each stream that is refused for a fault of its own form.
 pub(crate) fn tell_form_faults(
-    given: &Given<'_>,
-    told: &mut Told,
+    given: &CommandInput<'_>,
+    told: &mut ToldLines,
     fault: FormFault,
 ) -> Result<(), AllocError> {
     let network = given.network()?;

@@ -1,12 +1,12 @@
 //! Rows of tables that are refused: offers, background frames, arrivals (profile).
 
 use crate::forms::NAME_FORM;
-use crate::given::Given;
+use crate::given::CommandInput;
 use crate::lines::Lines;
 use crate::network::Network;
-use crate::parts::Part;
+use crate::parts::InputPart;
 use crate::places::{Grouped, Place};
-use crate::told::Told;
+use crate::told::ToldLines;
 use crate::words::shown;
 use cqf_text::read_decimal;
 use cqf_units::Name;
@@ -14,7 +14,7 @@ use std::alloc::{AllocError, Global};
 
 /// A table that is read.
 #[derive(Clone, Copy, Debug, PartialEq, Eq)]
-pub(crate) enum Table {
+pub(crate) enum InputTable {
     Offers,
     Background,
     Arrivals,
@@ -32,28 +32,28 @@ enum Field {
 }
 
 /// The name of a field, its form, and this in words.
-type Column = (&'static str, Field, &'static str);
+type FieldForm = (&'static str, Field, &'static str);
 
-const INSTANT: Column = (
+const INSTANT: FieldForm = (
     "at",
     Field::Number(0, 999_999_999_999),
     "an instant is 0 to 999,999,999,999 ns",
 );
 
-const OCTETS: Column = (
+const OCTETS: FieldForm = (
     "octets",
     Field::Number(64, 1522),
     "a frame has 64 to 1,522 octets",
 );
 
-const OFFER_COLUMNS: [Column; 4] = [
+const OFFER_COLUMNS: [FieldForm; 4] = [
     INSTANT,
     ("bridge", Field::Bridge, ""),
     ("stream", Field::Stream, NAME_FORM),
     OCTETS,
 ];
 
-const BACKGROUND_COLUMNS: [Column; 5] = [
+const BACKGROUND_COLUMNS: [FieldForm; 5] = [
     INSTANT,
     ("from", Field::End, ""),
     ("to", Field::End, ""),
@@ -65,7 +65,7 @@ const BACKGROUND_COLUMNS: [Column; 5] = [
     OCTETS,
 ];
 
-const ARRIVAL_COLUMNS: [Column; 4] = [
+const ARRIVAL_COLUMNS: [FieldForm; 4] = [
     (
         "at",
         Field::Number(0, 100_000_000),
@@ -80,43 +80,43 @@ const ARRIVAL_COLUMNS: [Column; 4] = [
     ),
 ];
 
-impl Table {
+impl InputTable {
     /// The table of a part's name.
-    pub(crate) fn of(part: &str) -> Option<Table> {
+    pub(crate) fn of(part: &str) -> Option<InputTable> {
         match part {
-            "offers" => Some(Table::Offers),
-            "background" => Some(Table::Background),
-            "arrivals" => Some(Table::Arrivals),
+            "offers" => Some(InputTable::Offers),
+            "background" => Some(InputTable::Background),
+            "arrivals" => Some(InputTable::Arrivals),
             _ => None,
         }
     }
 
     /// Its columns.
-    fn columns(self) -> &'static [Column] {
+    fn columns(self) -> &'static [FieldForm] {
         match self {
-            Table::Offers => &OFFER_COLUMNS,
-            Table::Background => &BACKGROUND_COLUMNS,
-            Table::Arrivals => &ARRIVAL_COLUMNS,
+            InputTable::Offers => &OFFER_COLUMNS,
+            InputTable::Background => &BACKGROUND_COLUMNS,
+            InputTable::Arrivals => &ARRIVAL_COLUMNS,
         }
     }
 
     /// Its header.
     fn header(self) -> &'static str {
         match self {
-            Table::Offers => "at,bridge,stream,octets",
-            Table::Background => "at,from,to,class,octets",
-            Table::Arrivals => "at,class,octets,frame",
+            InputTable::Offers => "at,bridge,stream,octets",
+            InputTable::Background => "at,from,to,class,octets",
+            InputTable::Arrivals => "at,class,octets,frame",
         }
     }
 
     /// Its place among the parts behind the plant.
-    fn place(self, command: &str, rest: &[Part<'_>]) -> usize {
+    fn place(self, command: &str, rest: &[InputPart<'_>]) -> usize {
         let is_third = matches!(rest, [first, ..] if first.text.starts_with(b"at,"));
         match self {
-            Table::Offers if command == "line" || is_third => 0,
-            Table::Arrivals | Table::Offers => 1,
-            Table::Background if is_third => 1,
-            Table::Background => 2,
+            InputTable::Offers if command == "line" || is_third => 0,
+            InputTable::Arrivals | InputTable::Offers => 1,
+            InputTable::Background if is_third => 1,
+            InputTable::Background => 2,
         }
     }
 }
@@ -129,7 +129,7 @@ struct Record<'a> {
 }
 
 /// The records of a part, its header first. Empty lines are none.
-fn records_of(alloc: Global, part: Part<'_>) -> Result<Vec<Record<'_>>, AllocError> {
+fn records_of(alloc: Global, part: InputPart<'_>) -> Result<Vec<Record<'_>>, AllocError> {
     let mut records = Vec::new(alloc);
     for (number, line) in Lines::of(part.text, part.before) {
         let text = line.strip_suffix(b"\r").unwrap_or(line);
@@ -162,10 +162,10 @@ fn fields_of<'a>(alloc: Global, text: &'a [u8]) -> Result<Vec<&'a [u8]>, AllocEr
 }
 
 /// What is wrong with a header as it is written.
-fn header_words(text: &[u8], table: Table) -> &'static str {
+fn header_words(text: &[u8], table: InputTable) -> &'static str {
     let other = match table {
-        Table::Background => Table::Offers,
-        _ => Table::Background,
+        InputTable::Background => InputTable::Offers,
+        _ => InputTable::Background,
     };
     if text.starts_with(b"\xEF\xBB\xBF") {
         "; a byte order mark stands before it"
@@ -182,10 +182,10 @@ fn header_words(text: &[u8], table: Table) -> &'static str {
 
 /// Tells of a header that isn't the one that is owed.
 fn tell_header(
-    given: &Given<'_>,
-    told: &mut Told,
-    table: Table,
-    part: Part<'_>,
+    given: &CommandInput<'_>,
+    told: &mut ToldLines,
+    table: InputTable,
+    part: InputPart<'_>,
 ) -> Result<(), AllocError> {
     let header = table.header();
     let records = records_of(given.alloc, part)?;
@@ -209,7 +209,7 @@ enum Wrong<'r> {
     /// It has another number of fields.
     Count(usize),
     /// A field hasn't the form of its column.
-    Form(&'static Column, &'r [u8]),
+    Form(&'static FieldForm, &'r [u8]),
     /// A field names no bridge.
     Bridge(&'r [u8]),
     /// A field names no bridge and no station.
@@ -226,7 +226,7 @@ fn name_of(field: &[u8]) -> &str {
 /// What is wrong with a field.
 fn wrong_field<'r>(
     network: &Network<'_>,
-    column: &'static Column,
+    column: &'static FieldForm,
     field: &'r [u8],
 ) -> Option<Wrong<'r>> {
     let (_, form, _) = column;
@@ -254,7 +254,11 @@ fn wrong_link<'r>(network: &Network<'_>, from: &'r [u8], to: &'r [u8]) -> Option
 }
 
 /// The first thing that is wrong with a row.
-fn wrong_row<'r>(network: &Network<'_>, table: Table, fields: &[&'r [u8]]) -> Option<Wrong<'r>> {
+fn wrong_row<'r>(
+    network: &Network<'_>,
+    table: InputTable,
+    fields: &[&'r [u8]],
+) -> Option<Wrong<'r>> {
     let columns = table.columns();
     if fields.len() != columns.len() {
         return Some(Wrong::Count(fields.len()));
@@ -284,7 +288,7 @@ fn bridge_words(alloc: Global, network: &Network<'_>, field: &[u8]) -> Result<St
 /// How many fields a row has, and how many it has to have, in words.
 fn count_words(
     alloc: Global,
-    table: Table,
+    table: InputTable,
     text: &[u8],
     count: usize,
 ) -> Result<String, AllocError> {
@@ -297,7 +301,7 @@ fn count_words(
 fn wrong_words(
     alloc: Global,
     network: &Network<'_>,
-    table: Table,
+    table: InputTable,
     text: &[u8],
     wrong: Wrong<'_>,
 ) -> Result<String, AllocError> {
@@ -323,10 +327,10 @@ fn wrong_words(
 
 /// Tells of each row with a field that isn't as it has to be.
 fn tell_rows(
-    given: &Given<'_>,
-    told: &mut Told,
-    table: Table,
-    part: Part<'_>,
+    given: &CommandInput<'_>,
+    told: &mut ToldLines,
+    table: InputTable,
+    part: InputPart<'_>,
 ) -> Result<(), AllocError> {
     let network = given.network()?;
     for record in records_of(given.alloc, part)?.iter().skip(1) {
@@ -345,11 +349,11 @@ fn tell_rows(
 
 /// Where an offer stands, by its number from 1.
 pub(crate) fn place_of_offer<'p>(
-    given: &'p Given<'_>,
+    given: &'p CommandInput<'_>,
     number: &str,
 ) -> Result<Option<Place<'p>>, AllocError> {
     let rest = given.input.rest.as_slice();
-    let place = Table::Offers.place(given.command, rest);
+    let place = InputTable::Offers.place(given.command, rest);
     let (Some(part), Some(row)) = (
         rest.get(place),
         read_decimal(number.as_bytes(), 1, u64::from(given.limits.rows_within())),
@@ -369,7 +373,11 @@ fn instant_of(record: &Record<'_>) -> u64 {
 }
 
 /// Tells of each row whose instant is before that of the row before it.
-fn tell_order(given: &Given<'_>, told: &mut Told, part: Part<'_>) -> Result<(), AllocError> {
+fn tell_order(
+    given: &CommandInput<'_>,
+    told: &mut ToldLines,
+    part: InputPart<'_>,
+) -> Result<(), AllocError> {
     let mut before: u64 = 0;
     for record in records_of(given.alloc, part)?.iter().skip(1) {
         let instant = instant_of(record);
@@ -385,7 +393,11 @@ fn tell_order(given: &Given<'_>, told: &mut Told, part: Part<'_>) -> Result<(), 
 }
 
 /// Tells that a table has too many rows.
-fn tell_count(given: &Given<'_>, told: &mut Told, part: Part<'_>) -> Result<(), AllocError> {
+fn tell_count(
+    given: &CommandInput<'_>,
+    told: &mut ToldLines,
+    part: InputPart<'_>,
+) -> Result<(), AllocError> {
     let place = Place {
         file: part.file,
         line: None,
@@ -398,9 +410,9 @@ fn tell_count(given: &Given<'_>, told: &mut Told, part: Part<'_>) -> Result<(), 
 
 /// Tells why a table is refused.
 pub(crate) fn tell_table(
-    given: &Given<'_>,
-    told: &mut Told,
-    table: Table,
+    given: &CommandInput<'_>,
+    told: &mut ToldLines,
+    table: InputTable,
     fault: &str,
 ) -> Result<(), AllocError> {
     let rest = given.input.rest.as_slice();

@@ -10,7 +10,7 @@ const MOST_TOLD: usize = 20;
 
 /// The lines that were told so far.
 #[derive(Drop)]
-pub(crate) struct Told {
+pub(crate) struct ToldLines {
     alloc: Global,
     lines: Vec<String>,
     more: u64,
@@ -59,10 +59,10 @@ fn text_of(alloc: Global, lines: &[String]) -> Result<Vec<u8>, AllocError>
     Ok(text)
 }
 
-impl Told {
+impl ToldLines {
     /// No line yet.
-    pub(crate) fn new(alloc: Global) -> Told {
-        Told {
+    pub(crate) fn new(alloc: Global) -> ToldLines {
+        ToldLines {
             alloc,
             lines: Vec::new(alloc),
             more: 0,

@@ -1,38 +1,38 @@
 //! Texts that aren't TOML, keys that are missing, and values of another form.
 
 use crate::forms::{CYCLES_FORM, Form, NAME_FORM, fits, form_of, is_name, told_value, written};
-use crate::given::Given;
+use crate::given::CommandInput;
 use crate::outline::{Element, KeyLine, Outline};
 use crate::places::Place;
-use crate::plant::{Found, Item, Kind, PlantFile};
+use crate::plant::{FoundKey, KeyOwner, PlantFile, WrittenItem};
 use crate::sketch::{is_in_step, reads_sketch};
-use crate::told::Told;
+use crate::told::ToldLines;
 use crate::words::{nearest, shown};
 use cqf_program_files::{LINK, STREAM, TOP};
 use std::alloc::AllocError;
 use toml::Value;
 
 /// The keys that are known of a kind.
-pub(crate) fn known_keys(kind: Kind) -> &'static [&'static str] {
+pub(crate) fn known_keys(kind: KeyOwner) -> &'static [&'static str] {
     match kind {
-        Kind::Top => &TOP,
-        Kind::Link => &LINK,
-        Kind::Stream => &STREAM,
+        KeyOwner::Top => &TOP,
+        KeyOwner::Link => &LINK,
+        KeyOwner::Stream => &STREAM,
     }
 }
 
 /// Whose key it is that a part lacks or has in another form.
-fn kind_of(part: &str, key: &str) -> Kind {
+fn kind_of(part: &str, key: &str) -> KeyOwner {
     if part == "domain" {
         if matches!(key, "from" | "to" | "rate" | "delay" | "duplex") {
-            Kind::Link
+            KeyOwner::Link
         } else {
-            Kind::Top
+            KeyOwner::Top
         }
     } else if key == "streams" {
-        Kind::Top
+        KeyOwner::Top
     } else {
-        Kind::Stream
+        KeyOwner::Stream
     }
 }
 
@@ -97,8 +97,8 @@ fn twice_in<'p>(outline: &'p Outline<'p>, line: u64) -> Option<(&'p [u8], u64)> 
 
 /// Tells why a file's text isn't TOML.
 fn tell_no_toml(
-    given: &Given<'_>,
-    told: &mut Told,
+    given: &CommandInput<'_>,
+    told: &mut ToldLines,
     file: &PlantFile<'_>,
     error: &toml::de::Error,
 ) -> Result<(), AllocError> {
@@ -128,7 +128,10 @@ fn tell_no_toml(
 }
 
 /// Tells of each file of the plant that isn't TOML.
-pub(crate) fn tell_not_toml(given: &Given<'_>, told: &mut Told) -> Result<(), AllocError> {
+pub(crate) fn tell_not_toml(
+    given: &CommandInput<'_>,
+    told: &mut ToldLines,
+) -> Result<(), AllocError> {
     for file in &given.plant.files {
         match toml::table_from_slice(given.alloc, file.part.text) {
             Ok(_) => {}
@@ -141,9 +144,9 @@ pub(crate) fn tell_not_toml(given: &Given<'_>, told: &mut Told) -> Result<(), Al
 
 /// Tells of a key of the top that stands in a link or a stream.
 fn tell_misplaced(
-    given: &Given<'_>,
-    told: &mut Told,
-    kind: Kind,
+    given: &CommandInput<'_>,
+    told: &mut ToldLines,
+    kind: KeyOwner,
     key: &str,
 ) -> Result<bool, AllocError> {
     let mut found = false;
@@ -160,7 +163,11 @@ fn tell_misplaced(
 }
 
 /// Tells of a key of the top that may be meant by one that is missing there.
-fn tell_near_top(given: &Given<'_>, told: &mut Told, key: &str) -> Result<bool, AllocError> {
+fn tell_near_top(
+    given: &CommandInput<'_>,
+    told: &mut ToldLines,
+    key: &str,
+) -> Result<bool, AllocError> {
     let mut found = false;
     for file in &given.plant.files {
         for line in &file.outline.top {
@@ -177,14 +184,18 @@ fn tell_near_top(given: &Given<'_>, told: &mut Told, key: &str) -> Result<bool, 
 }
 
 /// Tells of a key that the top lacks.
-fn tell_missing_top(given: &Given<'_>, told: &mut Told, key: &str) -> Result<(), AllocError> {
-    let in_links = tell_misplaced(given, told, Kind::Link, key)?;
-    let in_streams = tell_misplaced(given, told, Kind::Stream, key)?;
+fn tell_missing_top(
+    given: &CommandInput<'_>,
+    told: &mut ToldLines,
+    key: &str,
+) -> Result<(), AllocError> {
+    let in_links = tell_misplaced(given, told, KeyOwner::Link, key)?;
+    let in_streams = tell_misplaced(given, told, KeyOwner::Stream, key)?;
     let near = tell_near_top(given, told, key)?;
     if in_links || in_streams || near {
         return Ok(());
     }
-    let words = match form_of(Kind::Top, key) {
+    let words = match form_of(KeyOwner::Top, key) {
         Some((_, words)) => words,
         None => "",
     };
@@ -197,8 +208,8 @@ fn tell_missing_top(given: &Given<'_>, told: &mut Told, key: &str) -> Result<(),
 
 /// The key of a link or a stream, none that is known, which may mean another.
 fn near_key<'p>(
-    given: &Given<'_>,
-    item: &Item<'p>,
+    given: &CommandInput<'_>,
+    item: &WrittenItem<'p>,
     key: &str,
 ) -> Result<Option<&'p str>, AllocError> {
     let Some(table) = item.value.as_table() else {
@@ -214,7 +225,7 @@ fn near_key<'p>(
 }
 
 /// Whether a link or a stream is a table that lacks a key, and what may stand in its place.
-fn lacks(item: &Item<'_>, key: &str) -> bool {
+fn lacks(item: &WrittenItem<'_>, key: &str) -> bool {
     item.value.is_table()
         && item.get(key).is_none()
         && !(key == "path" && item.get("paths").is_some())
@@ -222,9 +233,9 @@ fn lacks(item: &Item<'_>, key: &str) -> bool {
 
 /// Tells of each link or stream that lacks a key.
 fn tell_missing_within(
-    given: &Given<'_>,
-    told: &mut Told,
-    kind: Kind,
+    given: &CommandInput<'_>,
+    told: &mut ToldLines,
+    kind: KeyOwner,
     key: &str,
 ) -> Result<(), AllocError> {
     let owed = if key == "path" {
@@ -254,28 +265,28 @@ fn tell_missing_within(
 
 /// Tells where a key is owed that a part lacks.
 pub(crate) fn tell_missing(
-    given: &Given<'_>,
-    told: &mut Told,
+    given: &CommandInput<'_>,
+    told: &mut ToldLines,
     part: &str,
     key: &str,
 ) -> Result<(), AllocError> {
     match kind_of(part, key) {
-        Kind::Top => tell_missing_top(given, told, key),
+        KeyOwner::Top => tell_missing_top(given, told, key),
         kind => tell_missing_within(given, told, kind, key),
     }
 }
 
 /// The form of a value of the top, for the command: a sketch may have several cycle times.
-fn form_at_top(given: &Given<'_>, key: &str) -> Option<(Form, &'static str)> {
+fn form_at_top(given: &CommandInput<'_>, key: &str) -> Option<(Form, &'static str)> {
     if key == "cycle" && reads_sketch(given) {
         Some((Form::Cycles, CYCLES_FORM))
     } else {
-        form_of(Kind::Top, key)
+        form_of(KeyOwner::Top, key)
     }
 }
 
 /// The question whether a cycle time is meant in microseconds.
-fn unit_question(given: &Given<'_>, key: &str, value: &Value) -> Result<String, AllocError> {
+fn unit_question(given: &CommandInput<'_>, key: &str, value: &Value) -> Result<String, AllocError> {
     match value.as_integer() {
         Some(number) if key == "cycle" && (10..=10_000).contains(&number) => {
             format!(in given.alloc; "; is {number} meant as microseconds?")
@@ -285,7 +296,11 @@ fn unit_question(given: &Given<'_>, key: &str, value: &Value) -> Result<String, 
 }
 
 /// Tells of a value of the top that hasn't its form.
-fn tell_bad_top(given: &Given<'_>, told: &mut Told, key: &str) -> Result<(), AllocError> {
+fn tell_bad_top(
+    given: &CommandInput<'_>,
+    told: &mut ToldLines,
+    key: &str,
+) -> Result<(), AllocError> {
     let Some((form, words)) = form_at_top(given, key) else {
         return Ok(());
     };
@@ -305,7 +320,11 @@ fn tell_bad_top(given: &Given<'_>, told: &mut Told, key: &str) -> Result<(), All
 }
 
 /// Tells of each element of an array of names that is none, or that there is no bridge.
-fn tell_bad_names(given: &Given<'_>, told: &mut Told, key: &str) -> Result<(), AllocError> {
+fn tell_bad_names(
+    given: &CommandInput<'_>,
+    told: &mut ToldLines,
+    key: &str,
+) -> Result<(), AllocError> {
     let names = given.plant.names(key)?;
     for name in &names {
         if !is_name(name.value) {
@@ -326,11 +345,15 @@ fn tell_bad_names(given: &Given<'_>, told: &mut Told, key: &str) -> Result<(), A
 }
 
 /// Tells of each element of an array of tables that is none.
-fn tell_bad_tables(given: &Given<'_>, told: &mut Told, key: &str) -> Result<(), AllocError> {
+fn tell_bad_tables(
+    given: &CommandInput<'_>,
+    told: &mut ToldLines,
+    key: &str,
+) -> Result<(), AllocError> {
     let kind = if key == "links" {
-        Kind::Link
+        KeyOwner::Link
     } else {
-        Kind::Stream
+        KeyOwner::Stream
     };
     for item in &given.plant.items(kind)? {
         if !item.value.is_table() {
@@ -345,7 +368,7 @@ fn tell_bad_tables(given: &Given<'_>, told: &mut Told, key: &str) -> Result<(), 
 }
 
 /// What is wrong with the value at a key of a link or a stream, where it has another form than it must have.
-fn bad_form<'p>(item: &Item<'p>, key: &str) -> Option<(Found<'p>, &'static str)> {
+fn bad_form<'p>(item: &WrittenItem<'p>, key: &str) -> Option<(FoundKey<'p>, &'static str)> {
     let found = item.found(key)?;
     let (form, words) = form_of(item.kind, key)?;
     let has_path = item.get("path").is_some() || item.get("paths").is_some();
@@ -364,9 +387,9 @@ fn bad_form<'p>(item: &Item<'p>, key: &str) -> Option<(Found<'p>, &'static str)>
 
 /// Tells of each link or stream in which the value at a key hasn't its form.
 fn tell_bad_within(
-    given: &Given<'_>,
-    told: &mut Told,
-    kind: Kind,
+    given: &CommandInput<'_>,
+    told: &mut ToldLines,
+    kind: KeyOwner,
     key: &str,
 ) -> Result<(), AllocError> {
     for item in &given.plant.items(kind)? {
@@ -381,13 +404,13 @@ fn tell_bad_within(
 
 /// Tells of the values at a key that haven't their form.
 pub(crate) fn tell_bad_value(
-    given: &Given<'_>,
-    told: &mut Told,
+    given: &CommandInput<'_>,
+    told: &mut ToldLines,
     part: &str,
     key: &str,
 ) -> Result<(), AllocError> {
     match kind_of(part, key) {
-        Kind::Top => {
+        KeyOwner::Top => {
             tell_bad_top(given, told, key)?;
             match key {
                 "bridges" | "stations" => tell_bad_names(given, told, key),

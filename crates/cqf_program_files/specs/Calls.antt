@@ -4,8 +4,8 @@ use Rattle.std.specs.Prelude.{length, map, max, min, nat_eq, nat_le, nat_lt, rep
 use Rattle.std.specs.List.{ends_with, flat_map}
 use Rattle.cqf_text.specs.Decimal.{decimal_in}
 use Rattle.cqf_text.specs.Lines.{lines_of}
-use Rattle.cqf_program_stop.specs.Stops.{line_of}
-use Rattle.cqf_admission_script.specs.Lines.{is_seal_line, order_of_line}
+use Rattle.cqf_press.specs.Stops.{line_of}
+use Rattle.cqf_admission.specs.Lines.{is_seal_line, order_of_line}
 use Rattle.cqf_program_files.specs.declared.calls.CallsScript.{CallsScript}
 
 -- a line without the carriage return before its line feed

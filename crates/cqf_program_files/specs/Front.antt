@@ -1,7 +1,7 @@
 -- What the texts of files come to for a job: the input that the program reads (profile).
 use Rattle.std.specs.Prelude.{ℕ, ◌≡◌, ◌-◌, ◌&&◌, Bool, true, false, not, List, [], ◌∷◌, Option, Some, None, Vec, bytes_eq, codes, drop, if◌then◌else◌, option_and_then, option_map, take}
 use Rattle.std.specs.declared.alloc.Global.{Global}
-use Rattle.cqf_program_stop.specs.declared.stops.Stop.{Stop}
+use Rattle.cqf_press.specs.declared.stops.Stop.{Stop}
 use Rattle.cqf_program_words.specs.declared.words.Job.{Job}
 use Rattle.cqf_program_words.specs.declared.words.Job.TheVariants as job
 use Rattle.cqf_program_words.specs.Composing.{composed_of, is_plant, is_undivided}

@@ -3,7 +3,7 @@ ghost use Rattle.std.specs.Prelude.{◌≡◌, ◌+◌, ◌≤◌, ◌^◌, ◌�
 ghost use Rattle.cqf_program_files.specs.Calls.{HasPut, bare, cycle_told, is_silent, last_told, lines_called, lines_for, lines_told, numbered};
 ghost use Rattle.cqf_program_files.specs.Calls.{numbers_of_script, reached_behind, script_of_calls, seals_between, text_of_script, told_behind};
 
-use cqf_admission_script::{is_order, is_seal_line};
+use cqf_admission::{is_order, is_seal_line};
 use cqf_text::{read_decimal, split_line};
 use cqf_units::Memory;
 use std::alloc::Global;
@@ -103,7 +103,7 @@ impl CallsScript {
     }
 
     /// Puts what stands for a line that tells a cycle. The error is want of memory.
-    fn put_told(&mut self, place: Place, line: &[u8], cycle: u64) -> Result<(), Memory>
+    fn put_told(&mut self, place: CallsPlace, line: &[u8], cycle: u64) -> Result<(), Memory>
         ensures { OnOk result (HasPut self.old self.new (numbered place.number (lines_told place.cycles place.reached line.now cycle))) }
     {
         if cycle < place.reached {
@@ -116,7 +116,7 @@ impl CallsScript {
     }
 
     /// Puts what stands for a line that is neither a Seal nor tells a cycle. The error is want of memory.
-    fn put_called(&mut self, place: Place, line: &[u8]) -> Result<(), Memory>
+    fn put_called(&mut self, place: CallsPlace, line: &[u8]) -> Result<(), Memory>
         ensures { OnOk result (HasPut self.old self.new (numbered place.number (lines_called place.cycles place.reached line.now))) }
     {
         if place.cycles <= place.reached && is_order(line) {
@@ -126,7 +126,7 @@ impl CallsScript {
     }
 
     /// Puts what stands for a line. The error is want of memory.
-    fn put_for(&mut self, place: Place, line: &[u8]) -> Result<(), Memory>
+    fn put_for(&mut self, place: CallsPlace, line: &[u8]) -> Result<(), Memory>
         requires { place.reached ≤ last_told }
         ensures { OnOk result (HasPut self.old self.new (numbered place.number (lines_for place.cycles place.reached line.now))) }
     {
@@ -146,15 +146,15 @@ impl CallsScript {
 
 /// Where a line stands: its number, from 1, the cycle that is reached before it, and how many cycles are run.
 #[derive(Clone, Copy, Debug)]
-struct Place {
+struct CallsPlace {
     cycles: u64,
     number: u64,
     reached: u64,
 }
 
-impl Place {
+impl CallsPlace {
     /// Where the next line stands.
-    fn behind(self, line: &[u8]) -> Place
+    fn behind(self, line: &[u8]) -> CallsPlace
         requires number { self.number ≤ 2 ^ 63 }
         requires reached { self.reached ≤ last_told }
         ensures cycles { result.cycles ≡ self.cycles }
@@ -162,7 +162,7 @@ impl Place {
         ensures reached { result.reached ≡ reached_behind self.reached line.now }
         ensures counted { result.reached ≤ last_told }
     {
-        Place {
+        CallsPlace {
             cycles: self.cycles,
             number: self.number + 1,
             reached: reached_behind(self.reached, line),
@@ -185,7 +185,7 @@ pub fn script_of_calls(alloc: Global, cycles: u32, text: &[u8]) -> Result<CallsS
         text: Vec::new(alloc),
         numbers: Vec::new(alloc),
     };
-    let mut place = Place {
+    let mut place = CallsPlace {
         cycles: u64::from(cycles),
         number: 1,
         reached: 0,

@@ -1,5 +1,5 @@
 //! Why the files of a plant are refused.
-ghost use Rattle.std.specs.Prelude.{◌≡◌, Some};
+ghost use Rattle.std.specs.Prelude.{Some};
 ghost use Rattle.cqf_program_files.specs.Plants.{plant_fault_text};
 
 use cqf_units::Memory;

@@ -8,7 +8,7 @@ ghost use Rattle.cqf_program_files.specs.Front.{parts_of_script, script_at, with
 use crate::calls::{CallsScript, script_of_calls};
 use crate::checking::check_plant;
 use crate::plants::leading;
-use cqf_program_stop::Stop;
+use cqf_press::Stop;
 use cqf_program_words::{Job, composed_behind, composed_between, is_plant, is_undivided};
 use cqf_units::Memory;
 use std::alloc::Global;

@@ -3,8 +3,8 @@ ghost use Rattle.std.specs.Prelude.{◌≡◌, bytes_eq, map, option_map, option
 ghost use Rattle.std.specs.List.{list_any};
 ghost use Rattle.toml.specs.Data.{as_table, get_member};
 ghost use Rattle.toml.specs.View.{items_view, table_view, view};
-ghost use Rattle.cqf_program_files.specs.Keys.{first_strange, first_strange_at, first_strange_within, is_own, is_strange, link_keys, stream_keys};
-ghost use Rattle.cqf_program_files.specs.Keys.{strange_key, top_keys};
+ghost use Rattle.cqf_program_files.specs.Keys.{first_strange, first_strange_at, first_strange_within, is_own, is_strange};
+ghost use Rattle.cqf_program_files.specs.Keys.{strange_key};
 
 use toml::{Table, Value};
 

@@ -1,5 +1,5 @@
 //! Lines that are too long to be parsed.
-ghost use Rattle.std.specs.Prelude.{◌≡◌, ◌≤◌, ◌<◌, ◌+◌, ◌^◌, length};
+ghost use Rattle.std.specs.Prelude.{◌≡◌, ◌<◌, ◌+◌, ◌^◌, length};
 ghost use Rattle.cqf_program_files.specs.Lines.{first_long_line, is_divider, is_quote, is_too_long, seen_of, with_octet, with_open, with_dot, with_quoted};
 
 use cqf_text::split_line;

@@ -18,22 +18,22 @@ use Rattle.cqf_model.specs.Domain.{Domain}
 use Rattle.cqf_model.specs.History.{Asked, IsLegalHistory, Recorded, admit_reply, held_in, next_number, refusal_of, refused_at, refused_if, reply_to, seals, tree_of}
 use Rattle.cqf_model.specs.Limits.{hops_within}
 use Rattle.cqf_laws_history.proofs.Granted.{granted}
-use Rattle.cqf_laws_latency.specs.Streams.{AdmitsOnly}
+use Rattle.cqf_laws_timing.specs.Streams.{AdmitsOnly}
 use Rattle.cqf_text.specs.Lines.{lines_of}
 use Rattle.cqf_text.specs.Parts.{parts_of}
 use Rattle.cqf_topology.specs.DomainText.{domain_within}
 use Rattle.cqf_topology.specs.PlannedText.{PlannedText, planned_of_text}
-use Rattle.cqf_admission_script.specs.Script.{Called, administrators, script_of}
-use Rattle.cqf_program_stop.specs.Stops.{or_line}
+use Rattle.cqf_admission.specs.Script.{Called, administrators, script_of}
+use Rattle.cqf_press.specs.Stops.{or_line}
 use Rattle.cqf_program_scenario.specs.Lines.{domain_line, script_line, streams_line}
 use Rattle.cqf_program_scenario.specs.Parts.{RunTexts, run_parts}
 use Rattle.cqf_program_scenario.specs.Scenario.{Scenario, frames_of_part, scenario_behind}
-use Rattle.cqf_program_plans.specs.LatencyInput.{asked_in}
+use Rattle.cqf_program_plans.specs.Latency.Input.{asked_in}
 use Rattle.cqf_program_plans.proofs.CompileLemmas.{same_ok}
-use Rattle.cqf_program_runs.specs.PlannedScenario.{planned_scenario, planned_scenario_of}
+use Rattle.cqf_program_runs.specs.Deliveries.PlannedScenario.{planned_scenario, planned_scenario_of}
 use Rattle.cqf_program_laws.specs.ScriptLaws.{AskOnly, ScriptsAskOnly}
 use Rattle.cqf_program_laws.proofs.Scripts.{lined, stepped}
-use Rattle.cqf_program_summary.specs.Told.{is_good, told_streams}
+use Rattle.cqf_program_summary.specs.Summary.Told.{is_good, told_streams}
 use Rattle.cqf_program_laws.proofs.Firsts.{firsts, script_first, told_has}
 
 -- the calls of a scenario that was read are those of its script

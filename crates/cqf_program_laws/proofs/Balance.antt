@@ -10,13 +10,13 @@ use Rattle.cqf_model.specs.declared.frames.Offered.{Offered}
 use Rattle.cqf_model.specs.declared.frames.Reason.{Reason}
 use Rattle.cqf_model.specs.declared.topology.Hop.{Hop}
 use Rattle.cqf_model.specs.declared.topology.Row.{Row}
-use Rattle.cqf_program_runs.specs.declared.delivery.Delivery.{Delivery}
-use Rattle.cqf_program_runs.specs.declared.delivery.Fate.{Fate}
-use Rattle.cqf_program_runs.specs.declared.delivery.Fate.TheVariants as fate
-use Rattle.cqf_program_runs.specs.declared.delivery.Journey.{Journey}
-use Rattle.cqf_program_runs.specs.declared.delivery.Passage.{Passage}
-use Rattle.cqf_program_runs.specs.declared.delivery.Passage.TheVariants as passage
-use Rattle.cqf_program_runs.specs.Checked.{is_delivered, is_under_way}
+use Rattle.cqf_program_runs.specs.declared.deliveries.delivery.Delivery.{Delivery}
+use Rattle.cqf_program_runs.specs.declared.deliveries.delivery.Fate.{Fate}
+use Rattle.cqf_program_runs.specs.declared.deliveries.delivery.Fate.TheVariants as fate
+use Rattle.cqf_program_runs.specs.declared.deliveries.delivery.Journey.{Journey}
+use Rattle.cqf_program_runs.specs.declared.deliveries.delivery.Passage.{Passage}
+use Rattle.cqf_program_runs.specs.declared.deliveries.delivery.Passage.TheVariants as passage
+use Rattle.cqf_program_runs.specs.Check.Checked.{is_delivered, is_under_way}
 use Rattle.cqf_program_runs.specs.Deliveries.{end_of_journey, end_of_passage, fate_of, latency_of}
 use Rattle.cqf_model.specs.declared.frames.Dropped.{Dropped}
 use Rattle.cqf_model.specs.Book.{Contents}
@@ -30,12 +30,12 @@ use Rattle.cqf_laws_shift.proofs.Decided.{is_decided, judged}
 use Rattle.cqf_topology.specs.DomainText.{IsDomain}
 use Rattle.cqf_topology.specs.PlannedText.{PlannedText}
 use Rattle.cqf_program_plans.specs.EndNames.{name_of_end}
-use Rattle.cqf_program_plans.specs.LatencyText.{listeners_of}
-use Rattle.cqf_program_runs.specs.ArrivalLaws.{EachIsToldOnce, EachListenerIsToldOnce, goes_to}
+use Rattle.cqf_program_plans.specs.Latency.Text.{listeners_of}
+use Rattle.cqf_program_runs.specs.Deliveries.ArrivalLaws.{EachIsToldOnce, EachListenerIsToldOnce, goes_to}
 use Rattle.cqf_program_runs.specs.Deliveries.{deadline_named, deliveries_by, deliveries_of, deliveries_of_offer, deliveries_to, deliveries_unless, delivery_of, delivery_to, drop_of, whole_on}
 use Rattle.cqf_program_runs.proofs.Well.{of_covered, of_uncovered}
 use Rattle.cqf_program_summary.specs.Summary.{deliveries_named, offers_named, offers_within}
-use Rattle.cqf_program_summary.specs.Tallies.{count_to, is_dropped, is_late, reaches}
+use Rattle.cqf_program_summary.specs.Summary.Tallies.{count_to, is_dropped, is_late, reaches}
 
 -- sums of members that agree
 sum_same : {X : Type 0} (f g : X → ℕ) (xs : List X) → ((x : X) → Contains xs x → f x ≡ g x) → sum_by f xs ≡ sum_by g xs

@@ -28,34 +28,34 @@ use Rattle.cqf_model.proofs.Texts.{is_text_same}
 use Rattle.cqf_laws_history.specs.HistoryLaws.{TablesAreOrderly}
 use Rattle.cqf_laws_history.specs.StateLaws.{granted_row}
 use Rattle.cqf_laws_history.proofs.Granted.{refused_if_none}
-use Rattle.cqf_laws_latency.specs.Latency.{IsTimely, least_of, most_of, whole_of}
-use Rattle.cqf_laws_latency.specs.Streams.{AdmitsOnly, ArePaced, HistoryIsTimely, IsOfList, RowsAreOfList, cost_of_all, most_beside_all}
+use Rattle.cqf_laws_timing.specs.Latency.{IsTimely, least_of, most_of, whole_of}
+use Rattle.cqf_laws_timing.specs.Streams.{AdmitsOnly, ArePaced, HistoryIsTimely, IsOfList, RowsAreOfList, cost_of_all, most_beside_all}
 use Rattle.cqf_laws_shift.proofs.Came.{one_number}
 use Rattle.cqf_topology.specs.PlannedText.{PlannedText}
-use Rattle.cqf_admission_trees.specs.Branches.{tree_refusal}
+use Rattle.cqf_admission.specs.Branches.{tree_refusal}
 use Rattle.cqf_admission.specs.Judging.{form_refusal}
 use Rattle.cqf_program_scenario.specs.Calls.{history_of}
 use Rattle.cqf_program_scenario.specs.Scenario.{Scenario}
 use Rattle.cqf_program_plans.specs.EndNames.{name_of_end}
-use Rattle.cqf_program_plans.specs.LatencyInput.{asked_in}
-use Rattle.cqf_program_plans.specs.LatencyText.{is_station, listeners_of}
-use Rattle.cqf_program_runs.specs.declared.delivery.Delivery.{Delivery}
-use Rattle.cqf_program_runs.specs.declared.delivery.Journey.{Journey}
-use Rattle.cqf_program_runs.specs.declared.delivery.Passage.{Passage}
-use Rattle.cqf_program_runs.specs.declared.delivery.Passage.TheVariants as passage
-use Rattle.cqf_program_runs.specs.ArrivalLaws.{ArrivalsAreTheShift, IsArrivalOfOffer, has_come}
+use Rattle.cqf_program_plans.specs.Latency.Input.{asked_in}
+use Rattle.cqf_program_plans.specs.Latency.Text.{is_station, listeners_of}
+use Rattle.cqf_program_runs.specs.declared.deliveries.delivery.Delivery.{Delivery}
+use Rattle.cqf_program_runs.specs.declared.deliveries.delivery.Journey.{Journey}
+use Rattle.cqf_program_runs.specs.declared.deliveries.delivery.Passage.{Passage}
+use Rattle.cqf_program_runs.specs.declared.deliveries.delivery.Passage.TheVariants as passage
+use Rattle.cqf_program_runs.specs.Deliveries.ArrivalLaws.{ArrivalsAreTheShift, IsArrivalOfOffer, has_come}
 use Rattle.cqf_program_runs.specs.Deliveries.{deadline_named, deliveries_of, end_of_journey, end_of_passage, fate_of, latency_of, whole_instant}
-use Rattle.cqf_program_runs.specs.PlannedScenario.{run_of_scenario}
+use Rattle.cqf_program_runs.specs.Deliveries.PlannedScenario.{run_of_scenario}
 use Rattle.cqf_program_runs.proofs.Arrived.{at_start, come_by}
 use Rattle.cqf_program_runs.proofs.Listeners.{one_listener}
 use Rattle.cqf_program_laws.specs.ScriptLaws.{HistoriesAdmitOnly, HistoriesAreLegal, ScriptsAskOnly}
-use Rattle.cqf_program_summary.specs.declared.fares.Listener.{Listener}
-use Rattle.cqf_program_summary.specs.declared.fares.Way.{Way}
-use Rattle.cqf_program_summary.specs.declared.tallies.Taken.{Taken}
+use Rattle.cqf_program_summary.specs.declared.summary.fares.Listener.{Listener}
+use Rattle.cqf_program_summary.specs.declared.summary.fares.ListenerWay.{ListenerWay}
+use Rattle.cqf_program_summary.specs.declared.summary.tallies.LatencySummary.{LatencySummary}
 use Rattle.cqf_program_summary.specs.Summary.{Fare, deliveries_named, fare_of, listener_to, listeners_by, name_of_listener, offers_within, way_to, ways_of}
 use Rattle.cqf_program_laws.specs.SummaryLaws.{IsReadRun, LatenciesAreBounded}
-use Rattle.cqf_program_summary.specs.Tallies.{latencies_to, latency_by, latency_on, reaches, taken_of}
-use Rattle.cqf_program_summary.specs.Told.{is_good, row_of_stream, row_unless, told_cost, told_streams}
+use Rattle.cqf_program_summary.specs.Summary.Tallies.{latencies_to, latency_by, latency_on, reaches, taken_of}
+use Rattle.cqf_program_summary.specs.Summary.Told.{is_good, row_of_stream, row_unless, told_cost, told_streams}
 use Rattle.cqf_program_laws.proofs.RowLaws.{IsOwnRow, admits_told, no_refusal, own_row}
 
 -- the least of some is no less, and the most no more, than what holds of each
@@ -68,7 +68,7 @@ most_of_all high m [] first each = first
 most_of_all high m (n ∷ ns) first each = most_of_all high (max m n) ns (max-le first (each n (contains_here n ns))) (λ k c. each k (contains_later n ns k c))
 
 -- what is taken of latencies that are within bounds
-taken_within : (low high : ℕ) (ns : List ℕ) (taken : Taken) → taken_of ns ≡ Some taken → ((n : ℕ) → Contains ns n → (low ≤ n) × (n ≤ high)) →
+taken_within : (low high : ℕ) (ns : List ℕ) (taken : LatencySummary) → taken_of ns ≡ Some taken → ((n : ℕ) → Contains ns n → (low ≤ n) × (n ≤ high)) →
     (low ≤ taken.least) × (taken.most ≤ high)
 taken_within low high [] taken is each = absurd cc
 taken_within low high (m ∷ ns) taken is each =
@@ -76,7 +76,7 @@ taken_within low high (m ∷ ns) taken is each =
     let least = least_of_all low m ns first.0 (λ n c. (each n (contains_later m ns n c)).0) in
     let most = most_of_all high m ns first.1 (λ n c. (each n (contains_later m ns n c)).1) in
     let same = same_Some _ taken is in
-    (subst (λ (t : Taken). low ≤ t.least) same least, subst (λ (t : Taken). t.most ≤ high) same most)
+    (subst (λ (t : LatencySummary). low ≤ t.least) same least, subst (λ (t : LatencySummary). t.most ≤ high) same most)
 
 -- a latency is that of a frame that goes there and is whole
 record IsTaken (listener : List ℕ) (y : Delivery) (n : ℕ) : Type 0 where
@@ -236,7 +236,7 @@ module _ (rows : RowsAreOfList) (timely : HistoryIsTimely) (orderly : TablesAreO
 
   -- so is what is taken of them at a listener of which is told
   bounded_to : (asked : Asked) → Contains told asked → (o : Option Refused) → (to : Option Listener) →
-      Contains (listeners_by d (told_cost d told asked) (row_unless d asked o)) to → (taken : Taken) →
+      Contains (listeners_by d (told_cost d told asked) (row_unless d asked o)) to → (taken : LatencySummary) →
       taken_of (latencies_to (name_of_listener to) (deliveries_named asked.name (deliveries_of run streams book))) ≡ Some taken →
       (hop : Hop) × Contains (listeners_of d (granted_row d 0 0 asked)) hop × (to ≡ Some (listener_to d (told_cost d told asked) hop))
       × (least_of d hop.link hop.depth ≤ taken.least) × (taken.most ≤ most_of d hop.link hop.depth (told_cost d told asked hop.link))
@@ -245,7 +245,7 @@ module _ (rows : RowsAreOfList) (timely : HistoryIsTimely) (orderly : TablesAreO
       let none : taken_of (latencies_to (name_of_listener to) (deliveries_named asked.name (deliveries_of run streams book))) ≡ None =
       ap (λ (o : Option Listener). taken_of (latencies_to (name_of_listener o) (deliveries_named asked.name (deliveries_of run streams book)))) (sym nowhere)
       ∙ ap taken_of (none_taken (deliveries_named asked.name (deliveries_of run streams book))) in
-      absurd (let both : ◌≡◌ {A = Option Taken} None (Some taken) = sym none ∙ took in cc)
+      absurd (let both : ◌≡◌ {A = Option LatencySummary} None (Some taken) = sym none ∙ took in cc)
   bounded_to asked listed None to among taken took =
       let found = contains_from_map (λ (hop : Hop). Some (listener_to d (told_cost d told asked) hop)) (listeners_of d (granted_row d 0 0 asked)) to among in
       let hop : Hop = found.0 in
@@ -272,7 +272,7 @@ latencies_are_bounded rows timely orderly arrivals asks histories legal_of limit
     subst (λ (f : Fare). Contains f.ways way) (sym stream.2) of.1 in
     let listener = contains_from_map (way_to (deliveries_named asked.name ds)) (listeners_by d (cost asked) (row_of_stream d asked)) way of_it in
     let counted : taken_of (latencies_to (name_of_listener listener.0) (deliveries_named asked.name ds)) ≡ Some taken =
-    ap (λ (w : Way). w.tally.taken) listener.2 ∙ took in
+    ap (λ (w : ListenerWay). w.tally.taken) listener.2 ∙ took in
     let b = bounded_to rows timely orderly arrivals asks histories legal_of limits cycles input s streams book is asked stream.1 (form_refusal d asked)
     listener.0 listener.1 taken counted in
     record {
@@ -282,7 +282,7 @@ latencies_are_bounded rows timely orderly arrivals asks histories legal_of limit
       hop = b.0;
       among = b.1;
       listener = listener_to d (cost asked) b.0;
-      to = sym (ap (λ (w : Way). w.to) listener.2) ∙ b.2;
+      to = sym (ap (λ (w : ListenerWay). w.to) listener.2) ∙ b.2;
       named = refl;
       least = b.3;
       most = b.4;

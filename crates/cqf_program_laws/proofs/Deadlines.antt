@@ -11,8 +11,8 @@ use Rattle.cqf_model.specs.History.{Asked}
 use Rattle.cqf_model.proofs.Texts.{is_text_itself, is_text_same}
 use Rattle.cqf_topology.specs.PlannedText.{PlannedText}
 use Rattle.cqf_admission.specs.Asking.{asked_by}
-use Rattle.cqf_program_plans.specs.LatencyInput.{asked_in, deadlines_in}
-use Rattle.cqf_program_plans.specs.LatencyText.{deadline_of}
+use Rattle.cqf_program_plans.specs.Latency.Input.{asked_in, deadlines_in}
+use Rattle.cqf_program_plans.specs.Latency.Text.{deadline_of}
 use Rattle.cqf_program_runs.specs.Deliveries.{deadline_named}
 
 -- where no two streams have one name, the deadline of a name is that of the stream's place

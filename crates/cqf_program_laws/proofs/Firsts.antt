@@ -17,12 +17,12 @@ use Rattle.cqf_model.specs.History.{Act, Admits, Asked}
 use Rattle.cqf_model.specs.Limits.{most_calls}
 use Rattle.cqf_model.proofs.Texts.{is_text_itself, is_text_same}
 use Rattle.cqf_text.specs.Lines.{lines_of}
-use Rattle.cqf_topology_fields.specs.Fields.{and_first}
-use Rattle.cqf_admission_script.specs.declared.faults.ScriptFault.{ScriptFault}
-use Rattle.cqf_admission_script.specs.declared.faults.ScriptFault.TheVariants.{BadLine, TooMany, UnknownStream}
-use Rattle.cqf_admission_script.specs.Lines.{Written, is_seal_line, order_behind, order_of_line, seat_of_digit, word_behind}
-use Rattle.cqf_admission_script.specs.Script.{Called, act_for, administrators, call_of_line, call_of_order, call_of_seal, called_behind, calls_from, request_named, script_of, sealed_behind}
-use Rattle.cqf_program_summary.specs.Told.{told_streams}
+use Rattle.cqf_topology.specs.Fields.{and_first}
+use Rattle.cqf_admission.specs.declared.faults.ScriptFault.{ScriptFault}
+use Rattle.cqf_admission.specs.declared.faults.ScriptFault.TheVariants.{BadLine, TooMany, UnknownStream}
+use Rattle.cqf_admission.specs.Lines.{Written, is_seal_line, order_behind, order_of_line, seat_of_digit, word_behind}
+use Rattle.cqf_admission.specs.Script.{Called, act_for, administrators, call_of_line, call_of_order, call_of_seal, called_behind, calls_from, request_named, script_of, sealed_behind}
+use Rattle.cqf_program_summary.specs.Summary.Told.{told_streams}
 
 -- what is found among some, and else among others
 or_none : {X : Type 0} (o : Option X) → option_or o None ≡ o

@@ -23,26 +23,26 @@ use Rattle.cqf_model.proofs.Texts.{is_text_same}
 use Rattle.cqf_laws_history.specs.HistoryLaws.{TablesAreOrderly}
 use Rattle.cqf_laws_shift.specs.BookOfHistory.{BookOfHistorySaysTheShift}
 use Rattle.cqf_laws_shift.proofs.Came.{one_number}
-use Rattle.cqf_laws_latency.specs.Latency.{whole_of}
-use Rattle.cqf_laws_latency.specs.Streams.{AdmitsOnly, AdmittedHaveNames, AreGranted, with_all}
-use Rattle.cqf_laws_latency.specs.Verdicts.{InTime, IsAsSaid, Late, MayBeLate, Sure, sure_of}
-use Rattle.cqf_laws_told.specs.Told.{IsAsToldAt, NamesTellStreams, RowsArePlanned, ToldHolds, planned_rows, told_cost}
+use Rattle.cqf_laws_timing.specs.Latency.{whole_of}
+use Rattle.cqf_laws_timing.specs.Streams.{AdmitsOnly, AdmittedHaveNames, AreGranted, with_all}
+use Rattle.cqf_laws_timing.specs.Verdicts.{InTime, IsAsSaid, Late, MayBeLate, Sure, sure_of}
+use Rattle.cqf_laws_timing.specs.Told.{IsAsToldAt, NamesTellStreams, RowsArePlanned, ToldHolds, planned_rows, told_cost}
 use Rattle.cqf_topology.specs.DomainText.{IsDomain}
 use Rattle.cqf_topology.specs.PlannedText.{PlannedText}
 use Rattle.cqf_program_scenario.specs.Calls.{history_of}
-use Rattle.cqf_program_plans.specs.declared.latency_latencies.Latency.{Latency}
-use Rattle.cqf_program_plans.specs.declared.latency_latencies.Verdict.TheVariants as told
-use Rattle.cqf_program_plans.specs.CompileOutput.{admitted_from, stream_line, with_asked}
+use Rattle.cqf_program_plans.specs.declared.latency.latencies.Latency.{Latency}
+use Rattle.cqf_program_plans.specs.declared.latency.latencies.Verdict.TheVariants as told
+use Rattle.cqf_program_plans.specs.Compile.Output.{admitted_from, stream_line, with_asked}
 use Rattle.cqf_program_plans.specs.EndNames.{name_of_end}
-use Rattle.cqf_program_plans.specs.LatencyInput.{asked_in, deadlines_in}
-use Rattle.cqf_program_plans.specs.LatencyText.{deadline_of, is_station, latencies_of_row, latency_to, listeners_of, said_of_latency}
+use Rattle.cqf_program_plans.specs.Latency.Input.{asked_in, deadlines_in}
+use Rattle.cqf_program_plans.specs.Latency.Text.{deadline_of, is_station, latencies_of_row, latency_to, listeners_of, said_of_latency}
 use Rattle.cqf_program_plans.proofs.CompileLemmas.{refuse_ok, same_ok}
-use Rattle.cqf_program_runs.specs.declared.delivery.Delivery.{Delivery}
-use Rattle.cqf_program_runs.specs.declared.delivery.Fate.TheVariants as fate
-use Rattle.cqf_program_runs.specs.declared.delivery.Journey.{Journey}
-use Rattle.cqf_program_runs.specs.declared.delivery.Passage.{Passage}
-use Rattle.cqf_program_runs.specs.declared.delivery.Passage.TheVariants as passage
-use Rattle.cqf_program_runs.specs.ArrivalLaws.{ArrivalsAreTheShift, IsArrivalOfOffer, has_come}
+use Rattle.cqf_program_runs.specs.declared.deliveries.delivery.Delivery.{Delivery}
+use Rattle.cqf_program_runs.specs.declared.deliveries.delivery.Fate.TheVariants as fate
+use Rattle.cqf_program_runs.specs.declared.deliveries.delivery.Journey.{Journey}
+use Rattle.cqf_program_runs.specs.declared.deliveries.delivery.Passage.{Passage}
+use Rattle.cqf_program_runs.specs.declared.deliveries.delivery.Passage.TheVariants as passage
+use Rattle.cqf_program_runs.specs.Deliveries.ArrivalLaws.{ArrivalsAreTheShift, IsArrivalOfOffer, has_come}
 use Rattle.cqf_program_runs.specs.Deliveries.{arrival_at_listener, deadline_named, end_of_journey, end_of_passage, fate_of}
 use Rattle.cqf_program_runs.specs.Deliveries.{latency_of, whole_instant}
 use Rattle.cqf_program_runs.proofs.Arrived.{at_start, come_by}

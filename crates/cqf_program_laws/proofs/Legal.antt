@@ -7,7 +7,7 @@ use Rattle.cqf_model.specs.Domain.{Domain}
 use Rattle.cqf_model.specs.History.{IsLegalHistory, Recorded, Seals, is_seal, reply_to, seals}
 use Rattle.cqf_laws_history.specs.StateLaws.{HistoryGoesOn, SealsAreCounted, with_entry}
 use Rattle.cqf_admission.specs.Admission.{calls}
-use Rattle.cqf_admission_script.specs.Script.{Called, others_among, seals_among}
+use Rattle.cqf_admission.specs.Script.{Called, others_among, seals_among}
 use Rattle.cqf_program_scenario.specs.Calls.{HasRoom, called_for, seals_by, with_calls}
 use Rattle.cqf_program_laws.specs.ScriptLaws.{HistoriesAreLegal}
 

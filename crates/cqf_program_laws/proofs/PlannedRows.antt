@@ -9,8 +9,8 @@ use Rattle.cqf_model.specs.declared.topology.Row.{Row}
 use Rattle.cqf_model.specs.Domain.{Domain}
 use Rattle.cqf_model.specs.History.{Admits, Asked, IsLegalHistory, Recorded, held_in, pace_of, refusal_of, reply_to, seals, tree_of}
 use Rattle.cqf_laws_history.specs.StateLaws.{GrantedFindsRoom, GrantedIsHeld, HistoryGoesOn, IsState, SealsAreCounted, granted_row, with_entry}
-use Rattle.cqf_laws_latency.specs.Streams.{AreGranted, with_all}
-use Rattle.cqf_laws_told.specs.Told.{planned_rows}
+use Rattle.cqf_laws_timing.specs.Streams.{AreGranted, with_all}
+use Rattle.cqf_laws_timing.specs.Told.{planned_rows}
 
 -- the row of a stream among some, by its number; and rows beside which the stream is not refused
 pub record HasItsRow (d : Domain) (rows : List Row) (number : ℕ) (asked : Asked) : Type 0 where

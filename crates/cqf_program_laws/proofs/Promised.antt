@@ -30,23 +30,23 @@ use Rattle.cqf_laws_history.specs.StateLaws.{GrantedFindsRoom, GrantedIsHeld, Hi
 use Rattle.cqf_laws_shift.proofs.Came.{numbered_member}
 use Rattle.cqf_laws_shift.proofs.Covered.{three_and}
 use Rattle.cqf_laws_shift.proofs.Trees.{same_hop}
-use Rattle.cqf_laws_latency.specs.Latency.{least_of, most_of, whole_of}
-use Rattle.cqf_laws_latency.specs.Listeners.{BranchesEnd}
-use Rattle.cqf_laws_latency.specs.Streams.{AdmittedHaveNames, AreGranted, IsOfList, ListCostsItsTable, RowsAreOfList, most_beside_all}
-use Rattle.cqf_laws_latency.specs.Verdicts.{InTime, Late, MayBeLate, Sure, sure_of, sure_on}
-use Rattle.cqf_laws_traffic.specs.Covered.{ConformingOwnIsCovered, ConformingStreamIsCovered, is_own, own_offers}
-use Rattle.cqf_laws_traffic.specs.InTime.{ArrivesInTime, ComesThrough, ConformingOwnIsInTime, ConformingStreamIsInTime, IsBookOverList}
-use Rattle.cqf_laws_traffic.specs.Traffic.{Conforms, needed, offers_named}
-use Rattle.cqf_laws_told.specs.Told.{planned_rows}
+use Rattle.cqf_laws_timing.specs.Latency.{least_of, most_of, whole_of}
+use Rattle.cqf_laws_timing.specs.Listeners.{BranchesEnd}
+use Rattle.cqf_laws_timing.specs.Streams.{AdmittedHaveNames, AreGranted, IsOfList, ListCostsItsTable, RowsAreOfList, most_beside_all}
+use Rattle.cqf_laws_timing.specs.Verdicts.{InTime, Late, MayBeLate, Sure, sure_of, sure_on}
+use Rattle.cqf_laws_timing.specs.Covered.{ConformingOwnIsCovered, ConformingStreamIsCovered, is_own, own_offers}
+use Rattle.cqf_laws_timing.specs.InTime.{ArrivesInTime, ComesThrough, ConformingOwnIsInTime, ConformingStreamIsInTime, IsBookOverList}
+use Rattle.cqf_laws_timing.specs.Traffic.{Conforms, needed, offers_named}
+use Rattle.cqf_laws_timing.specs.Told.{planned_rows}
 use Rattle.cqf_sketch.specs.declared.domain.TalkerLink.{TalkerLink}
 use Rattle.cqf_traffic.specs.FlowsText.{FlowText}
 use Rattle.cqf_traffic.specs.TrafficText.{TrafficText, promise_of}
 use Rattle.cqf_admission.specs.Asking.{asked_by}
 use Rattle.cqf_program_scenario.specs.Calls.{history_of}
-use Rattle.cqf_program_plans.specs.declared.latency_latencies.Latency.{Latency}
-use Rattle.cqf_program_plans.specs.LatencyInput.{asked_in as asked_in_plan}
-use Rattle.cqf_program_plans.specs.LatencyText.{deadline_of, is_not_sure, is_station, latencies_of, latencies_of_row, latency_to, listeners_of, may_miss}
-use Rattle.cqf_program_plans.specs.LatencyText.{said_of_latency}
+use Rattle.cqf_program_plans.specs.declared.latency.latencies.Latency.{Latency}
+use Rattle.cqf_program_plans.specs.Latency.Input.{asked_in as asked_in_plan}
+use Rattle.cqf_program_plans.specs.Latency.Text.{deadline_of, is_not_sure, is_station, latencies_of, latencies_of_row, latency_to, listeners_of, may_miss}
+use Rattle.cqf_program_plans.specs.Latency.Text.{said_of_latency}
 use Rattle.cqf_program_plans.proofs.CompileLemmas.{same_ok}
 use Rattle.cqf_program_plans.proofs.GrantedPlans.{plan_paced}
 use Rattle.cqf_program_offers.specs.OffersOutput.{asked_in}

@@ -18,23 +18,23 @@ use Rattle.cqf_model.specs.Traffic.{numbered}
 use Rattle.cqf_model.proofs.Texts.{is_text_itself, is_text_same}
 use Rattle.cqf_laws_history.specs.HistoryLaws.{TablesAreOrderly}
 use Rattle.cqf_laws_history.specs.StateLaws.{granted_row}
-use Rattle.cqf_laws_latency.specs.Streams.{AdmitsOnly, RowsAreOfList}
+use Rattle.cqf_laws_timing.specs.Streams.{AdmitsOnly, RowsAreOfList}
 use Rattle.cqf_topology.specs.PlannedText.{PlannedText}
 use Rattle.cqf_admission.specs.Judging.{form_refusal}
 use Rattle.cqf_program_scenario.specs.Calls.{history_of}
 use Rattle.cqf_program_scenario.specs.Scenario.{Scenario}
 use Rattle.cqf_program_plans.specs.EndNames.{name_of_end}
-use Rattle.cqf_program_plans.specs.LatencyInput.{asked_in}
-use Rattle.cqf_program_plans.specs.LatencyText.{is_station, listeners_of}
-use Rattle.cqf_program_runs.specs.ArrivalLaws.{EachIsToldOnce, EachListenerIsToldOnce}
+use Rattle.cqf_program_plans.specs.Latency.Input.{asked_in}
+use Rattle.cqf_program_plans.specs.Latency.Text.{is_station, listeners_of}
+use Rattle.cqf_program_runs.specs.Deliveries.ArrivalLaws.{EachIsToldOnce, EachListenerIsToldOnce}
 use Rattle.cqf_program_runs.specs.Deliveries.{deadline_named, deliveries_of}
-use Rattle.cqf_program_runs.specs.PlannedScenario.{run_of_scenario}
+use Rattle.cqf_program_runs.specs.Deliveries.PlannedScenario.{run_of_scenario}
 use Rattle.cqf_program_laws.specs.ScriptLaws.{HistoriesAdmitOnly, HistoriesAreLegal, ScriptsAskOnly}
-use Rattle.cqf_program_summary.specs.declared.fares.Listener.{Listener}
-use Rattle.cqf_program_summary.specs.declared.fares.Way.{Way}
+use Rattle.cqf_program_summary.specs.declared.summary.fares.Listener.{Listener}
+use Rattle.cqf_program_summary.specs.declared.summary.fares.ListenerWay.{ListenerWay}
 use Rattle.cqf_program_summary.specs.Summary.{Fare, deliveries_named, fare_of, listener_to, listeners_by, name_of_listener, offers_named, offers_within, way_to, ways_of}
 use Rattle.cqf_program_laws.specs.SummaryLaws.{IsReadRun, RowsAddUp}
-use Rattle.cqf_program_summary.specs.Told.{is_good, row_of_stream, row_unless, told_cost, told_streams}
+use Rattle.cqf_program_summary.specs.Summary.Told.{is_good, row_of_stream, row_unless, told_cost, told_streams}
 use Rattle.cqf_program_laws.proofs.Admitted.{admits_good, asks_firsts}
 use Rattle.cqf_program_laws.proofs.Balance.{four_counts, row_adds_up}
 use Rattle.cqf_program_laws.proofs.Firsts.{firsts}
@@ -134,5 +134,5 @@ module _ (asks : ScriptsAskOnly) (histories : HistoriesAdmitOnly) (legal_of : Hi
       (λ x row covered own. leads_by rows cycles s requests only asked row to (own_row rows cycles s requests only asked stream.1 x row covered own) listener.1) in
       let four = four_counts (name_of_listener to) (deliveries_named asked.name ds) in
       subst (λ (f : Fare). f.offered ≡ way.tally.delivered + way.tally.late + f.dropped + way.tally.under_way) stream.2
-      (subst (λ (w : Way). offers_named asked.name offers ≡ w.tally.delivered + w.tally.late
+      (subst (λ (w : ListenerWay). offers_named asked.name offers ≡ w.tally.delivered + w.tally.late
       + (fare_of d cost (deadline_named streams) offers ds asked).dropped + w.tally.under_way) listener.2 (sym (four ∙ whole)))

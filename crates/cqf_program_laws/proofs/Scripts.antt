@@ -9,7 +9,7 @@ use Rattle.std.proofs.lemmas.Option.{get_or_from_slice_get, same_Some, slice_get
 use Rattle.cqf_lists.specs.Lists.{or_else}
 use Rattle.cqf_lists.specs.Results.{and_then}
 use Rattle.cqf_lists.proofs.Members.{contains_cases, contains_from_filter, contains_from_map, contains_from_take, contains_none, find_member}
-use Rattle.cqf_topology_fields.specs.Fields.{and_first}
+use Rattle.cqf_topology.specs.Fields.{and_first}
 use Rattle.cqf_model.specs.declared.limits.Limits.{Limits}
 use Rattle.cqf_model.specs.declared.frames.Background.{Background}
 use Rattle.cqf_model.specs.declared.frames.Offer.{Offer}
@@ -22,22 +22,22 @@ use Rattle.cqf_topology.specs.DomainText.{domain_within}
 use Rattle.cqf_topology.specs.PlannedText.{PlannedText, planned_of_text}
 use Rattle.cqf_topology.specs.PacedText.{PacedText, paced_of_text}
 use Rattle.cqf_admission.specs.Asking.{asked_by}
-use Rattle.cqf_admission_script.specs.declared.faults.ScriptFault.{ScriptFault}
-use Rattle.cqf_admission_script.specs.declared.faults.ScriptFault.TheVariants.{BadLine, UnknownStream, TooMany}
-use Rattle.cqf_admission_script.specs.Lines.{Written, is_seal_line, order_behind, order_of_line, seat_of_digit, word_behind}
-use Rattle.cqf_admission_script.specs.Script.{Called, act_for, administrators, call_of_line, call_of_order, call_of_seal}
-use Rattle.cqf_admission_script.specs.Script.{called_behind, calls_from, request_named, script_of, sealed_behind}
-use Rattle.cqf_laws_latency.proofs.Listed.{none_admits_only}
-use Rattle.cqf_laws_told.specs.Asking.{AsksOnly, CallsAdmitOnly, SeatsAdmitOnly}
-use Rattle.cqf_program_stop.specs.Stops.{or_line}
+use Rattle.cqf_admission.specs.declared.faults.ScriptFault.{ScriptFault}
+use Rattle.cqf_admission.specs.declared.faults.ScriptFault.TheVariants.{BadLine, UnknownStream, TooMany}
+use Rattle.cqf_admission.specs.Lines.{Written, is_seal_line, order_behind, order_of_line, seat_of_digit, word_behind}
+use Rattle.cqf_admission.specs.Script.{Called, act_for, administrators, call_of_line, call_of_order, call_of_seal}
+use Rattle.cqf_admission.specs.Script.{called_behind, calls_from, request_named, script_of, sealed_behind}
+use Rattle.cqf_laws_timing.proofs.Listed.{none_admits_only}
+use Rattle.cqf_laws_timing.specs.Asking.{AsksOnly, CallsAdmitOnly, SeatsAdmitOnly}
+use Rattle.cqf_press.specs.Stops.{or_line}
 use Rattle.cqf_program_scenario.specs.Calls.{called_for, seals_by, with_calls}
 use Rattle.cqf_program_scenario.specs.Lines.{domain_line, script_line, streams_line}
 use Rattle.cqf_program_scenario.specs.Parting.{calls_from_seal, closes, commands_by, is_command_of, opening_calls}
 use Rattle.cqf_program_scenario.specs.Parts.{RunTexts, run_parts}
 use Rattle.cqf_program_scenario.specs.Scenario.{Scenario, calls_in, frames_of_part, scenario_behind}
-use Rattle.cqf_program_plans.specs.LatencyInput.{asked_in}
+use Rattle.cqf_program_plans.specs.Latency.Input.{asked_in}
 use Rattle.cqf_program_plans.proofs.CompileLemmas.{same_ok}
-use Rattle.cqf_program_runs.specs.PlannedScenario.{planned_scenario, planned_scenario_of}
+use Rattle.cqf_program_runs.specs.Deliveries.PlannedScenario.{planned_scenario, planned_scenario_of}
 use Rattle.cqf_program_laws.specs.ScriptLaws.{AccountsAdmitOnly, AskOnly, HistoriesAdmitOnly, PlannedScenariosAskOnly, ScenariosAskOnly, ScriptsAskOnly}
 
 -- ---- steps of reading

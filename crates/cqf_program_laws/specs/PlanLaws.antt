@@ -15,27 +15,27 @@ use Rattle.cqf_model.specs.Limits.{most_cycles}
 use Rattle.cqf_model.specs.Paces.{is_turn}
 use Rattle.cqf_model.specs.Run.{Run}
 use Rattle.cqf_model.specs.Shift.{IsCovered, offer_cycle}
-use Rattle.cqf_laws_latency.specs.Latency.{whole_of}
-use Rattle.cqf_laws_latency.specs.Listeners.{EndsAtListener}
-use Rattle.cqf_laws_traffic.specs.Covered.{IsAtItsEdge, own_offers}
-use Rattle.cqf_laws_traffic.specs.InTime.{ArrivesInTime, ComesThrough, IsBookOverList}
-use Rattle.cqf_laws_traffic.specs.Traffic.{Conforms, IsTraffic, needed, offers_named}
+use Rattle.cqf_laws_timing.specs.Latency.{whole_of}
+use Rattle.cqf_laws_timing.specs.Listeners.{EndsAtListener}
+use Rattle.cqf_laws_timing.specs.Covered.{IsAtItsEdge, own_offers}
+use Rattle.cqf_laws_timing.specs.InTime.{ArrivesInTime, ComesThrough, IsBookOverList}
+use Rattle.cqf_laws_timing.specs.Traffic.{Conforms, IsTraffic, needed, offers_named}
 use Rattle.cqf_sketch.specs.declared.domain.TalkerLink.{TalkerLink}
 use Rattle.cqf_sketch.specs.SketchDomain.{SketchDomain}
 use Rattle.cqf_traffic.specs.FlowsText.{FlowText}
 use Rattle.cqf_traffic.specs.TrafficText.{TrafficText, promise_of}
-use Rattle.cqf_sketch_streams.specs.StreamsText.{StreamText}
+use Rattle.cqf_sketch.specs.StreamsText.{StreamText}
 use Rattle.cqf_program_scenario.specs.Books.{IsBookOfScenario}
 use Rattle.cqf_program_scenario.specs.Closing.{MayBeRun}
 use Rattle.cqf_program_scenario.specs.Opening.{opening_history}
 use Rattle.cqf_program_scenario.specs.Parting.{AreCommandsBehind}
 use Rattle.cqf_program_scenario.specs.Scenario.{Scenario}
-use Rattle.cqf_program_plans.specs.declared.latency_latencies.Latency.{Latency}
-use Rattle.cqf_program_plans.specs.CompileOutput.{admitted_from}
-use Rattle.cqf_program_plans.specs.LatencyText.{is_not_sure, latencies_of}
+use Rattle.cqf_program_plans.specs.declared.latency.latencies.Latency.{Latency}
+use Rattle.cqf_program_plans.specs.Compile.Output.{admitted_from}
+use Rattle.cqf_program_plans.specs.Latency.Text.{is_not_sure, latencies_of}
 use Rattle.cqf_program_offers.specs.OffersOutput.{asked_in}
 use Rattle.cqf_program_placing.specs.Settled.{SettledStream, deadline_behind, deadline_of_stream, open_domain, settled_of, taken_on, talker_of_stream}
-use Rattle.cqf_program_runs.specs.PlannedScenario.{planned_scenario, run_of_scenario}
+use Rattle.cqf_program_runs.specs.Deliveries.PlannedScenario.{planned_scenario, run_of_scenario}
 
 -- what a plan has that was told: its streams are all admitted before cycle 0, each reserves what its talker needs of a cycle, and the
 -- frames of none may miss its deadline

@@ -7,16 +7,16 @@ use Rattle.cqf_model.specs.Limits.{most_cycles}
 use Rattle.cqf_topology.specs.PlannedText.{PlannedText}
 use Rattle.cqf_topology.specs.PacedText.{PacedText, paced_of_text}
 use Rattle.cqf_admission.specs.Asking.{asked_by}
-use Rattle.cqf_admission_script.specs.Script.{Called, script_of}
-use Rattle.cqf_laws_latency.specs.Streams.{AdmitsOnly}
-use Rattle.cqf_laws_told.specs.Asking.{AsksOnly}
+use Rattle.cqf_admission.specs.Script.{Called, script_of}
+use Rattle.cqf_laws_timing.specs.Streams.{AdmitsOnly}
+use Rattle.cqf_laws_timing.specs.Asking.{AsksOnly}
 use Rattle.cqf_program_scenario.specs.Calls.{HasRoom, history_of}
 use Rattle.cqf_program_scenario.specs.Opening.{opening_history}
 use Rattle.cqf_program_scenario.specs.Parting.{AreCommandsBehind}
 use Rattle.cqf_program_scenario.specs.Parts.{RunTexts}
 use Rattle.cqf_program_scenario.specs.Scenario.{Scenario, scenario_of}
-use Rattle.cqf_program_plans.specs.LatencyInput.{asked_in}
-use Rattle.cqf_program_runs.specs.PlannedScenario.{planned_scenario}
+use Rattle.cqf_program_plans.specs.Latency.Input.{asked_in}
+use Rattle.cqf_program_runs.specs.Deliveries.PlannedScenario.{planned_scenario}
 
 -- each of some calls asks for no stream but one of the list
 abbrev pub AskOnly : List Asked → List Called → Type 0

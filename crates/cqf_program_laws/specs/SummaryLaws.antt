@@ -7,21 +7,21 @@ use Rattle.cqf_model.specs.Domain.{Domain}
 use Rattle.cqf_model.specs.History.{Asked}
 use Rattle.cqf_model.specs.Limits.{most_cycles}
 use Rattle.cqf_laws_history.specs.StateLaws.{granted_row}
-use Rattle.cqf_laws_latency.specs.Latency.{least_of}
+use Rattle.cqf_laws_timing.specs.Latency.{least_of}
 use Rattle.cqf_topology.specs.DomainText.{IsDomain}
 use Rattle.cqf_topology.specs.PlannedText.{PlannedText}
 use Rattle.cqf_program_scenario.specs.Books.{IsBookOfScenario}
 use Rattle.cqf_program_scenario.specs.Closing.{MayBeRun}
 use Rattle.cqf_program_scenario.specs.Scenario.{Scenario}
 use Rattle.cqf_program_plans.specs.EndNames.{name_of_end}
-use Rattle.cqf_program_plans.specs.LatencyInput.{asked_in}
-use Rattle.cqf_program_plans.specs.LatencyText.{listeners_of}
-use Rattle.cqf_program_runs.specs.PlannedScenario.{planned_scenario, run_of_scenario}
-use Rattle.cqf_program_summary.specs.declared.fares.Listener.{Listener}
-use Rattle.cqf_program_summary.specs.declared.fares.Way.{Way}
-use Rattle.cqf_program_summary.specs.declared.tallies.Taken.{Taken}
+use Rattle.cqf_program_plans.specs.Latency.Input.{asked_in}
+use Rattle.cqf_program_plans.specs.Latency.Text.{listeners_of}
+use Rattle.cqf_program_runs.specs.Deliveries.PlannedScenario.{planned_scenario, run_of_scenario}
+use Rattle.cqf_program_summary.specs.declared.summary.fares.Listener.{Listener}
+use Rattle.cqf_program_summary.specs.declared.summary.fares.ListenerWay.{ListenerWay}
+use Rattle.cqf_program_summary.specs.declared.summary.tallies.LatencySummary.{LatencySummary}
 use Rattle.cqf_program_summary.specs.Summary.{Fare, summary_of}
-use Rattle.cqf_program_summary.specs.Told.{told_streams}
+use Rattle.cqf_program_summary.specs.Summary.Told.{told_streams}
 
 -- a script over streams that was read under limits, and its one-thread book
 pub record IsReadRun (limits : Limits) (cycles : ℕ) (input : List ℕ) (s : Scenario) (streams : List PlannedText) (book : Contents) : Type 0 where
@@ -32,20 +32,20 @@ pub record IsReadRun (limits : Limits) (cycles : ℕ) (input : List ℕ) (s : Sc
   pub is_book : IsBookOfScenario cycles s book
 
 -- a way is one of a summary's, and whose
-abbrev pub IsRowOf : ℕ → Scenario → List PlannedText → Contents → Fare → Way → Type 0
+abbrev pub IsRowOf : ℕ → Scenario → List PlannedText → Contents → Fare → ListenerWay → Type 0
 IsRowOf cycles s streams book fare way =
     Contains (summary_of (run_of_scenario cycles s) streams book).fares fare × Contains fare.ways way
 
 -- each offer that a row counts ends in just one of four ways at its listener
 abbrev pub RowsAddUp : Type 0
 RowsAddUp =
-    (limits : Limits) (cycles : ℕ) (input : List ℕ) (s : Scenario) (streams : List PlannedText) (book : Contents) (fare : Fare) (way : Way) →
+    (limits : Limits) (cycles : ℕ) (input : List ℕ) (s : Scenario) (streams : List PlannedText) (book : Contents) (fare : Fare) (way : ListenerWay) →
     IsReadRun limits cycles input s streams book → IsRowOf cycles s streams book fare way →
     fare.offered ≡ way.tally.delivered + way.tally.late + fare.dropped + way.tally.under_way
 
 -- what frames took that came to the listener of a row is no less than the least that `latency` has for the last link of their way, and no
 -- more than the row's bound
-pub record AreWithinBounds (d : Domain) (streams : List Asked) (fare : Fare) (way : Way) (taken : Taken) : Type 0 where
+pub record AreWithinBounds (d : Domain) (streams : List Asked) (fare : Fare) (way : ListenerWay) (taken : LatencySummary) : Type 0 where
   pub asked : Asked
   pub told : Contains (told_streams streams) asked
   pub stream : asked.name ≡ fare.name
@@ -59,7 +59,7 @@ pub record AreWithinBounds (d : Domain) (streams : List Asked) (fare : Fare) (wa
 
 abbrev pub LatenciesAreBounded : Type 0
 LatenciesAreBounded =
-    (limits : Limits) (cycles : ℕ) (input : List ℕ) (s : Scenario) (streams : List PlannedText) (book : Contents) (fare : Fare) (way : Way)
-    (taken : Taken) →
+    (limits : Limits) (cycles : ℕ) (input : List ℕ) (s : Scenario) (streams : List PlannedText) (book : Contents) (fare : Fare) (way : ListenerWay)
+    (taken : LatencySummary) →
     IsReadRun limits cycles input s streams book → IsRowOf cycles s streams book fare way → way.tally.taken ≡ Some taken →
     AreWithinBounds s.domain (asked_in streams) fare way taken

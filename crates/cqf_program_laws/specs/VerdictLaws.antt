@@ -13,24 +13,24 @@ use Rattle.cqf_model.specs.Limits.{most_cycles}
 use Rattle.cqf_model.specs.Run.{AreBackground, AreOffers}
 use Rattle.cqf_topology.specs.DomainText.{IsDomain}
 use Rattle.cqf_topology.specs.PlannedText.{PlannedText}
-use Rattle.cqf_laws_latency.specs.Streams.{AdmitsOnly}
+use Rattle.cqf_laws_timing.specs.Streams.{AdmitsOnly}
 use Rattle.cqf_program_scenario.specs.Books.{IsBookOfScenario}
 use Rattle.cqf_program_scenario.specs.Closing.{MayBeRun}
 use Rattle.cqf_program_scenario.specs.Opening.{opening_history}
 use Rattle.cqf_program_scenario.specs.Parting.{AreCommandsBehind}
 use Rattle.cqf_program_scenario.specs.Scenario.{Scenario}
-use Rattle.cqf_program_plans.specs.declared.latency_latencies.Latency.{Latency}
-use Rattle.cqf_program_plans.specs.declared.latency_latencies.Verdict.TheVariants as told
-use Rattle.cqf_program_plans.specs.CompileOutput.{admitted_from}
-use Rattle.cqf_program_plans.specs.LatencyInput.{asked_in, deadlines_in}
-use Rattle.cqf_program_plans.specs.LatencyText.{latencies_of, verdict_on_deadline}
-use Rattle.cqf_program_runs.specs.declared.delivery.Delivery.{Delivery}
-use Rattle.cqf_program_runs.specs.declared.delivery.Fate.TheVariants as fate
-use Rattle.cqf_program_runs.specs.declared.delivery.Journey.{Journey}
-use Rattle.cqf_program_runs.specs.declared.delivery.Passage.TheVariants as passage
-use Rattle.cqf_program_runs.specs.ArrivalLaws.{has_come}
+use Rattle.cqf_program_plans.specs.declared.latency.latencies.Latency.{Latency}
+use Rattle.cqf_program_plans.specs.declared.latency.latencies.Verdict.TheVariants as told
+use Rattle.cqf_program_plans.specs.Compile.Output.{admitted_from}
+use Rattle.cqf_program_plans.specs.Latency.Input.{asked_in, deadlines_in}
+use Rattle.cqf_program_plans.specs.Latency.Text.{latencies_of, verdict_on_deadline}
+use Rattle.cqf_program_runs.specs.declared.deliveries.delivery.Delivery.{Delivery}
+use Rattle.cqf_program_runs.specs.declared.deliveries.delivery.Fate.TheVariants as fate
+use Rattle.cqf_program_runs.specs.declared.deliveries.delivery.Journey.{Journey}
+use Rattle.cqf_program_runs.specs.declared.deliveries.delivery.Passage.TheVariants as passage
+use Rattle.cqf_program_runs.specs.Deliveries.ArrivalLaws.{has_come}
 use Rattle.cqf_program_runs.specs.Deliveries.{deliveries_of, fate_of, latency_of}
-use Rattle.cqf_program_runs.specs.PlannedScenario.{planned_scenario, run_of_scenario}
+use Rattle.cqf_program_runs.specs.Deliveries.PlannedScenario.{planned_scenario, run_of_scenario}
 
 -- the delivery is of a frame of the stream that the latency is told of, on its way to the listener that it is told of
 pub record IsDeliveryTo (latency : Latency) (delivery : Delivery) : Type 0 where

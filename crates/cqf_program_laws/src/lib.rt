@@ -26,7 +26,7 @@ pub fn scripts_admit_only()
     ensures accounts { AccountsAdmitOnly }
     ensures legal { HistoriesAreLegal }
 {
-    cqf_laws_told::histories_admit_only();
+    cqf_laws_timing::histories_admit_only();
     cqf_laws_history::state_follows_history();
 }
 
@@ -39,8 +39,8 @@ pub fn told_verdicts_hold()
     ensures accounts { VerdictsHoldOfAccounts }
 {
     scripts_admit_only();
-    cqf_laws_told::told_of_streams_holds();
-    cqf_laws_latency::lists_bound_costs();
+    cqf_laws_timing::told_of_streams_holds();
+    cqf_laws_timing::lists_bound_costs();
     cqf_laws_history::tables_are_orderly();
     cqf_laws_shift::book_of_history_says_the_shift();
     cqf_program_runs::arrivals_are_the_shift();
@@ -64,10 +64,10 @@ pub fn told_plans_keep_their_word()
 {
     scripts_admit_only();
     cqf_laws_history::state_follows_history();
-    cqf_laws_latency::lists_bound_costs();
-    cqf_laws_latency::branches_end_at_listeners();
-    cqf_laws_traffic::conforming_stream_is_covered();
-    cqf_laws_traffic::conforming_stream_is_in_time();
+    cqf_laws_timing::lists_bound_costs();
+    cqf_laws_timing::branches_end_at_listeners();
+    cqf_laws_timing::conforming_stream_is_covered();
+    cqf_laws_timing::conforming_stream_is_in_time();
 }
 
 /// Each offer that a row of `summary` counts ends in just one of four ways at the row's listener: it is delivered, late, dropped, or under
@@ -77,7 +77,7 @@ pub fn summaries_add_up()
     ensures { RowsAddUp }
 {
     scripts_admit_only();
-    cqf_laws_latency::lists_bound_costs();
+    cqf_laws_timing::lists_bound_costs();
     cqf_laws_history::tables_are_orderly();
     cqf_program_runs::each_is_told_once();
 }
@@ -88,8 +88,8 @@ pub fn summaries_are_within_bounds()
     ensures { LatenciesAreBounded }
 {
     scripts_admit_only();
-    cqf_laws_latency::lists_bound_costs();
-    cqf_laws_latency::lists_bound_latencies();
+    cqf_laws_timing::lists_bound_costs();
+    cqf_laws_timing::lists_bound_latencies();
     cqf_laws_history::tables_are_orderly();
     cqf_program_runs::arrivals_are_the_shift();
 }

@@ -1,23 +1,23 @@
 -- Streams that are judged one after the other.
-use Rattle.std.proofs.Common.{◌≡◌, ◌∙◌, ℕ, ◌+◌, ◌<◌, ◌++◌, ◌∷◌, [], List, Result, Ok, Err, ap, drop, get_or, length, map, subst, sym, take}
+use Rattle.std.proofs.Common.{◌≡◌, ◌∙◌, ℕ, ◌+◌, ◌<◌, ◌++◌, ◌∷◌, [], List, Result, Ok, ap, drop, get_or, length, map, subst, sym, take}
 use Rattle.std.proofs.lemmas.List.{drop_more, map-append, take_more}
 use Rattle.cqf_lists.specs.Results.{and_then}
 use Rattle.cqf_model.specs.declared.topology.Row.{Row}
 use Rattle.cqf_model.specs.Domain.{Domain}
 use Rattle.cqf_model.specs.History.{Asked}
-use Rattle.cqf_program_plans.specs.LoadOutput.{listed_from}
-use Rattle.cqf_program_stop.specs.declared.stops.Stop.{Stop}
-use Rattle.cqf_program_stop.specs.Stops.{IsRefused}
+use Rattle.cqf_program_plans.specs.Load.Output.{listed_from}
+use Rattle.cqf_press.specs.declared.stops.Stop.{Stop}
+use Rattle.cqf_press.specs.Stops.{IsRefused}
 use Rattle.cqf_traffic.specs.declared.flows.Flow.{Flow}
 use Rattle.cqf_traffic.specs.FlowsText.{flow_text}
-use Rattle.cqf_traffic_offers.specs.declared.senders.Sender.{Sender}
+use Rattle.cqf_traffic.specs.declared.senders.TalkerStream.{TalkerStream}
 use Rattle.cqf_program_offers.specs.OffersOutput.{asked_in, sender_of, senders_of}
 
 -- what streams ask for, and how their talkers see them
 abbrev asked_all : List Flow → List Asked
 asked_all flows = map asked_in (map flow_text flows)
 
-abbrev seen : Domain → List Flow → List Sender
+abbrev seen : Domain → List Flow → List TalkerStream
 seen d flows = map (sender_of d) (map flow_text flows)
 
 -- a refusal of a step is one of all steps
@@ -44,10 +44,10 @@ module _ (d : Domain) (flows : List Flow) (k : ℕ) (flow : Flow) (inside : k < 
       ∙ ap (λ (xs : List Row). listed_from d xs (asked_all (drop (k + 1) flows))) (ap (λ (xs : List Row). xs ++ row ∷ []) same ∙ sym put)
 
   -- and seen
-  pub one_seen : (senders after : List Sender) → senders ≡ seen d (take k flows) → after ≡ senders ++ sender_of d (flow_text flow) ∷ [] →
+  pub one_seen : (senders after : List TalkerStream) → senders ≡ seen d (take k flows) → after ≡ senders ++ sender_of d (flow_text flow) ∷ [] →
       after ≡ seen d (take (k + 1) flows)
   one_seen senders after so_far put =
-      put ∙ ap (λ (xs : List Sender). xs ++ sender_of d (flow_text flow) ∷ []) so_far
+      put ∙ ap (λ (xs : List TalkerStream). xs ++ sender_of d (flow_text flow) ∷ []) so_far
       ∙ sym (map-append (sender_of d) (map flow_text (take k flows)) (flow_text flow ∷ []))
       ∙ ap (map (sender_of d)) (sym (map-append flow_text (take k flows) (flow ∷ [])))
       ∙ ap (seen d) (ap (λ x. take k flows ++ x ∷ []) is ∙ sym (take_more flows k flow inside))

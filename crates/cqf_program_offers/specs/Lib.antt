@@ -1,2 +1,3 @@
 pub mod OffersText
 pub mod OffersOutput
+pub mod Made

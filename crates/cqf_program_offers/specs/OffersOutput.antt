@@ -1,8 +1,7 @@
 -- What the command `offers` gives for its input (profile): what the streams of a plant offer, or the line of the input's first fault.
-use Rattle.std.specs.Prelude.{ℕ, ◌*◌, List, [], ◌∷◌, Option, Some, None, Result, Ok, Err, codes, if◌then◌else◌, map, nat_le, option_and_then, slice_get}
+use Rattle.std.specs.Prelude.{ℕ, ◌*◌, List, [], ◌∷◌, Option, None, Result, Ok, Err, codes, if◌then◌else◌, map, nat_le, option_and_then, slice_get}
 use Rattle.std.specs.Option.{unwrap_or}
 use Rattle.cqf_lists.specs.Results.{and_then}
-use Rattle.cqf_model.specs.declared.topology.Node.{Node}
 use Rattle.cqf_model.specs.Domain.{Domain, node_named}
 use Rattle.cqf_model.specs.declared.limits.Limits.{Limits}
 use Rattle.cqf_model.specs.History.{Asked}
@@ -13,12 +12,12 @@ use Rattle.cqf_admission.specs.Asking.{asked_by}
 use Rattle.cqf_report.specs.Offers.{as_bridge}
 use Rattle.cqf_traffic.specs.declared.faults.FlowsFault.{FlowsFault}
 use Rattle.cqf_traffic.specs.FlowsText.{FlowText, flows_fault_text, flows_of_text}
-use Rattle.cqf_traffic_offers.specs.declared.senders.Sender.{Sender}
-use Rattle.cqf_traffic_offers.specs.Offering.{frames_before, offers_before}
-use Rattle.cqf_program_stop.specs.Stops.{fault_line, or_line}
+use Rattle.cqf_traffic.specs.declared.senders.TalkerStream.{TalkerStream}
+use Rattle.cqf_traffic.specs.Offering.{frames_before, offers_before}
+use Rattle.cqf_press.specs.Stops.{fault_line, or_line}
 use Rattle.cqf_program_scenario.specs.Lines.{domain_line}
 use Rattle.cqf_program_scenario.specs.Parts.{two_parts}
-use Rattle.cqf_program_plans.specs.LoadOutput.{listed_from}
+use Rattle.cqf_program_plans.specs.Load.Output.{listed_from}
 use Rattle.cqf_program_offers.specs.OffersText.{offers_text}
 
 -- why streams with traffic are refused
@@ -49,16 +48,16 @@ first_name (path ∷ more) = slice_get path 0
 abbrev pub edge_of : Domain → List (List (List ℕ)) → ℕ
 edge_of d paths = unwrap_or (as_bridge (option_and_then (node_named d) (first_name paths))) 0
 
-abbrev pub sender_of : Domain → FlowText → Sender
+abbrev pub sender_of : Domain → FlowText → TalkerStream
 sender_of d flow = record { name = flow.0.0.name; bridge = edge_of d flow.0.0.paths; traffic = flow.1 }
 
 -- what streams offer before an instant, as a text, or the line where it is too much
-abbrev pub offered_by : Domain → ℕ → Option ℕ → List Sender → Result (List ℕ) (List ℕ)
+abbrev pub offered_by : Domain → ℕ → Option ℕ → List TalkerStream → Result (List ℕ) (List ℕ)
 offered_by d until seed senders =
     if nat_le (frames_before until senders) (rows_within d.limits) then Ok (offers_text d (offers_before until seed senders)) else Err too_many_line
 
 -- streams as their talkers see them, where each is judged as by `load`, or the line of the first that is refused
-abbrev pub senders_of : Domain → List FlowText → Result (List Sender) (List ℕ)
+abbrev pub senders_of : Domain → List FlowText → Result (List TalkerStream) (List ℕ)
 senders_of d flows = and_then (listed_from d [] (map asked_in flows)) (λ rows. Ok (map (sender_of d) flows))
 
 -- what they offer

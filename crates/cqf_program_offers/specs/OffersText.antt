@@ -3,7 +3,7 @@ use Rattle.std.specs.Prelude.{ℕ, ◌++◌, List, codes, decimal}
 use Rattle.std.specs.List.{flat_map}
 use Rattle.cqf_model.specs.declared.frames.Offer.{Offer}
 use Rattle.cqf_model.specs.Domain.{Domain}
-use Rattle.cqf_report.specs.Books.{name_of_bridge}
+use Rattle.cqf_topology.specs.NodeNames.{name_of_bridge}
 
 -- an offer: its instant, the name of its bridge, its stream and its octets
 abbrev pub offer_line : Domain → Offer → List ℕ

@@ -1,19 +1,18 @@
 //! The command `offers`.
 ghost use Rattle.std.specs.Prelude.{◌≡◌, IfErr, IfOk, Ok, map};
 ghost use Rattle.cqf_program_offers.specs.OffersOutput.{offered_by, offered_input, offered_of, too_many_line};
-ghost use Rattle.cqf_program_stop.specs.Stops.{EndsWith, IsRefused};
+ghost use Rattle.cqf_press.specs.Stops.{EndsWith, IsRefused};
 ghost use Rattle.cqf_traffic.specs.FlowsText.{flow_text};
-ghost use Rattle.cqf_traffic_offers.specs.Offering.{offers_before};
+ghost use Rattle.cqf_traffic.specs.Offering.{offers_before};
 ghost use Rattle.cqf_program_offers.specs.OffersText.{offers_text};
 
 use crate::reading::flows_input;
 use crate::sending::senders_of;
 use crate::text::offers_text;
 use cqf_model::Limits;
-use cqf_program_stop::{REFUSED, Stop};
+use cqf_press::{REFUSED, Stop};
 use cqf_topology::Domain;
-use cqf_traffic::Flow;
-use cqf_traffic_offers::{Sender, Until, are_few, offers_before};
+use cqf_traffic::{Flow, TalkerStream, Until, are_few, offers_before};
 use cqf_units::{Memory, Nanos};
 use std::alloc::Global;
 
@@ -29,7 +28,7 @@ fn text_of_senders(
     alloc: Global,
     domain: &Domain,
     until: Until,
-    senders: &[Sender],
+    senders: &[TalkerStream],
 ) -> Result<Vec<u8>, Memory>
     ensures { IfOk result (λ text. text.items ≡ offers_text domain.now (offers_before until.end.0 until.seed senders.now)) }
 {
@@ -47,7 +46,7 @@ pub fn offered_by(
     alloc: Global,
     domain: &Domain,
     until: Until,
-    senders: &[Sender],
+    senders: &[TalkerStream],
 ) -> Result<Vec<u8>, Stop>
     ensures ok { IfOk result (λ text. offered_by domain.now until.end.0 until.seed senders.now ≡ Ok text.items) }
     ensures err { IfErr result (IsRefused (offered_by domain.now until.end.0 until.seed senders.now)) }

@@ -2,19 +2,18 @@
 ghost use Rattle.std.specs.Prelude.{◌≡◌, ◌++◌, ◌∷◌, [], ◌<◌, ◌^◌, List, IfErr, IfOk, string_bytes};
 ghost use Rattle.std.specs.List.{list_any};
 ghost use Rattle.cqf_admission.specs.Asking.{asked_paced};
-ghost use Rattle.cqf_admission_trees.specs.Branches.{branches_of, places_of};
+ghost use Rattle.cqf_admission.specs.Branches.{branches_of, places_of};
 ghost use Rattle.cqf_model.specs.Domain.{is_text};
 ghost use Rattle.cqf_model.specs.History.{Asked};
 ghost use Rattle.cqf_model.specs.declared.topology.Row.{Row as ARow};
-ghost use Rattle.cqf_program_plans.specs.Listing.{Weighs};
-ghost use Rattle.cqf_program_plans.specs.LoadOutput.{listed_from};
-ghost use Rattle.cqf_program_stop.specs.Stops.{IsRefused};
+ghost use Rattle.cqf_program_plans.specs.Load.Listing.{Weighs};
+ghost use Rattle.cqf_program_plans.specs.Load.Output.{listed_from};
+ghost use Rattle.cqf_press.specs.Stops.{IsRefused};
 
-use cqf_admission::{Judged, judge_paced};
-use cqf_admission_trees::count_places;
+use cqf_admission::{JudgedRequest, count_places, judge_paced};
 use cqf_model::{Refused, Row};
+use cqf_press::Stop;
 use cqf_program_plans::stream_stop;
-use cqf_program_stop::Stop;
 use cqf_topology::{Domain, PacedRequest};
 use cqf_units::{Cycle, Name};
 use std::alloc::Global;
@@ -28,7 +27,7 @@ fn has_name(rows: &[Row], name: &Name) -> bool
 
 /// The first reason but that a link has no room against a request beside others, which asks for less than 2^64 places, or what it is by
 /// itself.
-fn weigh(domain: &Domain, rows: &[Row], request: &PacedRequest) -> Result<Judged, Refused>
+fn weigh(domain: &Domain, rows: &[Row], request: &PacedRequest) -> Result<JudgedRequest, Refused>
     requires { places_of (branches_of request.now.paths.items) < 2 ^ 64 }
     ensures { Weighs domain.now rows.now (asked_paced request.now) result }
 {

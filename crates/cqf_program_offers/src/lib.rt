@@ -1,23 +1,33 @@
-//! The command `offers`: what the streams of a plant offer, as a text.
+//! What the streams of a plant offer, as a text, by the command `offers`, and in place of parts that a run isn't given.
 //!
-//! - [`offers_output`] gives its output for an input, or the end of the run with the line of the input's first fault.
-//! - [`flows_part`] reads streams with their traffic ([`flows_stop`] ends where they are refused), [`senders_of`] judges each as `load`
-//!   does and has it as its talker sees it, and [`offered_by`] has what senders offer as a text.
+//! - [`offers_output`] gives the command's output for an input, or the end of the run with the line of the input's first fault.
+//! - [`made_input`] completes an input, so that the engine reads all parts of a run: calls that admit all streams before cycle 0, and what their
+//!   talkers offer, are made as texts, as if they had been read.
+//! - `senders_of` judges each stream as `load` does and has it as its talker sees it, `offered_by` has what senders offer as a text, and
+//!   [`flows_stop`] ends where streams with traffic are refused.
 //!
-//! `specs/` says which text an input has (`OffersOutput`) and how offers are written (`OffersText`).
+//! In `specs/` stand which text an input has (`OffersOutput`, and `Made` where parts are made), and how offers are written (`OffersText`).
 //!
 //! ```text
 //! offers_output(alloc, 1, None, b"..\n%%\n[[streams]]\nname = \"x\"\n.. interval = 125000\nsize = 64\n")
 //!     is Ok(b"at,bridge,stream,octets\n0,a,x,64\n") over a cycle of 125,000 ns
+//! a plant alone whose one stream x has traffic
+//!     gets the script "0 admit x\n" and the offers of x
 //! ```
 #![tactic(auto)]
 
+mod calls;
 mod command;
+mod completing;
 mod judging;
+mod offers;
+mod parts;
 mod reading;
 mod sending;
 mod text;
 
-pub use command::{offered_by, offered_of, offers_output};
-pub use reading::{flows_part, flows_stop};
-pub use sending::senders_of;
+pub(crate) use command::offered_of;
+pub use command::offers_output;
+pub use completing::made_input;
+pub(crate) use reading::flows_part;
+pub use reading::flows_stop;

@@ -1,12 +1,12 @@
 //! The reader of streams with their traffic.
 ghost use Rattle.std.specs.Prelude.{◌≡◌, ◌≢◌, [], Ok, IfErr, IfOk, map};
 ghost use Rattle.cqf_program_offers.specs.OffersOutput.{flows_input, flows_line};
-ghost use Rattle.cqf_program_stop.specs.Stops.{EndsWith, IsRefused, or_line};
+ghost use Rattle.cqf_press.specs.Stops.{EndsWith, IsRefused, or_line};
 ghost use Rattle.cqf_traffic.specs.FlowsText.{flow_text, flows_of_text};
 
 use cqf_model::Limits;
+use cqf_press::Stop;
 use cqf_program_scenario::{domain_part, two_parts};
-use cqf_program_stop::Stop;
 use cqf_topology::{Domain, StreamsFault};
 use cqf_traffic::{Flow, FlowsFault, read_flows};
 use std::alloc::Global;

@@ -1,16 +1,15 @@
 //! Streams as their talkers see them.
 ghost use Rattle.std.specs.Prelude.{◌≡◌, ◌++◌, ◌∷◌, [], IfErr, IfOk, Ok, OnOk, map, string_bytes, option_map};
-ghost use Rattle.cqf_program_stop.specs.Stops.{EndsWith, IsRefused};
-ghost use Rattle.cqf_admission_trees.specs.Branches.{branches_of};
+ghost use Rattle.cqf_press.specs.Stops.{EndsWith, IsRefused};
+ghost use Rattle.cqf_admission.specs.Branches.{branches_of};
 ghost use Rattle.cqf_program_offers.specs.OffersOutput.{edge_of, first_name, sender_of, senders_of};
 ghost use Rattle.cqf_traffic.specs.FlowsText.{flow_text};
 
 use crate::judging::row_of;
 use cqf_model::{Node, Row};
-use cqf_program_stop::Stop;
+use cqf_press::Stop;
 use cqf_topology::Domain;
-use cqf_traffic::Flow;
-use cqf_traffic_offers::Sender;
+use cqf_traffic::{Flow, TalkerStream};
 use cqf_units::Name;
 use std::alloc::Global;
 
@@ -41,11 +40,11 @@ fn edge_of(domain: &Domain, paths: &[Vec<String>]) -> u16
 }
 
 /// A stream of this name as its talker sees it.
-fn sender_of(domain: &Domain, flow: &Flow, name: Name) -> Sender
+fn sender_of(domain: &Domain, flow: &Flow, name: Name) -> TalkerStream
     requires { name ≡ string_bytes flow.now.planned.request.name }
     ensures { result ≡ sender_of domain.now (flow_text flow.now) }
 {
-    Sender {
+    TalkerStream {
         name,
         bridge: edge_of(domain, flow.planned.request.paths.as_slice()),
         traffic: flow.traffic,
@@ -55,10 +54,10 @@ fn sender_of(domain: &Domain, flow: &Flow, name: Name) -> Sender
 /// Puts a stream behind others, as its row and as its talker sees it. `Err` with status 3 for want of memory.
 fn put_stream(
     alloc: Global,
-    sender: Sender,
+    sender: TalkerStream,
     row: Row,
     rows: &mut Vec<Row>,
-    senders: &mut Vec<Sender>,
+    senders: &mut Vec<TalkerStream>,
 ) -> Result<(), Stop>
     ensures rows { OnOk result (rows.new.items ≡ rows.old.items ++ row ∷ []) }
     ensures senders { OnOk result (senders.new.items ≡ senders.old.items ++ sender ∷ []) }
@@ -77,7 +76,7 @@ fn put_stream(
 ///
 /// # Errors
 /// With status 1 and the line of the first stream that is refused; and with status 3 for want of memory.
-pub fn senders_of(alloc: Global, domain: &Domain, flows: &[Flow]) -> Result<Vec<Sender>, Stop>
+pub fn senders_of(alloc: Global, domain: &Domain, flows: &[Flow]) -> Result<Vec<TalkerStream>, Stop>
     ensures ok { IfOk result (λ senders. senders_of domain.now (map flow_text flows.now) ≡ Ok senders.items) }
     ensures err { IfErr result (IsRefused (senders_of domain.now (map flow_text flows.now))) }
 {

@@ -1,6 +1,6 @@
 //! Offers as a text.
-ghost use Rattle.std.specs.Prelude.{◌≡◌, ◌++◌, IfOk, OnOk, string_bytes};
-ghost use Rattle.cqf_report.specs.Books.{name_of_bridge};
+ghost use Rattle.std.specs.Prelude.{◌≡◌, IfOk, string_bytes};
+ghost use Rattle.cqf_topology.specs.NodeNames.{name_of_bridge};
 ghost use Rattle.cqf_program_offers.specs.OffersText.{offer_line, offers_text};
 
 use cqf_model::Offer;

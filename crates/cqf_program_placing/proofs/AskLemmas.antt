@@ -16,7 +16,7 @@ use Rattle.cqf_units.specs.Timing.{cost_of}
 use Rattle.cqf_model.specs.History.{Admits, Asked, admit_reply, held_in, left_on, next_number, pace_of, refusal_of, refused_at, refused_if, seals, short_link, tree_of}
 use Rattle.cqf_laws_history.specs.StateLaws.{with_entry}
 use Rattle.cqf_admission.specs.Admission.{Administration, Answers, is_entered}
-use Rattle.cqf_program_plans.specs.CompileOutput.{with_asked}
+use Rattle.cqf_program_plans.specs.Compile.Output.{with_asked}
 use Rattle.cqf_program_placing.specs.Placing.{Placed, Unplaced, answered, fault_of_refusal}
 
 -- what the answer to a request tells of it

@@ -9,7 +9,7 @@ use Rattle.cqf_model.specs.declared.history.Refused.{Refused}
 use Rattle.cqf_model.specs.declared.topology.Row.{Row}
 use Rattle.cqf_model.specs.Domain.{Domain}
 use Rattle.cqf_model.specs.History.{Admits, Asked, Branch, IsLegalHistory, Recorded, admit_reply, held_in, next_number, refusal_of, reply_to, seals}
-use Rattle.cqf_program_plans.specs.CompileOutput.{with_asked}
+use Rattle.cqf_program_plans.specs.Compile.Output.{with_asked}
 use Rattle.cqf_program_placing.specs.declared.faults.PlanFault.{PlanFault}
 use Rattle.cqf_admission.specs.Asking.{asked_with}
 use Rattle.cqf_program_placing.specs.declared.turns.Turns.{Turns}

@@ -14,7 +14,7 @@ use Rattle.cqf_model.specs.Limits.{most_every}
 use Rattle.cqf_model.specs.Paces.{is_turn}
 use Rattle.cqf_model.specs.Table.{link_cost, uses}
 use Rattle.cqf_model.proofs.Hops.{hops_apart}
-use Rattle.cqf_admission_trees.proofs.TurnLemmas.{always_turn, uses_of_hop}
+use Rattle.cqf_admission.proofs.TurnLemmas.{always_turn, uses_of_hop}
 use Rattle.cqf_admission.specs.Costs.{left_beside, left_in_turns}
 use Rattle.cqf_program_placing.specs.Turns.{hop_at, left_emptiest, pace_by}
 

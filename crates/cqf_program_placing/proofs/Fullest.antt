@@ -6,7 +6,7 @@ use Rattle.std.proofs.lemmas.List.{take_more}
 use Rattle.std.proofs.lemmas.List.Elements.{Contains-append_cases, Contains-append_left, Contains-append_right}
 use Rattle.cqf_lists.proofs.Members.{contains_here, contains_none, contains_one}
 use Rattle.cqf_model.specs.declared.topology.Hop.{Hop}
-use Rattle.cqf_program_placing.specs.declared.phases.Share.{Share}
+use Rattle.cqf_program_placing.specs.declared.phases.BudgetShare.{BudgetShare}
 use Rattle.cqf_program_placing.specs.Turns.{IsBetter, IsFullest, IsLeastFull, IsLessFull, IsNoFuller, IsNoWorse}
 
 -- ---- fractions a/b, c/d and e/f, none of them 0/0
@@ -51,13 +51,13 @@ held_of_none a b d some budget none = let more : 1 * d ≤ a * d = mul-le-mul_ri
 
 -- ---- the fullest hop
 
-module _ (shares : Hop → Share) (held : (hop : Hop) → 1 ≤ (shares hop).held) where
+module _ (shares : Hop → BudgetShare) (held : (hop : Hop) → 1 ≤ (shares hop).held) where
   -- of no hop
   pub fullest_none : IsFullest shares [] (record { held = 0; budget = 1 })
   fullest_none = record { each = λ hop c. absurd (contains_none hop c); some = omega arith; of_hop = inl refl }
 
   -- one hop more that is fuller
-  pub fullest_more : (tree : List Hop) (hop : Hop) (most : Share) → IsFullest shares tree most → IsLessFull most (shares hop) →
+  pub fullest_more : (tree : List Hop) (hop : Hop) (most : BudgetShare) → IsFullest shares tree most → IsLessFull most (shares hop) →
       IsFullest shares (tree ++ hop ∷ []) (shares hop)
   fullest_more tree hop most so_far less = record {
     each = λ other c. elim (Contains-append_cases tree (hop ∷ []) other c) [
@@ -71,7 +71,7 @@ module _ (shares : Hop → Share) (held : (hop : Hop) → 1 ≤ (shares hop).hel
   }
 
   -- and one that isn't
-  pub fullest_same : (tree : List Hop) (hop : Hop) (most : Share) → IsFullest shares tree most → IsNoFuller (shares hop) most →
+  pub fullest_same : (tree : List Hop) (hop : Hop) (most : BudgetShare) → IsFullest shares tree most → IsNoFuller (shares hop) most →
       IsFullest shares (tree ++ hop ∷ []) most
   fullest_same tree hop most so_far no_more = record {
     each = λ other c. elim (Contains-append_cases tree (hop ∷ []) other c) [
@@ -83,28 +83,29 @@ module _ (shares : Hop → Share) (held : (hop : Hop) → 1 ≤ (shares hop).hel
   }
 
   -- so of the hops up to one more
-  pub fuller_next : (tree : List Hop) (k : ℕ) (other : Hop) (most share after : Share) → k < length tree → IsFullest shares (take k tree) most →
+  pub fuller_next : (tree : List Hop) (k : ℕ) (other : Hop) (most share after : BudgetShare) → k < length tree → IsFullest shares (take k tree) most →
       share ≡ shares (get_or tree k other) → nat_lt (most.held * share.budget) (share.held * most.budget) ≡ true → after ≡ share →
       IsFullest shares (take (k + 1) tree) after
   fuller_next tree k other most share after inside so_far is less same =
       let less_there : IsLessFull most (shares (get_or tree k other)) =
-      subst (λ (s : Share). IsLessFull most s) is (ltb-true (most.held * share.budget) (share.held * most.budget) less) in
+      subst (λ (s : BudgetShare). IsLessFull most s) is (ltb-true (most.held * share.budget) (share.held * most.budget) less) in
       subst (λ (hops : List Hop). IsFullest shares hops after) (sym (take_more tree k other inside))
-      (subst (λ (s : Share). IsFullest shares (take k tree ++ get_or tree k other ∷ []) s) (sym is ∙ sym same)
+      (subst (λ (s : BudgetShare). IsFullest shares (take k tree ++ get_or tree k other ∷ []) s) (sym is ∙ sym same)
       (fullest_more (take k tree) (get_or tree k other) most so_far less_there))
 
-  pub no_fuller_next : (tree : List Hop) (k : ℕ) (other : Hop) (most share after : Share) → k < length tree → IsFullest shares (take k tree) most →
+  pub no_fuller_next : (tree : List Hop) (k : ℕ) (other : Hop) (most share after : BudgetShare) → k < length tree →
+      IsFullest shares (take k tree) most →
       share ≡ shares (get_or tree k other) → nat_lt (most.held * share.budget) (share.held * most.budget) ≡ false → after ≡ most →
       IsFullest shares (take (k + 1) tree) after
   no_fuller_next tree k other most share after inside so_far is no_less same =
       let no_fuller : IsNoFuller (shares (get_or tree k other)) most =
-      subst (λ (s : Share). IsNoFuller s most) is (ltb-false (most.held * share.budget) (share.held * most.budget) no_less) in
+      subst (λ (s : BudgetShare). IsNoFuller s most) is (ltb-false (most.held * share.budget) (share.held * most.budget) no_less) in
       subst (λ (hops : List Hop). IsFullest shares hops after) (sym (take_more tree k other inside))
-      (subst (λ (s : Share). IsFullest shares (take k tree ++ get_or tree k other ∷ []) s) (sym same)
+      (subst (λ (s : BudgetShare). IsFullest shares (take k tree ++ get_or tree k other ∷ []) s) (sym same)
       (fullest_same (take k tree) (get_or tree k other) most so_far no_fuller))
 
   -- of some hop it is that of a hop
-  pub of_some : (tree : List Hop) (hop : Hop) (most : Share) → Contains tree hop → IsFullest shares tree most →
+  pub of_some : (tree : List Hop) (hop : Hop) (most : BudgetShare) → Contains tree hop → IsFullest shares tree most →
       (there : Hop) × Contains tree there × (most ≡ shares there)
   of_some tree hop most c is = elim is.of_hop [
     | inl none ↦
@@ -122,18 +123,18 @@ cases_last : (k n : ℕ) → k < n + 1 → (k ≡ n) ⊎ (k < n)
 cases_last k n low = elim (cases_lt k n) [ inl before ↦ inr before | inr beyond ↦ inl (omega (arith, low, beyond)) ]
 
 -- the first of so many phases in which the fullest hop is least full
-pub record IsLeastSoFar (shares : ℕ → Hop → Share) (tree : List Hop) (count first : ℕ) (least : Share) : Type 0 where
+pub record IsLeastSoFar (shares : ℕ → Hop → BudgetShare) (tree : List Hop) (count first : ℕ) (least : BudgetShare) : Type 0 where
   pub within : first < count
   pub fullest : IsFullest (shares first) tree least
   pub no_worse : (other : ℕ) → other < count → IsNoWorse shares tree first other
   pub better : (other : ℕ) → other < first → IsBetter shares tree first other
 
-module _ (shares : ℕ → Hop → Share) (held : (phase : ℕ) (hop : Hop) → 1 ≤ (shares phase hop).held) (tree : List Hop) where
+module _ (shares : ℕ → Hop → BudgetShare) (held : (phase : ℕ) (hop : Hop) → 1 ≤ (shares phase hop).held) (tree : List Hop) where
   -- each is no worse than itself
   itself : (phase : ℕ) → IsNoWorse shares tree phase phase
   itself phase hop c = (hop, c, omega arith)
 
-  pub least_first : (least : Share) → IsFullest (shares 0) tree least → IsLeastSoFar shares tree 1 0 least
+  pub least_first : (least : BudgetShare) → IsFullest (shares 0) tree least → IsLeastSoFar shares tree 1 0 least
   least_first least is = record {
     within = omega arith;
     fullest = is;
@@ -142,7 +143,7 @@ module _ (shares : ℕ → Hop → Share) (held : (phase : ℕ) (hop : Hop) → 
   }
 
   -- a phase more that is better
-  pub least_more : (count first : ℕ) (least share : Share) → IsLeastSoFar shares tree count first least → IsFullest (shares count) tree share →
+  pub least_more : (count first : ℕ) (least share : BudgetShare) → IsLeastSoFar shares tree count first least → IsFullest (shares count) tree share →
       IsLessFull share least → IsLeastSoFar shares tree (count + 1) count share
   least_more count first least share so_far is less = record {
     within = omega arith;
@@ -167,7 +168,7 @@ module _ (shares : ℕ → Hop → Share) (held : (phase : ℕ) (hop : Hop) → 
         let (there, among, beyond) = no_worse fuller.0 fuller.1 in
         let y = shares first fuller.0 in
         let z = shares other there in
-        let up : IsLessFull share y = subst (λ (s : Share). IsLessFull share s) fuller.2 less in
+        let up : IsLessFull share y = subst (λ (s : BudgetShare). IsLessFull share s) fuller.2 less in
         let to : IsLessFull share z = less_trans share.held share.budget y.held y.budget z.held z.budget (omega (arith, held other there)) up beyond in (
           there,
           among,
@@ -177,7 +178,7 @@ module _ (shares : ℕ → Hop → Share) (held : (phase : ℕ) (hop : Hop) → 
         )
 
   -- and one that isn't
-  pub least_same : (count first : ℕ) (least share : Share) → IsLeastSoFar shares tree count first least → IsFullest (shares count) tree share →
+  pub least_same : (count first : ℕ) (least share : BudgetShare) → IsLeastSoFar shares tree count first least → IsFullest (shares count) tree share →
       IsNoFuller least share → IsLeastSoFar shares tree (count + 1) first least
   least_same count first least share so_far is no_less = record {
     within = omega (arith, so_far.within);
@@ -188,29 +189,29 @@ module _ (shares : ℕ → Hop → Share) (held : (phase : ℕ) (hop : Hop) → 
           let x = shares first hop in
           let to = trans x.held x.budget least.held least.budget share.held share.budget so_far.fullest.some (so_far.fullest.each hop c) no_less in
           subst (λ n. (there : Hop) × Contains tree there × IsNoFuller x (shares n there)) (sym last)
-          (there.0, there.1, subst (λ (s : Share). IsNoFuller x s) there.2 to)
+          (there.0, there.1, subst (λ (s : BudgetShare). IsNoFuller x s) there.2 to)
       | inr before ↦ so_far.no_worse other before hop c
     ];
     better = so_far.better;
   }
 
   -- so it is told by the test
-  pub least_less : (count first next : ℕ) (least share after : Share) → IsLeastSoFar shares tree count first least →
+  pub least_less : (count first next : ℕ) (least share after : BudgetShare) → IsLeastSoFar shares tree count first least →
       IsFullest (shares count) tree share → nat_lt (share.held * least.budget) (least.held * share.budget) ≡ true → next ≡ count → after ≡ share →
       IsLeastSoFar shares tree (count + 1) next after
   least_less count first next least share after so_far is less first_is least_is =
-      subst₂ (λ (n : ℕ) (s : Share). IsLeastSoFar shares tree (count + 1) n s) (sym first_is) (sym least_is)
+      subst₂ (λ (n : ℕ) (s : BudgetShare). IsLeastSoFar shares tree (count + 1) n s) (sym first_is) (sym least_is)
       (least_more count first least share so_far is (ltb-true (share.held * least.budget) (least.held * share.budget) less))
 
-  pub least_no_less : (count first next : ℕ) (least share after : Share) → IsLeastSoFar shares tree count first least →
+  pub least_no_less : (count first next : ℕ) (least share after : BudgetShare) → IsLeastSoFar shares tree count first least →
       IsFullest (shares count) tree share → nat_lt (share.held * least.budget) (least.held * share.budget) ≡ false → next ≡ first → after ≡ least →
       IsLeastSoFar shares tree (count + 1) next after
   least_no_less count first next least share after so_far is no_less first_is least_is =
-      subst₂ (λ (n : ℕ) (s : Share). IsLeastSoFar shares tree (count + 1) n s) (sym first_is) (sym least_is)
+      subst₂ (λ (n : ℕ) (s : BudgetShare). IsLeastSoFar shares tree (count + 1) n s) (sym first_is) (sym least_is)
       (least_same count first least share so_far is (ltb-false (share.held * least.budget) (least.held * share.budget) no_less))
 
   -- all of them
-  pub least_all : (count every first : ℕ) (least : Share) → count ≡ every → IsLeastSoFar shares tree count first least → IsLeastFull shares tree every first
+  pub least_all : (count every first : ℕ) (least : BudgetShare) → count ≡ every → IsLeastSoFar shares tree count first least → IsLeastFull shares tree every first
   least_all count every first least all so_far =
       subst (λ n. IsLeastFull shares tree n first) all
       (record { within = so_far.within; least = so_far.no_worse; first = so_far.better })

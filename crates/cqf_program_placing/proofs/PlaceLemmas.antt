@@ -14,10 +14,10 @@ use Rattle.cqf_units.specs.Timing.{cost_of}
 use Rattle.cqf_model.specs.Limits.{most_reserved}
 use Rattle.cqf_admission.specs.Admission.{Administration, held_of}
 use Rattle.cqf_laws_history.specs.StateLaws.{AreHeld, HeldAreSound, SealsAreCounted}
-use Rattle.cqf_program_plans.specs.CompileOutput.{with_asked}
-use Rattle.cqf_program_placing.specs.declared.outcomes.Outcome.{Outcome}
+use Rattle.cqf_program_plans.specs.Compile.Output.{with_asked}
+use Rattle.cqf_program_placing.specs.declared.outcomes.PlacingOutcome.{PlacingOutcome}
 use Rattle.cqf_program_placing.specs.declared.settled.Settled.{Settled}
-use Rattle.cqf_laws_traffic.specs.Traffic.{intervals_in, needed}
+use Rattle.cqf_laws_timing.specs.Traffic.{intervals_in, needed}
 use Rattle.cqf_traffic.specs.TrafficText.{IsTrafficText, TrafficText, promise_of}
 use Rattle.cqf_program_placing.specs.declared.faults.PlanFault.{PlanFault}
 use Rattle.cqf_program_placing.specs.declared.faults.PlanFault.TheVariants as fault
@@ -133,7 +133,7 @@ few_placed d entries stream become after counted none placed = by_reserved (rese
     by_reserved (Ok octets) is = by_routed octets (turns_on d.cycle_time stream) is.routed is.is_answered
 
 -- the streams so far are placed, and no call but theirs was made
-pub record ArePlacedSoFar (d : Domain) (streams : List Settled) (k : ℕ) (a : Administration) (outcomes : List Outcome) : Type 0 where
+pub record ArePlacedSoFar (d : Domain) (streams : List Settled) (k : ℕ) (a : Administration) (outcomes : List PlacingOutcome) : Type 0 where
   pub domain : a.domain ≡ d
   pub placed : ArePlacedFrom d [] (map settled_value (take k streams)) (map outcome_value outcomes) a.entries
   pub no_seal : seals a.entries ≡ 0
@@ -142,7 +142,7 @@ pub record ArePlacedSoFar (d : Domain) (streams : List Settled) (k : ℕ) (a : A
 pub none_placed : (d : Domain) (streams : List Settled) (a : Administration) → a.domain ≡ d → a.entries ≡ [] → ArePlacedSoFar d streams 0 a []
 none_placed d streams a domain none = record { domain = domain; placed = none; no_seal = ap seals none; few = omega (arith, ap length none) }
 
-pub one_placed : (d : Domain) (streams : List Settled) (k : ℕ) (stream : Settled) (old new : Administration) (outcomes after : List Outcome) (outcome : Outcome) →
+pub one_placed : (d : Domain) (streams : List Settled) (k : ℕ) (stream : Settled) (old new : Administration) (outcomes after : List PlacingOutcome) (outcome : PlacingOutcome) →
     SealsAreCounted → k < length streams → stream ≡ get_or streams k stream → ArePlacedSoFar d streams k old outcomes → new.domain ≡ d →
     IsPlacing d old.entries (settled_value stream) (outcome_value outcome) new.entries → after ≡ outcomes ++ outcome ∷ [] →
     ArePlacedSoFar d streams (k + 1) new after

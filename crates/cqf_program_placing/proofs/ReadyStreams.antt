@@ -10,7 +10,7 @@ use Rattle.cqf_lists.proofs.Members.{contains_cases, contains_here, contains_lat
 use Rattle.cqf_lists.proofs.Pairs.{pairs_cons, pairs_head, pairs_none, pairs_tail}
 use Rattle.cqf_units.specs.Name.{is_name}
 use Rattle.cqf_laws_history.proofs.Granted.{refused_at_none, refused_if_none}
-use Rattle.cqf_laws_traffic.specs.Traffic.{needed}
+use Rattle.cqf_laws_timing.specs.Traffic.{needed}
 use Rattle.cqf_model.specs.declared.history.Refused.TheVariants as refused
 use Rattle.cqf_model.specs.declared.topology.Hop.{Hop}
 use Rattle.cqf_model.specs.declared.topology.Node.{Node}
@@ -23,8 +23,8 @@ use Rattle.cqf_model.proofs.Texts.{named_once}
 use Rattle.cqf_topology.proofs.Refusals.{and_then-Ok, ok_or-Ok, refuse-Ok}
 use Rattle.cqf_sketch.specs.SketchDomain.{HasTalkerLinks, SketchDomain, domain_at}
 use Rattle.cqf_traffic.specs.TrafficText.{IsTrafficText, TrafficText, promise_of}
-use Rattle.cqf_sketch_streams.specs.StreamsText.{StreamText, WantedText, Along as AlongText, Between as BetweenText}
-use Rattle.cqf_admission_trees.specs.Branches.{tree_refusal}
+use Rattle.cqf_sketch.specs.StreamsText.{StreamText, WantedText, Along as AlongText, Between as BetweenText}
+use Rattle.cqf_admission.specs.Branches.{tree_refusal}
 use Rattle.cqf_program_placing.specs.declared.faults.PlanFault.TheVariants as fault
 use Rattle.cqf_program_placing.specs.Placing.{if_enough, reserved_by, reserved_on}
 use Rattle.cqf_program_placing.specs.Settled.{Along, Between, SettledStream, SettledWay, are_reservable, entrance_at, first_apart, is_paced, settled_next, settled_way}

@@ -11,7 +11,7 @@ use Rattle.cqf_lists.specs.Lists.{or_else}
 use Rattle.cqf_lists.proofs.Members.{any_member, contains_from_map, contains_here, contains_map, member_any}
 use Rattle.cqf_units.specs.Name.{is_name}
 use Rattle.cqf_units.specs.Timing.{cost_of}
-use Rattle.cqf_laws_traffic.specs.Traffic.{needed}
+use Rattle.cqf_laws_timing.specs.Traffic.{needed}
 use Rattle.cqf_traffic.specs.TrafficText.{TrafficText, promise_of}
 use Rattle.cqf_laws_history.specs.StateLaws.{GrantedIsHeld, HistoryGoesOn, RefusedChangesNothing, SealsAreCounted}
 use Rattle.cqf_model.specs.declared.history.Refused.{Refused}
@@ -27,12 +27,12 @@ use Rattle.cqf_model.specs.Paces.{each_cycle}
 use Rattle.cqf_topology.specs.DomainText.{IsDomain, is_among}
 use Rattle.cqf_admission.specs.Asking.{asked_with}
 use Rattle.cqf_admission.specs.Costs.{left_in_turns, most_in_turns}
-use Rattle.cqf_admission_trees.specs.Branches.{tree_refusal}
+use Rattle.cqf_admission.specs.Branches.{tree_refusal}
 use Rattle.cqf_sketch.specs.SketchDomain.{IsSketch, SketchDomain, domain_at, open_cycle}
-use Rattle.cqf_sketch_streams.specs.StreamsText.{StreamText}
-use Rattle.cqf_report.specs.Books.{name_of_bridge}
-use Rattle.cqf_ways.specs.WayLaws.{FirstWayIsOne, FirstWaysHaveNoLoop, FirstWaysPartForGood}
-use Rattle.cqf_ways.specs.Ways.{has_room}
+use Rattle.cqf_sketch.specs.StreamsText.{StreamText}
+use Rattle.cqf_topology.specs.NodeNames.{name_of_bridge}
+use Rattle.cqf_sketch.specs.WayLaws.{FirstWayIsOne, FirstWaysHaveNoLoop, FirstWaysPartForGood}
+use Rattle.cqf_sketch.specs.Ways.{has_room}
 use Rattle.cqf_program_plans.specs.EndNames.{name_of_end}
 use Rattle.cqf_program_placing.specs.declared.faults.PlanFault.{PlanFault}
 use Rattle.cqf_program_placing.specs.declared.faults.PlanFault.TheVariants as fault

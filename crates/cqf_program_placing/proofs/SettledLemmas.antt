@@ -15,16 +15,16 @@ use Rattle.cqf_model.specs.declared.topology.Node.TheVariants.{Bridge, Station}
 use Rattle.cqf_model.specs.Domain.{Domain, node_named, node_or}
 use Rattle.cqf_model.specs.Limits.{most_streams, streams_within}
 use Rattle.std.proofs.Math.Nat.{min-le_right}
-use Rattle.cqf_ways.specs.Ways.{most_links}
-use Rattle.cqf_topology_fields.specs.Fields.{Gives, and_first}
+use Rattle.cqf_sketch.specs.Ways.{most_links}
+use Rattle.cqf_topology.specs.Fields.{Gives, and_first}
 use Rattle.cqf_topology.specs.DomainText.{if_so, is_among, place_of, with_front}
 use Rattle.cqf_topology.proofs.Accepted.{place-within}
 use Rattle.cqf_topology.proofs.Passed.{not_so}
 use Rattle.cqf_topology.proofs.Refusals.{and_then-Ok, ok_or-Ok, refuse-Ok}
 use Rattle.cqf_sketch.specs.declared.domain.TalkerLink.{TalkerLink}
 use Rattle.cqf_sketch.specs.SketchDomain.{HasTalkerLinks, IsTalkerLink, SketchDomain}
-use Rattle.cqf_sketch_streams.specs.StreamsText.{StreamText, WantedText, Along as AlongText, Between as BetweenText}
-use Rattle.cqf_admission_trees.specs.Branches.{tree_refusal}
+use Rattle.cqf_sketch.specs.StreamsText.{StreamText, WantedText, Along as AlongText, Between as BetweenText}
+use Rattle.cqf_admission.specs.Branches.{tree_refusal}
 use Rattle.cqf_program_placing.specs.declared.entrances.Entrance.{Entrance}
 use Rattle.cqf_program_placing.specs.declared.faults.PlanFault.{PlanFault}
 use Rattle.cqf_program_placing.specs.declared.faults.PlanFault.TheVariants as fault

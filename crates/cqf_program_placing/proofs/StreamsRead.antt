@@ -9,11 +9,11 @@ use Rattle.std.proofs.lemmas.List.Elements.{All-cons, All-nil}
 use Rattle.toml.specs.Data.{Data, Items, Members, as_array, as_str, as_table, item, no_items}
 use Rattle.cqf_lists.specs.Results.{and_then}
 use Rattle.cqf_lists.proofs.Pairs.{pairs_one}
-use Rattle.cqf_topology_fields.specs.declared.faults.TomlFault.{TomlFault}
-use Rattle.cqf_topology_fields.specs.declared.faults.TomlFault.TheVariants as toml_fault
-use Rattle.cqf_topology_fields.specs.declared.keys.Key.{Key}
-use Rattle.cqf_topology_fields.specs.declared.keys.Key.TheVariants.{From, Name, Octets, Streams, To}
-use Rattle.cqf_topology_fields.specs.Fields.{are_tables, each_from, first_absent, lacks, name_from, names_from, number_from, read_at, value_at, whole_document}
+use Rattle.cqf_topology.specs.declared.toml_faults.TomlFault.{TomlFault}
+use Rattle.cqf_topology.specs.declared.toml_faults.TomlFault.TheVariants as toml_fault
+use Rattle.cqf_topology.specs.declared.keys.Key.{Key}
+use Rattle.cqf_topology.specs.declared.keys.Key.TheVariants.{From, Name, Octets, Streams, To}
+use Rattle.cqf_topology.specs.Fields.{are_tables, each_from, first_absent, lacks, name_from, names_from, number_from, read_at, value_at, whole_document}
 use Rattle.cqf_topology.specs.DomainText.{first_taken}
 use Rattle.cqf_topology.specs.PlannedText.{deadline_from}
 use Rattle.cqf_topology.specs.StreamsText.{branches_from, streams_keys}
@@ -25,9 +25,9 @@ use Rattle.cqf_traffic.specs.declared.keys.TrafficKey.{TrafficKey}
 use Rattle.cqf_traffic.specs.FlowsText.{or_streams, traffic_or}
 use Rattle.cqf_traffic.specs.TrafficText.{TrafficText, first_owed, has_traffic, numbers_from, traffic_from}
 use Rattle.cqf_plants.proofs.Ranges.{traffic_in_range}
-use Rattle.cqf_sketch_streams.specs.StreamsText.{Along, Between, StreamText, WantedText, along_from, between_from, first_end, first_lack, first_lack_of, first_lack_within}
-use Rattle.cqf_sketch_streams.specs.StreamsText.{has_path, if_listeners, listeners_by, listeners_of, octets_by, octets_from, owed_keys, pacing_from, sketch_streams_of_text, stream_from}
-use Rattle.cqf_sketch_streams.specs.StreamsText.{streams_from, streams_in, streams_of_array, wanted_from}
+use Rattle.cqf_sketch.specs.StreamsText.{Along, Between, StreamText, WantedText, along_from, between_from, first_end, first_lack, first_lack_of, first_lack_within}
+use Rattle.cqf_sketch.specs.StreamsText.{has_path, if_listeners, listeners_by, listeners_of, octets_by, octets_from, owed_keys, pacing_from, sketch_streams_of_text, stream_from}
+use Rattle.cqf_sketch.specs.StreamsText.{streams_from, streams_in, streams_of_array, wanted_from}
 use Rattle.cqf_program_placing.proofs.ReadyStreams.{AreListeners, IsReadStream}
 use Rattle.cqf_program_placing.proofs.SettledLemmas.{and_first-Ok, found_none}
 

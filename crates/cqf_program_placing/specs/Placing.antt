@@ -9,18 +9,18 @@ use Rattle.cqf_model.specs.declared.topology.Row.{Row}
 use Rattle.cqf_model.specs.Domain.{Domain, bridge_of}
 use Rattle.cqf_model.specs.History.{Asked, Branch, Recorded, held_in, refusal_of, seals}
 use Rattle.cqf_model.specs.Limits.{most_every, most_reserved}
-use Rattle.cqf_laws_traffic.specs.Traffic.{needed}
-use Rattle.cqf_ways.specs.Listeners.{AreFirstWays, IsFirstWithout}
-use Rattle.cqf_ways.specs.Ways.{IsFirstWay, has_room, short_link}
+use Rattle.cqf_laws_timing.specs.Traffic.{needed}
+use Rattle.cqf_sketch.specs.Listeners.{AreFirstWays, IsFirstWithout}
+use Rattle.cqf_sketch.specs.Ways.{IsFirstWay, has_room, short_link}
 use Rattle.cqf_admission.specs.Asking.{asked_paced, asked_with}
-use Rattle.cqf_report.specs.Books.{name_of_bridge, name_of_node}
+use Rattle.cqf_topology.specs.NodeNames.{name_of_bridge, name_of_node}
 use Rattle.cqf_traffic.specs.TrafficText.{TrafficText, promise_of}
-use Rattle.cqf_program_plans.specs.CompileOutput.{with_asked}
+use Rattle.cqf_program_plans.specs.Compile.Output.{with_asked}
 use Rattle.cqf_program_plans.specs.EndNames.{name_of_end}
 use Rattle.cqf_program_placing.specs.declared.faults.PlanFault.{PlanFault}
 use Rattle.cqf_program_placing.specs.declared.faults.PlanFault.TheVariants as fault
-use Rattle.cqf_program_placing.specs.declared.outcomes.Outcome.{Outcome}
-use Rattle.cqf_program_placing.specs.declared.outcomes.Outcome.TheVariants as outcome
+use Rattle.cqf_program_placing.specs.declared.outcomes.PlacingOutcome.{PlacingOutcome}
+use Rattle.cqf_program_placing.specs.declared.outcomes.PlacingOutcome.TheVariants as outcome
 use Rattle.cqf_program_placing.specs.declared.turns.Turns.{Turns}
 use Rattle.cqf_program_placing.specs.Settled.{SettledStream, SettledWay, Along, Between}
 use Rattle.cqf_program_placing.specs.Turns.{IsPhaseAlong, every_in, is_in_step, left_emptiest, lefts_on, turns_by}
@@ -30,7 +30,7 @@ pub data PlacedOr : Type 0 where
   Placed : Asked → PlacedOr
   Unplaced : PlanFault → PlacedOr
 
-abbrev pub outcome_value : Outcome → PlacedOr
+abbrev pub outcome_value : PlacingOutcome → PlacedOr
 outcome_value (outcome.Placed request) = Placed (asked_paced request)
 outcome_value (outcome.Unplaced found) = Unplaced found
 

@@ -12,11 +12,11 @@ use Rattle.cqf_model.specs.History.{Branch, Recorded, held_in, left_on, seals, s
 use Rattle.cqf_model.specs.Limits.{hops_within, nodes_within}
 use Rattle.cqf_model.specs.Table.{links_in}
 use Rattle.cqf_admission.specs.Asking.{asked_with}
-use Rattle.cqf_report.specs.Books.{name_of_bridge}
+use Rattle.cqf_topology.specs.NodeNames.{name_of_bridge}
 use Rattle.cqf_sketch.specs.SketchDomain.{IsOpenCycle, IsSketch, SketchDomain, domain_at}
-use Rattle.cqf_sketch_streams.specs.StreamsText.{StreamText, sketch_streams_of_text}
-use Rattle.cqf_ways.specs.Listeners.{AreFirstWays, IsFirstWithout}
-use Rattle.cqf_ways.specs.Ways.{has_room, most_links}
+use Rattle.cqf_sketch.specs.StreamsText.{StreamText, sketch_streams_of_text}
+use Rattle.cqf_sketch.specs.Listeners.{AreFirstWays, IsFirstWithout}
+use Rattle.cqf_sketch.specs.Ways.{has_room, most_links}
 use Rattle.cqf_program_plans.specs.EndNames.{name_of_end}
 use Rattle.cqf_program_placing.specs.declared.faults.PlanFault.{PlanFault}
 use Rattle.cqf_program_placing.specs.declared.faults.PlanFault.TheVariants as fault

@@ -16,24 +16,24 @@ use Rattle.cqf_model.specs.declared.topology.Node.TheVariants.{Bridge, Station}
 use Rattle.cqf_model.specs.Domain.{Domain, node_named, same_node}
 use Rattle.cqf_model.specs.History.{Branch, is_pace}
 use Rattle.cqf_model.specs.Limits.{least_reserved, most_reserved, streams_within}
-use Rattle.cqf_topology_fields.specs.Fields.{and_first}
+use Rattle.cqf_topology.specs.Fields.{and_first}
 use Rattle.cqf_topology.specs.DomainText.{if_so, is_among}
-use Rattle.cqf_ways.specs.Ways.{led_to, most_links}
+use Rattle.cqf_sketch.specs.Ways.{led_to, most_links}
 use Rattle.cqf_sketch.specs.declared.domain.TalkerLink.{TalkerLink}
 use Rattle.cqf_sketch.specs.SketchDomain.{SketchDomain, domain_at, open_cycle}
 use Rattle.cqf_traffic.specs.TrafficText.{TrafficText}
-use Rattle.cqf_sketch_streams.specs.declared.pacing.Pacing.{Pacing}
-use Rattle.cqf_sketch_streams.specs.declared.pacing.Pacing.TheVariants.{Given, InStep}
-use Rattle.cqf_sketch_streams.specs.StreamsText.{StreamText, WantedText, Along as AlongText, Between as BetweenText}
-use Rattle.cqf_admission_trees.specs.Branches.{branches_of, tree_refusal}
+use Rattle.cqf_sketch.specs.declared.pacing.Pacing.{Pacing}
+use Rattle.cqf_sketch.specs.declared.pacing.Pacing.TheVariants.{Given, InStep}
+use Rattle.cqf_sketch.specs.StreamsText.{StreamText, WantedText, Along as AlongText, Between as BetweenText}
+use Rattle.cqf_admission.specs.Branches.{branches_of, tree_refusal}
 use Rattle.cqf_program_placing.specs.declared.entrances.Entrance.{Entrance}
 use Rattle.cqf_program_placing.specs.declared.faults.PlanFault.{PlanFault}
 use Rattle.cqf_program_placing.specs.declared.faults.PlanFault.TheVariants as fault
 use Rattle.cqf_program_placing.specs.declared.settled.Settled.{Settled}
 use Rattle.cqf_program_placing.specs.declared.settled.Unsettled.{Unsettled}
 use Rattle.cqf_program_placing.specs.declared.settled.Unsettled.TheVariants as unsettled
-use Rattle.cqf_program_placing.specs.declared.settled.Way.{Way}
-use Rattle.cqf_program_placing.specs.declared.settled.Way.TheVariants as way
+use Rattle.cqf_program_placing.specs.declared.settled.StreamWay.{StreamWay}
+use Rattle.cqf_program_placing.specs.declared.settled.StreamWay.TheVariants as way
 
 -- which way a stream goes: along branches by the names of their nodes, or from a bridge to stations
 pub data SettledWay : Type 0 where
@@ -50,7 +50,7 @@ pub record SettledStream : Type 0 where
   pub deadline : Option ℕ
   pub traffic : Option TrafficText
 
-abbrev pub way_value : Way → SettledWay
+abbrev pub way_value : StreamWay → SettledWay
 way_value (way.Along paths) = Along (branches_of paths.items)
 way_value (way.Between bridge stations) = Between bridge stations.items
 

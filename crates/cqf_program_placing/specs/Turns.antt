@@ -10,11 +10,11 @@ use Rattle.cqf_model.specs.Domain.{Domain, budget}
 use Rattle.cqf_model.specs.History.{Branch, is_pace, tree_of}
 use Rattle.cqf_model.specs.Limits.{most_every}
 use Rattle.cqf_traffic.specs.TrafficText.{TrafficText}
-use Rattle.cqf_sketch_streams.specs.declared.pacing.Pacing.{Pacing}
-use Rattle.cqf_sketch_streams.specs.declared.pacing.Pacing.TheVariants as pacing
+use Rattle.cqf_sketch.specs.declared.pacing.Pacing.{Pacing}
+use Rattle.cqf_sketch.specs.declared.pacing.Pacing.TheVariants as pacing
 use Rattle.cqf_admission.specs.Costs.{left_in_turns}
-use Rattle.cqf_admission_trees.specs.Branches.{tree_refusal}
-use Rattle.cqf_program_placing.specs.declared.phases.Share.{Share}
+use Rattle.cqf_admission.specs.Branches.{tree_refusal}
+use Rattle.cqf_program_placing.specs.declared.phases.BudgetShare.{BudgetShare}
 use Rattle.cqf_program_placing.specs.declared.turns.Turns.{Turns}
 use Rattle.cqf_program_placing.specs.declared.turns.Turns.TheVariants.{Given, Chosen}
 
@@ -73,34 +73,34 @@ lefts_on d rows every = each_below (λ l. left_emptiest d rows every l ∷ []) (
 -- ---- how full they are
 
 -- what is held of a hop's link in the cycles of a pace, with what a stream costs, of the link's budget
-abbrev pub share_at : Domain → List Row → ℕ → Pace → Hop → Share
+abbrev pub share_at : Domain → List Row → ℕ → Pace → Hop → BudgetShare
 share_at d rows cost pace hop = record { held = budget d hop.link - left_in_turns d rows pace hop + cost; budget = budget d hop.link }
 
 -- one share is no greater than another, or less
-abbrev pub IsNoFuller : Share → Share → Type 0
+abbrev pub IsNoFuller : BudgetShare → BudgetShare → Type 0
 IsNoFuller share other = share.held * other.budget ≤ other.held * share.budget
 
-abbrev pub IsLessFull : Share → Share → Type 0
+abbrev pub IsLessFull : BudgetShare → BudgetShare → Type 0
 IsLessFull share other = share.held * other.budget < other.held * share.budget
 
 -- of the hops of a tree, each one's link is no fuller in some phase than some one's in another: so the fullest isn't
-abbrev pub IsNoWorse : (ℕ → Hop → Share) → List Hop → ℕ → ℕ → Type 0
+abbrev pub IsNoWorse : (ℕ → Hop → BudgetShare) → List Hop → ℕ → ℕ → Type 0
 IsNoWorse shares tree phase other =
     (hop : Hop) → Contains tree hop → (there : Hop) × Contains tree there × IsNoFuller (shares phase hop) (shares other there)
 
 -- and each is less full than some one: so the fullest is
-abbrev pub IsBetter : (ℕ → Hop → Share) → List Hop → ℕ → ℕ → Type 0
+abbrev pub IsBetter : (ℕ → Hop → BudgetShare) → List Hop → ℕ → ℕ → Type 0
 IsBetter shares tree phase other =
     (there : Hop) × Contains tree there × ((hop : Hop) → Contains tree hop → IsLessFull (shares phase hop) (shares other there))
 
 -- a phase of so many is the first in which the fullest link is least full
-pub record IsLeastFull (shares : ℕ → Hop → Share) (tree : List Hop) (every phase : ℕ) : Type 0 where
+pub record IsLeastFull (shares : ℕ → Hop → BudgetShare) (tree : List Hop) (every phase : ℕ) : Type 0 where
   pub within : phase < every
   pub least : (other : ℕ) → other < every → IsNoWorse shares tree phase other
   pub first : (other : ℕ) → other < phase → IsBetter shares tree phase other
 
 -- with a stream beside some rows
-abbrev pub shares_with : Domain → List Row → ℕ → ℕ → ℕ → Hop → Share
+abbrev pub shares_with : Domain → List Row → ℕ → ℕ → ℕ → Hop → BudgetShare
 shares_with d rows cost every phase hop = share_at d rows cost (pace_by every phase) hop
 
 -- the phase of a stream along the branches of a tree: the one that is given, or the first in which the fullest link of the tree is least full
@@ -135,7 +135,7 @@ CostsSome (Given every phase) cost = ⊤
 CostsSome (Chosen every) cost = 1 ≤ cost
 
 -- the greatest share of the hops of a tree; of no hop nothing is held
-pub record IsFullest (shares : Hop → Share) (tree : List Hop) (fullest : Share) : Type 0 where
+pub record IsFullest (shares : Hop → BudgetShare) (tree : List Hop) (fullest : BudgetShare) : Type 0 where
   pub each : (hop : Hop) → Contains tree hop → IsNoFuller (shares hop) fullest
   pub some : 0 < fullest.held + fullest.budget
   pub of_hop : (fullest.held ≡ 0) ⊎ ((there : Hop) × Contains tree there × (fullest ≡ shares there))

@@ -1,14 +1,14 @@
 //! Streams that are asked for.
-ghost use Rattle.std.specs.Prelude.{ℕ, ◌≡◌, ◌<◌, IfOk, Some, length};
+ghost use Rattle.std.specs.Prelude.{ℕ, ◌≡◌, ◌<◌, IfOk, length};
 ghost use Rattle.cqf_admission.specs.Admission.{calls};
 ghost use Rattle.cqf_admission.specs.Asking.{asked_paced};
 ghost use Rattle.cqf_model.specs.History.{held_in, refusal_of, seals};
 ghost use Rattle.cqf_model.specs.Limits.{most_calls};
-ghost use Rattle.cqf_program_plans.specs.CompileOutput.{with_asked};
+ghost use Rattle.cqf_program_plans.specs.Compile.Output.{with_asked};
 ghost use Rattle.cqf_program_placing.specs.Placing.{answered, fault_of_refusal, outcome_value};
 
 use crate::branches::{end_of_link, start_of_link};
-use crate::{Outcome, PlanFault};
+use crate::{PlacingOutcome, PlanFault};
 use cqf_admission::{Admission, Refused};
 use cqf_topology::{Domain, PacedRequest};
 use cqf_units::Memory;
@@ -37,7 +37,7 @@ pub(crate) fn ask(
     domain: &Domain,
     admission: &mut Admission,
     request: PacedRequest,
-) -> Result<Outcome, Memory>
+) -> Result<PlacingOutcome, Memory>
     requires domain { admission.old.domain ≡ domain.now }
     requires free { calls admission.old.entries < most_calls }
     ensures domain { admission.new.domain ≡ domain.now }
@@ -46,11 +46,11 @@ pub(crate) fn ask(
     ensures entered { IfOk result (λ _. admission.new.entries ≡ with_asked domain.now admission.old.entries (asked_paced request)) }
 {
     match admission.admit_paced(SEAT, &request) {
-        Ok(_) => Ok(Outcome::Placed(request)),
+        Ok(_) => Ok(PlacingOutcome::Placed(request)),
         Err(refused) => match refused {
             Refused::Memory => Err(AllocError),
             Refused::HistoryFull => unreachable!(),
-            _ => Ok(Outcome::Unplaced(fault_of_refusal(domain, refused))),
+            _ => Ok(PlacingOutcome::Unplaced(fault_of_refusal(domain, refused))),
         },
     }
 }

@@ -1,10 +1,10 @@
 //! Branches of a stream, by the names of their nodes.
-ghost use Rattle.std.specs.Prelude.{◌≡◌, ◌<◌, IfOk, length, map, string_bytes};
-ghost use Rattle.cqf_admission_trees.specs.Branches.{branch_of, branches_of};
+ghost use Rattle.std.specs.Prelude.{◌≡◌, ◌<◌, IfOk, length, map};
+ghost use Rattle.cqf_admission.specs.Branches.{branch_of, branches_of};
 ghost use Rattle.cqf_model.specs.Domain.{bridge_of};
 ghost use Rattle.cqf_program_placing.specs.Placing.{names_along};
 ghost use Rattle.cqf_program_plans.specs.EndNames.{name_of_end};
-ghost use Rattle.cqf_report.specs.Books.{name_of_bridge, name_of_node};
+ghost use Rattle.cqf_topology.specs.NodeNames.{name_of_bridge, name_of_node};
 
 use arrayvec::ArrayVec;
 use cqf_model::Node;

@@ -1,12 +1,11 @@
 //! Where streams enter a sketch's plant.
 ghost use Rattle.std.specs.Prelude.{◌≡◌, ◌==◌, find};
 ghost use Rattle.cqf_model.specs.Domain.{node_named};
-ghost use Rattle.cqf_sketch_streams.specs.StreamsText.{wanted_text};
+ghost use Rattle.cqf_sketch.specs.StreamsText.{wanted_text};
 ghost use Rattle.cqf_program_placing.specs.Settled.{entrance_at, talker_of_stream};
 
 use cqf_model::Node;
-use cqf_sketch::{SketchDomain, TalkerLink};
-use cqf_sketch_streams::Wanted;
+use cqf_sketch::{SketchDomain, TalkerLink, WantedWay};
 use cqf_topology::Domain;
 use cqf_units::Name;
 
@@ -65,12 +64,12 @@ pub(crate) fn find_entrance(at: OpenSketch, name: &Name) -> Option<Entrance>
 }
 
 /// The talker's link by which a stream comes to its edge bridge.
-pub(crate) fn find_talker(at: OpenSketch, way: &Wanted) -> Option<TalkerLink>
+pub(crate) fn find_talker(at: OpenSketch, way: &WantedWay) -> Option<TalkerLink>
     ensures { result ≡ talker_of_stream at.entry.sketch.now at.entry.plant.now (wanted_text way.now) }
 {
     match way {
-        Wanted::Along(_) => None,
-        Wanted::Between(from, _) => match find_entrance(at, from) {
+        WantedWay::Along(_) => None,
+        WantedWay::Between(from, _) => match find_entrance(at, from) {
             Some(entrance) => entrance.talker,
             None => None,
         },

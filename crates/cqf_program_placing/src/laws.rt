@@ -2,7 +2,7 @@
 ghost use Rattle.cqf_program_placing.specs.Room.{PlacedWhereThereIsRoom};
 
 use cqf_laws_history::state_follows_history;
-use cqf_ways::first_ways_are_a_tree;
+use cqf_sketch::first_ways_are_a_tree;
 
 /// Streams of a sketch that are placed on a cycle time one after the other are each placed where there is room beside those that are placed
 /// before it. A stream between a bridge and stations goes by the first ways on which each link has left what it costs, in the emptiest of

@@ -4,7 +4,7 @@
 //!   number and deadlines from the edge bridge; or [`Unsettled`], the first fault.
 //! - [`place`] admits settled streams on a cycle time in their order, each with what its traffic needs of a cycle, those that have
 //!   no branches by the first ways with room, and those of talkers in step in the first phase in which the fullest of their links is least
-//!   full: a [`Placing`], with the [`Outcome`] of each stream.
+//!   full: a [`Placing`], with the [`PlacingOutcome`] of each stream.
 //! - A [`PlanFault`] is why a stream isn't settled, or isn't placed.
 //!
 //! `specs/` has both as definitions (`Settled`, `Placing`), in which cycles streams are offered (`Turns`), the texts of faults (`Faults`), and
@@ -38,7 +38,8 @@ mod ways_there;
 
 pub use faults::PlanFault;
 pub use laws::placed_where_there_is_room;
-pub use outcomes::Outcome;
+pub use outcomes::PlacingOutcome;
 pub use placing::{Placing, place};
-pub use settled::{Settled, Unsettled, Way};
+pub(crate) use settled::StreamWay;
+pub use settled::{Settled, Unsettled};
 pub use settling::settle;

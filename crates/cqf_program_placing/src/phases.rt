@@ -1,15 +1,14 @@
 //! In which phase a stream makes the fullest of its links least full.
 ghost use Rattle.std.specs.Prelude.{◌≡◌, ◌*◌, ◌<◌, ◌≤◌, All, IfOk, length, nat_lt};
-ghost use Rattle.cqf_admission_trees.specs.Branches.{branches_of};
-ghost use Rattle.cqf_admission_trees.specs.Turns.{IsGoodPace};
+ghost use Rattle.cqf_admission.specs.Branches.{branches_of};
+ghost use Rattle.cqf_admission.specs.Turns.{IsGoodPace};
 ghost use Rattle.cqf_model.specs.declared.topology.Hop.{Hop as AHop};
 ghost use Rattle.cqf_model.specs.History.{held_in, seals};
 ghost use Rattle.cqf_program_placing.specs.Turns.{AreGoodTurns, CostsSome, IsFullest, IsGoodEvery, IsLeastFull, IsPhaseAlong, share_at, shares_with};
 
 use crate::rooms::pace_by;
 use crate::turns::Turns;
-use cqf_admission::Admission;
-use cqf_admission_trees::{count_places, find_tree};
+use cqf_admission::{Admission, count_places, find_tree};
 use cqf_model::{Hop, Pace};
 use cqf_topology::Domain;
 use cqf_units::{Memory, budget};
@@ -17,13 +16,13 @@ use std::alloc::AllocError;
 
 /// How much of a link's budget is held, in octets a cycle.
 #[derive(Clone, Copy, Debug)]
-pub(crate) struct Share {
+pub(crate) struct BudgetShare {
     held: u64,
     budget: u32,
 }
 
 /// Whether a share is less than another.
-fn is_less_full(share: Share, other: Share) -> bool
+fn is_less_full(share: BudgetShare, other: BudgetShare) -> bool
     ensures { result ≡ nat_lt (share.held * other.budget) (other.held * share.budget) }
 {
     let ours = u128::from(share.held) * u128::from(other.budget);
@@ -32,7 +31,7 @@ fn is_less_full(share: Share, other: Share) -> bool
 }
 
 /// The share of a hop's link that is held in the cycles of a pace, with what a stream costs.
-fn share_at(domain: &Domain, admission: &Admission, cost: u32, pace: Pace, hop: &Hop) -> Share
+fn share_at(domain: &Domain, admission: &Admission, cost: u32, pace: Pace, hop: &Hop) -> BudgetShare
     requires domain { admission.now.domain ≡ domain.now }
     requires inside { hop.now.link < length domain.now.links }
     requires good { IsGoodPace pace }
@@ -41,14 +40,20 @@ fn share_at(domain: &Domain, admission: &Admission, cost: u32, pace: Pace, hop: 
     let rate = domain.link(hop.link).rate;
     let most = budget(domain.cycle_time(), domain.guard(), rate).0;
     let left = admission.left_at(hop, pace).0;
-    Share {
+    BudgetShare {
         held: u64::from(most - left) + u64::from(cost),
         budget: most,
     }
 }
 
 /// The share of the fullest link of a tree's hops.
-fn fullest(domain: &Domain, admission: &Admission, cost: u32, pace: Pace, tree: &[Hop]) -> Share
+fn fullest(
+    domain: &Domain,
+    admission: &Admission,
+    cost: u32,
+    pace: Pace,
+    tree: &[Hop],
+) -> BudgetShare
     requires domain { admission.now.domain ≡ domain.now }
     requires inside { All (λ (hop : AHop). hop.link < length domain.now.links) tree.now }
     requires good { IsGoodPace pace }
@@ -56,7 +61,7 @@ fn fullest(domain: &Domain, admission: &Admission, cost: u32, pace: Pace, tree: 
     ensures { let d = domain.now in let entries = admission.now.entries in
         IsFullest (share_at d (held_in d entries (seals entries)) cost pace) tree.now result }
 {
-    let mut most = Share { held: 0, budget: 1 };
+    let mut most = BudgetShare { held: 0, budget: 1 };
     for hop in tree {
         let share = share_at(domain, admission, cost, pace, hop);
         if is_less_full(most, share) {

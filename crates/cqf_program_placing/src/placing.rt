@@ -1,9 +1,9 @@
 //! Settled streams, placed on a cycle time one after the other.
-ghost use Rattle.std.specs.Prelude.{ℕ, ◌≡◌, ◌+◌, ◌∷◌, ◌<◌, ◌≤◌, [], All, Err, IfErr, IfOk, Ok, length, map};
+ghost use Rattle.std.specs.Prelude.{ℕ, ◌≡◌, ◌<◌, ◌≤◌, All, Err, IfErr, IfOk, Ok, length, map};
 ghost use Rattle.cqf_admission.specs.Admission.{calls};
 ghost use Rattle.cqf_admission.specs.Tables.{AreAlongLinks};
-ghost use Rattle.cqf_admission_trees.specs.Turns.{AreOfGoodPaces};
-ghost use Rattle.cqf_admission_trees.specs.Branches.{branches_of};
+ghost use Rattle.cqf_admission.specs.Turns.{AreOfGoodPaces};
+ghost use Rattle.cqf_admission.specs.Branches.{branches_of};
 ghost use Rattle.cqf_laws_history.specs.StateLaws.{AreHeld};
 ghost use Rattle.cqf_model.specs.History.{held_in, seals};
 ghost use Rattle.cqf_model.specs.Limits.{most_calls, most_reserved, most_streams};
@@ -20,14 +20,13 @@ use crate::reserving::reservation;
 use crate::rooms::lefts;
 use crate::routes::{Unrouted, branches_between};
 use crate::turns::{Turns, turns_on};
-use crate::{Outcome, Settled, Way};
+use crate::{PlacingOutcome, Settled, StreamWay};
 use cqf_admission::{Admission, SealFault, Table};
 use cqf_laws_history::state_follows_history;
 use cqf_model::{Link, Row};
-use cqf_sketch::SketchDomain;
+use cqf_sketch::{Room, SketchDomain};
 use cqf_topology::{Domain, PacedRequest};
 use cqf_units::{Memory, Octets, cost};
-use cqf_ways::Room;
 use std::alloc::{AllocError, Global};
 use std::marker::Model;
 
@@ -36,7 +35,7 @@ use std::marker::Model;
 #[derive(Debug, Drop)]
 pub struct Placing {
     admission: Admission,
-    outcomes: Vec<Outcome>,
+    outcomes: Vec<PlacingOutcome>,
 }
 
 impl Model for Placing {
@@ -61,7 +60,7 @@ fn branches_by(
     domain: &Domain,
     links: &[Link],
     admission: &Admission,
-    way: &Way,
+    way: &StreamWay,
     every: u8,
     cost: u32,
 ) -> Result<Vec<Vec<String>>, Unrouted>
@@ -75,11 +74,11 @@ fn branches_by(
         (IsUnrouted domain.now (held_in domain.now entries (seals entries)) every cost (way_value way.now)) }
 {
     match way {
-        Way::Along(paths) => {
+        StreamWay::Along(paths) => {
             let given = copied_branches(alloc, paths.as_slice())?;
             Ok(given)
         }
-        Way::Between(bridge, stations) => {
+        StreamWay::Between(bridge, stations) => {
             let left = lefts(alloc, domain, admission, every)?;
             let room = Room {
                 links,
@@ -100,7 +99,7 @@ fn place_with(
     stream: &Settled,
     octets: u32,
     turns: Turns,
-) -> Result<Outcome, Memory>
+) -> Result<PlacingOutcome, Memory>
     requires domain { admission.old.domain ≡ domain.now }
     requires links { links.now ≡ domain.now.links }
     requires free { calls admission.old.entries < most_calls }
@@ -124,7 +123,7 @@ fn place_with(
     ) {
         Ok(paths) => paths,
         Err(unrouted) => match unrouted {
-            Unrouted::Fault(found) => return Ok(Outcome::Unplaced(found)),
+            Unrouted::Fault(found) => return Ok(PlacingOutcome::Unplaced(found)),
             Unrouted::Memory => return Err(AllocError),
         },
     };
@@ -148,7 +147,7 @@ fn place_one(
     links: &[Link],
     admission: &mut Admission,
     stream: &Settled,
-) -> Result<Outcome, Memory>
+) -> Result<PlacingOutcome, Memory>
     requires domain { admission.old.domain ≡ domain.now }
     requires links { links.now ≡ domain.now.links }
     requires free { calls admission.old.entries < most_calls }
@@ -159,7 +158,7 @@ fn place_one(
 {
     let octets = match reservation(domain, stream) {
         Ok(octets) => octets,
-        Err(found) => return Ok(Outcome::Unplaced(found)),
+        Err(found) => return Ok(PlacingOutcome::Unplaced(found)),
     };
     let turns = turns_on(stream, domain.cycle_time());
     place_with(alloc, domain, links, admission, stream, octets, turns)
@@ -239,8 +238,7 @@ fn sealed_rows(alloc: Global, admission: Admission) -> Result<(Domain, Vec<Row>)
 {
     state_follows_history();
     let mut admission = admission;
-    // the history is legal: a fact for the rows
-    let _legal = admission.history();
+    admission.know();
     let domain = admission.domain().try_copy(alloc)?;
     let table = match admission.seal(0) {
         Ok(table) => table,
@@ -253,7 +251,7 @@ fn sealed_rows(alloc: Global, admission: Admission) -> Result<(Domain, Vec<Row>)
 
 impl Placing {
     /// What becomes of each stream, in their order.
-    pub fn outcomes(&self) -> &[Outcome]
+    pub fn outcomes(&self) -> &[PlacingOutcome]
         ensures { map outcome_value result.now ≡ self.now.outcomes }
     {
         self.outcomes.as_slice()
@@ -264,7 +262,10 @@ impl Placing {
     ///
     /// # Errors
     /// `Memory` where a growth is refused.
-    pub fn into_parts(self, alloc: Global) -> Result<(Domain, Vec<Row>, Vec<Outcome>), Memory>
+    pub fn into_parts(
+        self,
+        alloc: Global,
+    ) -> Result<(Domain, Vec<Row>, Vec<PlacingOutcome>), Memory>
         ensures domain { IfOk result (λ parts. parts.0 ≡ self.domain) }
         ensures rows { IfOk result (λ parts. parts.1.items ≡ held_in self.domain self.entries (seals self.entries)) }
         ensures along { IfOk result (λ parts. AreAlongLinks self.domain parts.1.items) }

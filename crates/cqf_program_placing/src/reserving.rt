@@ -39,8 +39,7 @@ pub(crate) fn reservation(domain: &Domain, stream: &Settled) -> Result<u32, Plan
     let Some(traffic) = stream.traffic else {
         return Ok(stream.octets.unwrap_or(0));
     };
-    // its numbers are in their ranges: a fact for the call behind
-    let _interval = traffic.interval();
+    traffic.know();
     let needed = traffic.needed(domain.cycle_time());
     reserved_for(stream.octets, needed)
 }

@@ -1,6 +1,6 @@
 //! The first ways with room from a bridge to some stations, as branches.
 ghost use Rattle.std.specs.Prelude.{ℕ, ◌≡◌, ◌<◌, List, IfErr, IfOk, length, slice_index};
-ghost use Rattle.cqf_admission_trees.specs.Branches.{branches_of};
+ghost use Rattle.cqf_admission.specs.Branches.{branches_of};
 ghost use Rattle.cqf_model.specs.declared.topology.Row.{Row};
 ghost use Rattle.cqf_model.specs.Domain.{bridge_of};
 ghost use Rattle.cqf_program_placing.specs.Placing.{AreFound, IsFullTo};
@@ -8,14 +8,16 @@ ghost use Rattle.cqf_program_placing.specs.Routes.{AreReached, IsReached, IsUnro
 ghost use Rattle.cqf_program_placing.specs.Settled.{Between};
 ghost use Rattle.cqf_program_placing.specs.Turns.{lefts_on};
 ghost use Rattle.cqf_program_plans.specs.EndNames.{name_of_end};
-ghost use Rattle.cqf_report.specs.Books.{name_of_bridge, name_of_node};
-ghost use Rattle.cqf_ways.specs.Ways.{NoWay, has_room};
+ghost use Rattle.cqf_topology.specs.NodeNames.{name_of_bridge, name_of_node};
+ghost use Rattle.cqf_sketch.specs.Ways.{NoWay, has_room};
 
 use crate::PlanFault;
 use crate::branches::{branches_along, end_of_link, start_of_link};
 use cqf_model::Node;
+use cqf_sketch::{
+    Room, WaysFault, first_short, first_way, first_ways, full_ways_have_a_short_link,
+};
 use cqf_topology::Domain;
-use cqf_ways::{Room, WaysFault, first_short, first_way, first_ways, full_ways_have_a_short_link};
 use std::alloc::{AllocError, AllocFailed, Global};
 
 /// Why a stream has no branches.

@@ -1,14 +1,14 @@
 //! Streams of a sketch whose nodes are found.
 
 use crate::PlanFault;
-use cqf_sketch_streams::Pacing;
+use cqf_sketch::Pacing;
 use cqf_traffic::Traffic;
 use cqf_units::{Memory, Name};
 use std::alloc::AllocFailed;
 
 /// Which way a stream goes.
 #[derive(Debug, Drop)]
-pub enum Way {
+pub enum StreamWay {
     /// Along these branches of a tree, each the names of its bridges, in order, and then of the listener's station.
     Along(Vec<Vec<String>>),
     /// From the bridge of this number to the stations of these, in their order, by ways that are to be found.
@@ -23,7 +23,7 @@ pub struct Settled {
     pub octets: Option<u32>,
     /// Cycles that are given are such that a stream may have.
     pub pacing: Pacing,
-    pub way: Way,
+    pub way: StreamWay,
     /// In nanoseconds, from its edge bridge on; 1 at least.
     pub deadline: Option<u32>,
     pub traffic: Option<Traffic>,

@@ -1,19 +1,18 @@
 //! The streams of a sketch, looked over for what no cycle time changes.
-ghost use Rattle.std.specs.Prelude.{◌≡◌, ◌<◌, ◌≤◌, [], All, IfOk, length, map, string_bytes};
+ghost use Rattle.std.specs.Prelude.{◌≡◌, ◌<◌, ◌≤◌, [], All, IfOk, length, map};
 ghost use Rattle.cqf_model.specs.History.{is_pace};
 ghost use Rattle.cqf_model.specs.Limits.{most_streams};
-ghost use Rattle.cqf_sketch_streams.specs.StreamsText.{stream_text, wanted_text};
-ghost use Rattle.cqf_topology_fields.specs.Fields.{Gives};
+ghost use Rattle.cqf_sketch.specs.StreamsText.{stream_text, wanted_text};
+ghost use Rattle.cqf_topology.specs.Fields.{Gives};
 ghost use Rattle.cqf_program_placing.specs.Settled.{are_reservable, is_paced, or_unsettled, refusal_behind, settled_next, settled_stream, settled_value};
 ghost use Rattle.cqf_program_placing.specs.Settled.{IsPlaceable, deadline_behind, open_domain, settled_behind, settled_of, way_value, with_deadline};
 
 use crate::deadlines::{deadline_behind, longest_of, taken_on};
 use crate::entrances::{OpenSketch, find_talker};
 use crate::way_settling::settle_way;
-use crate::{PlanFault, Settled, Unsettled, Way};
+use crate::{PlanFault, Settled, StreamWay, Unsettled};
 use cqf_model::{LEAST_OCTETS, MOST_EVERY, MOST_OCTETS, Refused};
-use cqf_sketch::SketchDomain;
-use cqf_sketch_streams::{Pacing, Stream, Wanted};
+use cqf_sketch::{Pacing, SketchDomain, Stream, WantedWay};
 use cqf_topology::{Domain, NameList};
 use cqf_traffic::Traffic;
 use cqf_units::{Memory, Name};
@@ -79,7 +78,12 @@ struct Terms {
 }
 
 /// A stream whose way is settled, with its deadline, of which so much is over at its edge bridge.
-fn settle_deadline(name: &Name, terms: Terms, way: Way, taken: u64) -> Result<Settled, Unsettled>
+fn settle_deadline(
+    name: &Name,
+    terms: Terms,
+    way: StreamWay,
+    taken: u64,
+) -> Result<Settled, Unsettled>
     ensures { Gives Unsettled.Memory settled_value result
         (or_unsettled name.now (with_deadline name.now terms.octets terms.pacing (way_value way) terms.traffic (deadline_behind taken terms.deadline))) }
 {
@@ -103,7 +107,7 @@ fn settle_named(
     held: &NameList,
     name: &Name,
     terms: Terms,
-    way: Wanted,
+    way: WantedWay,
 ) -> Result<Settled, Unsettled>
     requires { at.sketch.now.links ≡ at.plant.now.links }
     ensures { Gives Unsettled.Memory settled_value result (or_unsettled name.now (settled_stream at.entry.sketch.now at.entry.plant.now held.now.keys
@@ -179,7 +183,7 @@ fn settle_all(
 /// The first fault, stream by stream: `BadName`, with the place, from 1, where a name hasn't the form of one; and then `Stream` with the
 /// name and the first of these. `BadOctets`, where it asks for fewer than 64 octets a cycle, or more than 60,000. `BadPace`, where it is to
 /// be offered in one of a number of cycles that doesn't divide 80, or from a first cycle on that isn't below that number. Of a stream with
-/// given branches, why they are no tree of the plant, as [`find_tree`](cqf_admission_trees::find_tree) has it; of another `NoTalker`, where
+/// given branches, why they are no tree of the plant, as [`find_tree`](cqf_admission::find_tree) has it; of another `NoTalker`, where
 /// it comes from no bridge and from no station with a talker's link, `NoListener` of the first listener that is no station, and `NoWay` of
 /// the first to which no links lead from its edge bridge, at most 16 of them. `NameHeld`, where an earlier one has its name;
 /// `TooManyStreams`, where there are as many before it as may be held. `TooSoon`, where nothing is left of its deadline when a frame is whole at its edge
@@ -195,8 +199,7 @@ pub fn settle(
     ensures on_way { IfOk result (λ settled. All (IsPlaceable (open_domain sketch.now)) (map settled_value settled.items)) }
     ensures few { IfOk result (λ settled. length settled.items ≤ most_streams) }
 {
-    // talkers' links end in bridges of the plant
-    let _talkers = sketch.talkers();
+    sketch.know();
     let plant = sketch.at(alloc, sketch.open_cycle())?;
     let at = OpenSketch {
         sketch,

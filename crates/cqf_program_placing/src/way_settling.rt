@@ -1,17 +1,17 @@
 //! The ways of streams, settled.
-ghost use Rattle.std.specs.Prelude.{◌≡◌, ok_or};
-ghost use Rattle.cqf_admission_trees.specs.Branches.{branches_of};
+ghost use Rattle.std.specs.Prelude.{◌≡◌};
+ghost use Rattle.cqf_admission.specs.Branches.{branches_of};
 ghost use Rattle.cqf_model.specs.Domain.{node_named};
-ghost use Rattle.cqf_sketch_streams.specs.StreamsText.{wanted_text};
-ghost use Rattle.cqf_topology_fields.specs.Fields.{Gives};
+ghost use Rattle.cqf_sketch.specs.StreamsText.{wanted_text};
+ghost use Rattle.cqf_topology.specs.Fields.{Gives};
 ghost use Rattle.cqf_program_placing.specs.Settled.{entrance_at, or_unsettled, settled_way, station_by_name, stations_by_name, way_along, way_from, way_value};
 
 use crate::entrances::{OpenSketch, find_entrance};
 use crate::ways_there::first_apart;
-use crate::{PlanFault, Unsettled, Way};
-use cqf_admission_trees::{count_places, find_tree};
+use crate::{PlanFault, StreamWay, Unsettled};
+use cqf_admission::{count_places, find_tree};
 use cqf_model::Node;
-use cqf_sketch_streams::Wanted;
+use cqf_sketch::WantedWay;
 use cqf_topology::Domain;
 use cqf_units::Name;
 use std::alloc::Global;
@@ -46,14 +46,18 @@ fn stations_by_name(
 }
 
 /// The way of a stream along given branches.
-fn settle_along(plant: &Domain, stream: &Name, paths: Vec<Vec<String>>) -> Result<Way, Unsettled>
+fn settle_along(
+    plant: &Domain,
+    stream: &Name,
+    paths: Vec<Vec<String>>,
+) -> Result<StreamWay, Unsettled>
     ensures { Gives Unsettled.Memory way_value result (or_unsettled stream.now (way_along plant.now (branches_of paths.items))) }
 {
     if count_places(paths.as_slice()).is_none() {
         return Err(Unsettled::Memory);
     }
     match find_tree(plant, paths.as_slice()) {
-        Ok(_) => Ok(Way::Along(paths)),
+        Ok(_) => Ok(StreamWay::Along(paths)),
         Err(refused) => Err(Unsettled::Stream(stream.copied(), PlanFault::Refused(refused))),
     }
 }
@@ -65,7 +69,7 @@ fn settle_between(
     stream: &Name,
     from: &Name,
     to: &[Name],
-) -> Result<Way, Unsettled>
+) -> Result<StreamWay, Unsettled>
     requires { at.sketch.now.links ≡ at.plant.now.links }
     ensures { Gives Unsettled.Memory way_value result (or_unsettled stream.now
         (way_from at.entry.plant.now (entrance_at at.entry.sketch.now (node_named at.entry.plant.now from.now)) to.now)) }
@@ -76,7 +80,7 @@ fn settle_between(
     let stations = stations_by_name(alloc, at.plant, stream, to)?;
     match first_apart(at, entrance.bridge, to) {
         Some(name) => Err(Unsettled::Stream(stream.copied(), PlanFault::NoWay(name))),
-        None => Ok(Way::Between(entrance.bridge, stations)),
+        None => Ok(StreamWay::Between(entrance.bridge, stations)),
     }
 }
 
@@ -86,14 +90,14 @@ pub(crate) fn settle_way(
     alloc: Global,
     at: OpenSketch,
     stream: &Name,
-    way: Wanted,
-) -> Result<Way, Unsettled>
+    way: WantedWay,
+) -> Result<StreamWay, Unsettled>
     requires { at.sketch.now.links ≡ at.plant.now.links }
     ensures { Gives Unsettled.Memory way_value result
         (or_unsettled stream.now (settled_way at.entry.sketch.now at.entry.plant.now (wanted_text way))) }
 {
     match way {
-        Wanted::Along(paths) => settle_along(at.plant, stream, paths),
-        Wanted::Between(from, to) => settle_between(alloc, at, stream, &from, to.as_slice()),
+        WantedWay::Along(paths) => settle_along(at.plant, stream, paths),
+        WantedWay::Between(from, to) => settle_between(alloc, at, stream, &from, to.as_slice()),
     }
 }

@@ -1,13 +1,13 @@
 //! Whether ways lead from a bridge to nodes.
 ghost use Rattle.std.specs.Prelude.{◌≡◌};
 ghost use Rattle.cqf_model.specs.Domain.{node_named};
-ghost use Rattle.cqf_ways.specs.Ways.{AreLinks, most_links};
+ghost use Rattle.cqf_sketch.specs.Ways.{AreLinks, most_links};
 ghost use Rattle.cqf_program_placing.specs.Settled.{first_apart, has_way, is_led};
 
 use crate::entrances::OpenSketch;
 use cqf_model::{Link, MOST_LINKS, Node};
+use cqf_sketch::{Room, first_way, full_ways_have_a_short_link};
 use cqf_units::Name;
-use cqf_ways::{Room, first_way, full_ways_have_a_short_link};
 
 /// Whether links lead from a bridge to a node, at most 16 of them. There are no more links than are represented.
 fn is_led(links: &[Link], bridge: u16, to: Node) -> bool

@@ -12,10 +12,10 @@ use Rattle.cqf_model.specs.History.{most_beside}
 use Rattle.cqf_model.specs.Table.{IsTree, cost_on, link_cost, links_in}
 use Rattle.cqf_laws_history.specs.StateLaws.{AreHeld}
 use Rattle.cqf_admission.specs.Costs.{most_cost}
-use Rattle.cqf_admission_trees.proofs.TurnLemmas.{low_at}
-use Rattle.cqf_admission_trees.specs.Turns.{AreMoreIn, AreNone, HasRoomFor, Turned}
+use Rattle.cqf_admission.proofs.TurnLemmas.{low_at}
+use Rattle.cqf_admission.specs.Turns.{AreMoreIn, AreNone, HasRoomFor, Turned}
 use Rattle.cqf_program_plans.proofs.Fits.{most_taken, most_within}
-use Rattle.cqf_program_plans.specs.LatencyOutput.{AreCostsOf, AreCountable, CostLittle}
+use Rattle.cqf_program_plans.specs.Latency.Output.{AreCostsOf, AreCountable, CostLittle}
 
 -- no two hops of a tree are by the same link, and each is by one of the domain's
 tree_apart : (d : Domain) (tree : List Hop) → IsTree d tree → AllPairs (λ (a b : ℕ). a ≢ b) (links_in tree)

@@ -22,14 +22,14 @@ use Rattle.cqf_model.specs.Limits.{streams_within}
 use Rattle.cqf_model.specs.Paces.{each_cycle, is_turn}
 use Rattle.cqf_model.specs.Table.{cost_on, link_cost, links_in, uses}
 use Rattle.cqf_model.proofs.Hops.{hops_inside}
-use Rattle.cqf_admission_trees.specs.Branches.{tree_refusal}
+use Rattle.cqf_admission.specs.Branches.{tree_refusal}
 use Rattle.cqf_admission.specs.Costs.{left_beside}
 use Rattle.cqf_admission.specs.Judging.{form_refusal, short_refusal}
 use Rattle.cqf_admission.proofs.CostLemmas.{beside_is_most}
 use Rattle.cqf_admission.proofs.GrantLemmas.{refusal_in_two, refusal_last, refusal_later}
-use Rattle.cqf_program_plans.specs.Fitting.{fits_by, fits_on}
-use Rattle.cqf_program_plans.specs.FitLaws.{FitsIsGreatest, OneMoreFits}
-use Rattle.cqf_program_plans.specs.Listing.{listed_row, listing_refusal}
+use Rattle.cqf_program_plans.specs.Load.Fitting.{fits_by, fits_on}
+use Rattle.cqf_program_plans.specs.Load.Laws.{FitsIsGreatest, OneMoreFits}
+use Rattle.cqf_program_plans.specs.Load.Listing.{listed_row, listing_refusal}
 
 -- by how many frames of 64 octets what is left holds
 fits_forth : (frames left reserved : ℕ) → frames ≡ left / 84 → 64 ≤ reserved → reserved ≤ 60000 → cost_of reserved ≤ left → reserved ≤ fits_by frames left

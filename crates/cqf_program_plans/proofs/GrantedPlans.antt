@@ -9,9 +9,9 @@ use Rattle.cqf_model.specs.Limits.{most_every}
 use Rattle.cqf_model.specs.Table.{link_cost, uses}
 use Rattle.cqf_laws_history.proofs.Granted.{granted as granted_parts}
 use Rattle.cqf_laws_history.specs.StateLaws.{with_entry}
-use Rattle.cqf_program_plans.specs.CompileOutput.{admitted_from, stream_line, with_asked}
+use Rattle.cqf_program_plans.specs.Compile.Output.{admitted_from, stream_line, with_asked}
 use Rattle.cqf_program_plans.proofs.CompileLemmas.{refuse_ok, same_ok}
-use Rattle.cqf_laws_latency.specs.Streams.{AreGranted, ArePaced, IsOfList, ListCostsItsTable, cost_of_all, most_beside_all, with_all}
+use Rattle.cqf_laws_timing.specs.Streams.{AreGranted, ArePaced, IsOfList, ListCostsItsTable, cost_of_all, most_beside_all, with_all}
 
 -- each of them is granted, and the history is that of all
 all_granted : (d : Domain) (entries all : List Recorded) (place : ℕ) (streams : List Asked) → admitted_from d entries place streams ≡ Ok all →

@@ -6,11 +6,11 @@ use Rattle.cqf_model.specs.Domain.{Domain}
 use Rattle.cqf_model.specs.History.{Asked}
 use Rattle.cqf_model.specs.Table.{cost_on, link_cost}
 use Rattle.cqf_laws_history.specs.StateLaws.{granted_row}
-use Rattle.cqf_laws_latency.specs.Streams.{TablesCostNoMore, cost_of_all}
-use Rattle.cqf_program_plans.specs.CompileOutput.{stream_line}
-use Rattle.cqf_program_plans.specs.FitLaws.{NoneHoldsMore}
-use Rattle.cqf_program_plans.specs.Listing.{listed_row, listing_refusal}
-use Rattle.cqf_program_plans.specs.LoadOutput.{listed_from}
+use Rattle.cqf_laws_timing.specs.Streams.{TablesCostNoMore, cost_of_all}
+use Rattle.cqf_program_plans.specs.Compile.Output.{stream_line}
+use Rattle.cqf_program_plans.specs.Load.Laws.{NoneHoldsMore}
+use Rattle.cqf_program_plans.specs.Load.Listing.{listed_row, listing_refusal}
+use Rattle.cqf_program_plans.specs.Load.Output.{listed_from}
 use Rattle.cqf_program_plans.proofs.CompileLemmas.{refuse_ok, same_ok}
 
 -- the rows of streams that are listed behind others cost what the streams cost, beside those

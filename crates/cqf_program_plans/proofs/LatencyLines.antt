@@ -1,8 +1,8 @@
 -- The line of a latency whose frames may miss their deadline.
 use Rattle.std.proofs.Common.{◌≡◌, ◌∙◌, ◌++◌, ◌∷◌, [], ℕ, List, Option, Some, append_assoc, ap, codes, decimal, sym}
-use Rattle.cqf_program_stop.specs.Stops.{fault_line}
-use Rattle.cqf_program_plans.specs.declared.latency_latencies.Verdict.{Verdict}
-use Rattle.cqf_program_plans.specs.LatencyText.{name_of_verdict, text_of_deadline, text_of_verdict}
+use Rattle.cqf_press.specs.Stops.{fault_line}
+use Rattle.cqf_program_plans.specs.declared.latency.latencies.Verdict.{Verdict}
+use Rattle.cqf_program_plans.specs.Latency.Text.{name_of_verdict, text_of_deadline, text_of_verdict}
 
 -- the line feed stands behind the deadline
 pub told_line : (stream listener most name : List ℕ) (verdict : Verdict) (deadline : ℕ) (due : Option Verdict) (set : Option ℕ) →

@@ -1,15 +1,6 @@
 mod PortLemmas
 pub mod CompileLemmas
-pub mod ConfigPieces
 mod Planned
-mod WordLemmas
-mod TcLines
-mod TcFunctions
-mod TcCallLemmas
-mod Streams
-mod NextKept
-mod LeavingRows
-mod NotedRows
 mod Listed
 mod Fits
 mod PlanFits
@@ -20,4 +11,3 @@ pub mod LookedOver
 pub mod Found
 mod CostsByTurn
 mod LatencyLines
-mod Rounds

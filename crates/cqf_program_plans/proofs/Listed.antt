@@ -2,20 +2,20 @@
 use Rattle.std.proofs.Common.{ℕ, ◌≡◌, ◌≤◌, ◌<◌, ◌+◌, ◌++◌, ◌∙◌, Bool, true, cond, List, [], ◌∷◌, length, map, ap, arith, sym, refl, inl, inr}
 use Rattle.std.specs.Prelude.{count_by, if◌then◌else◌, replicate, slice_index_or, ◌==◌, ◌^◌}
 use Rattle.std.specs.List.{list_any}
-use Rattle.cqf_admission_trees.specs.Sums.{part_on}
+use Rattle.cqf_admission.specs.Sums.{part_on}
 use Rattle.std.proofs.lemmas.List.{get_or-replicate, length-replicate, length_push, map-append}
 use Rattle.std.proofs.lemmas.List.Sums.{fold-append, sum_by_push}
 use Rattle.std.proofs.lemmas.Bool.{cases_Bool}
 use Rattle.cqf_units.specs.Timing.{cost_of}
 use Rattle.cqf_model.specs.declared.topology.Row.{Row}
 use Rattle.cqf_model.specs.Table.{cost_on, crosses, link_cost, uses}
-use Rattle.cqf_admission_trees.proofs.TurnLemmas.{most_of_costs}
-use Rattle.cqf_admission_trees.specs.Turns.{AreMoreIn, AreNone, HasRoomFor, Turned, most_of}
+use Rattle.cqf_admission.proofs.TurnLemmas.{most_of_costs}
+use Rattle.cqf_admission.specs.Turns.{AreMoreIn, AreNone, HasRoomFor, Turned, most_of}
 use Rattle.cqf_admission.specs.Costs.{most_cost}
 use Rattle.cqf_program_plans.proofs.Fits.{most_taken}
 use Rattle.cqf_program_plans.specs.Adding.{AddsWhere}
-use Rattle.cqf_program_plans.specs.Fitting.{streams_on}
-use Rattle.cqf_program_plans.specs.Listing.{IsListing}
+use Rattle.cqf_program_plans.specs.Load.Fitting.{streams_on}
+use Rattle.cqf_program_plans.specs.Load.Listing.{IsListing}
 
 -- of as many sums that are each 0, each is
 none_held : (sums : List ℕ) (count l : ℕ) → sums ≡ replicate count 0 → l < count → slice_index_or sums l 0 ≡ 0

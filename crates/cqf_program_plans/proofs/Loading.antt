@@ -6,12 +6,12 @@ use Rattle.cqf_model.specs.declared.history.Refused.TheVariants.{Memory}
 use Rattle.cqf_model.specs.declared.topology.Row.{Row}
 use Rattle.cqf_model.specs.Domain.{Domain}
 use Rattle.cqf_model.specs.History.{Asked}
-use Rattle.cqf_program_stop.specs.Stops.{EndsWith, IsRefused}
-use Rattle.cqf_program_stop.specs.declared.stops.Stop.{Stop}
-use Rattle.cqf_program_plans.specs.CompileOutput.{stream_line}
+use Rattle.cqf_press.specs.Stops.{EndsWith, IsRefused}
+use Rattle.cqf_press.specs.declared.stops.Stop.{Stop}
+use Rattle.cqf_program_plans.specs.Compile.Output.{stream_line}
 use Rattle.cqf_program_plans.proofs.CompileLemmas.{IsRefused-line, IsRefused-memory, is_memory}
-use Rattle.cqf_program_plans.specs.Listing.{IsListed, listed_row, listing_refusal}
-use Rattle.cqf_program_plans.specs.LoadOutput.{listed_from}
+use Rattle.cqf_program_plans.specs.Load.Listing.{IsListed, listed_row, listing_refusal}
+use Rattle.cqf_program_plans.specs.Load.Output.{listed_from}
 
 -- a stream that isn't refused stands behind the others
 pub listed_behind : (d : Domain) (rows after : List Row) (asked : Asked) (row : Row) → IsListed d rows asked row → after ≡ rows ++ row ∷ [] →

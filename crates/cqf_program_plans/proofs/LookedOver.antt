@@ -15,11 +15,11 @@ use Rattle.cqf_model.specs.History.{Asked, is_pace, refused_if}
 use Rattle.cqf_model.specs.Limits.{streams_within}
 use Rattle.cqf_model.specs.Table.{links_of}
 use Rattle.cqf_units.specs.Name.{is_name}
-use Rattle.cqf_admission_trees.proofs.TurnLemmas.{asked_is_good}
-use Rattle.cqf_admission_trees.specs.Branches.{tree_refusal}
-use Rattle.cqf_admission_trees.specs.Turns.{IsOfGoodPace}
+use Rattle.cqf_admission.proofs.TurnLemmas.{asked_is_good}
+use Rattle.cqf_admission.specs.Branches.{tree_refusal}
+use Rattle.cqf_admission.specs.Turns.{IsOfGoodPace}
 use Rattle.cqf_program_plans.proofs.Fits.{first_none, not_due, second_none}
-use Rattle.cqf_program_plans.specs.Listing.{IsListed, listed_row}
+use Rattle.cqf_program_plans.specs.Load.Listing.{IsListed, listed_row}
 
 -- no domain has more streams than the most that are counted
 few_of : (within number : ℕ) → number < min within 16384 → number < 16384

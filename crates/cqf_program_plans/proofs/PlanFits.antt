@@ -10,11 +10,11 @@ use Rattle.cqf_model.specs.Domain.{Domain, budget}
 use Rattle.cqf_model.specs.History.{Asked, IsLegalHistory, Recorded, held_in, next_number, refusal_of, seals}
 use Rattle.cqf_model.specs.Table.{cost_on, link_cost}
 use Rattle.cqf_laws_history.specs.StateLaws.{AreHeld, GrantedFindsRoom, GrantedIsHeld, HeldAreSound, HistoryGoesOn, SealsAreCounted, granted_row}
-use Rattle.cqf_program_plans.specs.CompileOutput.{AreAllHeld, admitted_from, stream_line, with_asked}
+use Rattle.cqf_program_plans.specs.Compile.Output.{AreAllHeld, admitted_from, stream_line, with_asked}
 use Rattle.cqf_program_plans.proofs.CompileLemmas.{AreAllHeld-more, AreAllHeld-none, refuse_ok, same_ok}
-use Rattle.cqf_program_plans.specs.FitLaws.{AreAdmitted}
-use Rattle.cqf_program_plans.specs.Listing.{listed_row, listing_refusal}
-use Rattle.cqf_program_plans.specs.LoadOutput.{listed_from}
+use Rattle.cqf_program_plans.specs.Load.Laws.{AreAdmitted}
+use Rattle.cqf_program_plans.specs.Load.Listing.{listed_row, listing_refusal}
+use Rattle.cqf_program_plans.specs.Load.Output.{listed_from}
 use Rattle.cqf_program_plans.proofs.Fits.{accepted_listed, accepted_where_room}
 
 -- the streams of these entries are all held, with these rows

@@ -10,9 +10,9 @@ use Rattle.cqf_model.specs.declared.history.Receipt.{Receipt}
 use Rattle.cqf_model.specs.declared.topology.Row.{Row}
 use Rattle.cqf_model.specs.Domain.{Domain}
 use Rattle.cqf_model.specs.History.{Asked, Recorded, held_in, seals}
-use Rattle.cqf_admission_requests.specs.Orders.{request_at}
+use Rattle.cqf_admission.specs.Orders.{request_at}
 use Rattle.cqf_topology.specs.declared.paced.PacedRequest.{PacedRequest}
-use Rattle.cqf_program_plans.specs.CompileOutput.{AreAllHeld, ArePlanned, admitted_from}
+use Rattle.cqf_program_plans.specs.Compile.Output.{AreAllHeld, ArePlanned, admitted_from}
 
 -- the request at a place as it is asked for
 pub asked_at : (requests : List PacedRequest) (place : ℕ) (request : PacedRequest) → place < length requests → request ≡ get_or requests place request →

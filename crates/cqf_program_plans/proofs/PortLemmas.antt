@@ -9,10 +9,10 @@ use Rattle.cqf_port.proofs.Kept.{starts_inside}
 use Rattle.cqf_port.specs.PortState.{PortState, AreOnly, AreTaken, IsPort, RunsUpTo, start_of}
 use Rattle.cqf_report.specs.Arrivals.{AreArrivals}
 use Rattle.cqf_report.specs.Starts.{text_of_starts}
-use Rattle.cqf_program_telling.specs.PortLines.{AreTellable}
+use Rattle.cqf_program_scenario.specs.PortLines.{AreTellable}
 use Rattle.cqf_units.specs.Timing.{nanos_of_octet}
 use Rattle.cqf_units.specs.declared.timing.Rate.{Rate}
-use Rattle.cqf_program_plans.specs.PortOutput.{AreOfferable, IsStartsText}
+use Rattle.cqf_program_plans.specs.Port.Output.{AreOfferable, IsStartsText}
 
 -- arrivals that are read can be offered
 pub AreOfferable-read : (arrivals : List Arrival) → AreArrivals arrivals → AreOfferable arrivals

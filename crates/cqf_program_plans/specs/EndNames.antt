@@ -2,7 +2,7 @@
 use Rattle.std.specs.Prelude.{ℕ, List, []}
 use Rattle.std.specs.Option.{option_map_or}
 use Rattle.cqf_model.specs.Domain.{Domain, end_of}
-use Rattle.cqf_report.specs.Books.{name_of_node}
+use Rattle.cqf_topology.specs.NodeNames.{name_of_node}
 
 -- the name of the node that a link ends in. A link that the domain lacks ends in none
 abbrev pub name_of_end : Domain → ℕ → List ℕ

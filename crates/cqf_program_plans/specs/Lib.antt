@@ -1,25 +1,7 @@
-pub mod PortOutput
-pub mod PortTold
-pub mod CompileOutput
-pub mod ConfigTold
+-- a folder a command
+pub mod Latency
+pub mod Load
+pub mod Compile
+pub mod Port
 pub mod EndNames
-pub mod TcWords
-pub mod TcBridge
-pub mod TcChecks
-pub mod TcText
-pub mod TcOutput
-pub mod TcRows
-pub mod TcCalls
-pub mod TcLaws
-pub mod Fitting
-pub mod Listing
-pub mod LoadText
-pub mod LoadOutput
-pub mod FitLaws
-pub mod LatencyText
-pub mod LatencyOutput
-pub mod LatencyInput
-pub mod ToldLaws
--- what the inner functions say
-pub mod TcWays
 pub mod Adding

@@ -1,14 +1,14 @@
 //! What a row's stream costs, in sums by link and cycle.
 ghost use Rattle.cqf_admission.specs.Rows.{IsCountable};
-ghost use Rattle.cqf_admission_trees.specs.Turns.{AreMoreIn, HasRoomFor, IsOfGoodPace};
+ghost use Rattle.cqf_admission.specs.Turns.{AreMoreIn, HasRoomFor, IsOfGoodPace};
 ghost use Rattle.cqf_units.specs.Timing.{cost_of};
 
-use cqf_admission_trees::Sums;
+use cqf_admission::CycleSums;
 use cqf_model::Row;
 use cqf_units::{Octets, cost};
 
 /// Adds what a row's stream costs to the sums of its links in the cycles in which its frames go by them.
-pub fn add_cost(sums: &mut Sums, row: &Row)
+pub fn add_cost(sums: &mut CycleSums, row: &Row)
     requires countable { IsCountable sums.old.links row.now }
     requires good { IsOfGoodPace row.now }
     requires room { HasRoomFor sums.old row.now.tree.items row.now.pace (cost_of row.now.octets) }

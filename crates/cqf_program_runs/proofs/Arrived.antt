@@ -19,11 +19,11 @@ use Rattle.cqf_model.specs.Promise.{SaysTheShift, IsDecided}
 use Rattle.cqf_topology.specs.PlannedText.{PlannedText}
 use Rattle.cqf_laws_shift.proofs.Decided.{is_decided, judged}
 use Rattle.cqf_program_plans.specs.EndNames.{name_of_end}
-use Rattle.cqf_program_plans.specs.LatencyText.{is_station, listeners_of}
-use Rattle.cqf_program_runs.specs.declared.delivery.Passage.TheVariants as passage
-use Rattle.cqf_program_runs.specs.declared.delivery.Delivery.{Delivery}
-use Rattle.cqf_program_runs.specs.declared.delivery.Fate.TheVariants as fate
-use Rattle.cqf_program_runs.specs.ArrivalLaws.{AreTheShift, HasArrived, IsArrivalOfOffer, has_come}
+use Rattle.cqf_program_plans.specs.Latency.Text.{is_station, listeners_of}
+use Rattle.cqf_program_runs.specs.declared.deliveries.delivery.Passage.TheVariants as passage
+use Rattle.cqf_program_runs.specs.declared.deliveries.delivery.Delivery.{Delivery}
+use Rattle.cqf_program_runs.specs.declared.deliveries.delivery.Fate.TheVariants as fate
+use Rattle.cqf_program_runs.specs.Deliveries.ArrivalLaws.{AreTheShift, HasArrived, IsArrivalOfOffer, has_come}
 use Rattle.cqf_program_runs.specs.Deliveries.{arrival_at_listener, deadline_named, deliveries_of_offer, deliveries_to}
 use Rattle.cqf_program_runs.specs.Deliveries.{deliveries_unless, delivery_of, delivery_to, drop_of, fate_of, start_on}
 use Rattle.cqf_program_runs.specs.Deliveries.{whole_instant, whole_on}

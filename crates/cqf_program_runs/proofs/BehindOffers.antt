@@ -15,21 +15,21 @@ use Rattle.cqf_model.specs.Table.{AreOrderly, residence}
 use Rattle.cqf_model.specs.Traffic.{DroppedFor, ExceedsGate, LacksRow, Queued, Verdict, numbered}
 use Rattle.cqf_model.proofs.Residence.{depth_within_residence}
 use Rattle.cqf_laws_shift.proofs.Came.{one_number}
-use Rattle.cqf_laws_latency.proofs.Timely.{shift_deep}
-use Rattle.cqf_laws_report.specs.Counted.{AreDecided}
-use Rattle.cqf_laws_report.specs.Rows.{as_of}
-use Rattle.cqf_instants_columns.specs.Columns.{verdict_at}
-use Rattle.cqf_instants_coverage.specs.declared.judged.Judgement.{Judgement}
-use Rattle.cqf_instants_coverage.specs.declared.judged.Judgement.TheVariants.{Covered, Dropped}
-use Rattle.cqf_instants_coverage.specs.Coverage.{queued_as, verdict_of}
-use Rattle.cqf_instants_coverage.proofs.Covers.{numbered_at}
-use Rattle.cqf_program_runs.specs.Following.{IsBehind}
-use Rattle.cqf_program_runs.specs.UnderWay.{NoneIsDeeper}
+use Rattle.cqf_laws_timing.proofs.Timely.{shift_deep}
+use Rattle.cqf_laws_coverage.specs.Counted.{AreDecided}
+use Rattle.cqf_laws_coverage.specs.Rows.{as_of}
+use Rattle.cqf_instants_run.specs.Columns.{verdict_at}
+use Rattle.cqf_instants_run.specs.declared.judged.EdgeVerdict.{EdgeVerdict}
+use Rattle.cqf_instants_run.specs.declared.judged.EdgeVerdict.TheVariants.{Covered, Dropped}
+use Rattle.cqf_instants_run.specs.Coverage.{queued_as, verdict_of}
+use Rattle.cqf_instants_run.proofs.Covers.{numbered_at}
+use Rattle.cqf_program_runs.specs.Deliveries.Following.{IsBehind}
+use Rattle.cqf_program_runs.specs.Deliveries.UnderWay.{NoneIsDeeper}
 use Rattle.cqf_program_runs.proofs.ByBook.{not_both}
 use Rattle.cqf_program_runs.proofs.KeptSlots.{some_same}
 
 -- a verdict by which an offer goes on has the tree of one of the rows
-queued_row : (rows : List Row) (cycle : ℕ) (judgement : Judgement) (row : Row) → verdict_of rows cycle judgement ≡ Queued row →
+queued_row : (rows : List Row) (cycle : ℕ) (edge_verdict : EdgeVerdict) (row : Row) → verdict_of rows cycle edge_verdict ≡ Queued row →
     (granted : Row) × Contains rows granted × (residence row ≡ residence granted)
 queued_row rows cycle (Covered k) row e = by (slice_get rows k) refl e
   where
@@ -42,12 +42,12 @@ queued_row rows cycle (Covered k) row e = by (slice_get rows k) refl e
 queued_row rows cycle (Dropped reason) row e = absurd (cc)
 
 module _ (run : Run) (book : Contents) (says : SaysTheShift run book) (orderly : AreOrderly run.domain run.tables) (rows : List Row)
-    (judgements : List Judgement) (decided : AreDecided run (verdict_at run.domain rows judgements)) (depth : ℕ) (deep : NoneIsDeeper rows depth) where
+    (edge_verdicts : List EdgeVerdict) (decided : AreDecided run (verdict_at run.domain rows edge_verdicts)) (depth : ℕ) (deep : NoneIsDeeper rows depth) where
   -- a row that covers an offer is no deeper
   covers_within : (x : Offered) (row : Row) → IsCovered run x row → offer_cycle run.domain x < length run.tables → residence row ≤ depth
-  covers_within x row covered inside = by (verdict_at run.domain rows judgements x) refl (decided x covered.offered inside)
+  covers_within x row covered inside = by (verdict_at run.domain rows edge_verdicts x) refl (decided x covered.offered inside)
     where
-      by : (v : Verdict) → verdict_at run.domain rows judgements x ≡ v → IsDecided run x v → residence row ≤ depth
+      by : (v : Verdict) → verdict_at run.domain rows edge_verdicts x ≡ v → IsDecided run x v → residence row ≤ depth
       by (Queued other) is by_other =
           let from = queued_row rows (offer_cycle run.domain x) _ other is in
           let same : other ≡ row = some_same other row (sym by_other.named ∙ covered.named) in

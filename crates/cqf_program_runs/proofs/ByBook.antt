@@ -17,10 +17,10 @@ use Rattle.cqf_model.specs.Promise.{SaysTheShift, IsDecided}
 use Rattle.cqf_topology.specs.PlannedText.{PlannedText}
 use Rattle.cqf_laws_shift.proofs.Came.{one_number}
 use Rattle.cqf_laws_shift.proofs.Decided.{covered_judged, uncovered_judged}
-use Rattle.cqf_laws_report.specs.Counted.{AreDecided}
-use Rattle.cqf_program_runs.specs.declared.delivery.Passage.TheVariants as passage
-use Rattle.cqf_program_runs.specs.declared.delivery.Delivery.{Delivery}
-use Rattle.cqf_program_runs.specs.ByVerdict.{deliveries_for, deliveries_of_all, deliveries_within}
+use Rattle.cqf_laws_coverage.specs.Counted.{AreDecided}
+use Rattle.cqf_program_runs.specs.declared.deliveries.delivery.Passage.TheVariants as passage
+use Rattle.cqf_program_runs.specs.declared.deliveries.delivery.Delivery.{Delivery}
+use Rattle.cqf_program_runs.specs.Deliveries.ByVerdict.{deliveries_for, deliveries_of_all, deliveries_within}
 use Rattle.cqf_program_runs.specs.Deliveries.{deadline_named, deliveries_by, deliveries_of, deliveries_of_offer}
 use Rattle.cqf_program_runs.specs.Deliveries.{deliveries_to, deliveries_unless, delivery_of, drop_of, whole_on}
 

@@ -8,8 +8,8 @@ use Rattle.cqf_model.specs.declared.history.Refused.{Refused}
 use Rattle.cqf_model.specs.declared.history.Reply.{Reply}
 use Rattle.cqf_model.specs.declared.history.Reply.TheVariants.{Accepted, Sealed, Refused as RefusedFor}
 use Rattle.cqf_model.specs.History.{Recorded, is_seal}
-use Rattle.cqf_program_runs.specs.CheckLaws.{NoneIsRefused}
-use Rattle.cqf_program_runs.specs.RefusedCalls.{first_refused, is_refused, numbered_calls, refused_call_line}
+use Rattle.cqf_program_runs.specs.Check.Laws.{NoneIsRefused}
+use Rattle.cqf_program_runs.specs.Check.RefusedCalls.{first_refused, is_refused, numbered_calls, refused_call_line}
 use Rattle.cqf_program_runs.proofs.Fates.{none_found, none_passes}
 
 -- a check that is well found no refused call

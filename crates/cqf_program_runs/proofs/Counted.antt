@@ -9,12 +9,12 @@ use Rattle.std.proofs.lemmas.List.Folds.{find-append}
 use Rattle.std.proofs.lemmas.List.Sums.{length-filter}
 use Rattle.cqf_model.specs.declared.frames.Offered.{Offered}
 use Rattle.cqf_model.specs.Traffic.{numbered}
-use Rattle.cqf_program_runs.specs.declared.checked.Counts.{Counts}
-use Rattle.cqf_program_runs.specs.declared.delivery.Delivery.{Delivery}
-use Rattle.cqf_program_runs.specs.Checked.{counts_of, is_bad, is_delivered, is_timed, is_under_way}
-use Rattle.cqf_program_runs.specs.Counting.{NoneBad}
+use Rattle.cqf_program_runs.specs.declared.check.checked.CheckCounts.{CheckCounts}
+use Rattle.cqf_program_runs.specs.declared.deliveries.delivery.Delivery.{Delivery}
+use Rattle.cqf_program_runs.specs.Check.Checked.{counts_of, is_bad, is_delivered, is_timed, is_under_way}
+use Rattle.cqf_program_runs.specs.Check.Counting.{NoneBad}
 use Rattle.cqf_program_runs.specs.Deliveries.{fate_of}
-use Rattle.cqf_program_runs.specs.Ending.{Over, deliveries_among, deliveries_at, deliveries_over}
+use Rattle.cqf_program_runs.specs.Deliveries.Ending.{Over, deliveries_among, deliveries_at, deliveries_over}
 use Rattle.cqf_program_runs.proofs.OneMore.{among_more}
 
 -- how many of two lists pass
@@ -34,7 +34,7 @@ abbrev is_there_timed : Delivery → Bool
 is_there_timed delivery = is_delivered (fate_of delivery) && is_timed delivery.passage
 
 -- some more are counted
-pub counted_more : (counts : Counts) (frames later u v w : ℕ) (done here : List Delivery) → u ≡ count_by goes here → v ≡ count_by is_there here →
+pub counted_more : (counts : CheckCounts) (frames later u v w : ℕ) (done here : List Delivery) → u ≡ count_by goes here → v ≡ count_by is_there here →
     w ≡ count_by is_there_timed here → counts ≡ counts_of frames later done →
     record { frames = counts.frames; later = counts.later; under_way = counts.under_way + u; delivered = counts.delivered + v; timed = counts.timed + w }
     ≡ counts_of frames later (done ++ here)

@@ -3,9 +3,9 @@ use Rattle.std.proofs.Common.{◌≡◌, ◌∙◌, ◌&&◌, ℕ, Bool, true, f
 use Rattle.std.proofs.lemmas.Bool.{cases_Bool, false≢true}
 use Rattle.cqf_lists.proofs.Members.{find_member, find_some}
 use Rattle.cqf_lists.proofs.Sums.{sum_member, sum_none}
-use Rattle.cqf_program_runs.specs.declared.delivery.Fate.{Fate}
-use Rattle.cqf_program_runs.specs.declared.delivery.Fate.TheVariants as fate
-use Rattle.cqf_program_runs.specs.Checked.{is_bad, is_under_way}
+use Rattle.cqf_program_runs.specs.declared.deliveries.delivery.Fate.{Fate}
+use Rattle.cqf_program_runs.specs.declared.deliveries.delivery.Fate.TheVariants as fate
+use Rattle.cqf_program_runs.specs.Check.Checked.{is_bad, is_under_way}
 
 -- both of two tests pass
 pub first_passes : (p q : Bool) → (p && q) ≡ true → p ≡ true

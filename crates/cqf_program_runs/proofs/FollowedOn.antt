@@ -14,12 +14,12 @@ use Rattle.cqf_instants.specs.declared.basis.Basis.{Basis}
 use Rattle.cqf_model.specs.declared.frames.Offer.{Offer}
 use Rattle.cqf_model.specs.declared.frames.Started.{Started}
 use Rattle.cqf_model.specs.declared.topology.Row.{Row}
-use Rattle.cqf_laws_report.specs.Judged.{StandInOrder}
-use Rattle.cqf_program_runs.specs.declared.under_way.UnderWay.{UnderWay}
+use Rattle.cqf_laws_coverage.specs.Judged.{StandInOrder}
+use Rattle.cqf_program_runs.specs.declared.deliveries.under_way.UnderWay.{UnderWay}
 use Rattle.cqf_program_runs.specs.Deliveries.{whole_on}
-use Rattle.cqf_program_runs.specs.Ending.{IsOver, Over}
-use Rattle.cqf_program_runs.specs.Following.{IsBehind, IsBookBehind, IsFollowed}
-use Rattle.cqf_program_runs.specs.UnderWay.{AreSlots, GoesOn, IsLaid, IsWideFor, TellsInTime, TellsUpTo, TellsWhole, row_at, slots_of, starts_told}
+use Rattle.cqf_program_runs.specs.Deliveries.Ending.{IsOver, Over}
+use Rattle.cqf_program_runs.specs.Deliveries.Following.{IsBehind, IsBookBehind, IsFollowed}
+use Rattle.cqf_program_runs.specs.Deliveries.UnderWay.{AreSlots, GoesOn, IsLaid, IsWideFor, TellsInTime, TellsUpTo, TellsWhole, row_at, slots_of, starts_told}
 use Rattle.cqf_program_runs.proofs.InOrder.{in_order}
 use Rattle.cqf_program_runs.proofs.KeptSlots.{row_at_within, slots_next}
 use Rattle.cqf_program_runs.proofs.ToldStarts.{all_told, none_whole, told_in, told_later}
@@ -31,7 +31,7 @@ tells_in_time over place under_way followed =
 
 module _ (over : Over) (place : ℕ) (old told new : UnderWay) (offer : Offer) (at : slice_get over.offers place ≡ Some offer)
     (followed : IsFollowed over place old)
-    (tells : TellsUpTo over.domain over.rows over.judgements place (cycle_at over.domain.cycle_time offer.at.0 + old.depth) old told) where
+    (tells : TellsUpTo over.domain over.rows over.edge_verdicts place (cycle_at over.domain.cycle_time offer.at.0 + old.depth) old told) where
   abbrev given : GivenRun
   given = followed.given
 
@@ -45,7 +45,7 @@ module _ (over : Over) (place : ℕ) (old told new : UnderWay) (offer : Offer) (
   behind : (s : Started) → Contains (starts_told given cycles) s → IsBehind over.domain.cycle_time old.depth over.offers s
   behind s among = All-contains (IsBehind over.domain.cycle_time old.depth over.offers) (starts_told given cycles) s followed.book.behind among
 
-  slots : AreSlots over.domain over.rows over.judgements (starts_told given told.pass.told) place followed.width (slots_of told.slots.items)
+  slots : AreSlots over.domain over.rows over.edge_verdicts (starts_told given told.pass.told) place followed.width (slots_of told.slots.items)
   slots = tells.noted given followed.width followed.book.is followed.slots
 
   within : told.pass.told ≤ cycles
@@ -55,23 +55,23 @@ module _ (over : Over) (place : ℕ) (old told new : UnderWay) (offer : Offer) (
   some = omega (arith, followed.some, tells.as_many, length-map told.slots.items (λ (slot : Vec (Option Nanos) Global). slot.items))
 
   -- what is kept of the offer's frame tells when it is whole
-  pub first_tells : TellsWhole over.domain (row_at over.rows over.judgements place) (get_or (slots_of told.slots.items) 0 []) (over.whole (place + 1))
+  pub first_tells : TellsWhole over.domain (row_at over.rows over.edge_verdicts place) (get_or (slots_of told.slots.items) 0 []) (over.whole (place + 1))
   first_tells row link column found at_column =
       let here : place + 0 ≡ place = omega arith in
-      slots.tell 0 some row link column (ap (row_at over.rows over.judgements) here ∙ found) at_column
+      slots.tell 0 some row link column (ap (row_at over.rows over.edge_verdicts) here ∙ found) at_column
       ∙ ap (λ (k : ℕ). whole_on over.domain (starts_told given told.pass.told) (k + 1) link) here
       ∙ all_told given over.domain told.pass.told (place + 1) link cycles within (λ s among frame.
       omega (arith, tells.counted, tells.all s.cycle.0 ((behind s among).soon place offer at frame) (told_in given cycles s among)))
       ∙ sym (λ i. followed.book.whole i (place + 1) link)
 
   -- and nothing is told of the frame behind the last one that is kept
-  none_behind : (row : Row) (link : ℕ) → row_at over.rows over.judgements (place + length (slots_of told.slots.items)) ≡ Some row →
+  none_behind : (row : Row) (link : ℕ) → row_at over.rows over.edge_verdicts (place + length (slots_of told.slots.items)) ≡ Some row →
       whole_on over.domain (starts_told given told.pass.told) (place + length (slots_of told.slots.items) + 1) link ≡ None
   none_behind row link found =
       let many : length (slots_of told.slots.items) ≡ length old.slots.items =
       length-map told.slots.items (λ (slot : Vec (Option Nanos) Global). slot.items) ∙ tells.as_many in
       let last = place + length (slots_of told.slots.items) in
-      let inside : last < length over.offers = omega (arith, row_at_within over.rows over.judgements last row found, followed.is_over.judged) in
+      let inside : last < length over.offers = omega (arith, row_at_within over.rows over.edge_verdicts last row found, followed.is_over.judged) in
       let late = get_or over.offers last offer in
       let at_late : slice_get over.offers last ≡ Some late = slice_get-get_or over.offers last offer inside in
       let deep : own + old.depth ≤ cycle_at over.domain.cycle_time late.at.0 =
@@ -106,9 +106,9 @@ module _ (over : Over) (place : ℕ) (old told new : UnderWay) (offer : Offer) (
         some = omega (arith, followed.some, same_many);
         enough = subst (λ (many : ℕ). IsWideFor over.domain.cycle_time new.depth over.offers many) (sym same_many)
             (subst (λ (depth : ℕ). IsWideFor over.domain.cycle_time depth over.offers (length old.slots.items)) (sym same_depth) followed.enough);
-        slots = subst (λ (n : ℕ). AreSlots over.domain over.rows over.judgements (starts_told given n) (place + 1) followed.width (slots_of new.slots.items))
+        slots = subst (λ (n : ℕ). AreSlots over.domain over.rows over.edge_verdicts (starts_told given n) (place + 1) followed.width (slots_of new.slots.items))
             (sym same_told)
-            (slots_next over.domain over.rows over.judgements (starts_told given told.pass.told) place followed.width on.emptied
+            (slots_next over.domain over.rows over.edge_verdicts (starts_told given told.pass.told) place followed.width on.emptied
             (slots_of told.slots.items) (slots_of new.slots.items) some slots (on.as_wide ∙ slots.wide 0 some) on.none on.slots none_behind);
         early = λ later later_offer behind_it at_later.
             let rises = in_order over.domain.cycle_time over.offers followed.ordered place later offer later_offer (omega (arith, behind_it)) at at_later in
@@ -133,7 +133,7 @@ followed_first over under_way given is_over ordered fresh laid book =
       within = omega (arith, laid.fresh);
       some = laid.some;
       enough = laid.enough;
-      slots = subst (λ (n : ℕ). AreSlots over.domain over.rows over.judgements (starts_told given n) 0 laid.width (slots_of under_way.slots.items))
+      slots = subst (λ (n : ℕ). AreSlots over.domain over.rows over.edge_verdicts (starts_told given n) 0 laid.width (slots_of under_way.slots.items))
           (sym fresh)
           (record {
             room = laid.room;

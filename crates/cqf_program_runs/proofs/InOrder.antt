@@ -1,5 +1,5 @@
 -- Offers in order of instant are in order of cycle, and so many places behind one there is one of a cycle so deep behind its own.
-use Rattle.std.proofs.Common.{◌≡◌, ◌∙◌, ◌+◌, ◌-◌, ◌/◌, ◌<◌, ◌≤◌, ◌⊎◌, ℕ, List, Some, ap, arith, get_or, inl, inr, length, sym}
+use Rattle.std.proofs.Common.{◌≡◌, ◌∙◌, ◌+◌, ◌-◌, ◌/◌, ◌<◌, ◌≤◌, ℕ, List, Some, ap, arith, get_or, inl, inr, length, sym}
 use Rattle.std.specs.Prelude.{slice_get, suc, zero}
 use Rattle.std.proofs.lemmas.Bool.{cases_lt}
 use Rattle.std.proofs.lemmas.Option.{get_or_from_slice_get, slice_get-get_or, slice_get_within}
@@ -7,7 +7,7 @@ use Rattle.std.proofs.Math.Nat.{div-zero}
 use Rattle.cqf_units.specs.Timing.{cycle_at}
 use Rattle.cqf_units.proofs.Cycles.{cycles_ordered}
 use Rattle.cqf_model.specs.declared.frames.Offer.{Offer}
-use Rattle.cqf_laws_report.specs.Judged.{StandInOrder}
+use Rattle.cqf_laws_coverage.specs.Judged.{StandInOrder}
 
 -- a later instant is in no earlier cycle
 pub cycles_rise : (n s t : ℕ) → s ≤ t → s / n ≤ t / n

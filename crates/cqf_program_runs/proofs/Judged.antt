@@ -19,25 +19,25 @@ use Rattle.cqf_topology.specs.declared.paced.PacedRequest.{PacedRequest}
 use Rattle.cqf_topology.specs.PlannedText.{PlannedText}
 use Rattle.cqf_admission.specs.Asking.{asked_by, asked_paced}
 use Rattle.cqf_lists.proofs.Mapped.{position-map}
-use Rattle.cqf_admission_requests.specs.Names.{place_named}
+use Rattle.cqf_admission.specs.Names.{place_named}
 use Rattle.cqf_lists.proofs.Firsts.{found_nowhere, found_there}
-use Rattle.cqf_laws_report.specs.Counted.{AreDecided}
-use Rattle.cqf_laws_report.specs.Judged.{OffersAreJudged, StandInOrder}
-use Rattle.cqf_instants_coverage.specs.declared.judged.Judgement.{Judgement}
-use Rattle.cqf_instants_coverage.specs.Coverage.{AreJudged}
-use Rattle.cqf_instants_columns.specs.Columns.{verdict_at}
-use Rattle.cqf_instants_columns.proofs.Judged.{at_place}
-use Rattle.cqf_program_plans.specs.LatencyInput.{deadlines_in}
+use Rattle.cqf_laws_coverage.specs.Counted.{AreDecided}
+use Rattle.cqf_laws_coverage.specs.Judged.{OffersAreJudged, StandInOrder}
+use Rattle.cqf_instants_run.specs.declared.judged.EdgeVerdict.{EdgeVerdict}
+use Rattle.cqf_instants_run.specs.Coverage.{AreJudged}
+use Rattle.cqf_instants_run.specs.Columns.{verdict_at}
+use Rattle.cqf_instants_run.proofs.JudgedSums.{at_place}
+use Rattle.cqf_program_plans.specs.Latency.Input.{deadlines_in}
 use Rattle.cqf_program_scenario.specs.Books.{IsBookOfScenario}
 use Rattle.cqf_program_scenario.specs.Calls.{history_of}
 use Rattle.cqf_program_scenario.specs.Scenario.{Scenario}
-use Rattle.cqf_program_runs.specs.declared.delivery.Delivery.{Delivery}
-use Rattle.cqf_program_runs.specs.ByVerdict.{deliveries_of_all, known_by}
-use Rattle.cqf_program_runs.specs.Deadlines.{deadline_in}
+use Rattle.cqf_program_runs.specs.declared.deliveries.delivery.Delivery.{Delivery}
+use Rattle.cqf_program_runs.specs.Deliveries.ByVerdict.{deliveries_of_all, known_by}
+use Rattle.cqf_program_runs.specs.Deliveries.Deadlines.{deadline_in}
 use Rattle.cqf_program_runs.specs.Deliveries.{deadline_named, whole_on}
 use Rattle.cqf_program_runs.proofs.ByBook.{deliveries_judged}
-use Rattle.cqf_program_runs.specs.PlannedScenario.{run_of_scenario}
-use Rattle.cqf_program_runs.specs.DeliveriesReading.{AreDeliveries, ArePlannedBeside}
+use Rattle.cqf_program_runs.specs.Deliveries.PlannedScenario.{run_of_scenario}
+use Rattle.cqf_program_runs.specs.Deliveries.Reading.{AreDeliveries, ArePlannedBeside}
 
 -- what is found by a name, or nothing, has its deadline at its place
 due_at : (streams : List PlannedText) (k : ℕ) (found : Option PlannedText) → slice_get streams k ≡ found →
@@ -80,33 +80,33 @@ due_is streams requests deadlines planned name =
     by None is = ap (option_and_then (λ (planned : PlannedText). planned.1)) (found_nowhere (named name) streams is)
     by (Some k) is = due_at streams k (find (named name) streams) (found_there (named name) streams k is)
 
--- each judgement is what the definitions say
-pub judgements_decide : OffersAreJudged → (cycles : ℕ) (s : Scenario) (book : Contents) (rows : List Row) (judgements : List Judgement) →
-    IsBookOfScenario cycles s book → AreJudged s.domain (history_of cycles s) rows s.offers (length s.offers) judgements → StandInOrder s.offers →
-    AreDecided (run_of_scenario cycles s) (verdict_at s.domain rows judgements)
-judgements_decide law cycles s book rows judgements is_book judged ordered x inside within =
+-- each verdict is what the definitions say
+pub edge_verdicts_decide : OffersAreJudged → (cycles : ℕ) (s : Scenario) (book : Contents) (rows : List Row) (edge_verdicts : List EdgeVerdict) →
+    IsBookOfScenario cycles s book → AreJudged s.domain (history_of cycles s) rows s.offers (length s.offers) edge_verdicts → StandInOrder s.offers →
+    AreDecided (run_of_scenario cycles s) (verdict_at s.domain rows edge_verdicts)
+edge_verdicts_decide law cycles s book rows edge_verdicts is_book judged ordered x inside within =
     let many : length (tables_of s.domain (history_of cycles s) cycles) ≡ cycles = length-singles (table_at s.domain (history_of cycles s)) cycles in
     let early : offer_cycle s.domain x < cycles = omega (arith, within, many) in
     let sealed : cycles ≤ seals (history_of cycles s) = is_book.is_book.sealed in
     subst (IsDecided (run_of_scenario cycles s) x)
-    (sym (at_place s.domain (history_of cycles s) rows s.offers judgements judged cycles sealed x inside early))
+    (sym (at_place s.domain (history_of cycles s) rows s.offers edge_verdicts judged cycles sealed x inside early))
     (law s.domain (history_of cycles s) s.offers s.background cycles x sealed ordered inside early)
 
--- the deliveries by the judgements are those by the book
+-- the deliveries by the verdicts are those by the book
 pub AreDeliveries-made : OffersAreJudged → (cycles : ℕ) (s : Scenario) (streams : List PlannedText) (book : Contents) (rows : List Row)
-    (judgements : List Judgement) (due : List ℕ → Option ℕ) (deliveries : List Delivery) → IsBookOfScenario cycles s book →
-    AreJudged s.domain (history_of cycles s) rows s.offers (length s.offers) judgements → StandInOrder s.offers →
+    (edge_verdicts : List EdgeVerdict) (due : List ℕ → Option ℕ) (deliveries : List Delivery) → IsBookOfScenario cycles s book →
+    AreJudged s.domain (history_of cycles s) rows s.offers (length s.offers) edge_verdicts → StandInOrder s.offers →
     ((name : List ℕ) → due name ≡ deadline_named streams name) →
-    deliveries ≡ deliveries_of_all s.domain cycles (known_by due (whole_on s.domain book.starts)) (verdict_at s.domain rows judgements) (numbered s.offers) →
+    deliveries ≡ deliveries_of_all s.domain cycles (known_by due (whole_on s.domain book.starts)) (verdict_at s.domain rows edge_verdicts) (numbered s.offers) →
     AreDeliveries cycles s streams deliveries
-AreDeliveries-made law cycles s streams book rows judgements due deliveries is_book judged ordered same_due are = record {
+AreDeliveries-made law cycles s streams book rows edge_verdicts due deliveries is_book judged ordered same_due are = record {
   book = book;
   is_book = is_book;
   are = are
-      ∙ ap (λ (n : ℕ). deliveries_of_all s.domain n (known_by due (whole_on s.domain book.starts)) (verdict_at s.domain rows judgements) (numbered s.offers))
+      ∙ ap (λ (n : ℕ). deliveries_of_all s.domain n (known_by due (whole_on s.domain book.starts)) (verdict_at s.domain rows edge_verdicts) (numbered s.offers))
       (sym many)
-      ∙ deliveries_judged (run_of_scenario cycles s) streams book is_book.promise.says due same_due (verdict_at s.domain rows judgements)
-      (judgements_decide law cycles s book rows judgements is_book judged ordered);
+      ∙ deliveries_judged (run_of_scenario cycles s) streams book is_book.promise.says due same_due (verdict_at s.domain rows edge_verdicts)
+      (edge_verdicts_decide law cycles s book rows edge_verdicts is_book judged ordered);
 }
   where
     -- there is a table for each cycle
@@ -115,21 +115,21 @@ AreDeliveries-made law cycles s streams book rows judgements due deliveries is_b
 
 -- and so where they were made of the same things otherwise named
 pub AreDeliveries-run : OffersAreJudged → (cycles : ℕ) (s : Scenario) (streams : List PlannedText) (book : Contents) (d : Domain) (entries : List Recorded)
-    (offers : List Offer) (starts : List Started) (rows : List Row) (judgements : List Judgement) (due : List ℕ → Option ℕ) (deliveries : List Delivery) →
+    (offers : List Offer) (starts : List Started) (rows : List Row) (edge_verdicts : List EdgeVerdict) (due : List ℕ → Option ℕ) (deliveries : List Delivery) →
     IsBookOfScenario cycles s book → d ≡ s.domain → entries ≡ history_of cycles s → offers ≡ s.offers → starts ≡ book.starts →
-    AreJudged d entries rows offers (length offers) judgements → StandInOrder s.offers → ((name : List ℕ) → due name ≡ deadline_named streams name) →
-    deliveries ≡ deliveries_of_all d cycles (known_by due (whole_on d starts)) (verdict_at d rows judgements) (numbered offers) →
+    AreJudged d entries rows offers (length offers) edge_verdicts → StandInOrder s.offers → ((name : List ℕ) → due name ≡ deadline_named streams name) →
+    deliveries ≡ deliveries_of_all d cycles (known_by due (whole_on d starts)) (verdict_at d rows edge_verdicts) (numbered offers) →
     AreDeliveries cycles s streams deliveries
-AreDeliveries-run law cycles s streams book d entries offers starts rows judgements due deliveries is_book domain history same started judged
+AreDeliveries-run law cycles s streams book d entries offers starts rows edge_verdicts due deliveries is_book domain history same started judged
     ordered same_due are =
-    AreDeliveries-made law cycles s streams book rows judgements due deliveries is_book
-    (subst (λ (os : List Offer). AreJudged s.domain (history_of cycles s) rows os (length os) judgements) same
-    (subst (λ (es : List Recorded). AreJudged s.domain es rows offers (length offers) judgements) history
-    (subst (λ (x : Domain). AreJudged x entries rows offers (length offers) judgements) domain judged)))
+    AreDeliveries-made law cycles s streams book rows edge_verdicts due deliveries is_book
+    (subst (λ (os : List Offer). AreJudged s.domain (history_of cycles s) rows os (length os) edge_verdicts) same
+    (subst (λ (es : List Recorded). AreJudged s.domain es rows offers (length offers) edge_verdicts) history
+    (subst (λ (x : Domain). AreJudged x entries rows offers (length offers) edge_verdicts) domain judged)))
     ordered same_due
     (are
-    ∙ ap (λ (x : Domain). deliveries_of_all x cycles (known_by due (whole_on x starts)) (verdict_at x rows judgements) (numbered offers)) domain
-    ∙ ap (λ (os : List Offer). deliveries_of_all s.domain cycles (known_by due (whole_on s.domain starts)) (verdict_at s.domain rows judgements) (numbered os))
+    ∙ ap (λ (x : Domain). deliveries_of_all x cycles (known_by due (whole_on x starts)) (verdict_at x rows edge_verdicts) (numbered offers)) domain
+    ∙ ap (λ (os : List Offer). deliveries_of_all s.domain cycles (known_by due (whole_on s.domain starts)) (verdict_at s.domain rows edge_verdicts) (numbered os))
     same
-    ∙ ap (λ (ss : List Started). deliveries_of_all s.domain cycles (known_by due (whole_on s.domain ss)) (verdict_at s.domain rows judgements)
+    ∙ ap (λ (ss : List Started). deliveries_of_all s.domain cycles (known_by due (whole_on s.domain ss)) (verdict_at s.domain rows edge_verdicts)
     (numbered s.offers)) started)

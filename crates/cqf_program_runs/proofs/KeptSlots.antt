@@ -20,11 +20,11 @@ use Rattle.cqf_model.specs.declared.topology.Hop.{Hop}
 use Rattle.cqf_model.specs.declared.topology.Row.{Row}
 use Rattle.cqf_model.specs.declared.topology.Link.{Link}
 use Rattle.cqf_model.specs.Domain.{Domain, end_of}
-use Rattle.cqf_instants_coverage.specs.declared.judged.Judgement.{Judgement}
-use Rattle.cqf_instants_coverage.specs.declared.judged.Judgement.TheVariants.{Covered, Dropped}
-use Rattle.cqf_program_plans.specs.LatencyText.{is_station, listeners_of}
+use Rattle.cqf_instants_run.specs.declared.judged.EdgeVerdict.{EdgeVerdict}
+use Rattle.cqf_instants_run.specs.declared.judged.EdgeVerdict.TheVariants.{Covered, Dropped}
+use Rattle.cqf_program_plans.specs.Latency.Text.{is_station, listeners_of}
 use Rattle.cqf_program_runs.specs.Deliveries.{whole_instant, whole_on}
-use Rattle.cqf_program_runs.specs.UnderWay.{AreEmptySlots, AreSlots, KeepsFirst, KeepsInSlot, NotesAll, column_of, row_at, row_judged, slots_of}
+use Rattle.cqf_program_runs.specs.Deliveries.UnderWay.{AreEmptySlots, AreSlots, KeepsFirst, KeepsInSlot, NotesAll, column_of, row_at, row_judged, slots_of}
 
 -- what is made of the first of two
 map_or : {X Y : Type 0} (f : X → Y) (a b : Option X) → option_map f (option_or a b) ≡ option_or (option_map f a) (option_map f b)
@@ -69,22 +69,22 @@ module _ (d : Domain) (starts : List Started) (s : Started) (frame link : ℕ) w
   whole_at_first one two = by_both true (both_these s.frame s.link frame link one two)
 
 -- the row by which an offer goes on is one of the rows
-pub row_at_member : (rows : List Row) (judgements : List Judgement) (place : ℕ) (row : Row) → row_at rows judgements place ≡ Some row → Contains rows row
-row_at_member rows judgements place row found = by (slice_get judgements place) found
+pub row_at_member : (rows : List Row) (edge_verdicts : List EdgeVerdict) (place : ℕ) (row : Row) → row_at rows edge_verdicts place ≡ Some row → Contains rows row
+row_at_member rows edge_verdicts place row found = by (slice_get edge_verdicts place) found
   where
-    by : (o : Option Judgement) → option_and_then (row_judged rows) o ≡ Some row → Contains rows row
+    by : (o : Option EdgeVerdict) → option_and_then (row_judged rows) o ≡ Some row → Contains rows row
     by None e = absurd (cc)
     by (Some (Covered k)) e = contains_at rows k row e
     by (Some (Dropped reason)) e = absurd (cc)
 
--- and the offer has a judgement
-pub row_at_within : (rows : List Row) (judgements : List Judgement) (place : ℕ) (row : Row) → row_at rows judgements place ≡ Some row →
-    place < length judgements
-row_at_within rows judgements place row found = by (slice_get judgements place) refl found
+-- and the offer has a verdict
+pub row_at_within : (rows : List Row) (edge_verdicts : List EdgeVerdict) (place : ℕ) (row : Row) → row_at rows edge_verdicts place ≡ Some row →
+    place < length edge_verdicts
+row_at_within rows edge_verdicts place row found = by (slice_get edge_verdicts place) refl found
   where
-    by : (o : Option Judgement) → slice_get judgements place ≡ o → option_and_then (row_judged rows) o ≡ Some row → place < length judgements
+    by : (o : Option EdgeVerdict) → slice_get edge_verdicts place ≡ o → option_and_then (row_judged rows) o ≡ Some row → place < length edge_verdicts
     by None at e = absurd (cc)
-    by (Some judgement) at e = slice_get_within judgements place judgement at
+    by (Some edge_verdict) at e = slice_get_within edge_verdicts place edge_verdict at
 
 -- a column is one of a listener, and of one link
 pub column_within : (d : Domain) (row : Row) (link column : ℕ) → column_of d row link ≡ Some column → column < length (listeners_of d row)
@@ -249,31 +249,31 @@ same_or_other a b = elim (cases_Bool (a == b)) [
 pub some_same : {X : Type 0} (x y : X) → Some x ≡ Some y → x ≡ y
 some_same x y e = cc
 
-module _ (d : Domain) (rows : List Row) (judgements : List Judgement) (place : ℕ) where
+module _ (d : Domain) (rows : List Row) (edge_verdicts : List EdgeVerdict) (place : ℕ) where
   -- nothing more is noted
-  pub notes_none : (slots : List (List (Option Nanos))) → NotesAll d rows judgements place [] slots slots
+  pub notes_none : (slots : List (List (Option Nanos))) → NotesAll d rows edge_verdicts place [] slots slots
   notes_none slots = record {
     as_many = refl;
-    noted = λ starts width are. subst (λ (ss : List Started). AreSlots d rows judgements ss place width slots) (sym (append-nil starts)) are;
+    noted = λ starts width are. subst (λ (ss : List Started). AreSlots d rows edge_verdicts ss place width slots) (sym (append-nil starts)) are;
   }
 
   -- starts behind starts
   pub notes_then : (first second : List Started) (before between after : List (List (Option Nanos))) →
-      NotesAll d rows judgements place first before between → NotesAll d rows judgements place second between after →
-      NotesAll d rows judgements place (first ++ second) before after
+      NotesAll d rows edge_verdicts place first before between → NotesAll d rows edge_verdicts place second between after →
+      NotesAll d rows edge_verdicts place (first ++ second) before after
   notes_then first second before between after one two = record {
     as_many = two.as_many ∙ one.as_many;
     noted = λ starts width are.
-        subst (λ (ss : List Started). AreSlots d rows judgements ss place width after) (append_assoc starts first second)
+        subst (λ (ss : List Started). AreSlots d rows edge_verdicts ss place width after) (append_assoc starts first second)
         (two.noted (starts ++ first) width (one.noted starts width are));
   }
 
   module _ (s : Started) where
     -- a start that is of no frame that is kept, or comes to none of its listeners, is passed over
     pub passed_over : (slots : List (List (Option Nanos))) →
-        ((behind : ℕ) (row : Row) (column : ℕ) → behind < length slots → row_at rows judgements (place + behind) ≡ Some row →
+        ((behind : ℕ) (row : Row) (column : ℕ) → behind < length slots → row_at rows edge_verdicts (place + behind) ≡ Some row →
         column_of d row s.link ≡ Some column → s.frame ≡ place + behind + 1 → ⊥) →
-        NotesAll d rows judgements place (s ∷ []) slots slots
+        NotesAll d rows edge_verdicts place (s ∷ []) slots slots
     passed_over slots none = record {
       as_many = refl;
       noted = λ starts width are. record {
@@ -288,9 +288,9 @@ module _ (d : Domain) (rows : List Row) (judgements : List Judgement) (place : �
 
     -- and another is noted
     module _ (before after : List (List (Option Nanos))) (row : Row) (behind column : ℕ) (own : s.frame ≡ place + behind + 1)
-        (below : behind < length before) (found : row_at rows judgements (place + behind) ≡ Some row) (at : column_of d row s.link ≡ Some column)
+        (below : behind < length before) (found : row_at rows edge_verdicts (place + behind) ≡ Some row) (at : column_of d row s.link ≡ Some column)
         (keeps : KeepsInSlot before after behind column (whole_instant d s)) where
-      module _ (starts : List Started) (width : ℕ) (are : AreSlots d rows judgements starts place width before) where
+      module _ (starts : List Started) (width : ℕ) (are : AreSlots d rows edge_verdicts starts place width before) where
         wide_then : (k : ℕ) → k < length after → (k ≡ behind) ⊎ (k ≢ behind) → length (get_or after k []) ≡ width
         wide_then k inside (inl same) =
             ap (λ (j : ℕ). length (get_or after j [])) same ∙ keeps.own.as_many ∙ are.wide behind below
@@ -298,14 +298,14 @@ module _ (d : Domain) (rows : List Row) (judgements : List Judgement) (place : �
             ap (λ (slot : List (Option Nanos)). length slot) (keeps.others k other) ∙ are.wide k (omega (arith, inside, keeps.as_many))
 
         -- in the very slot
-        tell_there : (other : Row) (link c : ℕ) → row_at rows judgements (place + behind) ≡ Some other → column_of d other link ≡ Some c →
+        tell_there : (other : Row) (link c : ℕ) → row_at rows edge_verdicts (place + behind) ≡ Some other → column_of d other link ≡ Some c →
             (c ≡ column) ⊎ (c ≢ column) → get_or (get_or after behind []) c None ≡ whole_on d (starts ++ s ∷ []) (place + behind + 1) link
         tell_there other link c found_it at_it (inl same) =
             let is_row : other ≡ row = some_same other row (sym found_it ∙ found) in
             let here : column_of d row link ≡ Some column = subst (λ (r : Row). column_of d r link ≡ Some column) is_row (at_it ∙ ap Some same) in
             let on : s.link ≡ link = one_link d row s.link link column at here in
             let inside : column < length (get_or before behind []) =
-            omega (arith, column_within d row s.link column at, are.room row (row_at_member rows judgements (place + behind) row found), are.wide behind below) in
+            omega (arith, column_within d row s.link column at, are.room row (row_at_member rows edge_verdicts (place + behind) row found), are.wide behind below) in
             ap (λ (j : ℕ). get_or (get_or after behind []) j None) same
             ∙ keeps.own.own inside
             ∙ ap (λ (o : Option Nanos). option_or o (Some (whole_instant d s))) (are.tell behind below row link column found here)
@@ -318,18 +318,18 @@ module _ (d : Domain) (rows : List Row) (judgements : List Judgement) (place : �
             ∙ sym (whole_as_before d starts s (place + behind + 1) link (λ _ on.
             apart (some_same c column (sym here ∙ ap (column_of d row) (sym on) ∙ at))))
 
-        tell_then : (k : ℕ) (other : Row) (link c : ℕ) → k < length after → row_at rows judgements (place + k) ≡ Some other →
+        tell_then : (k : ℕ) (other : Row) (link c : ℕ) → k < length after → row_at rows edge_verdicts (place + k) ≡ Some other →
             column_of d other link ≡ Some c → (k ≡ behind) ⊎ (k ≢ behind) →
             get_or (get_or after k []) c None ≡ whole_on d (starts ++ s ∷ []) (place + k + 1) link
         tell_then k other link c inside found_it at_it (inl same) =
             subst (λ (j : ℕ). get_or (get_or after j []) c None ≡ whole_on d (starts ++ s ∷ []) (place + j + 1) link) (sym same)
-            (tell_there other link c (subst (λ (j : ℕ). row_at rows judgements (place + j) ≡ Some other) same found_it) at_it (same_or_other c column))
+            (tell_there other link c (subst (λ (j : ℕ). row_at rows edge_verdicts (place + j) ≡ Some other) same found_it) at_it (same_or_other c column))
         tell_then k other link c inside found_it at_it (inr apart) =
             ap (λ (slot : List (Option Nanos)). get_or slot c None) (keeps.others k apart)
             ∙ are.tell k (omega (arith, inside, keeps.as_many)) other link c found_it at_it
             ∙ sym (whole_as_before d starts s (place + k + 1) link (λ frame _. apart (omega (arith, frame, own))))
 
-      pub noted_there : NotesAll d rows judgements place (s ∷ []) before after
+      pub noted_there : NotesAll d rows edge_verdicts place (s ∷ []) before after
       noted_there = record {
         as_many = keeps.as_many;
         noted = λ starts width are. record {
@@ -340,12 +340,13 @@ module _ (d : Domain) (rows : List Row) (judgements : List Judgement) (place : �
       }
 
 -- the first slot is emptied, and is then that of the frame behind the last one, of which nothing is told
-module _ (d : Domain) (rows : List Row) (judgements : List Judgement) (starts : List Started) (place width : ℕ) (emptied : List (Option Nanos)) where
-  slots_next_of : (first : List (Option Nanos)) (more : List (List (Option Nanos))) → AreSlots d rows judgements starts place width (first ∷ more) →
+module _ (d : Domain) (rows : List Row) (edge_verdicts : List EdgeVerdict) (starts : List Started) (place width : ℕ)
+    (emptied : List (Option Nanos)) where
+  slots_next_of : (first : List (Option Nanos)) (more : List (List (Option Nanos))) → AreSlots d rows edge_verdicts starts place width (first ∷ more) →
       length emptied ≡ width → ((column : ℕ) → get_or emptied column None ≡ None) →
-      ((row : Row) (link : ℕ) → row_at rows judgements (place + (length more + 1)) ≡ Some row →
+      ((row : Row) (link : ℕ) → row_at rows edge_verdicts (place + (length more + 1)) ≡ Some row →
       whole_on d starts (place + (length more + 1) + 1) link ≡ None) →
-      AreSlots d rows judgements starts (place + 1) width (more ++ emptied ∷ [])
+      AreSlots d rows edge_verdicts starts (place + 1) width (more ++ emptied ∷ [])
   slots_next_of first more are as_wide none nothing = record {
     room = are.room;
     wide = λ behind inside. wide_at behind inside (cases_lt behind (length more));
@@ -370,29 +371,29 @@ module _ (d : Domain) (rows : List Row) (judgements : List Judgement) (starts : 
       wide_at behind inside (inr past) = ap (λ (slot : List (Option Nanos)). length slot) (last behind inside past) ∙ as_wide
 
       tell_at : (behind : ℕ) → behind < length (more ++ emptied ∷ []) → (row : Row) (link column : ℕ) →
-          row_at rows judgements (place + 1 + behind) ≡ Some row → column_of d row link ≡ Some column →
+          row_at rows edge_verdicts (place + 1 + behind) ≡ Some row → column_of d row link ≡ Some column →
           (behind < length more) ⊎ (length more ≤ behind) →
           get_or (get_or (more ++ emptied ∷ []) behind []) column None ≡ whole_on d starts (place + 1 + behind + 1) link
       tell_at behind inside row link column found at (inl before) =
           let shift : place + 1 + behind ≡ place + suc behind = omega arith in
           ap (λ (slot : List (Option Nanos)). get_or slot column None) (get_or_append_left more (emptied ∷ []) [] behind before)
-          ∙ are.tell (suc behind) (omega (arith, before)) row link column (subst (λ (k : ℕ). row_at rows judgements k ≡ Some row) shift found) at
+          ∙ are.tell (suc behind) (omega (arith, before)) row link column (subst (λ (k : ℕ). row_at rows edge_verdicts k ≡ Some row) shift found) at
           ∙ ap (λ (k : ℕ). whole_on d starts (k + 1) link) (sym shift)
       tell_at behind inside row link column found at (inr past) =
           let here : place + (length more + 1) ≡ place + 1 + behind = omega (arith, inside, past, length-append more (emptied ∷ [])) in
           ap (λ (slot : List (Option Nanos)). get_or slot column None) (last behind inside past)
           ∙ none column
-          ∙ sym (nothing row link (subst (λ (k : ℕ). row_at rows judgements k ≡ Some row) (sym here) found))
+          ∙ sym (nothing row link (subst (λ (k : ℕ). row_at rows edge_verdicts k ≡ Some row) (sym here) found))
           ∙ ap (λ (k : ℕ). whole_on d starts (k + 1) link) here
 
-  pub slots_next : (slots after : List (List (Option Nanos))) → 0 < length slots → AreSlots d rows judgements starts place width slots →
+  pub slots_next : (slots after : List (List (Option Nanos))) → 0 < length slots → AreSlots d rows edge_verdicts starts place width slots →
       length emptied ≡ width → ((column : ℕ) → get_or emptied column None ≡ None) → after ≡ drop 1 slots ++ emptied ∷ [] →
-      ((row : Row) (link : ℕ) → row_at rows judgements (place + length slots) ≡ Some row →
-      whole_on d starts (place + length slots + 1) link ≡ None) → AreSlots d rows judgements starts (place + 1) width after
+      ((row : Row) (link : ℕ) → row_at rows edge_verdicts (place + length slots) ≡ Some row →
+      whole_on d starts (place + length slots + 1) link ≡ None) → AreSlots d rows edge_verdicts starts (place + 1) width after
   slots_next [] after some are as_wide none is nothing = absurd (omega (arith, some))
   slots_next (first ∷ more) after some are as_wide none is nothing =
-      subst (λ (xs : List (List (Option Nanos))). AreSlots d rows judgements starts (place + 1) width xs) (sym is)
+      subst (λ (xs : List (List (Option Nanos))). AreSlots d rows edge_verdicts starts (place + 1) width xs) (sym is)
       (slots_next_of first more are as_wide none (λ row link found.
       let same : place + (length more + 1) ≡ place + length (first ∷ more) = omega arith in
       ap (λ (k : ℕ). whole_on d starts (k + 1) link) same
-      ∙ nothing row link (subst (λ (k : ℕ). row_at rows judgements k ≡ Some row) same found)))
+      ∙ nothing row link (subst (λ (k : ℕ). row_at rows edge_verdicts k ≡ Some row) same found)))

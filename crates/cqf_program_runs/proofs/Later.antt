@@ -6,7 +6,7 @@ use Rattle.std.proofs.lemmas.Option.{get_or_from_slice_get, slice_get_within}
 use Rattle.cqf_model.specs.declared.frames.Offer.{Offer}
 use Rattle.cqf_model.specs.declared.frames.Offered.{Offered}
 use Rattle.cqf_model.specs.Traffic.{numbered}
-use Rattle.cqf_instants_coverage.proofs.Covers.{numbered_at}
+use Rattle.cqf_instants_run.proofs.Covers.{numbered_at}
 
 module _ (late : Offered → Bool) (offers : List Offer) (place : ℕ) (offer : Offer) (at : slice_get offers place ≡ Some offer) where
   -- the offer with its number

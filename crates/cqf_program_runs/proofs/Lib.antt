@@ -1,7 +1,6 @@
 mod LineText
 mod LineRuns
 mod LineTables
-mod RunOutputs
 mod ReportOutputs
 pub mod Passed
 pub mod ByBook

@@ -2,7 +2,7 @@
 use Rattle.std.proofs.Common.{ℕ, ◌≡◌, ◌≤◌, List, length, arith, sym, subst}
 use Rattle.cqf_model.specs.declared.frames.Offer.{Offer}
 use Rattle.cqf_model.specs.Run.{AreOffers}
-use Rattle.cqf_laws_report.specs.Judged.{StandInOrder}
+use Rattle.cqf_laws_coverage.specs.Judged.{StandInOrder}
 use Rattle.cqf_program_scenario.specs.Closing.{MayBeRun}
 use Rattle.cqf_program_scenario.specs.Scenario.{Scenario}
 use Rattle.cqf_program_runs.specs.Line.{line_domain, line_scenario}

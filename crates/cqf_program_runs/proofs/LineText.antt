@@ -6,7 +6,7 @@ use Rattle.cqf_topology.specs.DomainText.{domain_of_text}
 use Rattle.cqf_model.specs.Domain.{Domain}
 use Rattle.cqf_topology.specs.declared.faults.DomainFault.{DomainFault}
 use Rattle.cqf_program_runs.specs.Line.{line_domain}
-use Rattle.cqf_program_runs.specs.declared.line_domain.TheConstants.{LINE_TEXT}
+use Rattle.cqf_program_runs.specs.declared.line.domain.TheConstants.{LINE_TEXT}
 
 -- it means the domain of the line
 pub line_text-means : domain_of_text LINE_TEXT.now ≡ Ok line_domain

@@ -10,9 +10,9 @@ use Rattle.cqf_model.specs.declared.topology.Node.{Node}
 use Rattle.cqf_model.specs.declared.topology.Node.TheVariants.{Bridge, Station}
 use Rattle.cqf_model.specs.Domain.{Domain, IsAccepted, IsNode, end_of}
 use Rattle.cqf_topology.specs.DomainText.{IsDomain}
-use Rattle.cqf_report.specs.Books.{name_of_node}
+use Rattle.cqf_topology.specs.NodeNames.{name_of_node}
 use Rattle.cqf_program_plans.specs.EndNames.{name_of_end}
-use Rattle.cqf_program_plans.specs.LatencyText.{is_station}
+use Rattle.cqf_program_plans.specs.Latency.Text.{is_station}
 
 -- a link's station is one of the domain's
 station_inside : (d : Domain) (link station : ℕ) → IsAccepted d → end_of d link ≡ Some (Station station) → station < length d.stations

@@ -27,10 +27,10 @@ use Rattle.cqf_topology.specs.DomainText.{IsDomain}
 use Rattle.cqf_topology.specs.PlannedText.{PlannedText}
 use Rattle.cqf_laws_shift.proofs.Came.{numbers_ascend}
 use Rattle.cqf_program_plans.specs.EndNames.{name_of_end}
-use Rattle.cqf_program_plans.specs.LatencyText.{is_station, listeners_of}
-use Rattle.cqf_program_runs.specs.declared.delivery.Passage.TheVariants as passage
-use Rattle.cqf_program_runs.specs.declared.delivery.Delivery.{Delivery}
-use Rattle.cqf_program_runs.specs.ArrivalLaws.{IsToldOnce, goes_to, told_of_frame, told_to}
+use Rattle.cqf_program_plans.specs.Latency.Text.{is_station, listeners_of}
+use Rattle.cqf_program_runs.specs.declared.deliveries.delivery.Passage.TheVariants as passage
+use Rattle.cqf_program_runs.specs.declared.deliveries.delivery.Delivery.{Delivery}
+use Rattle.cqf_program_runs.specs.Deliveries.ArrivalLaws.{IsToldOnce, goes_to, told_of_frame, told_to}
 use Rattle.cqf_program_runs.specs.Deliveries.{deadline_named, deliveries_by, deliveries_of_offer, deliveries_unless}
 use Rattle.cqf_program_runs.specs.Deliveries.{delivery_of, delivery_to, drop_of, whole_on}
 use Rattle.cqf_program_runs.proofs.Listeners.{one_listener}

@@ -5,10 +5,10 @@ use Rattle.std.proofs.lemmas.Option.{slice_get_cases}
 use Rattle.cqf_model.specs.declared.frames.Offer.{Offer}
 use Rattle.cqf_model.specs.declared.frames.Offered.{Offered}
 use Rattle.cqf_model.specs.Traffic.{numbered}
-use Rattle.cqf_instants_columns.specs.Columns.{verdict_at}
-use Rattle.cqf_instants_coverage.proofs.Covers.{numbered_at}
-use Rattle.cqf_program_runs.specs.declared.delivery.Delivery.{Delivery}
-use Rattle.cqf_program_runs.specs.Ending.{Over, deliveries_among, deliveries_at, known_over}
+use Rattle.cqf_instants_run.specs.Columns.{verdict_at}
+use Rattle.cqf_instants_run.proofs.Covers.{numbered_at}
+use Rattle.cqf_program_runs.specs.declared.deliveries.delivery.Delivery.{Delivery}
+use Rattle.cqf_program_runs.specs.Deliveries.Ending.{Over, deliveries_among, deliveries_at, known_over}
 use Rattle.cqf_program_runs.proofs.Passed.{deliveries_more}
 
 pub among_more : (over : Over) (place : ℕ) (here : List Delivery) → place < length over.offers →
@@ -28,5 +28,5 @@ among_more over place here within are = one (there over.offers place within)
     one found =
         ap (λ (more : List Delivery). deliveries_among over (take place (numbered over.offers)) ++ more)
         (are (record { frame = place + 1; offer = found.0 }) (numbered_at over.offers place found.0 found.1))
-        ∙ deliveries_more over.domain over.cycles (known_over over) (verdict_at over.domain over.rows over.judgements) over.offers place found.0 found.1
+        ∙ deliveries_more over.domain over.cycles (known_over over) (verdict_at over.domain over.rows over.edge_verdicts) over.offers place found.0 found.1
         (deliveries_among over (take place (numbered over.offers))) refl

@@ -1,16 +1,16 @@
 -- The line of a delivery's last fields, behind a field.
 use Rattle.std.proofs.Common.{◌∷◌, [], ℕ, List, Option}
 use Rattle.std.specs.declared.io.traits.Write as write
-use Rattle.cqf_program_press.specs.Press.{Puts}
-use Rattle.cqf_program_press.specs.declared.press.Press.{Press}
-use Rattle.cqf_program_press.specs.declared.sinks.Sink as sink
-use Rattle.cqf_program_telling.proofs.LineLemmas.{Puts-field}
+use Rattle.cqf_press.specs.Press.{Puts}
+use Rattle.cqf_press.specs.declared.press.Press.{Press}
+use Rattle.cqf_press.specs.declared.sinks.Sink as sink
+use Rattle.cqf_report.proofs.LineLemmas.{Puts-field}
 use Rattle.cqf_report.specs.Records.{Fields}
 use Rattle.cqf_report.specs.Written.{line_of_fields}
-use Rattle.cqf_program_plans.specs.LatencyText.{text_of_deadline}
-use Rattle.cqf_program_runs.specs.declared.delivery.Passage.{Passage}
-use Rattle.cqf_program_runs.specs.declared.delivery.Passage.TheVariants.{Dropped, Goes}
-use Rattle.cqf_program_runs.specs.DeliveriesText.{passage_fields, text_of_instant, text_of_listeners_latency}
+use Rattle.cqf_program_plans.specs.Latency.Text.{text_of_deadline}
+use Rattle.cqf_program_runs.specs.declared.deliveries.delivery.Passage.{Passage}
+use Rattle.cqf_program_runs.specs.declared.deliveries.delivery.Passage.TheVariants.{Dropped, Goes}
+use Rattle.cqf_program_runs.specs.Deliveries.Text.{passage_fields, text_of_instant, text_of_listeners_latency}
 
 -- a field, a comma, and the fields of a passage
 pub Puts-passage : {W : Type 0} {s : sink.Ghosts W} {w : write.Ghosts W} {contents : W → Option (List ℕ)}

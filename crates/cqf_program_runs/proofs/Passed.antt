@@ -11,13 +11,13 @@ use Rattle.cqf_model.specs.declared.frames.Reason.TheVariants.{Unknown}
 use Rattle.cqf_model.specs.declared.topology.Row.{Row}
 use Rattle.cqf_model.specs.Domain.{Domain}
 use Rattle.cqf_model.specs.Traffic.{Verdict, numbered}
-use Rattle.cqf_instants_coverage.specs.declared.judged.Judgement.{Judgement}
-use Rattle.cqf_instants_coverage.specs.declared.judged.Judgement.TheVariants.{Dropped}
-use Rattle.cqf_instants_coverage.specs.Coverage.{verdict_of}
-use Rattle.cqf_instants_coverage.proofs.Covers.{numbered_at}
-use Rattle.cqf_instants_columns.specs.Columns.{verdict_at}
-use Rattle.cqf_program_runs.specs.declared.delivery.Delivery.{Delivery}
-use Rattle.cqf_program_runs.specs.ByVerdict.{Known, deliveries_of_all, deliveries_within}
+use Rattle.cqf_instants_run.specs.declared.judged.EdgeVerdict.{EdgeVerdict}
+use Rattle.cqf_instants_run.specs.declared.judged.EdgeVerdict.TheVariants.{Dropped}
+use Rattle.cqf_instants_run.specs.Coverage.{verdict_of}
+use Rattle.cqf_instants_run.proofs.Covers.{numbered_at}
+use Rattle.cqf_instants_run.specs.Columns.{verdict_at}
+use Rattle.cqf_program_runs.specs.declared.deliveries.delivery.Delivery.{Delivery}
+use Rattle.cqf_program_runs.specs.Deliveries.ByVerdict.{Known, deliveries_of_all, deliveries_within}
 
 module _ (d : Domain) (cycles : ℕ) (known : Known) (verdict : Offered → Verdict) (offers : List Offer) (place : ℕ) (offer : Offer)
     (at : slice_get offers place ≡ Some offer) where
@@ -33,12 +33,12 @@ module _ (d : Domain) (cycles : ℕ) (known : Known) (verdict : Offered → Verd
       ∙ sym (flat_map_found (deliveries_within d cycles known verdict) (numbered offers) place (deliveries_within d cycles known verdict x)
       (ap (option_map (deliveries_within d cycles known verdict)) (numbered_at offers place offer at)))
 
--- the verdict on it is that of the judgement at its place
-pub verdict_here : (d : Domain) (rows : List Row) (judgements : List Judgement) (place : ℕ) (offer : Offer) (other : Judgement) →
-    place < length judgements →
-    verdict_of rows (cycle_at d.cycle_time offer.at.0) (get_or judgements place other)
-    ≡ verdict_at d rows judgements (record { frame = place + 1; offer = offer })
-verdict_here d rows judgements place offer other inside =
+-- the verdict on it is that of the verdict at its place
+pub verdict_here : (d : Domain) (rows : List Row) (edge_verdicts : List EdgeVerdict) (place : ℕ) (offer : Offer) (other : EdgeVerdict) →
+    place < length edge_verdicts →
+    verdict_of rows (cycle_at d.cycle_time offer.at.0) (get_or edge_verdicts place other)
+    ≡ verdict_at d rows edge_verdicts (record { frame = place + 1; offer = offer })
+verdict_here d rows edge_verdicts place offer other inside =
     let back : place ≡ place + 1 - 1 = omega arith in
-    ap (λ (j : Judgement). verdict_of rows (cycle_at d.cycle_time offer.at.0) j)
-    (get_or_default judgements place other (Dropped Unknown) inside ∙ ap (λ (k : ℕ). get_or judgements k (Dropped Unknown)) back)
+    ap (λ (j : EdgeVerdict). verdict_of rows (cycle_at d.cycle_time offer.at.0) j)
+    (get_or_default edge_verdicts place other (Dropped Unknown) inside ∙ ap (λ (k : ℕ). get_or edge_verdicts k (Dropped Unknown)) back)

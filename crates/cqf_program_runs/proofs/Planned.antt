@@ -10,11 +10,11 @@ use Rattle.cqf_topology.specs.PlannedText.{PlannedText, planned_of_text}
 use Rattle.cqf_admission.specs.Asking.{asked_paced}
 use Rattle.cqf_program_scenario.specs.Lines.{domain_line, streams_line}
 use Rattle.cqf_program_scenario.specs.Parts.{RunTexts}
-use Rattle.cqf_program_plans.specs.LatencyInput.{asked_in}
+use Rattle.cqf_program_plans.specs.Latency.Input.{asked_in}
 use Rattle.cqf_program_scenario.specs.Scenario.{Scenario, scenario_behind}
-use Rattle.cqf_program_stop.specs.declared.stops.Stop.{Stop}
-use Rattle.cqf_program_stop.specs.Stops.{IsRefused, or_line}
-use Rattle.cqf_program_runs.specs.PlannedScenario.{planned_scenario_of}
+use Rattle.cqf_press.specs.declared.stops.Stop.{Stop}
+use Rattle.cqf_press.specs.Stops.{IsRefused, or_line}
+use Rattle.cqf_program_runs.specs.Deliveries.PlannedScenario.{planned_scenario_of}
 
 module _ (limits : Limits) (cycles : ℕ) (texts : RunTexts) (d : Domain) (streams : List PlannedText)
     (domain : domain_within limits texts.domain ≡ Ok d) (read : planned_of_text texts.streams ≡ Ok streams) where

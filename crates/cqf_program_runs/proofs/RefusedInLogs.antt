@@ -8,14 +8,14 @@ use Rattle.cqf_lists.proofs.Filters.{filter-map, filter_alike}
 use Rattle.cqf_lists.proofs.Members.{contains_at, contains_from_filter, find_member}
 use Rattle.cqf_lists.proofs.Numbered.{enum_at}
 use Rattle.cqf_model.specs.History.{Asked, Recorded, is_seal}
-use Rattle.cqf_laws_report.proofs.Found.{find-map}
+use Rattle.cqf_laws_coverage.proofs.Found.{find-map}
 use Rattle.cqf_admission.specs.declared.logs.Logged.{Logged}
 use Rattle.cqf_admission.specs.Ledger.{recorded_in}
-use Rattle.cqf_admission_requests.specs.declared.orders.What.{What}
-use Rattle.cqf_admission_requests.specs.declared.orders.What.TheVariants.{Admit, Seal, Withdraw}
-use Rattle.cqf_admission_requests.specs.Orders.{act_in}
-use Rattle.cqf_program_runs.specs.RefusedCalls.{first_refused, is_refused}
-use Rattle.cqf_program_runs.specs.RefusedInLog.{is_call, refused_from}
+use Rattle.cqf_admission.specs.declared.orders.What.{What}
+use Rattle.cqf_admission.specs.declared.orders.What.TheVariants.{Admit, Seal, Withdraw}
+use Rattle.cqf_admission.specs.Orders.{act_in}
+use Rattle.cqf_program_runs.specs.Check.RefusedCalls.{first_refused, is_refused}
+use Rattle.cqf_program_runs.specs.Check.RefusedInLog.{is_call, refused_from}
 
 -- numbered elements of a mapped list
 enumerate_from-map : {X Y : Type 0} (f : X → Y) (n : ℕ) (xs : List X) →

@@ -1,5 +1,5 @@
 -- The deliveries of an offer by what is kept of its frame.
-use Rattle.std.proofs.Common.{◌≡◌, ◌∙◌, ◌+◌, ◌==◌, ℕ, true, List, Option, Some, None, Contains, ap, arith, refl, sym}
+use Rattle.std.proofs.Common.{◌≡◌, ◌∙◌, ◌==◌, ℕ, true, List, Option, Some, None, Contains, ap, arith, refl, sym}
 use Rattle.std.specs.Option.{option_and_then}
 use Rattle.std.proofs.lemmas.Bool.{false≢true}
 use Rattle.std.proofs.lemmas.Bool.Decides.{nat_tests}
@@ -12,9 +12,9 @@ use Rattle.cqf_model.specs.declared.topology.Hop.{Hop}
 use Rattle.cqf_model.specs.declared.topology.Row.{Row}
 use Rattle.cqf_model.specs.Domain.{Domain}
 use Rattle.std.specs.Prelude.{is_some, slice_index_or}
-use Rattle.cqf_program_plans.specs.LatencyText.{listeners_of}
+use Rattle.cqf_program_plans.specs.Latency.Text.{listeners_of}
 use Rattle.cqf_program_runs.specs.Deliveries.{deliveries_to, delivery_to}
-use Rattle.cqf_program_runs.specs.UnderWay.{TellsWhole, column_of, whole_in}
+use Rattle.cqf_program_runs.specs.Deliveries.UnderWay.{TellsWhole, column_of, whole_in}
 
 -- a listener of a row has a column
 has_column : (d : Domain) (row : Row) (hop : Hop) → Contains (listeners_of d row) hop → (column : ℕ) × (column_of d row hop.link ≡ Some column)

@@ -12,26 +12,28 @@ use Rattle.cqf_topology.specs.PlannedText.{PlannedText}
 use Rattle.cqf_admission.specs.Asking.{asked_paced}
 use Rattle.cqf_admission.specs.declared.logs.Logged.{Logged}
 use Rattle.cqf_admission.specs.Ledger.{recorded_in}
-use Rattle.cqf_program_scenario.specs.declared.given.Given.{Given}
+use Rattle.cqf_program_scenario.specs.declared.given.RunInput.{RunInput}
 use Rattle.cqf_program_scenario.specs.Calls.{history_of}
-use Rattle.cqf_program_scenario.specs.Ran.{IsRunOf}
+use Rattle.cqf_program_scenario.specs.declared.outcomes.ScenarioOutcome.{ScenarioOutcome}
+use Rattle.cqf_program_scenario.specs.Books.{IsBookOfScenario}
+use Rattle.cqf_program_scenario.specs.Outcomes.{IsOutcomeOf}
 use Rattle.cqf_program_scenario.specs.Closing.{scenario_given}
 use Rattle.cqf_program_scenario.specs.Scenario.{Scenario}
-use Rattle.cqf_program_stop.specs.declared.stops.Stop.{Stop}
-use Rattle.cqf_program_stop.specs.Stops.{EndsWith, IsRefused}
-use Rattle.cqf_program_runs.specs.declared.checked.Counts.{Counts}
-use Rattle.cqf_program_runs.specs.declared.delivery.Delivery.{Delivery}
-use Rattle.cqf_program_runs.specs.Checked.{checked_by, checked_deliveries, complaint_line, counts_of, finished, is_bad, later_offers}
+use Rattle.cqf_press.specs.declared.stops.Stop.{Stop}
+use Rattle.cqf_press.specs.Stops.{EndsWith, IsRefused}
+use Rattle.cqf_program_runs.specs.declared.check.checked.CheckCounts.{CheckCounts}
+use Rattle.cqf_program_runs.specs.declared.deliveries.delivery.Delivery.{Delivery}
+use Rattle.cqf_program_runs.specs.Check.Checked.{checked_by, checked_deliveries, complaint_line, counts_of, finished, is_bad, later_offers}
 use Rattle.cqf_program_runs.specs.Deliveries.{fate_of}
-use Rattle.cqf_program_runs.specs.DeliveriesText.{text_of_deliveries}
-use Rattle.cqf_program_runs.specs.declared.deliveries_reading.PlannedGiven.{PlannedGiven}
-use Rattle.cqf_program_runs.specs.Checking.{IsCheckedGiven, IsRefusedGiven}
-use Rattle.cqf_program_runs.specs.CheckOutput.{IsCheckRefusal, IsChecked, IsCheckedOf, IsCheckedScenario}
-use Rattle.cqf_program_runs.specs.DeliveriesOutput.{IsDeliveriesOutput}
-use Rattle.cqf_program_runs.specs.PlannedScenario.{planned_scenario, run_of_scenario}
-use Rattle.cqf_program_runs.specs.DeliveriesReading.{AreDeliveries, AreDeliveriesOf, IsPlannedGiven}
-use Rattle.cqf_program_runs.specs.RefusedCalls.{first_refused, refused_call_line}
-use Rattle.cqf_program_runs.specs.RefusedInLog.{refused_from}
+use Rattle.cqf_program_runs.specs.Deliveries.Text.{text_of_deliveries}
+use Rattle.cqf_program_runs.specs.declared.deliveries.reading.PlannedGiven.{PlannedGiven}
+use Rattle.cqf_program_runs.specs.Check.Checking.{IsCheckedGiven, IsRefusedGiven}
+use Rattle.cqf_program_runs.specs.Check.Output.{IsCheckRefusal, IsChecked, IsCheckedOf, IsCheckedScenario}
+use Rattle.cqf_program_runs.specs.Deliveries.Output.{IsDeliveriesOutput}
+use Rattle.cqf_program_runs.specs.Deliveries.PlannedScenario.{planned_scenario, run_of_scenario}
+use Rattle.cqf_program_runs.specs.Deliveries.Reading.{AreDeliveries, AreDeliveriesOf, IsPlannedGiven}
+use Rattle.cqf_program_runs.specs.Check.RefusedCalls.{first_refused, refused_call_line}
+use Rattle.cqf_program_runs.specs.Check.RefusedInLog.{refused_from}
 use Rattle.cqf_program_runs.proofs.RefusedInLogs.{first_refused-log}
 
 -- the text of the deliveries is the output
@@ -90,7 +92,7 @@ IsCheckRefusal-read limits cycles input stop refused = record {
 }
 
 -- what is told of deliveries where none is bad, and where one is
-module _ (deliveries : List Delivery) (counts : Counts) where
+module _ (deliveries : List Delivery) (counts : CheckCounts) where
   pub checked_none : find (λ (delivery : Delivery). is_bad (fate_of delivery)) deliveries ≡ None → checked_by deliveries counts ≡ finished counts
   checked_none is = ap (λ (found : Option Delivery). refuse found complaint_line (finished counts)) is
 
@@ -107,7 +109,7 @@ IsRefused-line found line stop is ends = record {
 }
 
 -- what is told of the deliveries that were made is told of what was read
-module _ (cycles : ℕ) (planned : PlannedGiven) (deliveries : List Delivery) (counts : Counts)
+module _ (cycles : ℕ) (planned : PlannedGiven) (deliveries : List Delivery) (counts : CheckCounts)
     (granted : first_refused (history_of cycles (scenario_given planned.given)) ≡ None) (are : AreDeliveriesOf cycles planned deliveries)
     (counted : counts ≡ counts_of (length planned.given.offers.items)
     (count_by (λ (x : Offered). nat_le cycles (offer_cycle planned.given.domain x)) (numbered planned.given.offers.items)) deliveries) where
@@ -125,26 +127,27 @@ module _ (cycles : ℕ) (planned : PlannedGiven) (deliveries : List Delivery) (c
     memory = refused.memory;
   }
 
--- the first call of a log that is refused is that of the scenario's history
-pub refused_is : (cycles : ℕ) (given : Given) (log : List Logged) (book : Contents) (first : Option (ℕ × Logged)) → IsRunOf cycles given log book →
-    refused_from 1 log ≡ first → first_refused (history_of cycles (scenario_given given))
+-- the first refused call of a scenario's log is that of its history
+pub refused_is : (cycles : ℕ) (given : RunInput) (outcome : ScenarioOutcome) (first : Option (ℕ × Logged)) → IsOutcomeOf cycles given outcome →
+    refused_from 1 outcome.entries.items ≡ first → first_refused (history_of cycles (scenario_given given))
     ≡ option_map (λ (call : ℕ × Logged). (call.0, recorded_in (map asked_paced given.requests.items) given.script.items call.1)) first
-refused_is cycles given log book first ran is =
-    ap first_refused (sym ran.entries) ∙ first_refused-log (map asked_paced given.requests.items) given.script.items log
+refused_is cycles given outcome first comes is =
+    ap first_refused (sym comes.entries) ∙ first_refused-log (map asked_paced given.requests.items) given.script.items outcome.entries.items
     ∙ ap (option_map (λ (call : ℕ × Logged). (call.0, recorded_in (map asked_paced given.requests.items) given.script.items call.1))) is
 
 -- and its line is told of what was read
-pub IsRefusedGiven-call : (cycles : ℕ) (planned : PlannedGiven) (log : List Logged) (book : Contents) (call : ℕ × Logged) (stop : Stop) →
-    IsRunOf cycles planned.given log book → refused_from 1 log ≡ Some call →
+pub IsRefusedGiven-call : (cycles : ℕ) (planned : PlannedGiven) (outcome : ScenarioOutcome) (book : Contents) (call : ℕ × Logged) (stop : Stop) →
+    IsOutcomeOf cycles planned.given outcome → IsBookOfScenario cycles (scenario_given planned.given) book →
+    refused_from 1 outcome.entries.items ≡ Some call →
     EndsWith 1 (refused_call_line (call.0, recorded_in (map asked_paced planned.given.requests.items) planned.given.script.items call.1)) stop →
     IsRefusedGiven cycles planned stop
-IsRefusedGiven-call cycles planned log book call stop ran is ends = record {
+IsRefusedGiven-call cycles planned outcome book call stop comes is_book is ends = record {
   statuses = ends.statuses;
   line = λ one streams those. record {
     book = book;
-    is_book = ran.is_book;
+    is_book = is_book;
     told = ap (λ (first : Option (ℕ × Recorded)). refuse first refused_call_line (checked_deliveries (run_of_scenario cycles (scenario_given planned.given))
-        streams book)) (refused_is cycles planned.given log book (Some call) ran is)
+        streams book)) (refused_is cycles planned.given outcome (Some call) comes is)
         ∙ ap Err (sym (ends.line_is one));
   };
   memory = ends.memory;

@@ -12,7 +12,7 @@ use Rattle.cqf_model.specs.declared.frames.Started.{Started}
 use Rattle.cqf_model.specs.Book.{batch, started, starts_in}
 use Rattle.cqf_model.specs.Domain.{Domain}
 use Rattle.cqf_program_runs.specs.Deliveries.{start_on, whole_instant, whole_on}
-use Rattle.cqf_program_runs.specs.UnderWay.{starts_told}
+use Rattle.cqf_program_runs.specs.Deliveries.UnderWay.{starts_told}
 use Rattle.cqf_program_runs.proofs.Fates.{none_found}
 use Rattle.cqf_program_runs.proofs.KeptSlots.{not_these, or_none}
 

@@ -19,31 +19,31 @@ use Rattle.cqf_model.specs.Traffic.{DroppedFor, ExceedsGate, LacksRow, Queued, V
 use Rattle.cqf_model.specs.Promise.{SaysTheShift, IsDecided}
 use Rattle.cqf_topology.specs.PlannedText.{PlannedText}
 use Rattle.cqf_laws_shift.proofs.Decided.{is_decided, judged}
-use Rattle.cqf_program_plans.specs.LatencyText.{listeners_of}
-use Rattle.cqf_program_runs.specs.declared.checked.Counts.{Counts}
-use Rattle.cqf_program_runs.specs.declared.delivery.Passage.TheVariants as passage
-use Rattle.cqf_program_runs.specs.declared.delivery.Delivery.{Delivery}
-use Rattle.cqf_program_runs.specs.declared.delivery.Fate.TheVariants as fate
-use Rattle.cqf_program_runs.specs.Checked.{checked_deliveries, checked_by, complaint_line, counts_of, finished, is_bad}
-use Rattle.cqf_program_runs.specs.Checked.{is_finished, is_under_way, later_offers, unfinished_line, well_line}
-use Rattle.cqf_program_runs.specs.CheckLaws.{AllOffersGoWell, ComesInTime, GoesWell, IsWellExactly, line_of_well}
+use Rattle.cqf_program_plans.specs.Latency.Text.{listeners_of}
+use Rattle.cqf_program_runs.specs.declared.check.checked.CheckCounts.{CheckCounts}
+use Rattle.cqf_program_runs.specs.declared.deliveries.delivery.Passage.TheVariants as passage
+use Rattle.cqf_program_runs.specs.declared.deliveries.delivery.Delivery.{Delivery}
+use Rattle.cqf_program_runs.specs.declared.deliveries.delivery.Fate.TheVariants as fate
+use Rattle.cqf_program_runs.specs.Check.Checked.{checked_deliveries, checked_by, complaint_line, counts_of, finished, is_bad}
+use Rattle.cqf_program_runs.specs.Check.Checked.{is_finished, is_under_way, later_offers, unfinished_line, well_line}
+use Rattle.cqf_program_runs.specs.Check.Laws.{AllOffersGoWell, ComesInTime, GoesWell, IsWellExactly, line_of_well}
 use Rattle.cqf_program_runs.specs.Deliveries.{deadline_named, deliveries_by, deliveries_of, deliveries_of_offer}
 use Rattle.cqf_program_runs.specs.Deliveries.{deliveries_to, deliveries_unless, delivery_of, delivery_to, drop_of}
 use Rattle.cqf_program_runs.specs.Deliveries.{end_of_journey, fate_of, start_on, whole_instant, whole_on}
-use Rattle.cqf_program_runs.specs.RefusedCalls.{first_refused, refused_call_line}
+use Rattle.cqf_program_runs.specs.Check.RefusedCalls.{first_refused, refused_call_line}
 use Rattle.cqf_program_runs.proofs.ByBook.{covered_no_drop, uncovered_drop}
 use Rattle.cqf_program_runs.proofs.CallsWell.{by_refused, none_is_refused, none_refused}
 use Rattle.cqf_program_runs.proofs.Fates.{count_none, first_passes, is_there, none_counted, none_found, none_passes, second_passes}
 
 -- whether all is finished
-by_finish : (counts : Counts) (line : List ℕ) → finished counts ≡ Ok line → (b : Bool) → is_finished counts ≡ b → b ≡ true
+by_finish : (counts : CheckCounts) (line : List ℕ) → finished counts ≡ Ok line → (b : Bool) → is_finished counts ≡ b → b ≡ true
 by_finish counts line is true e = refl
 by_finish counts line is false e = absurd (
     let both : Err (unfinished_line counts) ≡ Ok line =
     sym (ap {B = Result (List ℕ) (List ℕ)} (λ (b : Bool). if b then Ok (well_line counts) else Err (unfinished_line counts)) e) ∙ is in cc)
 
 -- a check that is well found none that is bad, and all is finished
-by_bad : (deliveries : List Delivery) (counts : Counts) (line : List ℕ) → checked_by deliveries counts ≡ Ok line → (found : Option Delivery) →
+by_bad : (deliveries : List Delivery) (counts : CheckCounts) (line : List ℕ) → checked_by deliveries counts ≡ Ok line → (found : Option Delivery) →
     find (λ (delivery : Delivery). is_bad (fate_of delivery)) deliveries ≡ found → (found ≡ None) × (finished counts ≡ Ok line)
 by_bad deliveries counts line is None e =
     (refl, sym (ap {B = Result (List ℕ) (List ℕ)} (λ (o : Option Delivery). refuse o complaint_line (finished counts)) e) ∙ is)
@@ -142,7 +142,7 @@ module _ (run : Run) (streams : List PlannedText) (book : Contents) (says : Says
       ∙ comes.in_time
 
   -- what is counted
-  abbrev counted : Counts
+  abbrev counted : CheckCounts
   counted = counts_of (length run.offers) (later_offers run) all
 
   only_well : (line : List ℕ) → checked_deliveries run streams book ≡ Ok line → AllOffersGoWell run streams book

@@ -1,5 +1,16 @@
 -- What becomes of the offers of a run, by its book: where one is dropped, and when it is whole at each listener of its stream
 -- (profile).
+pub mod Output
+pub mod Text
+pub mod Reading
+pub mod UnderWay
+pub mod Deadlines
+pub mod ByVerdict
+pub mod Ending
+pub mod Following
+pub mod PlannedScenario
+pub mod ArrivalLaws
+pub mod BookLaws
 use Rattle.std.specs.Prelude.{ℕ, ◌-◌, ◌==◌, ◌&&◌, List, [], ◌∷◌, Option, Some, None, find, if◌then◌else◌, length, map, nat_lt, option_map}
 use Rattle.std.specs.List.{flat_map}
 use Rattle.std.specs.Option.{option_and_then}
@@ -15,15 +26,15 @@ use Rattle.cqf_model.specs.Run.{Run}
 use Rattle.cqf_model.specs.Shift.{offer_cycle, row_for}
 use Rattle.cqf_model.specs.Traffic.{numbered}
 use Rattle.cqf_topology.specs.PlannedText.{PlannedText}
-use Rattle.cqf_report.specs.Books.{name_of_bridge}
-use Rattle.cqf_laws_latency.specs.Latency.{whole_of}
+use Rattle.cqf_topology.specs.NodeNames.{name_of_bridge}
+use Rattle.cqf_laws_timing.specs.Latency.{whole_of}
 use Rattle.cqf_program_plans.specs.EndNames.{name_of_end}
-use Rattle.cqf_program_plans.specs.LatencyText.{listeners_of}
-use Rattle.cqf_program_runs.specs.declared.delivery.Passage.{Passage}
-use Rattle.cqf_program_runs.specs.declared.delivery.Passage.TheVariants as passage
-use Rattle.cqf_program_runs.specs.declared.delivery.Delivery.{Delivery}
-use Rattle.cqf_program_runs.specs.declared.delivery.Fate.{Fate}
-use Rattle.cqf_program_runs.specs.declared.delivery.Fate.TheVariants as fate
+use Rattle.cqf_program_plans.specs.Latency.Text.{listeners_of}
+use Rattle.cqf_program_runs.specs.declared.deliveries.delivery.Passage.{Passage}
+use Rattle.cqf_program_runs.specs.declared.deliveries.delivery.Passage.TheVariants as passage
+use Rattle.cqf_program_runs.specs.declared.deliveries.delivery.Delivery.{Delivery}
+use Rattle.cqf_program_runs.specs.declared.deliveries.delivery.Fate.{Fate}
+use Rattle.cqf_program_runs.specs.declared.deliveries.delivery.Fate.TheVariants as fate
 
 -- the deadline of the frames of a name: that of the first of some streams that has it
 abbrev pub deadline_named : List PlannedText → List ℕ → Option ℕ

@@ -1,27 +1,6 @@
+-- a folder a command
+pub mod Check
+pub mod Report
+pub mod Run
 pub mod Line
-pub mod LineOutput
-pub mod LineTold
-pub mod RunOutput
-pub mod RunTold
-pub mod ReportOutput
 pub mod Deliveries
-pub mod DeliveriesText
-pub mod RefusedCalls
-pub mod Checked
-pub mod UnderWay
-pub mod Deadlines
-pub mod ByVerdict
-pub mod BookLaws
-pub mod CheckLaws
-pub mod ArrivalLaws
-pub mod PlannedScenario
-pub mod DeliveriesOutput
-pub mod CheckOutput
--- what the inner functions say
-pub mod ReportTelling
-pub mod DeliveriesReading
-pub mod Ending
-pub mod Following
-pub mod Counting
-pub mod Checking
-pub mod RefusedInLog

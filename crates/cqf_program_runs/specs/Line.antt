@@ -1,4 +1,6 @@
 -- The smallest network: one bridge, one station, the link from one to the other, and one stream (profile).
+pub mod Output
+pub mod Told
 use Rattle.std.specs.Prelude.{ℕ, List, [], ◌∷◌, None, codes}
 use Rattle.cqf_units.specs.declared.timing.Rate.TheVariants.{Mb1000}
 use Rattle.cqf_lists.specs.Lists.{each_below}

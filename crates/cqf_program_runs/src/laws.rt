@@ -1,7 +1,7 @@
 //! What a book tells of its deliveries.
-ghost use Rattle.cqf_program_runs.specs.ArrivalLaws.{ArrivalsAreTheShift, EachIsToldOnce, EachListenerIsToldOnce};
-ghost use Rattle.cqf_program_runs.specs.BookLaws.{VerdictsTellDeliveries};
-ghost use Rattle.cqf_program_runs.specs.CheckLaws.{CheckIsWellExactly};
+ghost use Rattle.cqf_program_runs.specs.Deliveries.ArrivalLaws.{ArrivalsAreTheShift, EachIsToldOnce, EachListenerIsToldOnce};
+ghost use Rattle.cqf_program_runs.specs.Deliveries.BookLaws.{VerdictsTellDeliveries};
+ghost use Rattle.cqf_program_runs.specs.Check.Laws.{CheckIsWellExactly};
 
 /// Where a book says the shift, its deliveries are those by the verdicts on the offers: one that is covered goes to each listener of
 /// the row that covers it, and every other is dropped for the first reason that fits (profile).

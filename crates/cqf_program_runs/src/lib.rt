@@ -15,16 +15,15 @@
 //! - A [`Delivery`] is a frame on its way to one listener, or its drop; [`Delivery::fate`] is what becomes of it, a [`Fate`], by
 //!   the [`Deadlines`] of the streams' frames.
 //! - [`read_planned_given`] has the scenario of an input with its deadlines ([`PlannedGiven`]), [`noted_of_scenario`] what its deliveries are
-//!   told from ([`Noted`], [`Ended`]) with the frames under way ([`UnderWay`]), and [`put_those_of`] those of one offer ([`Few`]), for
+//!   told from (`Noted`, [`CompletedRun`]) with the frames under way ([`UnderWay`]), and [`put_those_of`] those of one offer ([`Few`]), for
 //!   other commands over deliveries.
-//! - [`complaint_about`], [`unfinished_line`] and [`well_line`] are the lines of a check.
+//! - `complaint_about`, `unfinished_line` and `well_line` are the lines of a check.
 //! - [`verdicts_tell_deliveries`] is the law that ties deliveries by the verdicts on offers to those of a book.
 //!   [`arrivals_are_the_shift`] says which have come, [`each_is_told_once`] what is told of an offer, and
 //!   [`check_is_well_exactly`] when a check tells that all is well.
 //!
-//! `specs/` says what it is that a text is an output (`LineOutput` with `Line`, `RunOutput`, `ReportOutput`, `DeliveriesOutput`,
-//! `CheckOutput`), and has the deliveries of a run and its book (`Deliveries`), their text (`DeliveriesText`), and whether all
-//! goes well (`Checked`).
+//! Each command is a folder, in `src/` and in `specs/`. There `Output` of each says what it is that a text is the output; `Line` has the
+//! network of `line`, `Deliveries` the deliveries of a run and its book, with their text (`Text`), and `Check/Checked` whether all goes well.
 //!
 //! ```text
 //! line_output(alloc, 3, b"at,bridge,stream,octets\n124999,a,x,64\n")
@@ -41,44 +40,31 @@
 //! ```
 #![tactic(auto)]
 
-mod checked;
-mod deadlines;
-mod deliveries_command;
-mod deliveries_made;
-mod deliveries_outputs;
-mod deliveries_reading;
-mod delivery;
-mod delivery_lines;
-mod few;
+mod check;
+mod deliveries;
 mod laws;
-mod line_command;
-mod line_domain;
-mod line_given;
-mod line_outputs;
-mod made;
-mod refused_calls;
-mod report_carried;
-mod report_command;
-mod rooms;
-mod run_command;
-mod run_outputs;
-mod under_way;
+mod line;
+mod report;
+mod run;
 
-pub use checked::{Counts, complaint_about, first_bad, unfinished_line, well_line};
-pub use deadlines::Deadlines;
-pub use deliveries_command::{check_output, deliveries_output};
-pub use deliveries_made::{Noted, noted_of_scenario};
-pub use deliveries_outputs::DeliveriesOutput;
-pub use deliveries_reading::{PlannedGiven, read_planned_given};
-pub use delivery::{Delivery, Fate, Journey, Passage, latency};
-pub use few::Few;
+pub(crate) use check::checked::{
+    CheckCounts, complaint_about, first_bad, unfinished_line, well_line,
+};
+pub use deliveries::command::{check_output, deliveries_output};
+pub use deliveries::deadlines::Deadlines;
+pub use deliveries::delivery::{Delivery, Fate, Journey, Passage, latency};
+pub use deliveries::few::Few;
+pub use deliveries::made::{CompletedRun, put_those_of};
+pub(crate) use deliveries::noted::Noted;
+pub use deliveries::noted::noted_of_scenario;
+pub use deliveries::outputs::DeliveriesOutput;
+pub use deliveries::reading::{PlannedGiven, read_planned_given};
+pub use deliveries::under_way::UnderWay;
 pub use laws::{
     arrivals_are_the_shift, check_is_well_exactly, each_is_told_once, verdicts_tell_deliveries,
 };
-pub use line_command::line_output;
-pub use line_outputs::LineOutput;
-pub use made::{Ended, put_those_of};
-pub use report_command::report_output;
-pub use run_command::run_output;
-pub use run_outputs::RunOutput;
-pub use under_way::UnderWay;
+pub use line::command::line_output;
+pub use line::outputs::LineOutput;
+pub use report::command::report_output;
+pub use run::command::run_output;
+pub use run::outputs::RunOutput;

@@ -1,13 +1,14 @@
 -- The book of a scenario.
-use Rattle.std.proofs.Common.{◌≡◌, ℕ, List, subst}
+use Rattle.std.proofs.Common.{◌≡◌, ◌≤◌, ℕ, List, refl, subst}
 use Rattle.cqf_model.specs.declared.frames.Background.{Background}
 use Rattle.cqf_model.specs.declared.frames.Offer.{Offer}
 use Rattle.cqf_model.specs.Book.{Contents}
-use Rattle.cqf_model.specs.Domain.{Domain}
-use Rattle.cqf_model.specs.History.{Recorded}
-use Rattle.cqf_laws_report.specs.Told.{IsThere}
+use Rattle.cqf_model.specs.Domain.{Domain, IsAccepted}
+use Rattle.cqf_model.specs.History.{IsLegalHistory, Recorded, seals}
+use Rattle.cqf_laws_coverage.specs.Told.{BookOfHistoryIsThere, IsThere}
 use Rattle.cqf_program_scenario.specs.Books.{IsBookOfScenario}
 use Rattle.cqf_program_scenario.specs.Calls.{history_of}
+use Rattle.cqf_program_scenario.specs.Closing.{MayBeRun}
 use Rattle.cqf_program_scenario.specs.Scenario.{Scenario}
 
 -- a book that is there is the scenario's
@@ -25,3 +26,10 @@ IsBookOfScenario-there cycles s d entries offers background book domain history 
       only = at.only;
       promise = at.keeps;
     }
+
+-- and there is one
+pub scenario_has_book : BookOfHistoryIsThere → (cycles : ℕ) (s : Scenario) → IsAccepted s.domain → MayBeRun cycles s →
+    IsLegalHistory s.domain (history_of cycles s) → cycles ≤ seals (history_of cycles s) → (book : Contents) × IsBookOfScenario cycles s book
+scenario_has_book is_there cycles s accepted may legal closed =
+    let there = is_there s.domain (history_of cycles s) s.offers s.background cycles accepted legal may.offers may.background closed in
+    (there.0, IsBookOfScenario-there cycles s s.domain (history_of cycles s) s.offers s.background there.0 refl refl refl refl there.1)

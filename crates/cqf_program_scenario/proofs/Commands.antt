@@ -15,7 +15,7 @@ use Rattle.std.proofs.lemmas.List.{get_or-set_same, get_or-set_other, get_or-app
 use Rattle.std.proofs.lemmas.List.{drop-map, take-map, take_all, drop_all}
 use Rattle.std.proofs.lemmas.List.Elements.{filter-append}
 use Rattle.cqf_model.specs.History.{Act}
-use Rattle.cqf_admission_script.specs.Script.{Called, called_of, others_among, seals_among}
+use Rattle.cqf_admission.specs.Script.{Called, called_of, others_among, seals_among}
 use Rattle.cqf_program_scenario.specs.Calls.{HasRoom}
 use Rattle.cqf_program_scenario.proofs.Room.{others-cons, seals-cons}
 use Rattle.cqf_admission.specs.Commands.{act_of_command}

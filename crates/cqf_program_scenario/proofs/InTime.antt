@@ -9,7 +9,7 @@ use Rattle.cqf_model.specs.Domain.{IsAccepted}
 use Rattle.cqf_model.specs.Run.{Run}
 use Rattle.cqf_model.specs.Traffic.{whole_at}
 use Rattle.cqf_laws_shift.proofs.Octets.{of_batch}
-use Rattle.cqf_laws_latency.specs.Latency.{whole_of}
+use Rattle.cqf_laws_timing.specs.Latency.{whole_of}
 
 -- an instant of one of so many cycles is early
 early : (n t c : ℕ) → 0 < n → n ≤ 10000000 → c < 100000 → t / n ≡ c → t < 1000000000000

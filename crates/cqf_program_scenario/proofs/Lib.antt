@@ -4,5 +4,5 @@ mod Room
 mod ReadInput
 pub mod BookOf
 mod Commands
-mod ExactParts
+pub mod ExactParts
 pub mod InTime

@@ -8,11 +8,11 @@ use Rattle.cqf_topology.specs.DomainText.{domain_within}
 use Rattle.cqf_topology.specs.declared.paced.PacedRequest.{PacedRequest}
 use Rattle.cqf_topology.specs.PacedText.{paced_text, paced_of_text}
 use Rattle.cqf_admission.specs.Asking.{asked_by, asked_paced}
-use Rattle.cqf_admission_script.specs.Script.{Called, administrators, script_of}
+use Rattle.cqf_admission.specs.Script.{Called, administrators, script_of}
 use Rattle.cqf_program_scenario.proofs.AskedTexts.{asked_texts}
 use Rattle.cqf_program_scenario.specs.Lines.{domain_line, script_line, streams_line}
 use Rattle.cqf_program_scenario.specs.Parts.{RunTexts}
-use Rattle.cqf_program_stop.specs.Stops.{or_line}
+use Rattle.cqf_press.specs.Stops.{or_line}
 use Rattle.cqf_program_scenario.specs.Scenario.{Scenario, calls_in, frames_of_part, scenario_behind, scenario_of}
 
 -- the calls that were read are the script's

@@ -5,7 +5,7 @@ use Rattle.std.proofs.lemmas.List.Sums.{count_by-le-length, sum_by-cons}
 use Rattle.cqf_model.specs.declared.history.Reply.{Reply}
 use Rattle.cqf_model.specs.History.{Act, Admits, Recorded, Seals, Withdraws, is_seal}
 use Rattle.cqf_laws_history.specs.StateLaws.{SealsAreCounted, with_entry}
-use Rattle.cqf_admission_script.specs.Script.{AreFew, Called, others_among, seals_among}
+use Rattle.cqf_admission.specs.Script.{AreFew, Called, others_among, seals_among}
 use Rattle.cqf_program_scenario.specs.Calls.{HasRoom, HasRoomFor}
 
 -- a call counts once, as a Seal or as another call

@@ -4,7 +4,7 @@ use Rattle.cqf_model.specs.Domain.{Domain}
 use Rattle.cqf_model.specs.History.{Act, Recorded, Seals, is_seal, reply_to, seals}
 use Rattle.cqf_laws_history.specs.StateLaws.{with_entry}
 use Rattle.cqf_admission.specs.Admission.{calls}
-use Rattle.cqf_admission_script.specs.Script.{Called, others_among, seals_among}
+use Rattle.cqf_admission.specs.Script.{Called, others_among, seals_among}
 use Rattle.cqf_program_scenario.specs.Scenario.{Scenario}
 use Rattle.cqf_model.specs.Limits.{most_calls, most_cycles}
 

@@ -1,16 +1,16 @@
 -- What a scenario has that was read.
 use Rattle.std.specs.Prelude.{ℕ, ◌≤◌, [], length, map}
 use Rattle.cqf_model.specs.Run.{AreBackground, AreOffers}
-use Rattle.cqf_laws_report.specs.Judged.{StandInOrder}
-use Rattle.cqf_admission_requests.specs.Orders.{ordered_in}
+use Rattle.cqf_laws_coverage.specs.Judged.{StandInOrder}
+use Rattle.cqf_admission.specs.Orders.{ordered_in}
 use Rattle.cqf_admission.specs.Asking.{asked_paced}
-use Rattle.cqf_program_scenario.specs.declared.given.Given.{Given}
+use Rattle.cqf_program_scenario.specs.declared.given.RunInput.{RunInput}
 use Rattle.cqf_program_scenario.specs.Calls.{HasRoom}
 use Rattle.cqf_program_scenario.specs.Scenario.{Scenario}
 use Rattle.cqf_model.specs.Limits.{most_rows}
 
 -- a scenario that was read
-abbrev pub scenario_given : Given → Scenario
+abbrev pub scenario_given : RunInput → Scenario
 scenario_given given = record {
   domain = given.domain;
   calls = map (ordered_in (map asked_paced given.requests.items) given.script.items) given.orders.items;

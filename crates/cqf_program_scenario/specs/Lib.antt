@@ -1,3 +1,5 @@
+pub mod PortLines
+pub mod ExactBooks
 pub mod Parts
 pub mod Lines
 pub mod RunParts
@@ -8,6 +10,5 @@ pub mod Closing
 pub mod Parting
 pub mod Parted
 pub mod Opening
-pub mod Administered
 pub mod Logged
-pub mod Ran
+pub mod Outcomes

@@ -2,13 +2,13 @@
 use Rattle.std.specs.Prelude.{ℕ, List, codes}
 use Rattle.cqf_report.specs.Faults.{table_fault_text}
 use Rattle.cqf_report.specs.declared.tables.TableFault.{TableFault}
-use Rattle.cqf_admission_script.specs.Faults.{script_fault_text}
-use Rattle.cqf_admission_script.specs.declared.faults.ScriptFault.{ScriptFault}
-use Rattle.cqf_program_stop.specs.Stops.{fault_line}
-use Rattle.cqf_topology_fields.specs.Faults.{toml_fault_text}
+use Rattle.cqf_admission.specs.Faults.{script_fault_text}
+use Rattle.cqf_admission.specs.declared.faults.ScriptFault.{ScriptFault}
+use Rattle.cqf_press.specs.Stops.{fault_line}
+use Rattle.cqf_topology.specs.TomlFaults.{toml_fault_text}
 use Rattle.cqf_topology.specs.Faults.{domain_fault_text}
 use Rattle.cqf_topology.specs.declared.faults.DomainFault.{DomainFault}
-use Rattle.cqf_topology_fields.specs.declared.faults.TomlFault.{TomlFault}
+use Rattle.cqf_topology.specs.declared.toml_faults.TomlFault.{TomlFault}
 
 -- why a domain is refused
 abbrev pub domain_line : DomainFault → List ℕ

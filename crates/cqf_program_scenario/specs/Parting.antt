@@ -3,7 +3,7 @@
 use Rattle.std.specs.Prelude.{ℕ, ◌≡◌, ◌==◌, ◌<◌, ◌++◌, ◌&&◌, Bool, List, [], ◌∷◌, drop, filter, length, map, not, slice_index_or}
 use Rattle.std.specs.List.{before_first, position_or_len}
 use Rattle.cqf_model.specs.History.{Act, is_seal}
-use Rattle.cqf_admission_script.specs.Script.{Called}
+use Rattle.cqf_admission.specs.Script.{Called}
 
 -- the call closes a cycle
 abbrev pub closes : Called → Bool

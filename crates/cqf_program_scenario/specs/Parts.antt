@@ -1,6 +1,6 @@
 -- The parts of a command's input (profile).
 use Rattle.std.specs.Prelude.{ℕ, List, [], ◌∷◌, Option, Some, None, Result, Ok, Err, codes}
-use Rattle.cqf_program_stop.specs.Stops.{line_of}
+use Rattle.cqf_press.specs.Stops.{line_of}
 
 -- the line where the input has another number of parts than the command takes
 abbrev pub parts_line : List ℕ

@@ -3,17 +3,16 @@ ghost use Rattle.std.specs.Prelude.{◌≡◌, ◌-◌, ◌≤◌, ◌<◌, [], 
 ghost use Rattle.cqf_admission.specs.Asking.{asked_paced};
 ghost use Rattle.cqf_admission.specs.Running.{AreThere};
 ghost use Rattle.cqf_model.specs.History.{IsLegalHistory, Seals, seals, streams_of};
-ghost use Rattle.cqf_admission_requests.specs.declared.orders.Ordered.{Ordered as AnOrdered};
-ghost use Rattle.cqf_admission_requests.specs.Orders.{StandsIn, act_in, ordered_in};
+ghost use Rattle.cqf_admission.specs.declared.orders.Ordered.{Ordered as AnOrdered};
+ghost use Rattle.cqf_admission.specs.Orders.{StandsIn, act_in, ordered_in};
 ghost use Rattle.cqf_program_scenario.specs.Calls.{HasRoom, HasRoomFor, history_of, seals_by, with_call, with_calls};
 ghost use Rattle.cqf_program_scenario.specs.Closing.{scenario_given};
 ghost use Rattle.cqf_program_scenario.specs.Logged.{HasOrders, entries_in};
 ghost use Rattle.cqf_model.specs.Limits.{most_cycles};
 
 use crate::calls::entered;
-use crate::given::Given;
-use cqf_admission::{Ledger, Logged, SealFault};
-use cqf_admission_requests::{Ordered, What};
+use crate::given::RunInput;
+use cqf_admission::{Ledger, Logged, Ordered, SealFault, What};
 use cqf_laws_history::state_follows_history;
 use cqf_model::Row;
 use cqf_units::Memory;
@@ -95,7 +94,7 @@ fn close_all(ledger: &mut Ledger<'_>, seat: u16, cycles: u32) -> Result<(), Memo
 pub(crate) fn log_of(
     alloc: Global,
     cycles: u32,
-    given: &Given,
+    given: &RunInput,
 ) -> Result<(Vec<Logged>, Vec<Row>), Memory>
     requires short { cycles ≤ most_cycles }
     requires room { HasRoom cycles [] (map (ordered_in (map asked_paced given.now.requests.items) given.now.script.items) given.now.orders.items) }

@@ -3,7 +3,7 @@ ghost use Rattle.std.specs.Prelude.{◌≡◌, ◌≢◌, ◌≤◌, ◌<◌, Er
 ghost use Rattle.cqf_admission.specs.Admission.{act_of, is_entered};
 ghost use Rattle.cqf_model.specs.History.{Seals, seals};
 ghost use Rattle.cqf_program_scenario.specs.Calls.{HasRoom, HasRoomFor, with_call, with_calls};
-ghost use Rattle.cqf_admission_script.specs.Script.{called_of};
+ghost use Rattle.cqf_admission.specs.Script.{called_of};
 ghost use Rattle.cqf_model.specs.Limits.{most_cycles};
 
 use cqf_admission::{Admission, Call, Receipt, Refused, SealFault};

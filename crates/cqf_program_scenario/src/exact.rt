@@ -2,22 +2,23 @@
 ghost use Rattle.std.specs.Prelude.{◌≡◌, ◌≤◌, IfOk, List, length};
 ghost use Rattle.cqf_model.specs.History.{Recorded};
 ghost use Rattle.cqf_model.specs.Run.{AreBackground, AreOffers};
-ghost use Rattle.cqf_instants_drops.specs.Parts.{AreBackgroundOfHistory};
-ghost use Rattle.cqf_program_telling.specs.ExactBooks.{TellsBook};
-ghost use Rattle.cqf_laws_report.specs.Judged.{StandInOrder};
-ghost use Rattle.cqf_instants_layout.specs.History.{IsLaidOutHistoryOf, SomeHistory};
+ghost use Rattle.cqf_instants_run.specs.Parts.{AreBackgroundOfHistory};
+ghost use Rattle.cqf_program_scenario.specs.ExactBooks.{TellsBook, TellsStarts};
+ghost use Rattle.cqf_laws_coverage.specs.Judged.{StandInOrder};
+ghost use Rattle.cqf_instants_run.specs.HistoryStarts.{IsLaidOutHistoryOf, SomeHistory};
 ghost use Rattle.cqf_program_scenario.specs.Books.{IsBookOfScenario};
-ghost use Rattle.cqf_program_scenario.specs.Calls.{history_of};
 ghost use Rattle.cqf_program_scenario.specs.Closing.{MayBeRun, scenario_given};
+ghost use Rattle.cqf_program_scenario.specs.Outcomes.{IsOutcomeOf};
 ghost use Rattle.cqf_model.specs.Limits.{most_rows};
 
-use crate::given::Given;
-use cqf_instants_background::background_of_history;
-use cqf_instants_coverage::Judgement;
-use cqf_instants_drops::drops_of;
-use cqf_instants_layout::{pass_of_history, starts_of_history};
+use crate::ExactBook;
+use crate::given::RunInput;
+use crate::outcomes::ScenarioOutcome;
+use cqf_instants::Pass;
+use cqf_instants_run::{
+    EdgeVerdict, background_of_history, drops_of, pass_of_history, starts_of_history,
+};
 use cqf_model::{Row, Started};
-use cqf_program_telling::ExactBook;
 use cqf_units::Memory;
 use std::alloc::Global;
 
@@ -26,18 +27,18 @@ use std::alloc::Global;
 fn backed_of(
     alloc: Global,
     cycles: u32,
-    given: &Given,
+    given: &RunInput,
     rows: &[Row],
-    judgements: &[Judgement],
+    edge_verdicts: &[EdgeVerdict],
 ) -> Result<Vec<Started>, Memory>
     requires offers { AreOffers given.now.domain given.now.offers.items }
     requires order { StandInOrder given.now.offers.items }
     requires few { length given.now.offers.items ≤ most_rows }
     requires background { AreBackground given.now.domain given.now.background.items }
     requires few_background { length given.now.background.items ≤ most_rows }
-    requires history { SomeHistory given.now.domain cycles rows.now given.now.offers.items judgements.now }
+    requires history { SomeHistory given.now.domain cycles rows.now given.now.offers.items edge_verdicts.now }
     ensures { IfOk result (λ backed. (entries : List Recorded) → IsLaidOutHistoryOf given.now.domain cycles rows.now given.now.offers.items
-        judgements.now entries →
+        edge_verdicts.now entries →
         AreBackgroundOfHistory given.now.domain entries given.now.offers.items given.now.background.items cycles backed.items) }
 {
     let background = given.background.as_slice();
@@ -46,32 +47,59 @@ fn backed_of(
     }
     let domain = &given.domain;
     let offers = given.offers.as_slice();
-    let starts = starts_of_history(alloc, domain, cycles, rows, offers, judgements)?;
+    let starts = starts_of_history(alloc, domain, cycles, rows, offers, edge_verdicts)?;
     let starting = starts.as_slice();
     background_of_history(alloc, domain, cycles, starting, background)
 }
 
-/// The book of a scenario over so many cycles, ready to be told, where these rows are the streams that its history ever granted, and the
-/// judgements say what becomes of its offers by them.
-pub(crate) fn exact_book(
+/// A pass over so many cycles of the run of a scenario of which this is the outcome: it tells the starts of the streams' frames in the
+/// scenario's book. It has all the memory that it will need, and the time grows with the hops of the rows and with the offers.
+///
+/// # Errors
+/// Where a growth is refused.
+pub fn pass_of_outcome(
     alloc: Global,
     cycles: u32,
-    given: &Given,
-    rows: &[Row],
-    judgements: &[Judgement],
+    given: &RunInput,
+    outcome: &ScenarioOutcome,
+) -> Result<Pass, Memory>
+    requires may { MayBeRun cycles (scenario_given given.now) }
+    requires outcome { IsOutcomeOf cycles given.now outcome.now }
+    ensures fresh { IfOk result (λ pass. pass.told ≡ 0) }
+    ensures tells { IfOk result (λ pass. TellsStarts pass (IsBookOfScenario cycles (scenario_given given.now))) }
+{
+    cqf_laws_history::tables_are_orderly();
+    cqf_laws_coverage::book_of_history_is_there();
+    let domain = &given.domain;
+    let rows = outcome.rows.as_slice();
+    let offers = given.offers.as_slice();
+    let edge_verdicts = outcome.edge_verdicts.as_slice();
+    domain.know();
+    pass_of_history(alloc, domain, cycles, rows, offers, edge_verdicts)
+}
+
+/// The book of a scenario over so many cycles, ready to be told, where this is the scenario's outcome: that of its history on one thread.
+///
+/// # Errors
+/// Where a growth is refused.
+pub fn book_of_outcome(
+    alloc: Global,
+    cycles: u32,
+    given: &RunInput,
+    outcome: &ScenarioOutcome,
 ) -> Result<ExactBook, Memory>
     requires may { MayBeRun cycles (scenario_given given.now) }
-    requires history { IsLaidOutHistoryOf given.now.domain cycles rows.now given.now.offers.items judgements.now
-        (history_of cycles (scenario_given given.now)) }
+    requires outcome { IsOutcomeOf cycles given.now outcome.now }
     ensures { IfOk result (λ parts. TellsBook parts (IsBookOfScenario cycles (scenario_given given.now))) }
 {
     cqf_laws_history::tables_are_orderly();
-    cqf_laws_report::book_of_history_is_there();
     let domain = &given.domain;
+    let rows = outcome.rows.as_slice();
     let offers = given.offers.as_slice();
+    let edge_verdicts = outcome.edge_verdicts.as_slice();
     domain.know();
-    let backed = backed_of(alloc, cycles, given, rows, judgements)?;
-    let drops = drops_of(alloc, domain, cycles, offers, judgements)?;
-    let pass = pass_of_history(alloc, domain, cycles, rows, offers, judgements)?;
+    let backed = backed_of(alloc, cycles, given, rows, edge_verdicts)?;
+    let drops = drops_of(alloc, domain, cycles, offers, edge_verdicts)?;
+    let pass = pass_of_outcome(alloc, cycles, given, outcome)?;
     Ok(ExactBook::new(pass, backed, drops))
 }

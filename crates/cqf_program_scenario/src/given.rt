@@ -3,33 +3,32 @@ ghost use Rattle.std.specs.Prelude.{◌≡◌, ◌≤◌, [], All, Ok, IfOk, IfE
 ghost use Rattle.cqf_admission.specs.Asking.{asked_paced};
 ghost use Rattle.cqf_program_scenario.specs.Lines.{script_line};
 ghost use Rattle.cqf_program_scenario.specs.RunParts.{texts_of};
-ghost use Rattle.cqf_laws_report.specs.Judged.{StandInOrder};
+ghost use Rattle.cqf_laws_coverage.specs.Judged.{StandInOrder};
 ghost use Rattle.cqf_model.specs.Run.{AreBackground, AreOffers};
-ghost use Rattle.cqf_admission_requests.specs.declared.orders.Ordered.{Ordered as AnOrdered};
-ghost use Rattle.cqf_admission_requests.specs.Orders.{StandsIn, ordered_in};
+ghost use Rattle.cqf_admission.specs.declared.orders.Ordered.{Ordered as AnOrdered};
+ghost use Rattle.cqf_admission.specs.Orders.{StandsIn, ordered_in};
 ghost use Rattle.cqf_program_scenario.specs.Calls.{HasRoom};
 ghost use Rattle.cqf_program_scenario.specs.Closing.{MayBeRun, scenario_given};
 ghost use Rattle.cqf_program_scenario.specs.Scenario.{background_of_part, frames_of_part, scenario_behind, scenario_input, scenario_of};
 ghost use Rattle.cqf_program_scenario.specs.Logged.{HasOrders};
-ghost use Rattle.cqf_admission_script.specs.Script.{script_of};
-ghost use Rattle.cqf_program_stop.specs.Stops.{IsRefused, or_line};
+ghost use Rattle.cqf_admission.specs.Script.{script_of};
+ghost use Rattle.cqf_press.specs.Stops.{IsRefused, or_line};
 ghost use Rattle.cqf_model.specs.Limits.{most_rows};
 
 use crate::{
     RunParts, background_part, domain_part, offers_part, run_parts, script_part, streams_part,
 };
-use cqf_admission_requests::{Names, Ordered};
-use cqf_admission_script::administrators;
-use cqf_laws_report::offers_stand_in_order;
+use cqf_admission::{Names, Ordered, administrators};
 use cqf_model::{Background, Limits, Offer};
-use cqf_program_stop::Stop;
+use cqf_press::Stop;
+use cqf_report::offers_are_read_in_order;
 use cqf_topology::{Domain, PacedRequest};
 use cqf_units::Memory;
 use std::alloc::Global;
 
 /// What a run is given.
 #[derive(Debug, Drop)]
-pub struct Given {
+pub struct RunInput {
     pub domain: Domain,
     /// The requests for the streams that may be admitted.
     pub requests: Vec<PacedRequest>,
@@ -102,7 +101,7 @@ fn read_frames(
     ensures few_background { IfOk result (λ frames. length frames.1.items ≤ most_rows) }
     ensures err { IfErr result (IsRefused (frames_of_part domain.now (texts_of parts.entry))) }
 {
-    offers_stand_in_order();
+    offers_are_read_in_order();
     let offers = offers_part(alloc, domain, parts.offers)?;
     let background = read_background_of(alloc, domain, parts.background)?;
     Ok((offers, background))
@@ -119,7 +118,7 @@ pub fn read_behind(
     domain: Domain,
     requests: Vec<PacedRequest>,
     parts: RunParts<'_>,
-) -> Result<Given, Stop>
+) -> Result<RunInput, Stop>
     ensures ok { IfOk result (λ given. scenario_behind cycles domain (map asked_paced requests.items) (texts_of parts.entry) ≡ Ok (scenario_given given)) }
     ensures same { IfOk result (λ given. given.requests.items ≡ requests.items) }
     ensures stand { IfOk result (λ given. HasOrders given) }
@@ -131,7 +130,7 @@ pub fn read_behind(
     let Ok(script) = copy_of(alloc, parts.script) else {
         return Err(Stop::memory(alloc));
     };
-    Ok(Given {
+    Ok(RunInput {
         domain,
         requests,
         script,
@@ -148,7 +147,7 @@ fn read_parts(
     limits: Limits,
     cycles: u32,
     parts: RunParts<'_>,
-) -> Result<Given, Stop>
+) -> Result<RunInput, Stop>
     ensures ok { IfOk result (λ given. scenario_of limits cycles (texts_of parts.entry) ≡ Ok (scenario_given given)) }
     ensures stand { IfOk result (λ given. HasOrders given) }
     ensures good { IfOk result (λ given. MayBeRun cycles (scenario_given given)) }
@@ -161,7 +160,12 @@ fn read_parts(
 
 /// The scenario of the input over so many cycles, read within some limits, or the end with the line of its first fault. `Err` with status 1,
 /// and with status 3 for want of memory.
-pub fn read_given(alloc: Global, limits: Limits, cycles: u32, input: &[u8]) -> Result<Given, Stop>
+pub fn read_given(
+    alloc: Global,
+    limits: Limits,
+    cycles: u32,
+    input: &[u8],
+) -> Result<RunInput, Stop>
     ensures ok { IfOk result (λ given. scenario_input limits cycles input.now ≡ Ok (scenario_given given)) }
     ensures stand { IfOk result (λ given. HasOrders given) }
     ensures good { IfOk result (λ given. MayBeRun cycles (scenario_given given)) }

@@ -6,22 +6,22 @@ ghost use Rattle.cqf_program_scenario.specs.Closing.{MayBeRun, scenario_given};
 ghost use Rattle.cqf_program_scenario.specs.Logged.{HasOrders};
 ghost use Rattle.cqf_program_scenario.specs.Opening.{IsOpened, IsOpenedInput};
 ghost use Rattle.cqf_program_scenario.specs.Scenario.{scenario_input};
-ghost use Rattle.cqf_admission_script.specs.Script.{called_of};
-ghost use Rattle.cqf_program_stop.specs.Stops.{IsRefused};
+ghost use Rattle.cqf_admission.specs.Script.{called_of};
+ghost use Rattle.cqf_press.specs.Stops.{IsRefused};
 ghost use Rattle.cqf_model.specs.Limits.{most_cycles};
 
 use crate::calls::apply_all;
-use crate::given::{Given, read_given};
+use crate::given::{RunInput, read_given};
 use crate::parting::{Parted, part_calls};
-use cqf_admission::{Admission, Call, Command};
-use cqf_admission_script::calls_of;
+use cqf_admission::{Admission, Call, Command, calls_of};
 use cqf_model::{Background, Limits, Offer};
-use cqf_program_stop::Stop;
+use cqf_press::Stop;
 use cqf_topology::Domain;
 use cqf_units::Memory;
 use std::alloc::Global;
 
-/// What the bridges and administrators of a scenario begin with.
+/// What the bridges and administrators of a scenario begin with. It is no [`ScenarioOutcome`](crate::ScenarioOutcome): what comes
+/// of the calls and offers isn't known yet, since the cycles are closed while the scenario runs.
 #[derive(Debug, Drop)]
 pub struct Opened {
     pub domain: Domain,
@@ -46,7 +46,7 @@ fn open(alloc: Global, domain: &Domain, calls: &[(u16, Call)]) -> Result<Admissi
 }
 
 /// What a scenario's bridges and administrators begin with.
-fn open_given(alloc: Global, cycles: u32, given: Given) -> Result<Opened, Memory>
+fn open_given(alloc: Global, cycles: u32, given: RunInput) -> Result<Opened, Memory>
     requires may { MayBeRun cycles (scenario_given given) }
     requires stand { HasOrders given }
     ensures { IfOk result (λ made. IsOpened cycles (scenario_given given) made) }
@@ -55,7 +55,7 @@ fn open_given(alloc: Global, cycles: u32, given: Given) -> Result<Opened, Memory
     let script = given.script.as_slice();
     let orders = given.orders.as_slice();
     let calls = calls_of(alloc, script, requests, orders)?;
-    let Given {
+    let RunInput {
         domain,
         sealer,
         offers,

@@ -6,7 +6,7 @@ ghost use Rattle.cqf_admission.specs.Commands.{act_of_command};
 ghost use Rattle.cqf_admission.specs.declared.entries.Call.{Call};
 ghost use Rattle.cqf_program_scenario.specs.Parted.{acts_of_each};
 ghost use Rattle.cqf_program_scenario.specs.Parting.{AddsCommand, AreCommandsBehind, AreCommandsBy, calls_from_seal, closes, opening_calls};
-ghost use Rattle.cqf_admission_script.specs.Script.{called_of};
+ghost use Rattle.cqf_admission.specs.Script.{called_of};
 
 use cqf_admission::{Call, Command};
 use cqf_units::Memory;

@@ -6,19 +6,18 @@ ghost use Rattle.cqf_model.specs.Run.{AreBackground, AreOffers};
 ghost use Rattle.cqf_report.specs.BackgroundFrames.{background_frames_of};
 ghost use Rattle.cqf_report.specs.Faults.{table_fault_text};
 ghost use Rattle.cqf_report.specs.Offers.{offers_of};
-ghost use Rattle.cqf_admission_requests.specs.declared.orders.Ordered.{Ordered as AnOrdered};
-ghost use Rattle.cqf_admission_requests.specs.Orders.{StandsIn, ordered_in};
-ghost use Rattle.cqf_admission_script.specs.Script.{AreFew, script_of};
-ghost use Rattle.cqf_program_stop.specs.Stops.{EndsWith, IsRefused, fault_line, or_line};
+ghost use Rattle.cqf_admission.specs.declared.orders.Ordered.{Ordered as AnOrdered};
+ghost use Rattle.cqf_admission.specs.Orders.{StandsIn, ordered_in};
+ghost use Rattle.cqf_admission.specs.Script.{AreFew, script_of};
+ghost use Rattle.cqf_press.specs.Stops.{EndsWith, IsRefused, fault_line, or_line};
 ghost use Rattle.cqf_topology.specs.DomainText.{domain_within};
 ghost use Rattle.cqf_topology.specs.PlannedText.{planned_of_text, planned_text};
 ghost use Rattle.cqf_topology.specs.PacedText.{paced_text, paced_of_text};
 ghost use Rattle.cqf_model.specs.Limits.{most_rows};
 
-use cqf_admission_requests::{Names, Ordered};
-use cqf_admission_script::{ScriptFault, read_orders};
+use cqf_admission::{Names, Ordered, ScriptFault, read_orders};
 use cqf_model::{Background, Limits, Offer};
-use cqf_program_stop::Stop;
+use cqf_press::Stop;
 use cqf_report::{TableFault, read_background, read_offers};
 use cqf_topology::{
     Domain, DomainFault, PacedRequest, Planned, StreamsFault, read_paced_streams,

@@ -7,8 +7,8 @@ use Rattle.std.proofs.lemmas.List.Elements.{All-cons, All-nil}
 use Rattle.cqf_lists.specs.Lists.{or_else}
 use Rattle.cqf_lists.specs.Results.{refuse}
 use Rattle.cqf_laws_history.specs.StateLaws.{SealsAreCounted}
-use Rattle.cqf_laws_latency.specs.Streams.{AreGranted}
-use Rattle.cqf_laws_traffic.specs.Traffic.{Traffic, needed}
+use Rattle.cqf_laws_timing.specs.Streams.{AreGranted}
+use Rattle.cqf_laws_timing.specs.Traffic.{Traffic, needed}
 use Rattle.cqf_model.specs.declared.history.Refused.{Refused}
 use Rattle.cqf_model.specs.Domain.{Domain}
 use Rattle.cqf_model.specs.History.{Admits, Asked, Branch, Recorded, held_in, refusal_of, reply_to, seals}
@@ -16,12 +16,12 @@ use Rattle.cqf_units.specs.Timing.{cost_of}
 use Rattle.cqf_admission.specs.Asking.{asked_with}
 use Rattle.cqf_traffic.specs.FlowsText.{FlowText}
 use Rattle.cqf_traffic.specs.TrafficText.{TrafficText, promise_of}
-use Rattle.cqf_program_plans.specs.CompileOutput.{admitted_from, stream_line, with_asked}
-use Rattle.cqf_program_plans.specs.declared.latency_latencies.Latency.{Latency}
-use Rattle.cqf_program_plans.specs.LatencyText.{is_not_sure}
+use Rattle.cqf_program_plans.specs.Compile.Output.{admitted_from, stream_line, with_asked}
+use Rattle.cqf_program_plans.specs.declared.latency.latencies.Latency.{Latency}
+use Rattle.cqf_program_plans.specs.Latency.Text.{is_not_sure}
 use Rattle.cqf_program_offers.specs.OffersOutput.{asked_in}
 use Rattle.cqf_program_placing.specs.declared.faults.PlanFault.{PlanFault}
-use Rattle.cqf_sketch_streams.specs.declared.pacing.Pacing.{Pacing}
+use Rattle.cqf_sketch.specs.declared.pacing.Pacing.{Pacing}
 use Rattle.cqf_program_placing.specs.Placing.{ArePlacedFrom, IsAnswered, IsAskedFor, IsPlacedBy, PlacedOr, Placed, Unplaced, answered}
 use Rattle.cqf_program_placing.specs.Placing.{reserved_by, reserved_on, turns_on}
 use Rattle.cqf_program_placing.specs.Settled.{SettledStream}

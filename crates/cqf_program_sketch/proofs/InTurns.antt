@@ -11,8 +11,8 @@ use Rattle.cqf_lists.proofs.Members.{contains_at, contains_map}
 use Rattle.cqf_lists.proofs.Pairs.{pairs_from_map, pairs_map}
 use Rattle.cqf_units.proofs.Cycles.{cycle_is}
 use Rattle.cqf_laws_history.specs.StateLaws.{SealsAreCounted}
-use Rattle.cqf_laws_latency.specs.Streams.{AdmittedHaveNames}
-use Rattle.cqf_laws_traffic.specs.Traffic.{offers_named}
+use Rattle.cqf_laws_timing.specs.Streams.{AdmittedHaveNames}
+use Rattle.cqf_laws_timing.specs.Traffic.{offers_named}
 use Rattle.cqf_model.specs.declared.frames.Offer.{Offer}
 use Rattle.cqf_model.specs.Domain.{Domain, cycle_of}
 use Rattle.cqf_model.specs.History.{Asked, pace_of}
@@ -20,11 +20,11 @@ use Rattle.cqf_model.specs.Limits.{most_every}
 use Rattle.cqf_model.specs.Paces.{is_turn}
 use Rattle.cqf_traffic.specs.FlowsText.{FlowText}
 use Rattle.cqf_traffic.specs.TrafficText.{TrafficText}
-use Rattle.cqf_traffic_offers.specs.declared.senders.Sender.{Sender}
-use Rattle.cqf_traffic_offers.specs.Conforming.{AreNamedApart, OffersComeInTurns}
-use Rattle.cqf_traffic_offers.specs.Offering.{offers_before}
-use Rattle.cqf_sketch_streams.specs.declared.pacing.Pacing.{Pacing}
-use Rattle.cqf_sketch_streams.specs.declared.pacing.Pacing.TheVariants as pacing
+use Rattle.cqf_traffic.specs.declared.senders.TalkerStream.{TalkerStream}
+use Rattle.cqf_traffic.specs.Conforming.{AreNamedApart, OffersComeInTurns}
+use Rattle.cqf_traffic.specs.Offering.{offers_before}
+use Rattle.cqf_sketch.specs.declared.pacing.Pacing.{Pacing}
+use Rattle.cqf_sketch.specs.declared.pacing.Pacing.TheVariants as pacing
 use Rattle.cqf_program_offers.specs.OffersOutput.{asked_in, sender_of}
 use Rattle.cqf_program_placing.specs.Turns.{MayBeFirst, every_in, every_of, is_in_step, keeps_step, turns_by}
 use Rattle.cqf_program_placing.proofs.Stepping.{divisor_at}
@@ -98,12 +98,12 @@ turn_of every phase cycle early comes =
 -- no two streams that are granted have one name
 named_apart : (d : Domain) (flows : List FlowText) → AllPairs (λ (a b : Asked). a.name ≢ b.name) (map asked_in flows) → AreNamedApart (map (sender_of d) flows)
 named_apart d flows pairs i k a b before first second same =
-    let senders : List Sender = map (sender_of d) flows in
-    let apart : AllPairs (λ (x y : Sender). x.name ≢ y.name) senders =
-    pairs_map (λ (x y : Sender). x.name ≢ y.name) (sender_of d) flows (pairs_from_map (λ (x y : Asked). x.name ≢ y.name) asked_in flows pairs) in
+    let senders : List TalkerStream = map (sender_of d) flows in
+    let apart : AllPairs (λ (x y : TalkerStream). x.name ≢ y.name) senders =
+    pairs_map (λ (x y : TalkerStream). x.name ≢ y.name) (sender_of d) flows (pairs_from_map (λ (x y : Asked). x.name ≢ y.name) asked_in flows pairs) in
     apart i k a before (slice_get_within senders k b second)
-    (ap (λ (s : Sender). s.name) (get_or_from_slice_get senders i a a first) ∙ same
-    ∙ ap (λ (s : Sender). s.name) (sym (get_or_from_slice_get senders k b a second)))
+    (ap (λ (s : TalkerStream). s.name) (get_or_from_slice_get senders i a a first) ∙ same
+    ∙ ap (λ (s : TalkerStream). s.name) (sym (get_or_from_slice_get senders k b a second)))
 
 -- what is known of a stream whose phase is chosen
 record IsChosen (cycle_time : ℕ) (traffic : Option TrafficText) (every phase : ℕ) : Type 0 where

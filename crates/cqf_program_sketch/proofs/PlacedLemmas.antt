@@ -2,7 +2,7 @@
 use Rattle.std.proofs.Common.{◌≡◌, ◌∙◌, ℕ, ◌+◌, ◌≤◌, ◌<◌, ◌++◌, ◌∷◌, [], All, List, Option, Some, None, ap, append_assoc, arith, drop, get_or, length, map, refl, subst, sym}
 use Rattle.std.proofs.lemmas.List.{drop_all, drop_more, get_or-map, length-map, map-append}
 use Rattle.cqf_model.specs.History.{Asked}
-use Rattle.cqf_program_placing.specs.declared.outcomes.Outcome.{Outcome}
+use Rattle.cqf_program_placing.specs.declared.outcomes.PlacingOutcome.{PlacingOutcome}
 use Rattle.cqf_program_placing.specs.declared.settled.Settled.{Settled}
 use Rattle.cqf_program_placing.specs.Placing.{BeginsEarly, PlacedOr, Placed, Unplaced, outcome_value}
 use Rattle.cqf_program_placing.specs.Settled.{SettledStream, settled_value}
@@ -11,10 +11,10 @@ use Rattle.cqf_program_sketch.specs.Judging.{first_unplaced, those_placed}
 use Rattle.cqf_program_sketch.specs.Steps.{those_by}
 
 -- those that are placed, from a place on; and the first that isn't
-abbrev pub those_from : List Settled → List Outcome → ℕ → List (SettledStream × Asked)
+abbrev pub those_from : List Settled → List PlacingOutcome → ℕ → List (SettledStream × Asked)
 those_from streams outcomes k = those_placed (map settled_value (drop k streams)) (map outcome_value (drop k outcomes))
 
-abbrev pub unplaced_from : List Settled → List Outcome → ℕ → Option CandidateFault
+abbrev pub unplaced_from : List Settled → List PlacingOutcome → ℕ → Option CandidateFault
 unplaced_from streams outcomes k = first_unplaced (map settled_value (drop k streams)) (map outcome_value (drop k outcomes))
 
 -- one and then the others
@@ -24,14 +24,14 @@ those_one stream streams (Placed asked) outcomes = refl
 those_one stream streams (Unplaced found) outcomes = refl
 
 -- one that is placed is offered early, where each is
-pub early_there : (outcomes : List Outcome) (k : ℕ) (outcome : Outcome) → k < length outcomes → outcome ≡ get_or outcomes k outcome →
+pub early_there : (outcomes : List PlacingOutcome) (k : ℕ) (outcome : PlacingOutcome) → k < length outcomes → outcome ≡ get_or outcomes k outcome →
     All BeginsEarly (map outcome_value outcomes) → BeginsEarly (outcome_value outcome)
 early_there outcomes k outcome low is all =
     let there : get_or (map outcome_value outcomes) k (outcome_value outcome) ≡ outcome_value outcome =
     get_or-map outcome_value outcomes k outcome (outcome_value outcome) low ∙ ap outcome_value (sym is) in
     subst BeginsEarly there (all k (outcome_value outcome) (omega (arith, low, length-map outcomes outcome_value)))
 
-module _ (streams : List Settled) (outcomes : List Outcome) (k : ℕ) (stream : Settled) (outcome : Outcome) (low : k < length streams)
+module _ (streams : List Settled) (outcomes : List PlacingOutcome) (k : ℕ) (stream : Settled) (outcome : PlacingOutcome) (low : k < length streams)
     (same : length outcomes ≡ length streams) (stream_is : stream ≡ get_or streams k stream) (outcome_is : outcome ≡ get_or outcomes k outcome) where
   -- the rests begin with the ones there
   streams_rest : drop k streams ≡ stream ∷ drop (k + 1) streams
@@ -77,11 +77,12 @@ module _ (streams : List Settled) (outcomes : List Outcome) (k : ℕ) (stream : 
   unplaced_later h = unplaced_next ∙ h
 
 -- behind the last there is none
-pub made_end : {X : Type 0} (value : (SettledStream × Asked) → X) (streams : List Settled) (outcomes : List Outcome) (k : ℕ) → length streams ≤ k →
+pub made_end : {X : Type 0} (value : (SettledStream × Asked) → X) (streams : List Settled) (outcomes : List PlacingOutcome) (k : ℕ) →
+    length streams ≤ k →
     map value (those_from streams outcomes k) ≡ []
 made_end value streams outcomes k over =
     ap (λ (xs : List Settled). map value (those_placed (map settled_value xs) (map outcome_value (drop k outcomes)))) (drop_all k streams over)
 
-pub unplaced_end : (streams : List Settled) (outcomes : List Outcome) (k : ℕ) → length streams ≤ k → unplaced_from streams outcomes k ≡ None
+pub unplaced_end : (streams : List Settled) (outcomes : List PlacingOutcome) (k : ℕ) → length streams ≤ k → unplaced_from streams outcomes k ≡ None
 unplaced_end streams outcomes k over =
     ap (λ (xs : List Settled). first_unplaced (map settled_value xs) (map outcome_value (drop k outcomes))) (drop_all k streams over)

@@ -14,10 +14,10 @@ use Rattle.cqf_sketch.proofs.CheckedLemmas.{passes_sketch}
 use Rattle.cqf_sketch.proofs.InsideLemmas.{all_joined}
 use Rattle.cqf_sketch.proofs.OpenLemmas.{passed_is_sketch}
 use Rattle.cqf_sketch.proofs.ReadLemmas.{draft_limits, sketch_readable}
-use Rattle.cqf_sketch_streams.specs.StreamsText.{sketch_streams_of_text}
+use Rattle.cqf_sketch.specs.StreamsText.{sketch_streams_of_text}
 use Rattle.cqf_program_offers.specs.OffersOutput.{flows_line}
 use Rattle.cqf_program_scenario.specs.Parts.{two_parts}
-use Rattle.cqf_program_stop.specs.Stops.{or_line}
+use Rattle.cqf_press.specs.Stops.{or_line}
 use Rattle.cqf_program_placing.specs.Room.{MayBeWays, PlacedWhereThereIsRoom}
 use Rattle.cqf_program_placing.specs.Settled.{settled_of}
 use Rattle.cqf_program_sketch.specs.PlanLaws.{SketchesArePlacedByRoom}

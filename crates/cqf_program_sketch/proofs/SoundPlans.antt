@@ -4,14 +4,14 @@ use Rattle.std.proofs.lemmas.Simd.{map-map}
 use Rattle.std.specs.Prelude.{option_map}
 use Rattle.cqf_lists.specs.Results.{and_then, refuse}
 use Rattle.cqf_laws_history.specs.StateLaws.{SealsAreCounted}
-use Rattle.cqf_laws_latency.specs.Streams.{AreGranted}
+use Rattle.cqf_laws_timing.specs.Streams.{AreGranted}
 use Rattle.cqf_model.specs.Domain.{Domain}
 use Rattle.cqf_model.specs.History.{Asked, Recorded, held_in}
 use Rattle.cqf_sketch.specs.SketchDomain.{SketchDomain}
 use Rattle.cqf_traffic.specs.FlowsText.{FlowText}
-use Rattle.cqf_program_plans.specs.CompileOutput.{admitted_from}
-use Rattle.cqf_program_plans.specs.LatencyOutput.{latency_of_plan, unless_strict}
-use Rattle.cqf_program_plans.specs.LatencyText.{first_not_sure, latencies_of, latency_text, not_sure_line}
+use Rattle.cqf_program_plans.specs.Compile.Output.{admitted_from}
+use Rattle.cqf_program_plans.specs.Latency.Output.{latency_of_plan, unless_strict}
+use Rattle.cqf_program_plans.specs.Latency.Text.{first_not_sure, latencies_of, latency_text, not_sure_line}
 use Rattle.cqf_program_offers.specs.OffersOutput.{asked_in}
 use Rattle.cqf_program_placing.specs.Placing.{PlacedStreams}
 use Rattle.cqf_program_placing.specs.Settled.{SettledStream}

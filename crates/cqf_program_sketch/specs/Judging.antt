@@ -10,9 +10,9 @@ use Rattle.cqf_admission.specs.Costs.{most_cost}
 use Rattle.cqf_sketch.specs.SketchDomain.{SketchDomain, domain_at}
 use Rattle.cqf_traffic.specs.FlowsText.{FlowText}
 use Rattle.cqf_traffic.specs.TrafficText.{TrafficText}
-use Rattle.cqf_sketch_streams.specs.declared.pacing.Pacing.{Pacing}
-use Rattle.cqf_program_plans.specs.declared.latency_latencies.Latency.{Latency}
-use Rattle.cqf_program_plans.specs.LatencyText.{is_not_sure, latencies_of}
+use Rattle.cqf_sketch.specs.declared.pacing.Pacing.{Pacing}
+use Rattle.cqf_program_plans.specs.declared.latency.latencies.Latency.{Latency}
+use Rattle.cqf_program_plans.specs.Latency.Text.{is_not_sure, latencies_of}
 use Rattle.cqf_program_placing.specs.declared.faults.PlanFault.TheVariants as fault
 use Rattle.cqf_program_placing.specs.Placing.{ArePlaced, PlacedOr, PlacedStreams, Placed, Unplaced}
 use Rattle.cqf_program_placing.specs.Settled.{SettledStream}

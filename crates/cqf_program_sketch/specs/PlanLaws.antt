@@ -1,7 +1,7 @@
 -- What a told plan keeps (profile).
 use Rattle.std.specs.Prelude.{ℕ, ◌≡◌, ◌+◌, ◌*◌, ◌%◌, ◌≤◌, List, [], All, Contains, IfSome, Option, Some, Ok, false, length, map, option_map, slice_get, true}
 use Rattle.std.specs.Option.{ForSome}
-use Rattle.cqf_laws_traffic.specs.Traffic.{needed, offers_named}
+use Rattle.cqf_laws_timing.specs.Traffic.{needed, offers_named}
 use Rattle.cqf_model.specs.declared.frames.Offer.{Offer}
 use Rattle.cqf_model.specs.declared.limits.Limits.{Limits}
 use Rattle.cqf_model.specs.Domain.{Domain, cycle_of}
@@ -10,11 +10,11 @@ use Rattle.cqf_model.specs.Paces.{is_turn}
 use Rattle.cqf_sketch.specs.SketchDomain.{AreCandidates, IsOpenCycle, SketchDomain}
 use Rattle.cqf_traffic.specs.FlowsText.{FlowText}
 use Rattle.cqf_traffic.specs.TrafficText.{TrafficText, promise_of}
-use Rattle.cqf_traffic_offers.specs.Offering.{offers_before}
-use Rattle.cqf_program_plans.specs.CompileOutput.{admitted_from}
-use Rattle.cqf_program_plans.specs.declared.latency_latencies.Latency.{Latency}
-use Rattle.cqf_program_plans.specs.LatencyOutput.{latency_of_plan}
-use Rattle.cqf_program_plans.specs.LatencyText.{is_not_sure, latencies_of, latency_text}
+use Rattle.cqf_traffic.specs.Offering.{offers_before}
+use Rattle.cqf_program_plans.specs.Compile.Output.{admitted_from}
+use Rattle.cqf_program_plans.specs.declared.latency.latencies.Latency.{Latency}
+use Rattle.cqf_program_plans.specs.Latency.Output.{latency_of_plan}
+use Rattle.cqf_program_plans.specs.Latency.Text.{is_not_sure, latencies_of, latency_text}
 use Rattle.cqf_program_offers.specs.OffersOutput.{asked_in, sender_of}
 use Rattle.cqf_program_placing.specs.Placing.{PlacedStreams, is_chosen_on, turns_on}
 use Rattle.cqf_program_placing.specs.Room.{ArePlacedByRoom, MayBeWays}

@@ -9,13 +9,13 @@ use Rattle.cqf_text.specs.Parts.{parts_of}
 use Rattle.cqf_sketch.specs.declared.faults.SketchFault.{SketchFault}
 use Rattle.cqf_sketch.specs.Faults.{sketch_fault_text}
 use Rattle.cqf_sketch.specs.SketchDomain.{SketchDomain, sketch_domain_of_text}
-use Rattle.cqf_sketch_streams.specs.StreamsText.{sketch_streams_of_text}
+use Rattle.cqf_sketch.specs.StreamsText.{sketch_streams_of_text}
 use Rattle.cqf_traffic.specs.FlowsText.{FlowText}
 use Rattle.cqf_plants.specs.Plants.{IsToldPlant}
-use Rattle.cqf_program_stop.specs.declared.stops.Stop.{Stop}
-use Rattle.cqf_program_stop.specs.Stops.{fault_line, or_line}
+use Rattle.cqf_press.specs.declared.stops.Stop.{Stop}
+use Rattle.cqf_press.specs.Stops.{fault_line, or_line}
 use Rattle.cqf_program_scenario.specs.Parts.{two_parts}
-use Rattle.cqf_program_plans.specs.CompileOutput.{stream_line}
+use Rattle.cqf_program_plans.specs.Compile.Output.{stream_line}
 use Rattle.cqf_program_offers.specs.OffersOutput.{flows_line}
 use Rattle.cqf_program_placing.specs.declared.settled.Unsettled.{Unsettled}
 use Rattle.cqf_program_placing.specs.declared.settled.Unsettled.TheVariants as unsettled

@@ -7,7 +7,7 @@ use Rattle.cqf_sketch.specs.SketchDomain.{SketchDomain}
 use Rattle.cqf_traffic.specs.FlowsText.{FlowText}
 use Rattle.cqf_program_placing.specs.Placing.{PlacedOr, Placed, Unplaced}
 use Rattle.cqf_program_placing.specs.Settled.{IsPlaceable, SettledStream, open_domain}
-use Rattle.cqf_program_plans.specs.LoadText.{percentage_text}
+use Rattle.cqf_program_plans.specs.Load.Text.{percentage_text}
 use Rattle.cqf_report.specs.Records.{Fields}
 use Rattle.cqf_program_sketch.specs.declared.candidates.Candidate.{Candidate}
 use Rattle.cqf_program_sketch.specs.Choosing.{candidate_fault_text}

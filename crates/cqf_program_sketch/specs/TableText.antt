@@ -4,7 +4,7 @@ use Rattle.std.specs.List.{flat_map}
 use Rattle.std.specs.Option.{option_map_or}
 use Rattle.cqf_report.specs.Records.{Fields}
 use Rattle.cqf_report.specs.Written.{line_of_fields}
-use Rattle.cqf_program_plans.specs.LoadText.{left_text, percentage_text}
+use Rattle.cqf_program_plans.specs.Load.Text.{left_text, percentage_text}
 use Rattle.cqf_program_sketch.specs.declared.candidates.Candidate.{Candidate}
 use Rattle.cqf_program_sketch.specs.declared.candidates.Slack.{Slack}
 use Rattle.cqf_program_sketch.specs.Choosing.{candidate_fault_text}

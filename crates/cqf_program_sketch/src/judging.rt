@@ -1,11 +1,11 @@
 //! What is told of a candidate for the cycle time.
 ghost use Rattle.std.specs.Prelude.{ℕ, ◌≡◌, ◌++◌, IfOk, OnOk, count_by, length, map};
-ghost use Rattle.cqf_admission_trees.specs.Turns.{AreOfGoodPaces};
+ghost use Rattle.cqf_admission.specs.Turns.{AreOfGoodPaces};
 ghost use Rattle.cqf_laws_history.specs.StateLaws.{AreHeld};
 ghost use Rattle.cqf_lists.specs.Lists.{or_else};
 ghost use Rattle.cqf_program_placing.specs.Placing.{outcome_value};
 ghost use Rattle.cqf_program_placing.specs.Settled.{settled_value};
-ghost use Rattle.cqf_program_plans.specs.LatencyText.{is_not_sure, latencies_of};
+ghost use Rattle.cqf_program_plans.specs.Latency.Text.{is_not_sure, latencies_of};
 ghost use Rattle.cqf_program_sketch.specs.Judging.{candidate_by, deadlines_placed, first_late, first_unplaced, those_placed};
 ghost use Rattle.cqf_program_sketch.specs.Judging.{late_fault, shares_of};
 ghost use Rattle.cqf_program_sketch.specs.Steps.{deadlines_by};
@@ -14,7 +14,7 @@ use crate::candidates::{Candidate, CandidateFault};
 use crate::shares::greatest_share;
 use crate::slacks::tightest_of;
 use cqf_model::Row;
-use cqf_program_placing::{Outcome, PlanFault, Settled};
+use cqf_program_placing::{PlacingOutcome, PlanFault, Settled};
 use cqf_program_plans::{Latency, latencies_of_rows};
 use cqf_topology::Domain;
 use cqf_units::Memory;
@@ -24,14 +24,14 @@ use std::alloc::Global;
 fn put_deadline(
     deadlines: &mut Vec<Option<u32>>,
     stream: &Settled,
-    outcome: &Outcome,
+    outcome: &PlacingOutcome,
 ) -> Result<(), Memory>
     ensures { OnOk result (deadlines.new.items
         ≡ deadlines.old.items ++ deadlines_by (settled_value stream.now) (outcome_value outcome.now)) }
 {
     match outcome {
-        Outcome::Placed(_) => deadlines.push(stream.deadline)?,
-        Outcome::Unplaced(_) => {}
+        PlacingOutcome::Placed(_) => deadlines.push(stream.deadline)?,
+        PlacingOutcome::Unplaced(_) => {}
     }
     Ok(())
 }
@@ -40,7 +40,7 @@ fn put_deadline(
 fn deadlines_placed(
     alloc: Global,
     streams: &[Settled],
-    outcomes: &[Outcome],
+    outcomes: &[PlacingOutcome],
 ) -> Result<Vec<Option<u32>>, Memory>
     requires { length outcomes.now ≡ length streams.now }
     ensures { IfOk result (λ deadlines. deadlines.items ≡ deadlines_placed (map settled_value streams.now) (map outcome_value outcomes.now)) }
@@ -95,12 +95,12 @@ fn copied(fault: &PlanFault) -> PlanFault
 }
 
 /// The first of some streams that isn't placed, and why.
-fn first_unplaced(streams: &[Settled], outcomes: &[Outcome]) -> Option<CandidateFault>
+fn first_unplaced(streams: &[Settled], outcomes: &[PlacingOutcome]) -> Option<CandidateFault>
     requires { length outcomes.now ≡ length streams.now }
     ensures { result ≡ first_unplaced (map settled_value streams.now) (map outcome_value outcomes.now) }
 {
     for (place, stream) in streams.iter().enumerate() {
-        if let Outcome::Unplaced(fault) = &outcomes[place] {
+        if let PlacingOutcome::Unplaced(fault) = &outcomes[place] {
             return Some(CandidateFault::Stream(stream.name.copied(), copied(fault)));
         }
     }
@@ -155,7 +155,7 @@ pub(crate) fn candidate_of(
     streams: &[Settled],
     domain: &Domain,
     rows: &[Row],
-    outcomes: &[Outcome],
+    outcomes: &[PlacingOutcome],
 ) -> Result<Candidate, Memory>
     requires each { length outcomes.now ≡ length streams.now }
     requires held { (next : ℕ) × AreHeld domain.now rows.now next 0 }

@@ -2,9 +2,9 @@
 ghost use Rattle.cqf_program_sketch.specs.PlanLaws.{ChosenStreamsComeInTurns, SketchesArePlacedByRoom, ToldPlanIsAdmitted};
 
 use cqf_laws_history::state_follows_history;
-use cqf_laws_latency::lists_bound_costs;
+use cqf_laws_timing::lists_bound_costs;
 use cqf_program_placing::placed_where_there_is_room;
-use cqf_traffic_offers::offers_come_in_turns;
+use cqf_traffic::offers_come_in_turns;
 
 /// A plan that is told has all streams of its sketch, in their order, each with its name, its deadline, the cycles in which it is to be
 /// offered and what its talker promises; and its whole traffic, but that one whose phase is chosen begins in the first of its cycles. All are

@@ -1,7 +1,7 @@
 //! The command `plan`: from a sketch, with its talkers, traffic, deadlines and candidates for the cycle time, to a plant.
 //!
-//! - A [`Candidate`] is what is told of a cycle time: how many streams are placed, how full its fullest link is, and how tight its tightest
-//!   deadline; and why it isn't good, a [`CandidateFault`].
+//! - A `Candidate` is what is told of a cycle time: how many streams are placed, how full its fullest link is, and how tight its tightest
+//!   deadline; and why it isn't good, a `CandidateFault`.
 //!
 //! `specs/` has what is told of a cycle time (`Judging`), which one is taken (`Choosing`), the table (`TableText`), and what it is that a text
 //! is the output (`PlanOutput`).
@@ -18,7 +18,6 @@ mod slacks;
 mod table;
 mod trying;
 
-pub use candidates::{Candidate, CandidateFault, Slack};
 pub use laws::{
     chosen_streams_come_in_turns, sketches_are_placed_where_there_is_room, told_plan_is_admitted,
 };

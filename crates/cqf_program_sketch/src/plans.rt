@@ -10,7 +10,7 @@ ghost use Rattle.cqf_program_sketch.specs.Judging.{flow_of, flows_placed, traffi
 ghost use Rattle.cqf_program_sketch.specs.Steps.{flows_by};
 
 use crate::candidates::Candidate;
-use cqf_program_placing::{Outcome, Settled};
+use cqf_program_placing::{PlacingOutcome, Settled};
 use cqf_topology::{PacedRequest, Planned};
 use cqf_traffic::{Flow, Traffic};
 use cqf_units::{Memory, Nanos};
@@ -56,7 +56,7 @@ fn put_flow(
     flows: &mut Vec<Flow>,
     stream: &Settled,
     cycle_time: Nanos,
-    outcome: &Outcome,
+    outcome: &PlacingOutcome,
 ) -> Result<(), Memory>
     requires some { 0 < cycle_time.0 }
     requires short { cycle_time.0 ≤ longest_cycle }
@@ -65,11 +65,11 @@ fn put_flow(
         ≡ map flow_text flows.old.items ++ flows_by cycle_time.0 (settled_value stream.now) (outcome_value outcome.now)) }
 {
     match outcome {
-        Outcome::Placed(request) => {
+        PlacingOutcome::Placed(request) => {
             let copy = request.try_copy(alloc)?;
             flows.push(flow_of(stream, cycle_time, copy))?;
         }
-        Outcome::Unplaced(_) => {}
+        PlacingOutcome::Unplaced(_) => {}
     }
     Ok(())
 }
@@ -79,7 +79,7 @@ pub(crate) fn flows_placed(
     alloc: Global,
     streams: &[Settled],
     cycle_time: Nanos,
-    outcomes: &[Outcome],
+    outcomes: &[PlacingOutcome],
 ) -> Result<Vec<Flow>, Memory>
     requires some { 0 < cycle_time.0 }
     requires short { cycle_time.0 ≤ longest_cycle }

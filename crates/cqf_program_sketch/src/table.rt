@@ -2,7 +2,7 @@
 ghost use Rattle.std.specs.Prelude.{◌≡◌, [], IfOk, string_bytes};
 ghost use Rattle.std.specs.List.{join_with_byte};
 ghost use Rattle.std.specs.Option.{option_map_or};
-ghost use Rattle.cqf_program_plans.specs.LoadText.{left_text, percentage_text};
+ghost use Rattle.cqf_program_plans.specs.Load.Text.{left_text, percentage_text};
 ghost use Rattle.cqf_report.specs.Written.{line_of_fields};
 ghost use Rattle.cqf_program_sketch.specs.Choosing.{candidate_fault_text};
 ghost use Rattle.cqf_program_sketch.specs.Steps.{held_fields, tight_fields};

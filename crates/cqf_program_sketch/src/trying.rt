@@ -9,7 +9,7 @@ ghost use Rattle.cqf_sketch.specs.SketchDomain.{IsCycleTime, IsOpenCycle};
 
 use crate::candidates::Candidate;
 use crate::judging::candidate_of;
-use cqf_program_placing::{Outcome, Placing, Settled, place};
+use cqf_program_placing::{Placing, PlacingOutcome, Settled, place};
 use cqf_sketch::SketchDomain;
 use cqf_topology::Domain;
 use cqf_units::Memory;
@@ -20,7 +20,7 @@ use std::alloc::Global;
 pub(crate) struct Tried {
     pub(crate) candidate: Candidate,
     pub(crate) domain: Domain,
-    pub(crate) outcomes: Vec<Outcome>,
+    pub(crate) outcomes: Vec<PlacingOutcome>,
 }
 
 /// What is told of streams that are placed.

@@ -25,21 +25,21 @@ use Rattle.cqf_laws_history.proofs.Granted.{first_branch, first_place_none, none
 use Rattle.cqf_laws_history.proofs.Trees.{MakeATree, all_make_a_tree, tree_from}
 use Rattle.cqf_laws_history.specs.StateLaws.{granted_row}
 use Rattle.cqf_topology.specs.DomainText.{IsDomain}
-use Rattle.cqf_admission_trees.specs.Branches.{tree_refusal}
+use Rattle.cqf_admission.specs.Branches.{tree_refusal}
 use Rattle.cqf_admission.specs.Judging.{form_refusal}
 use Rattle.cqf_program_plans.specs.EndNames.{name_of_end}
-use Rattle.cqf_program_plans.specs.LatencyText.{is_station, listeners_of}
-use Rattle.cqf_program_runs.specs.declared.delivery.Delivery.{Delivery}
-use Rattle.cqf_program_runs.specs.declared.delivery.Fate.{Fate}
-use Rattle.cqf_program_runs.specs.declared.delivery.Journey.{Journey}
-use Rattle.cqf_program_runs.specs.declared.delivery.Passage.{Passage}
-use Rattle.cqf_program_runs.specs.declared.delivery.Passage.TheVariants as passage
+use Rattle.cqf_program_plans.specs.Latency.Text.{is_station, listeners_of}
+use Rattle.cqf_program_runs.specs.declared.deliveries.delivery.Delivery.{Delivery}
+use Rattle.cqf_program_runs.specs.declared.deliveries.delivery.Fate.{Fate}
+use Rattle.cqf_program_runs.specs.declared.deliveries.delivery.Journey.{Journey}
+use Rattle.cqf_program_runs.specs.declared.deliveries.delivery.Passage.{Passage}
+use Rattle.cqf_program_runs.specs.declared.deliveries.delivery.Passage.TheVariants as passage
 use Rattle.cqf_program_runs.proofs.Listeners.{one_listener}
-use Rattle.cqf_program_summary.specs.declared.fares.Listener.{Listener}
-use Rattle.cqf_program_summary.specs.declared.fares.Way.{Way}
-use Rattle.cqf_program_summary.specs.Counting.{AreApart, leads_to, tally_with, way_with, ways_with}
+use Rattle.cqf_program_summary.specs.declared.summary.fares.Listener.{Listener}
+use Rattle.cqf_program_summary.specs.declared.summary.fares.ListenerWay.{ListenerWay}
+use Rattle.cqf_program_summary.specs.Summary.Counting.{AreApart, leads_to, tally_with, way_with, ways_with}
 use Rattle.cqf_program_summary.specs.Summary.{listener_to, listeners_by, way_to, ways_of}
-use Rattle.cqf_program_summary.specs.Told.{row_of_stream, row_unless}
+use Rattle.cqf_program_summary.specs.Summary.Told.{row_of_stream, row_unless}
 
 -- what branches have that aren't refused
 record IsGoodTree (d : Domain) (paths : List Branch) : Type 0 where
@@ -105,7 +105,7 @@ good_branches d asked good =
 abbrev apart_listeners : Option Listener → Option Listener → Type 0
 apart_listeners a b = (name : List ℕ) → leads_to name a ≡ true → leads_to name b ≡ true → ⊥
 
-abbrev apart_ways : Way → Way → Type 0
+abbrev apart_ways : ListenerWay → ListenerWay → Type 0
 apart_ways a b = apart_listeners a.to b.to
 
 module _ (d : Domain) (domain : IsDomain d) (cost : ℕ → ℕ) (ds : List Delivery) where
@@ -140,7 +140,7 @@ module _ (d : Domain) (domain : IsDomain d) (cost : ℕ → ℕ) (ds : List Deli
       by (Some refused) bad = pairs_one apart_ways (way_to ds None)
 
 -- a way leads where it led
-way_leads : (ending : Fate) (at : ℕ) (journey : Journey) (way : Way) → (way_with ending at journey way).to ≡ way.to
+way_leads : (ending : Fate) (at : ℕ) (journey : Journey) (way : ListenerWay) → (way_with ending at journey way).to ≡ way.to
 way_leads ending at journey way = by (leads_to journey.listener way.to)
   where
     by : (b : Bool) → (if b then record way { tally = tally_with ending at journey.whole way.tally } else way).to ≡ way.to
@@ -148,13 +148,14 @@ way_leads ending at journey way = by (leads_to journey.listener way.to)
     by false = refl
 
 -- so ways stay apart
-journey_apart : (ending : Fate) (at : ℕ) (journey : Journey) (ways : List Way) → AreApart ways → AreApart (map (way_with ending at journey) ways)
+journey_apart : (ending : Fate) (at : ℕ) (journey : Journey) (ways : List ListenerWay) → AreApart ways →
+    AreApart (map (way_with ending at journey) ways)
 journey_apart ending at journey ways apart =
     pairs_map apart_ways (way_with ending at journey) ways
-    (pairs_weaker apart_ways (λ (a b : Way). apart_ways (way_with ending at journey a) (way_with ending at journey b)) ways
+    (pairs_weaker apart_ways (λ (a b : ListenerWay). apart_ways (way_with ending at journey a) (way_with ending at journey b)) ways
     (λ a b ca cb differ name first second. differ name
     (ap (leads_to name) (sym (way_leads ending at journey a)) ∙ first) (ap (leads_to name) (sym (way_leads ending at journey b)) ∙ second)) apart)
 
-pub passage_apart : (ending : Fate) (at : ℕ) (p : Passage) (ways : List Way) → AreApart ways → AreApart (ways_with ending at p ways)
+pub passage_apart : (ending : Fate) (at : ℕ) (p : Passage) (ways : List ListenerWay) → AreApart ways → AreApart (ways_with ending at p ways)
 passage_apart ending at (passage.Dropped reason) ways apart = apart
 passage_apart ending at (passage.Goes journey) ways apart = journey_apart ending at journey ways apart

@@ -3,7 +3,7 @@ use Rattle.std.proofs.Common.{◌≡◌, ◌≢◌, ◌∙◌, ◌∷◌, [], �
 use Rattle.std.specs.Prelude.{slice_get, suc, zero}
 use Rattle.std.proofs.lemmas.List.{map-id}
 use Rattle.std.proofs.lemmas.Option.{same_Some}
-use Rattle.cqf_program_summary.specs.Counting.{changed_at}
+use Rattle.cqf_program_summary.specs.Summary.Counting.{changed_at}
 
 -- to set an element to what a change makes of it is to change it
 pub set_changes : {A : Type 0} (change : A → A) (xs : List A) (place : ℕ) (x after : A) → slice_get xs place ≡ Some x → after ≡ change x →

@@ -5,14 +5,14 @@ use Rattle.std.proofs.lemmas.Simd.{map-map}
 use Rattle.cqf_compile.proofs.Bridges.{no_hop}
 use Rattle.cqf_model.specs.declared.topology.Hop.{Hop}
 use Rattle.cqf_model.specs.Domain.{Domain, end_of}
-use Rattle.cqf_program_plans.specs.LatencyText.{is_station}
+use Rattle.cqf_program_plans.specs.Latency.Text.{is_station}
 use Rattle.cqf_program_plans.proofs.Found.{items_of, listed_more}
-use Rattle.cqf_program_summary.specs.declared.fares.Listener.{Listener}
-use Rattle.cqf_program_summary.specs.declared.fares.Way.{Way}
+use Rattle.cqf_program_summary.specs.declared.summary.fares.Listener.{Listener}
+use Rattle.cqf_program_summary.specs.declared.summary.fares.ListenerWay.{ListenerWay}
 use Rattle.cqf_program_summary.specs.Summary.{listener_to, way_to}
 
 -- the way to a listener that is found, on which no frame has gone
-abbrev pub first_way : Listener → Way
+abbrev pub first_way : Listener → ListenerWay
 first_way listener = way_to [] (Some listener)
 
 way_if : (b : Bool) (listener : Listener) → option_map first_way (if b then Some listener else None) ≡ (if b then Some (first_way listener) else None)
@@ -20,17 +20,17 @@ way_if true listener = refl
 way_if false listener = refl
 
 module _ (d : Domain) (cost : ℕ → ℕ) where
-  abbrev pub ways_among : List Hop → List Way
+  abbrev pub ways_among : List Hop → List ListenerWay
   ways_among hops = map (way_to []) (map (λ (hop : Hop). Some (listener_to d cost hop)) (filter (λ (hop : Hop). is_station (end_of d hop.link)) hops))
 
   -- one hop more
-  pub ways_more : (hops : List Hop) (k : ℕ) (found : Option Listener) (before done : List Way) → k < length hops →
+  pub ways_more : (hops : List Hop) (k : ℕ) (found : Option Listener) (before done : List ListenerWay) → k < length hops →
       found ≡ (if is_station (end_of d (get_or hops k no_hop).link) then Some (listener_to d cost (get_or hops k no_hop)) else None) →
       done ≡ before ++ ways_among (take k hops) → done ++ items_of (option_map first_way found) ≡ before ++ ways_among (take (k + 1) hops)
   ways_more hops k found before done below is so_far =
       let p : Hop → Bool = λ hop. is_station (end_of d hop.link) in
-      let f : Hop → Way = λ hop. first_way (listener_to d cost hop) in
+      let f : Hop → ListenerWay = λ hop. first_way (listener_to d cost hop) in
       listed_more p f hops k no_hop (option_map first_way found) before done below
       (ap (option_map first_way) is ∙ way_if (p (get_or hops k no_hop)) (listener_to d cost (get_or hops k no_hop)))
-      (so_far ∙ ap (λ (ws : List Way). before ++ ws) (map-map (way_to []) (λ (hop : Hop). Some (listener_to d cost hop)) (filter p (take k hops))))
-      ∙ ap (λ (ws : List Way). before ++ ws) (sym (map-map (way_to []) (λ (hop : Hop). Some (listener_to d cost hop)) (filter p (take (k + 1) hops))))
+      (so_far ∙ ap (λ (ws : List ListenerWay). before ++ ws) (map-map (way_to []) (λ (hop : Hop). Some (listener_to d cost hop)) (filter p (take k hops))))
+      ∙ ap (λ (ws : List ListenerWay). before ++ ws) (sym (map-map (way_to []) (λ (hop : Hop). Some (listener_to d cost hop)) (filter p (take (k + 1) hops))))

@@ -1,3 +1,5 @@
+mod Sorts
+mod Early
 mod Changed
 mod Tallied
 mod Apart

@@ -24,27 +24,27 @@ use Rattle.cqf_model.specs.History.{Asked, pace_of, tree_of}
 use Rattle.cqf_model.specs.Table.{cost_on, uses}
 use Rattle.cqf_model.proofs.Represented.{few_links}
 use Rattle.cqf_laws_history.specs.StateLaws.{granted_row}
-use Rattle.cqf_laws_latency.specs.Latency.{most_of}
-use Rattle.cqf_laws_latency.specs.Streams.{cost_of_all}
+use Rattle.cqf_laws_timing.specs.Latency.{most_of}
+use Rattle.cqf_laws_timing.specs.Streams.{cost_of_all}
 use Rattle.cqf_admission.specs.Rows.{IsSummable}
 use Rattle.cqf_admission.proofs.Most.{most_within}
 use Rattle.cqf_admission.proofs.GrantLemmas.{form_octets, form_paced, granted_countable}
 use Rattle.cqf_admission.specs.Judging.{form_refusal}
-use Rattle.cqf_admission_trees.proofs.TurnLemmas.{asked_is_good, low_at, most_of_uses}
-use Rattle.cqf_admission_trees.specs.Turns.{AreNone, HasRoomFor, IsOfGoodPace, Turned, most_at, sum_on}
+use Rattle.cqf_admission.proofs.TurnLemmas.{asked_is_good, low_at, most_of_uses}
+use Rattle.cqf_admission.specs.Turns.{AreNone, HasRoomFor, IsOfGoodPace, Turned, most_at, sum_on}
 use Rattle.cqf_program_plans.proofs.LookedOver.{countable_within}
 use Rattle.cqf_program_plans.specs.EndNames.{name_of_end}
-use Rattle.cqf_program_plans.specs.LatencyText.{is_station, listeners_of}
-use Rattle.cqf_program_summary.specs.declared.fares.Listener.{Listener}
-use Rattle.cqf_program_summary.specs.declared.listing.Listed.{Listed}
+use Rattle.cqf_program_plans.specs.Latency.Text.{is_station, listeners_of}
+use Rattle.cqf_program_summary.specs.declared.summary.fares.Listener.{Listener}
+use Rattle.cqf_program_summary.specs.declared.summary.listing.ListedStream.{ListedStream}
 use Rattle.cqf_topology.specs.DomainText.{is_among}
-use Rattle.cqf_program_summary.specs.declared.listing.Listing.{Listing}
-use Rattle.cqf_program_summary.specs.Listing.{AreBounded, CostsWith, IsListing, IsOfStream, ListsOne, MayBeSummed, cost_beside, cost_of_good, fare_named, listed_of}
+use Rattle.cqf_program_summary.specs.declared.summary.listing.SummaryListing.{SummaryListing}
+use Rattle.cqf_program_summary.specs.Summary.Listing.{AreBounded, CostsWith, IsListing, IsOfStream, ListsOne, MayBeSummed, cost_beside, cost_of_good, fare_named, listed_of}
 use Rattle.cqf_program_summary.specs.Summary.{fare_of, listener_to, listeners_by, summary_by, way_to}
-use Rattle.cqf_program_summary.specs.Told.{is_good, row_of_stream, row_unless, told_cost, told_streams}
+use Rattle.cqf_program_summary.specs.Summary.Told.{is_good, row_of_stream, row_unless, told_cost, told_streams}
 
 -- none is listed
-pub none_listed : (d : Domain) (listing : Listing) → listing.names.keys ≡ [] → listing.streams.items ≡ [] → AreNone listing.costs 4096 → IsListing d [] listing
+pub none_listed : (d : Domain) (listing : SummaryListing) → listing.names.keys ≡ [] → listing.streams.items ≡ [] → AreNone listing.costs 4096 → IsListing d [] listing
 none_listed d listing names streams none = record {
   names = names;
   are = streams;
@@ -82,7 +82,7 @@ stream_summed d asked accepted = by (form_refusal d asked) refl
     by (Some refused) e = tt
 
 -- costs are bounded, by few streams
-pub bounded_listing : (d : Domain) (streams : List Asked) (listing : Listing) → IsListing d streams listing → AreBounded listing.costs
+pub bounded_listing : (d : Domain) (streams : List Asked) (listing : SummaryListing) → IsListing d streams listing → AreBounded listing.costs
 bounded_listing d streams listing is l cycle low = omega (arith, is.bounded l cycle low, is.few)
 
 -- and so are the most of them
@@ -104,7 +104,7 @@ most_told costs row hop summable there =
     most_of_uses costs row.tree.items row.pace hop (sum_on costs hop.link) summable.countable.apart there (λ cycle below. refl)
 
 -- the comparison of names by which one is found
-pub known_by_name : (d : Domain) (streams : List Asked) (listing : Listing) → IsListing d streams listing → (name : List ℕ) →
+pub known_by_name : (d : Domain) (streams : List Asked) (listing : SummaryListing) → IsListing d streams listing → (name : List ℕ) →
     is_among name listing.names.keys ≡ list_any (λ (a : Asked). is_text a.name name) (told_streams streams)
 known_by_name d streams listing is name =
     ap (is_among name) is.names ∙ list_any-map (λ (other : List ℕ). is_text other name) (λ (a : Asked). a.name) (told_streams streams)
@@ -139,7 +139,7 @@ module _ (before : List Asked) (asked : Asked) where
       ∙ ap (λ (b : Bool). if b then told_streams before else told_streams before ++ asked ∷ []) new
 
 -- where nothing more is told of, the listing stays
-pub listing_stays : (d : Domain) (before : List Asked) (asked : Asked) (listing : Listing) → told_streams (before ++ asked ∷ []) ≡ told_streams before →
+pub listing_stays : (d : Domain) (before : List Asked) (asked : Asked) (listing : SummaryListing) → told_streams (before ++ asked ∷ []) ≡ told_streams before →
     IsListing d before listing → IsListing d (before ++ asked ∷ []) listing
 listing_stays d before asked listing same is = record {
   names = is.names ∙ ap (map (λ (a : Asked). a.name)) (sym same);
@@ -191,7 +191,7 @@ costs_all before after None all same = ap (λ (costs : Turned). costs.links) sam
 costs_all before after (Some row) all adds = adds.links ∙ all
 
 -- with a stream more
-pub listing_more : (d : Domain) (before : List Asked) (asked : Asked) (listing after : Listing) → IsListing d before listing → is_name asked.name ≡ true →
+pub listing_more : (d : Domain) (before : List Asked) (asked : Asked) (listing after : SummaryListing) → IsListing d before listing → is_name asked.name ≡ true →
     list_any (λ (a : Asked). is_text a.name asked.name) (told_streams before) ≡ false → length listing.names.keys < 2 ^ 32 →
     MayBeSummed (row_of_stream d asked) → ListsOne listing asked.name (row_of_stream d asked) after → IsListing d (before ++ asked ∷ []) after
 listing_more d before asked listing after is named new few summable adds =
@@ -207,7 +207,7 @@ listing_more d before asked listing after is named new few summable adds =
           ∙ ap (λ (ns : List (List ℕ)). ns ++ asked.name ∷ []) is.names
           ∙ sym (ap (map (λ (a : Asked). a.name)) grown ∙ map-append (λ (a : Asked). a.name) told (asked ∷ []));
       are = adds.streams
-          ∙ ap (λ (ls : List Listed). ls ++ listed_of d asked ∷ []) is.are
+          ∙ ap (λ (ls : List ListedStream). ls ++ listed_of d asked ∷ []) is.are
           ∙ sym (ap (map (listed_of d)) grown ∙ map-append (listed_of d) told (asked ∷ []));
       few = omega (arith, few, longer, as_many);
       all = costs_all listing.costs after.costs (row_of_stream d asked) is.all adds.costs;
@@ -216,9 +216,10 @@ listing_more d before asked listing after is named new few summable adds =
     }
 
 -- each that is listed is of a stream
-pub listed_are : (d : Domain) (streams : List Asked) (listing : Listing) → IsListing d streams listing → All (IsOfStream d) listing.streams.items
+pub listed_are : (d : Domain) (streams : List Asked) (listing : SummaryListing) → IsListing d streams listing →
+    All (IsOfStream d) listing.streams.items
 listed_are d streams listing is =
-    subst (λ (ls : List Listed). All (IsOfStream d) ls) (sym is.are)
+    subst (λ (ls : List ListedStream). All (IsOfStream d) ls) (sym is.are)
     (all_from_members (IsOfStream d) (map (listed_of d) (told_streams streams))
     (λ y c. let found = contains_from_map (listed_of d) (told_streams streams) y c in (found.0, sym found.2)))
 
@@ -238,7 +239,8 @@ none_behind d link listener behind =
     (false_from_ne_true (is_station (end_of d link)) (λ ends. omega (arith, station_link d link ends, behind))))
 
 -- so what is told of a stream's listeners is by the costs of its links in its cycles
-module _ (d : Domain) (accepted : IsAccepted d) (streams : List Asked) (listing : Listing) (is : IsListing d streams listing) (asked : Asked) where
+module _ (d : Domain) (accepted : IsAccepted d) (streams : List Asked) (listing : SummaryListing) (is : IsListing d streams listing)
+    (asked : Asked) where
   abbrev told : ℕ → ℕ
   told = told_cost d (told_streams streams) asked
 
@@ -275,7 +277,8 @@ module _ (d : Domain) (accepted : IsAccepted d) (streams : List Asked) (listing 
   }
 
 -- so what is told at first is a summary by no offers
-pub first_fares : (d : Domain) (streams : List Asked) (due : List ℕ → Option ℕ) (listing : Listing) → IsAccepted d → IsListing d streams listing →
+pub first_fares : (d : Domain) (streams : List Asked) (due : List ℕ → Option ℕ) (listing : SummaryListing) → IsAccepted d →
+    IsListing d streams listing →
     map (fare_named d listing.costs due) listing.streams.items ≡ (summary_by d (told_streams streams) due [] []).fares
 first_fares d streams due listing accepted is =
     ap (map (fare_named d listing.costs due)) is.are

@@ -3,8 +3,8 @@ use Rattle.std.proofs.Common.{◌≡◌, ◌∙◌, ◌+◌, ◌∷◌, [], ℕ,
 use Rattle.cqf_lists.proofs.Mapped.{position-map}
 use Rattle.cqf_model.specs.Domain.{is_text}
 use Rattle.cqf_topology.specs.DomainText.{place_of}
-use Rattle.cqf_program_runs.specs.declared.delivery.Delivery.{Delivery}
-use Rattle.cqf_program_summary.specs.Counting.{fare_with, fare_with_each, fare_with_offer}
+use Rattle.cqf_program_runs.specs.declared.deliveries.delivery.Delivery.{Delivery}
+use Rattle.cqf_program_summary.specs.Summary.Counting.{fare_with, fare_with_each, fare_with_offer}
 use Rattle.cqf_program_summary.specs.Summary.{Fare}
 
 -- the place of a name is that of its stream

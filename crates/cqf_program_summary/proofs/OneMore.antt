@@ -21,18 +21,18 @@ use Rattle.cqf_model.specs.Shift.{offer_cycle}
 use Rattle.cqf_model.specs.Traffic.{DroppedFor, ExceedsGate, LacksRow, Queued, Verdict, numbered}
 use Rattle.cqf_model.proofs.Texts.{is_text_itself, is_text_same}
 use Rattle.cqf_units.specs.Name.{is_name}
-use Rattle.cqf_instants_columns.specs.Columns.{verdict_at}
-use Rattle.cqf_program_plans.specs.LatencyText.{listeners_of}
-use Rattle.cqf_program_runs.specs.declared.delivery.Delivery.{Delivery}
-use Rattle.cqf_program_runs.specs.declared.delivery.Passage.TheVariants as passage
-use Rattle.cqf_program_runs.specs.ByVerdict.{deliveries_for}
+use Rattle.cqf_instants_run.specs.Columns.{verdict_at}
+use Rattle.cqf_program_plans.specs.Latency.Text.{listeners_of}
+use Rattle.cqf_program_runs.specs.declared.deliveries.delivery.Delivery.{Delivery}
+use Rattle.cqf_program_runs.specs.declared.deliveries.delivery.Passage.TheVariants as passage
+use Rattle.cqf_program_runs.specs.Deliveries.ByVerdict.{deliveries_for}
 use Rattle.cqf_program_runs.specs.Deliveries.{delivery_of, delivery_to, fate_of}
-use Rattle.cqf_program_runs.specs.Ending.{Over, deliveries_among, deliveries_at, known_over}
+use Rattle.cqf_program_runs.specs.Deliveries.Ending.{Over, deliveries_among, deliveries_at, known_over}
 use Rattle.cqf_program_runs.proofs.OneMore.{among_more}
-use Rattle.cqf_program_summary.specs.Counting.{changed_at, fare_with_offer, others_with, summary_at, summary_with}
+use Rattle.cqf_program_summary.specs.Summary.Counting.{changed_at, fare_with_offer, others_with, summary_at, summary_with}
 use Rattle.cqf_program_summary.specs.Summary.{Fare, Summary, deliveries_named, fare_by, fare_of, offers_named, offers_within, others_of, summary_by}
-use Rattle.cqf_program_summary.specs.Tallies.{is_dropped}
-use Rattle.cqf_program_summary.specs.Told.{is_other, told_cost, told_streams}
+use Rattle.cqf_program_summary.specs.Summary.Tallies.{is_dropped}
+use Rattle.cqf_program_summary.specs.Summary.Told.{is_other, told_cost, told_streams}
 use Rattle.cqf_program_summary.proofs.Changed.{changed_map}
 use Rattle.cqf_program_summary.proofs.Tallied.{count_push, fare_more_offer}
 
@@ -231,9 +231,9 @@ module _ (over : Over) (x : Offered) where
   pub named_here : (y : Delivery) → Contains (deliveries_at over x) y → y.stream ≡ x.offer.stream
   named_here y c = by (nat_lt (offer_cycle over.domain x) over.cycles) c
     where
-      by : (b : Bool) → Contains (if b then deliveries_for over.domain (known_over over) x (verdict_at over.domain over.rows over.judgements x) else []) y →
+      by : (b : Bool) → Contains (if b then deliveries_for over.domain (known_over over) x (verdict_at over.domain over.rows over.edge_verdicts x) else []) y →
           y.stream ≡ x.offer.stream
-      by true k = named_for (verdict_at over.domain over.rows over.judgements x) y k
+      by true k = named_for (verdict_at over.domain over.rows over.edge_verdicts x) y k
       by false k = absurd (contains_none y k)
 
 -- the summary by the offers of a run that is over up to a place, and by one more
@@ -283,7 +283,7 @@ module _ (over : Over) (streams : List Asked) (due : List ℕ → Option ℕ) (p
       same_offers = within_more false run ∙ append-nil (offers_within over.domain over.cycles front)
 
       none : here ≡ []
-      none = is_here ∙ ap (λ (b : Bool). if b then deliveries_for over.domain (known_over over) x (verdict_at over.domain over.rows over.judgements x) else []) run
+      none = is_here ∙ ap (λ (b : Bool). if b then deliveries_for over.domain (known_over over) x (verdict_at over.domain over.rows over.edge_verdicts x) else []) run
 
       same_deliveries : deliveries_among over front ≡ deliveries_among over longer
       same_deliveries =

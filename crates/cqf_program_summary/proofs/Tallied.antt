@@ -10,22 +10,22 @@ use Rattle.cqf_units.specs.declared.timing.Nanos.{Nanos}
 use Rattle.cqf_model.specs.declared.frames.Reason.{Reason}
 use Rattle.cqf_model.specs.Domain.{Domain}
 use Rattle.cqf_model.specs.History.{Asked}
-use Rattle.cqf_program_runs.specs.declared.delivery.Delivery.{Delivery}
-use Rattle.cqf_program_runs.specs.declared.delivery.Fate.{Fate}
-use Rattle.cqf_program_runs.specs.declared.delivery.Fate.TheVariants as fate
-use Rattle.cqf_program_runs.specs.declared.delivery.Journey.{Journey}
-use Rattle.cqf_program_runs.specs.declared.delivery.Passage.{Passage}
-use Rattle.cqf_program_runs.specs.declared.delivery.Passage.TheVariants as passage
-use Rattle.cqf_program_runs.specs.Checked.{is_delivered, is_under_way}
+use Rattle.cqf_program_runs.specs.declared.deliveries.delivery.Delivery.{Delivery}
+use Rattle.cqf_program_runs.specs.declared.deliveries.delivery.Fate.{Fate}
+use Rattle.cqf_program_runs.specs.declared.deliveries.delivery.Fate.TheVariants as fate
+use Rattle.cqf_program_runs.specs.declared.deliveries.delivery.Journey.{Journey}
+use Rattle.cqf_program_runs.specs.declared.deliveries.delivery.Passage.{Passage}
+use Rattle.cqf_program_runs.specs.declared.deliveries.delivery.Passage.TheVariants as passage
+use Rattle.cqf_program_runs.specs.Check.Checked.{is_delivered, is_under_way}
 use Rattle.cqf_program_runs.specs.Deliveries.{fate_of, latency_of}
-use Rattle.cqf_program_summary.specs.declared.fares.Listener.{Listener}
-use Rattle.cqf_program_summary.specs.declared.fares.Way.{Way}
-use Rattle.cqf_program_summary.specs.declared.tallies.Taken.{Taken}
-use Rattle.cqf_program_summary.specs.declared.tallies.Tally.{Tally}
-use Rattle.cqf_program_summary.specs.Counting.{fare_with, fare_with_each, fare_with_offer, leads_to, taken_more, taken_with, tally_with, way_with, ways_with}
+use Rattle.cqf_program_summary.specs.declared.summary.fares.Listener.{Listener}
+use Rattle.cqf_program_summary.specs.declared.summary.fares.ListenerWay.{ListenerWay}
+use Rattle.cqf_program_summary.specs.declared.summary.tallies.LatencySummary.{LatencySummary}
+use Rattle.cqf_program_summary.specs.declared.summary.tallies.Tally.{Tally}
+use Rattle.cqf_program_summary.specs.Summary.Counting.{fare_with, fare_with_each, fare_with_offer, leads_to, taken_more, taken_with, tally_with, way_with, ways_with}
 use Rattle.cqf_program_summary.specs.Summary.{fare_by, listeners_by, name_of_listener, way_to}
-use Rattle.cqf_program_summary.specs.Tallies.{count_to, is_dropped, is_late, latencies_to, latency_by, latency_on, reaches, taken_of, tally_to}
-use Rattle.cqf_program_summary.specs.Told.{row_of_stream}
+use Rattle.cqf_program_summary.specs.Summary.Tallies.{count_to, is_dropped, is_late, latencies_to, latency_by, latency_on, reaches, taken_of, tally_to}
+use Rattle.cqf_program_summary.specs.Summary.Told.{row_of_stream}
 
 -- one more counts where it passes
 pub count_push : {X : Type 0} (p : X → Bool) (xs : List X) (x : X) → count_by p (xs ++ x ∷ []) ≡ count_by p xs + (if p x then 1 else 0)
@@ -64,7 +64,7 @@ latencies_with ns at None = ap taken_of (append-nil ns)
 latencies_with ns at (Some whole) = taken_push ns (latency_of at whole)
 
 -- a tally with a frame more of this fate
-tally_by : (ending : Fate) (at : ℕ) (whole : Option Nanos) (t : Tally) (d l u : ℕ) (k : Option Taken) →
+tally_by : (ending : Fate) (at : ℕ) (whole : Option Nanos) (t : Tally) (d l u : ℕ) (k : Option LatencySummary) →
     d ≡ t.delivered + (if is_delivered ending then 1 else 0) → l ≡ t.late + (if is_late ending then 1 else 0) →
     u ≡ t.under_way + (if is_under_way ending then 1 else 0) → k ≡ taken_with at whole t.taken →
     record { delivered = d; late = l; under_way = u; taken = k } ≡ tally_with ending at whole t
@@ -131,7 +131,7 @@ journey_reaches None journey = refl
 journey_reaches (Some listener) journey = refl
 
 -- a way with a journey more, where it is told whether that leads there
-way_by : (ending : Fate) (at : ℕ) (journey : Journey) (way : Way) (b : Bool) → leads_to journey.listener way.to ≡ b →
+way_by : (ending : Fate) (at : ℕ) (journey : Journey) (way : ListenerWay) (b : Bool) → leads_to journey.listener way.to ≡ b →
     (if b then record way { tally = tally_with ending at journey.whole way.tally } else way) ≡ way_with ending at journey way
 way_by ending at journey way b e =
     ap (λ (c : Bool). if c then record way { tally = tally_with ending at journey.whole way.tally } else way) (sym e)
@@ -155,12 +155,12 @@ module _ (ds : List Delivery) (x : Delivery) where
       map (way_to (ds ++ x ∷ [])) tos ≡ ways_with (fate_of x) x.at.0 p (map (way_to ds) tos)
   ways_more (passage.Dropped reason) e [] = refl
   ways_more (passage.Dropped reason) e (to ∷ tos) =
-      ap₂ (λ (w : Way) (ws : List Way). w ∷ ws)
+      ap₂ (λ (w : ListenerWay) (ws : List ListenerWay). w ∷ ws)
       (ap (λ (t : Tally). record { to = to; tally = t }) (tally_kept (name_of_listener to) ds x (drop_reaches (name_of_listener to) x.passage reason e)))
       (ways_more (passage.Dropped reason) e tos)
   ways_more (passage.Goes journey) e [] = refl
   ways_more (passage.Goes journey) e (to ∷ tos) =
-      ap₂ (λ (w : Way) (ws : List Way). w ∷ ws) (way_more to journey e) (ways_more (passage.Goes journey) e tos)
+      ap₂ (λ (w : ListenerWay) (ws : List ListenerWay). w ∷ ws) (way_more to journey e) (ways_more (passage.Goes journey) e tos)
 
 -- what is told of a stream, with one delivery more of a frame of it
 module _ (d : Domain) (cost : Asked → ℕ → ℕ) (due : List ℕ → Option ℕ) (asked : Asked) where

@@ -7,20 +7,20 @@ use Rattle.cqf_model.specs.Traffic.{numbered}
 use Rattle.cqf_admission.specs.Asking.{asked_paced}
 use Rattle.cqf_program_scenario.specs.Calls.{history_of}
 use Rattle.cqf_program_scenario.specs.Closing.{scenario_given}
-use Rattle.cqf_program_runs.specs.declared.deliveries_made.Noted.{Noted}
-use Rattle.cqf_program_runs.specs.declared.deliveries_reading.PlannedGiven.{PlannedGiven}
-use Rattle.cqf_program_runs.specs.declared.under_way.UnderWay.{UnderWay}
-use Rattle.cqf_program_runs.specs.Deadlines.{deadline_in}
-use Rattle.cqf_program_runs.specs.DeliveriesReading.{IsPlannedGiven}
-use Rattle.cqf_program_runs.specs.Ending.{deliveries_over, over_by}
-use Rattle.cqf_program_runs.specs.Following.{IsNotedOf}
-use Rattle.cqf_program_runs.specs.PlannedScenario.{run_of_scenario}
+use Rattle.cqf_program_runs.specs.declared.deliveries.noted.Noted.{Noted}
+use Rattle.cqf_program_runs.specs.declared.deliveries.reading.PlannedGiven.{PlannedGiven}
+use Rattle.cqf_program_runs.specs.declared.deliveries.under_way.UnderWay.{UnderWay}
+use Rattle.cqf_program_runs.specs.Deliveries.Deadlines.{deadline_in}
+use Rattle.cqf_program_runs.specs.Deliveries.Reading.{IsPlannedGiven}
+use Rattle.cqf_program_runs.specs.Deliveries.Ending.{deliveries_over, over_by}
+use Rattle.cqf_program_runs.specs.Deliveries.Following.{IsNotedOf}
+use Rattle.cqf_program_runs.specs.Deliveries.PlannedScenario.{run_of_scenario}
 use Rattle.cqf_program_runs.proofs.Judged.{due_is}
-use Rattle.cqf_program_summary.specs.Gathering.{IsSummaryOf}
+use Rattle.cqf_program_summary.specs.Summary.Gathering.{IsSummaryOf}
 use Rattle.cqf_program_summary.specs.Summary.{Summary, offers_within, summary_by}
-use Rattle.cqf_program_summary.specs.SummaryOutput.{IsSummaryOutput}
-use Rattle.cqf_program_summary.specs.SummaryText.{text_of_summary}
-use Rattle.cqf_program_summary.specs.Told.{told_streams}
+use Rattle.cqf_program_summary.specs.Summary.Output.{IsSummaryOutput}
+use Rattle.cqf_program_summary.specs.Summary.Text.{text_of_summary}
+use Rattle.cqf_program_summary.specs.Summary.Told.{told_streams}
 
 -- by what is noted of a scenario
 pub IsSummaryOf-noted : (cycles : ℕ) (planned : PlannedGiven) (noted : Noted) (under_way : UnderWay) (summary : Summary)

@@ -1,22 +1,22 @@
 -- No more is counted than there is room for.
-use Rattle.std.proofs.Common.{◌≡◌, ◌+◌, ◌*◌, ◌≤◌, ◌<◌, ◌^◌, ◌∷◌, [], ℕ, All, List, Some, None, Option, arith, map, set, subst, sym}
+use Rattle.std.proofs.Common.{◌≡◌, ◌+◌, [], ℕ, All, List, Some, None, Option, arith, map, set, subst, sym}
 use Rattle.std.proofs.lemmas.List.Elements.{All-contains, All-set}
 use Rattle.cqf_lists.proofs.Members.{all_from_members, contains_from_map}
 use Rattle.cqf_model.specs.Domain.{Domain}
 use Rattle.cqf_model.specs.History.{Asked}
-use Rattle.cqf_program_runs.specs.declared.delivery.Fate.{Fate}
-use Rattle.cqf_program_runs.specs.declared.delivery.Fate.TheVariants as fate
-use Rattle.cqf_program_summary.specs.declared.fares.Listener.{Listener}
-use Rattle.cqf_program_summary.specs.declared.fares.Others.{Others}
-use Rattle.cqf_program_summary.specs.declared.fares.Way.{Way}
-use Rattle.cqf_program_summary.specs.declared.tallies.Taken.{Taken}
-use Rattle.cqf_program_summary.specs.declared.tallies.Tally.{Tally}
-use Rattle.cqf_program_summary.specs.Counting.{counted, FareWithin, OthersWithin, SummaryWithin, TakenWithin, TallyWithin, WaysWithin}
+use Rattle.cqf_program_runs.specs.declared.deliveries.delivery.Fate.{Fate}
+use Rattle.cqf_program_runs.specs.declared.deliveries.delivery.Fate.TheVariants as fate
+use Rattle.cqf_program_summary.specs.declared.summary.fares.Listener.{Listener}
+use Rattle.cqf_program_summary.specs.declared.summary.fares.Others.{Others}
+use Rattle.cqf_program_summary.specs.declared.summary.fares.ListenerWay.{ListenerWay}
+use Rattle.cqf_program_summary.specs.declared.summary.tallies.LatencySummary.{LatencySummary}
+use Rattle.cqf_program_summary.specs.declared.summary.tallies.Tally.{Tally}
+use Rattle.cqf_program_summary.specs.Summary.Counting.{counted, FareWithin, OthersWithin, SummaryWithin, TakenWithin, TallyWithin, WaysWithin}
 use Rattle.cqf_program_summary.specs.Summary.{Fare, Summary, fare_of, listeners_by, summary_by, way_to, ways_of}
-use Rattle.cqf_program_summary.specs.Told.{row_of_stream, told_cost}
+use Rattle.cqf_program_summary.specs.Summary.Told.{row_of_stream, told_cost}
 
 -- what is within some is within more
-taken_later : (many more : ℕ) (t : Option Taken) → TakenWithin many t → TakenWithin (many + more) t
+taken_later : (many more : ℕ) (t : Option LatencySummary) → TakenWithin many t → TakenWithin (many + more) t
 taken_later many more None is = tt
 taken_later many more (Some t) is = (omega (arith, is.0), omega (arith, is.1))
 
@@ -28,10 +28,10 @@ tally_later many more t is = record {
   taken = taken_later many more t.taken is.taken;
 }
 
-pub ways_later : (many more : ℕ) (ways : List Way) → WaysWithin many ways → WaysWithin (many + more) ways
+pub ways_later : (many more : ℕ) (ways : List ListenerWay) → WaysWithin many ways → WaysWithin (many + more) ways
 ways_later many more ways are =
-    all_from_members (λ (way : Way). TallyWithin (many + more) way.tally) ways
-    (λ way c. tally_later many more way.tally (All-contains (λ (w : Way). TallyWithin many w.tally) ways way are c))
+    all_from_members (λ (way : ListenerWay). TallyWithin (many + more) way.tally) ways
+    (λ way c. tally_later many more way.tally (All-contains (λ (w : ListenerWay). TallyWithin many w.tally) ways way are c))
 
 pub fare_later : (many more : ℕ) (fare : Fare) → FareWithin many fare → FareWithin (many + more) fare
 fare_later many more fare is = record {
@@ -80,7 +80,8 @@ counted_taken many fate.UnderWay t is = is
 counted_taken many (fate.Dropped reason) t is = is
 
 -- and what it took
-pub with_within : (many : ℕ) (ending : Fate) (before mid : Tally) (k : Option Taken) → mid ≡ counted ending before → TallyWithin many before →
+pub with_within : (many : ℕ) (ending : Fate) (before mid : Tally) (k : Option LatencySummary) → mid ≡ counted ending before →
+    TallyWithin many before →
     ((m : ℕ) → TakenWithin m mid.taken → TakenWithin (m + 1) k) → TallyWithin (many + 1) (record mid { taken = k })
 with_within many ending before mid k same is more =
     let counts : TallyWithin (many + 1) mid = subst (TallyWithin (many + 1)) (sym same) (counted_within many ending before is) in
@@ -92,9 +93,9 @@ with_within many ending before mid k same is more =
     }
 
 -- with one way counted once more
-pub way_within : (many : ℕ) (ways : List Way) (place : ℕ) (after : Way) → TallyWithin (many + 1) after.tally → WaysWithin many ways →
+pub way_within : (many : ℕ) (ways : List ListenerWay) (place : ℕ) (after : ListenerWay) → TallyWithin (many + 1) after.tally → WaysWithin many ways →
     WaysWithin (many + 1) (set ways place after)
-way_within many ways place after more are = All-set (λ (way : Way). TallyWithin (many + 1) way.tally) ways place after more (ways_later many 1 ways are)
+way_within many ways place after more are = All-set (λ (way : ListenerWay). TallyWithin (many + 1) way.tally) ways place after more (ways_later many 1 ways are)
 
 -- at first nothing is counted
 pub none_within : (d : Domain) (told : List Asked) (due : List ℕ → Option ℕ) → SummaryWithin 0 (summary_by d told due [] [])
@@ -108,10 +109,10 @@ none_within d told due = record {
     of_stream asked = record {
       offered = omega arith;
       dropped = omega arith;
-      ways = all_from_members (λ (way : Way). TallyWithin 0 way.tally) (ways_of d (told_cost d told asked) [] (row_of_stream d asked))
+      ways = all_from_members (λ (way : ListenerWay). TallyWithin 0 way.tally) (ways_of d (told_cost d told asked) [] (row_of_stream d asked))
           (λ way c.
           let found = contains_from_map (way_to []) (listeners_by d (told_cost d told asked) (row_of_stream d asked)) way c in
-          subst (λ (w : Way). TallyWithin 0 w.tally) found.2 (empty found.0));
+          subst (λ (w : ListenerWay). TallyWithin 0 w.tally) found.2 (empty found.0));
     }
       where
         empty : (to : Option Listener) → TallyWithin 0 (way_to [] to).tally

@@ -1,9 +1,3 @@
-pub mod Told
-pub mod Tallies
+-- a folder a command
+pub mod Hops
 pub mod Summary
-pub mod SummaryText
-pub mod SummaryOutput
--- what the inner functions say
-pub mod Listing
-pub mod Counting
-pub mod Gathering

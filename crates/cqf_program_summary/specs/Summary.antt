@@ -1,4 +1,11 @@
 -- How the frames of streams fare to their listeners in a run, by its book (profile).
+pub mod Output
+pub mod Text
+pub mod Told
+pub mod Tallies
+pub mod Listing
+pub mod Counting
+pub mod Gathering
 use Rattle.std.specs.Prelude.{ℕ, ◌&&◌, List, [], ◌∷◌, Option, Some, None, count_by, filter, length, map, nat_lt, option_map}
 use Rattle.cqf_model.specs.declared.frames.Offered.{Offered}
 use Rattle.cqf_model.specs.declared.topology.Hop.{Hop}
@@ -10,17 +17,17 @@ use Rattle.cqf_model.specs.Run.{Run}
 use Rattle.cqf_model.specs.Shift.{offer_cycle}
 use Rattle.cqf_model.specs.Traffic.{numbered}
 use Rattle.cqf_topology.specs.PlannedText.{PlannedText}
-use Rattle.cqf_laws_latency.specs.Latency.{most_of}
+use Rattle.cqf_laws_timing.specs.Latency.{most_of}
 use Rattle.cqf_program_plans.specs.EndNames.{name_of_end}
-use Rattle.cqf_program_plans.specs.LatencyInput.{asked_in}
-use Rattle.cqf_program_plans.specs.LatencyText.{listeners_of}
-use Rattle.cqf_program_runs.specs.declared.delivery.Delivery.{Delivery}
+use Rattle.cqf_program_plans.specs.Latency.Input.{asked_in}
+use Rattle.cqf_program_plans.specs.Latency.Text.{listeners_of}
+use Rattle.cqf_program_runs.specs.declared.deliveries.delivery.Delivery.{Delivery}
 use Rattle.cqf_program_runs.specs.Deliveries.{deadline_named, deliveries_of, fate_of}
-use Rattle.cqf_program_summary.specs.declared.fares.Listener.{Listener}
-use Rattle.cqf_program_summary.specs.declared.fares.Others.{Others}
-use Rattle.cqf_program_summary.specs.declared.fares.Way.{Way}
-use Rattle.cqf_program_summary.specs.Tallies.{is_dropped, tally_to}
-use Rattle.cqf_program_summary.specs.Told.{is_other, row_of_stream, told_cost, told_streams}
+use Rattle.cqf_program_summary.specs.declared.summary.fares.Listener.{Listener}
+use Rattle.cqf_program_summary.specs.declared.summary.fares.Others.{Others}
+use Rattle.cqf_program_summary.specs.declared.summary.fares.ListenerWay.{ListenerWay}
+use Rattle.cqf_program_summary.specs.Summary.Tallies.{is_dropped, tally_to}
+use Rattle.cqf_program_summary.specs.Summary.Told.{is_other, row_of_stream, told_cost, told_streams}
 
 -- what is told of a stream: its name and its deadline, how many offers claim the name, how many of these are dropped, and the ways
 -- to its listeners; of a stream whose octets, pace or path are refused one way to none
@@ -29,7 +36,7 @@ pub record Fare : Type 0 where
   pub deadline : Option ℕ
   pub offered : ℕ
   pub dropped : ℕ
-  pub ways : List Way
+  pub ways : List ListenerWay
 
 -- a summary: that of each stream, and how many offers claim other names
 pub record Summary : Type 0 where
@@ -44,7 +51,7 @@ listener_to d cost hop = record { name = name_of_end d hop.link; bound = most_of
 abbrev pub name_of_listener : Option Listener → Option (List ℕ)
 name_of_listener to = option_map (λ (listener : Listener). listener.name) to
 
-abbrev pub way_to : List Delivery → Option Listener → Way
+abbrev pub way_to : List Delivery → Option Listener → ListenerWay
 way_to deliveries to = record { to = to; tally = tally_to (name_of_listener to) deliveries }
 
 -- the listeners of a row, in the order of its tree
@@ -52,7 +59,7 @@ abbrev pub listeners_by : Domain → (ℕ → ℕ) → Option Row → List (Opti
 listeners_by d cost None = None ∷ []
 listeners_by d cost (Some row) = map (λ (hop : Hop). Some (listener_to d cost hop)) (listeners_of d row)
 
-abbrev pub ways_of : Domain → (ℕ → ℕ) → List Delivery → Option Row → List Way
+abbrev pub ways_of : Domain → (ℕ → ℕ) → List Delivery → Option Row → List ListenerWay
 ways_of d cost deliveries row = map (way_to deliveries) (listeners_by d cost row)
 
 -- how many of some offers claim a name, and what becomes of them

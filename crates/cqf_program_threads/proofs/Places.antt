@@ -6,9 +6,9 @@ use Rattle.std.proofs.lemmas.List.{get_or-replicate, get_or-set_other, get_or-se
 use Rattle.cqf_lists.proofs.EachBelow.{length-singles}
 use Rattle.cqf_model.specs.Domain.{Domain, IsAccepted}
 use Rattle.cqf_model.proofs.Represented.{few_bridges, few_links}
-use Rattle.cqf_tape.specs.declared.tapes.Kind.{Kind}
+use Rattle.cqf_tape.specs.declared.tapes.TransmissionKind.{TransmissionKind}
 use Rattle.cqf_tape.specs.declared.tapes.Tapes.{Tapes}
-use Rattle.cqf_tape.specs.Tapes.{IsDropsEndBefore, IsEndBefore, MayBeTold, StandByNumber, drops_at, first_links, link_of_tape, links_of, marks_at}
+use Rattle.cqf_tape.specs.Tapes.{IsDropsEndBefore, IsEndBefore, MayBeTold, StandByNumber, drops_at, first_links, link_of_tape, marks_at}
 use Rattle.cqf_tape.specs.Telling.{AreDropPlaces, ArePlaces}
 
 -- of so many places those before one have gone on, and the others haven't
@@ -43,14 +43,14 @@ module _ (before after : ℕ → ℕ → Type 0) (count : ℕ) (places : List �
   }
 
 -- where a cycle's marks end by link, and its drops by bridge
-abbrev pub ends_by_link : Domain → Kind → Tapes → ℕ → ℕ → ℕ → Type 0
+abbrev pub ends_by_link : Domain → TransmissionKind → Tapes → ℕ → ℕ → ℕ → Type 0
 ends_by_link d kind tapes cycle link place = IsEndBefore d cycle (marks_at kind tapes link) place
 
 abbrev pub ends_by_bridge : Tapes → ℕ → ℕ → ℕ → Type 0
 ends_by_bridge tapes cycle bridge place = IsDropsEndBefore cycle (drops_at tapes bridge) place
 
 -- of so many links, or bridges, the places are behind the cycle, and of the others before it
-abbrev pub AreBehindLinks : Domain → Kind → Tapes → ℕ → ℕ → List ℕ → Type 0
+abbrev pub AreBehindLinks : Domain → TransmissionKind → Tapes → ℕ → ℕ → List ℕ → Type 0
 AreBehindLinks d kind tapes cycle link places =
     HaveGoneOn (ends_by_link d kind tapes cycle) (ends_by_link d kind tapes (cycle + 1)) (length d.links) link places
 
@@ -58,7 +58,7 @@ abbrev pub AreBehindBridges : Domain → Tapes → ℕ → ℕ → List ℕ → 
 AreBehindBridges d tapes cycle bridge places =
     HaveGoneOn (ends_by_bridge tapes cycle) (ends_by_bridge tapes (cycle + 1)) (length d.bridges) bridge places
 
-module _ (d : Domain) (kind : Kind) (tapes : Tapes) (places : List ℕ) where
+module _ (d : Domain) (kind : TransmissionKind) (tapes : Tapes) (places : List ℕ) where
   -- before the first cycle nothing is told
   pub first_places : IsAccepted d → places ≡ replicate 4096 0 → ArePlaces d kind tapes 0 places
   first_places accepted are = record {

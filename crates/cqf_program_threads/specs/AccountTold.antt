@@ -1,6 +1,6 @@
 -- What the output of the command `run` with `--threads` tells.
 use Rattle.std.specs.Prelude.{ℕ, List}
-use Rattle.cqf_program_runs.specs.RunOutput.{run_text}
+use Rattle.cqf_program_runs.specs.Run.Output.{run_text}
 use Rattle.cqf_program_threads.specs.declared.threads_outputs.ThreadsOutput.{ThreadsOutput}
 use Rattle.cqf_program_threads.specs.PagedBooks.{contents_told}
 use Rattle.cqf_worker.specs.Account.{entries_of}

@@ -6,18 +6,18 @@ use Rattle.cqf_model.specs.Domain.{Domain}
 use Rattle.cqf_model.specs.Headline.{IsAccountOf}
 use Rattle.cqf_model.specs.History.{Recorded}
 use Rattle.cqf_admission.specs.declared.entries.Command.{Command}
-use Rattle.cqf_program_runs.specs.RunOutput.{run_text}
+use Rattle.cqf_program_runs.specs.Run.Output.{run_text}
 use Rattle.cqf_program_scenario.specs.Opening.{opening_history}
 use Rattle.cqf_program_scenario.specs.Parting.{AreCommandsBehind}
 use Rattle.cqf_program_scenario.specs.Scenario.{Scenario, scenario_input}
-use Rattle.cqf_program_stop.specs.Stops.{fault_line}
-use Rattle.cqf_program_stop.specs.declared.stops.Stop.{Stop}
-use Rattle.cqf_worker.specs.Account.{IsPagedAccount, all_asked}
+use Rattle.cqf_press.specs.Stops.{fault_line}
+use Rattle.cqf_press.specs.declared.stops.Stop.{Stop}
+use Rattle.cqf_worker.specs.Account.{IsTapedAccount, all_asked}
 use Rattle.cqf_worker.specs.Failing.{IsConductFault}
-use Rattle.cqf_worker_threads.specs.Faults.{conduct_fault_text}
-use Rattle.cqf_worker.specs.declared.account.PagedAccount.{PagedAccount}
-use Rattle.cqf_worker_threads.specs.declared.faults.ConductFault.{ConductFault}
-use Rattle.cqf_worker_threads.specs.declared.faults.ConductFault.TheVariants.{Memory}
+use Rattle.cqf_worker.specs.Faults.{conduct_fault_text}
+use Rattle.cqf_worker.specs.declared.account.TapedAccount.{TapedAccount}
+use Rattle.cqf_worker.specs.declared.faults.ConductFault.{ConductFault}
+use Rattle.cqf_worker.specs.declared.faults.ConductFault.TheVariants.{Memory}
 
 -- the entries and the book of an account of a scenario over so many cycles: of a run that begins with the history of the calls before the
 -- first Seal, and in which each administrator makes what it calls for behind that Seal
@@ -27,13 +27,13 @@ pub record IsAccountOfScenario (cycles : ℕ) (s : Scenario) (entries : List Rec
   pub is_account : IsAccountOf s.domain (opening_history s) s.offers s.background cycles (all_asked commands) entries book
 
 -- an account by tapes of an input's scenario, and the domain of that
-pub record IsAccountOfInput (limits : Limits) (cycles : ℕ) (input : List ℕ) (d : Domain) (account : PagedAccount) : Type 0 where
+pub record IsAccountOfInput (limits : Limits) (cycles : ℕ) (input : List ℕ) (d : Domain) (account : TapedAccount) : Type 0 where
   pub scenario : Scenario
   pub holds : scenario_input limits cycles input ≡ Ok scenario
   pub domain : d ≡ scenario.domain
   pub commands : List (List Command)
   pub asked : AreCommandsBehind scenario.calls scenario.sealer (all_asked commands)
-  pub is_account : IsPagedAccount d (opening_history scenario) scenario.offers scenario.background cycles commands account
+  pub is_account : IsTapedAccount d (opening_history scenario) scenario.offers scenario.background cycles commands account
 
 -- a fault that a run of a scenario over so many cycles may tell, which begins so and in which each administrator makes what it calls for
 pub record IsFaultOfScenario (cycles : ℕ) (s : Scenario) (fault : ConductFault) : Type 0 where

@@ -1,23 +1,13 @@
-//! A book that is told from its tapes, with nothing gathered and nothing sorted.
+//! The command `run` with `--threads`: a scenario, run on a thread for each bridge and each administrator, and told from the tapes that the
+//! bridges kept, with nothing gathered and nothing sorted.
 //!
-//! - A [`PagedBook`] is the tapes of so many cycles of a domain, on each of which the transmissions of either kind stand by instant.
-//! - [`put_paged_book`] puts the text of the book that they tell on a press, cycle by cycle and link by link, and asks for no memory.
+//! - [`threads_output`] is the command's output for its input, the history and the book of an account of the input's scenario, or the end of the
+//!   run with the line of the input's first fault or of the run's. [`ThreadsOutput::tell`] tells it, and asks for no memory.
+//! - A `PagedBook` is the tapes of so many cycles of a domain, on each of which the transmissions of either kind stand by instant.
+//!   `put_paged_book` puts the text of the book that they tell on a press, cycle by cycle and link by link.
 //!
-//! `specs/PagedBooks.antt` says which book it is (`contents_told`); that it is the book of which these are the tapes is
-//! `cqf_laws_account::tapes_tell_the_book`.
-//!
-//! ```text
-//! put_paged_book(&mut press, &PagedBook::new(domain, 2, tapes))
-//!     puts "what,cycle,where,frame,octets,detail\nstart,1,a>s,1,64,125000\n"
-//! ```
-//!
-//! The command `run` with `--threads`: a scenario, run on a thread for each bridge and each administrator.
-//!
-//! - [`threads_output`] is the command's output for its input, the history and the book of an account of the input's
-//!   scenario, or the end of the run with the line of the input's first fault or of the run's. [`ThreadsOutput::tell`] tells
-//!   it, the book from the tapes that the bridges kept, and asks for no memory.
-//!
-//! `specs/ThreadsOutput.antt` says what it is that a text `IsThreadsOutput`, and how the command `EndsThreads`.
+//! `specs/ThreadsOutput.antt` says what it is that a text `IsThreadsOutput`, and how the command `EndsThreads`; `specs/PagedBooks.antt` which
+//! book is told (`contents_told`). That it is the book of which these are the tapes is `cqf_laws_account::tapes_tell_the_book`.
 //!
 //! ```text
 //! threads_output(rt, alloc, 2, b"..\n%%\nstreams = [{ name = \"x\", .. }]\n%%\n0 admit x\n%%\nat,bridge,stream,octets\n0,a,x,64\n")
@@ -30,7 +20,7 @@ mod pages_telling;
 mod threads_command;
 mod threads_outputs;
 
-pub use paged::PagedBook;
-pub use pages_telling::put_paged_book;
+pub(crate) use paged::PagedBook;
+pub(crate) use pages_telling::put_paged_book;
 pub use threads_command::threads_output;
 pub use threads_outputs::ThreadsOutput;

@@ -1,7 +1,7 @@
 //! A book that is put from its tapes: cycle by cycle and link by link, each transmission once.
-ghost use Rattle.std.specs.Prelude.{◌≡◌, ◌+◌, ◌<◌, length};
+ghost use Rattle.std.specs.Prelude.{◌+◌, ◌<◌, length};
 ghost use Rattle.cqf_model.specs.Limits.{most_cycles};
-ghost use Rattle.cqf_program_press.specs.Press.{Puts};
+ghost use Rattle.cqf_press.specs.Press.{Puts};
 ghost use Rattle.cqf_report.specs.Books.{lines_of_drops, lines_of_starts, text_of_book};
 ghost use Rattle.cqf_tape.specs.Tapes.{IsEndBefore, IsInOrder, MayBeTold, drops_at_bridges, drops_in_cycles};
 ghost use Rattle.cqf_tape.specs.Tapes.{told_in_cycles, told_on, told_on_links};
@@ -9,17 +9,17 @@ ghost use Rattle.cqf_tape.specs.Telling.{AreDropPlaces, ArePlaces};
 ghost use Rattle.cqf_program_threads.specs.PagedBooks.{contents_told};
 
 use crate::paged::PagedBook;
-use cqf_program_press::{Press, Sink};
-use cqf_program_telling::{put_book_header, put_drops, put_starts};
-use cqf_tape::{Kind, Mark, Tapes, drops_end_of, end_of, started_on};
+use cqf_press::{Press, Sink};
+use cqf_report::{put_book_header, put_drops, put_starts};
+use cqf_tape::{Mark, Tapes, TransmissionKind, drops_end_of, end_of, started_on};
 use cqf_topology::Domain;
 use cqf_units::Cycle;
 
 /// What is told: transmissions of a kind, which begin with a word, of the tapes of a domain.
 #[derive(Clone, Copy)]
-struct Part<'w, 'd, 't> {
+struct ToldTransmissions<'w, 'd, 't> {
     what: &'w [u8],
-    kind: Kind,
+    kind: TransmissionKind,
     domain: &'d Domain,
     tapes: &'t Tapes,
 }
@@ -27,7 +27,7 @@ struct Part<'w, 'd, 't> {
 /// Puts a line for each mark of a cycle on a link's tape, and gives the place where they end.
 fn put_on_link<W: Sink>(
     press: &mut Press<'_, W>,
-    part: Part<'_, '_, '_>,
+    part: ToldTransmissions<'_, '_, '_>,
     cycle: Cycle,
     link: u16,
     marks: &[Mark],
@@ -52,7 +52,7 @@ fn put_on_link<W: Sink>(
 /// Puts a line for each mark of a cycle, link by link. The places are those where the cycles before end.
 fn put_cycle<W: Sink>(
     press: &mut Press<'_, W>,
-    part: Part<'_, '_, '_>,
+    part: ToldTransmissions<'_, '_, '_>,
     cycle: Cycle,
     places: &mut [usize; 4096],
 )
@@ -72,11 +72,16 @@ fn put_cycle<W: Sink>(
 }
 
 /// Puts a line for each transmission of a kind, cycle by cycle.
-fn put_starts_of_kind<W: Sink>(press: &mut Press<'_, W>, what: &[u8], kind: Kind, book: &PagedBook)
+fn put_starts_of_kind<W: Sink>(
+    press: &mut Press<'_, W>,
+    what: &[u8],
+    kind: TransmissionKind,
+    book: &PagedBook,
+)
     ensures { Puts W.contents press.old press.new
         (lines_of_starts what.now book.now.domain (told_in_cycles book.now.domain kind book.now.tapes book.now.cycles)) }
 {
-    let part = Part {
+    let part = ToldTransmissions {
         what,
         kind,
         domain: book.domain(),
@@ -132,7 +137,7 @@ pub fn put_paged_book<W: Sink>(press: &mut Press<'_, W>, book: &PagedBook)
     ensures { Puts W.contents press.old press.new (text_of_book book.now.domain (contents_told book.now)) }
 {
     put_book_header(press);
-    put_starts_of_kind(press, b"start", Kind::Stream, book);
-    put_starts_of_kind(press, b"background", Kind::Background, book);
+    put_starts_of_kind(press, b"start", TransmissionKind::Stream, book);
+    put_starts_of_kind(press, b"background", TransmissionKind::Background, book);
     put_all_drops(press, book);
 }

@@ -1,13 +1,13 @@
 //! The command `run` with `--threads`: the history and the book of an account.
 ghost use Rattle.std.specs.Prelude.{◌≡◌, ◌≢◌, ◌≤◌, ◌++◌, [], IfErr, IfOk, codes, map, string_bytes};
 ghost use Rattle.cqf_admission.specs.Admission.{recorded_of};
-ghost use Rattle.cqf_program_press.specs.Edge.{HasTold, writing};
-ghost use Rattle.cqf_program_press.specs.Press.{Puts};
+ghost use Rattle.cqf_press.specs.Edge.{HasTold, writing};
+ghost use Rattle.cqf_press.specs.Press.{Puts};
 ghost use Rattle.cqf_report.specs.Books.{text_of_book};
-ghost use Rattle.cqf_program_runs.specs.RunOutput.{run_text};
+ghost use Rattle.cqf_program_runs.specs.Run.Output.{run_text};
 ghost use Rattle.cqf_program_scenario.specs.Opening.{IsOpenedInput};
-ghost use Rattle.cqf_program_stop.specs.Stops.{EndsWith, fault_line, line_of};
-ghost use Rattle.cqf_worker_threads.specs.Faults.{conduct_fault_text};
+ghost use Rattle.cqf_press.specs.Stops.{EndsWith, fault_line, line_of};
+ghost use Rattle.cqf_worker.specs.Faults.{conduct_fault_text};
 ghost use Rattle.cqf_program_threads.specs.AccountTold.{text_of_account};
 ghost use Rattle.cqf_program_threads.specs.PagedBooks.{contents_told};
 ghost use Rattle.cqf_program_threads.specs.ThreadsOutput.{EndsThreads, IsAccountOfInput, IsFaultOfInput, IsThreadsOutput};
@@ -18,12 +18,11 @@ use crate::{PagedBook, put_paged_book};
 use cqf_admission::Entry;
 use cqf_laws_account::tapes_tell_the_book;
 use cqf_model::Limits;
-use cqf_program_press::{Press, Sheet, Sink, Told};
+use cqf_press::{FAULT, Press, Sheet, Sink, Stop, Told};
 use cqf_program_scenario::{Opened, read_opened};
-use cqf_program_stop::{FAULT, Stop};
-use cqf_program_telling::put_history;
+use cqf_report::put_history;
 use cqf_topology::Domain;
-use cqf_worker::{ConductFault, Free, PagedAccount, conduct_pages};
+use cqf_worker::{ConductFault, Free, TapedAccount, conduct_tapes};
 use std::alloc::{AllocError, Global};
 use std::sync::Wait;
 use std::thread::Threads;
@@ -56,7 +55,7 @@ fn conduct_opened(
     cycles: u32,
     input: &[u8],
     opened: Opened,
-) -> Result<(Domain, PagedAccount), ConductFault>
+) -> Result<(Domain, TapedAccount), ConductFault>
     requires short { cycles ≤ most_cycles }
     requires opened { IsOpenedInput limits cycles input.now opened }
     ensures ok { IfOk result (λ ran. IsAccountOfInput limits cycles input.now ran.0 ran.1) }
@@ -69,7 +68,7 @@ fn conduct_opened(
         offers,
         background,
     } = opened;
-    match conduct_pages(
+    match conduct_tapes(
         rt,
         alloc,
         &domain,
@@ -149,8 +148,8 @@ pub fn threads_output(
         Err(fault) => return Err(fault_stop(alloc, fault)),
     };
     domain.know();
-    let PagedAccount { history, pages } = account;
-    let book = PagedBook::new(domain, cycles, pages);
+    let TapedAccount { history, tapes } = account;
+    let book = PagedBook::new(domain, cycles, tapes);
     match Sheet::new(alloc) {
         Ok(sheet) => Ok(ThreadsOutput {
             history,

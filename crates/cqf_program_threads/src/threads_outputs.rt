@@ -2,7 +2,7 @@
 
 use crate::PagedBook;
 use cqf_desk::History;
-use cqf_program_press::Sheet;
+use cqf_press::Sheet;
 
 /// What the output of `run --threads` is told from: the history of a run, its book by the tapes that the bridges kept, and a sheet.
 #[derive(Drop)]

@@ -1,3 +1,4 @@
 pub mod WordLemmas
 pub mod Growing
 pub mod Ranges
+mod Reading

@@ -17,10 +17,11 @@ use Rattle.cqf_program_words.specs.declared.words.Format.{Format}
 use Rattle.cqf_program_words.specs.declared.words.Job.{Job}
 use Rattle.cqf_program_words.specs.declared.words.Job.TheVariants.{Check, Compile, Deliveries, Hops, Latency, Line}
 use Rattle.cqf_program_words.specs.declared.words.Job.TheVariants.{Load, Offers, Plan, Port, Report, Run, Summary}
-use Rattle.cqf_program_stop.specs.Stops.{EndsWith, line_of}
-use Rattle.cqf_program_stop.specs.declared.stops.Stop.{Stop}
+use Rattle.cqf_press.specs.Stops.{EndsWith, line_of}
+use Rattle.cqf_press.specs.declared.stops.Stop.{Stop}
 use Rattle.cqf_program_words.specs.Candidates.{AreNamed}
-use Rattle.cqf_program_words.specs.Words.{app_for, ask_for_large, cqf_app, format_text, rate_text, IsJob, IsFreeIn, IsJobOf, IsNumberIn, AreGiven}
+use Rattle.cqf_program_words.specs.Commands.{cqf_app}
+use Rattle.cqf_program_words.specs.Words.{app_for, ask_for_large, format_text, rate_text, IsJob, IsFreeIn, IsJobOf, IsNumberIn, AreGiven}
 use Rattle.cqf_program_words.specs.Words.{Mean, AskForHelp, EndsBy, EndsWords, TellsNoCandidates, is_plan}
 
 -- an option whose parser was set goes by the rule that it went by, but for the parser

@@ -1,3 +1,5 @@
+pub mod Options
+pub mod Commands
 pub mod Operands
 pub mod Words
 pub mod Candidates

@@ -1,23 +1,29 @@
 -- Which words of a command line name files (profile).
-use Rattle.std.specs.Prelude.{◌==◌, ◌||◌, ◌++◌, Bool, true, false, List, [], ◌∷◌, if◌then◌else◌, bytes_eq, codes, count_by, fold, map, nat_le}
+use Rattle.std.specs.Prelude.{◌≡◌, ◌==◌, ◌++◌, Bool, true, false, List, [], ◌∷◌, if◌then◌else◌, bytes_eq, codes, count_by, fold, map, nat_le}
+use Rattle.std.specs.List.{list_any}
 use Rattle.clap.specs.Words.{Text}
-use Rattle.cqf_program_words.specs.declared.operands.Place.{Place}
-use Rattle.cqf_program_words.specs.declared.operands.Place.TheVariants.{Start, Free, Value, Behind, Other}
+use Rattle.cqf_program_words.specs.declared.operands.WordPlace.{WordPlace}
+use Rattle.cqf_program_words.specs.declared.operands.WordPlace.TheVariants.{Start, Free, Value, Behind, Other}
 use Rattle.cqf_program_words.specs.declared.operands.Operands.{Operands}
+use Rattle.cqf_program_words.specs.Commands.{all_commands, cqf_app, does_want_value, name_of}
+use Rattle.cqf_program_words.specs.Options.{gives_value}
 
--- a command that takes files
+-- a command, all of which take files
 abbrev pub is_command : Text → Bool
-is_command word = bytes_eq word (codes "port") || (bytes_eq word (codes "line") || (bytes_eq word (codes "compile")
-    || (bytes_eq word (codes "load") || (bytes_eq word (codes "latency")
-    || (bytes_eq word (codes "run") || (bytes_eq word (codes "report")
-    || (bytes_eq word (codes "deliveries") || (bytes_eq word (codes "check") || (bytes_eq word (codes "summary")
-    || (bytes_eq word (codes "offers") || (bytes_eq word (codes "hops") || bytes_eq word (codes "plan"))))))))))))
+is_command word = list_any (λ command. bytes_eq word (name_of command)) all_commands
 
--- an option behind which its value stands as a word of its own
+-- an option of some command, behind which its value stands as a word of its own
 abbrev pub wants_value : Text → Bool
-wants_value word = bytes_eq word (codes "--until") || (bytes_eq word (codes "--rate") || (bytes_eq word (codes "--cycles")
-    || (bytes_eq word (codes "--format") || (bytes_eq word (codes "--seed")
-    || (bytes_eq word (codes "--stream") || (bytes_eq word (codes "--frame") || bytes_eq word (codes "--cycle")))))))
+wants_value word = list_any (does_want_value word) all_commands
+
+-- law: what is read as a command is what clap has as one, and no other word
+abbrev pub ReadsCommands : Type 0
+ReadsCommands = (is_large : Bool) (word : Text) → is_command word ≡ list_any (λ shape. bytes_eq word shape.name) (cqf_app is_large).subs
+
+-- law: a word has its value behind it just where it is what clap has as an option with a value, of some command
+abbrev pub ReadsOptions : Type 0
+ReadsOptions = (is_large : Bool) (word : Text)
+    → wants_value word ≡ list_any (λ shape. list_any (gives_value word) shape.rules) (cqf_app is_large).subs
 
 -- the word that ends the options
 abbrev pub ends_options : Text → Bool
@@ -29,7 +35,7 @@ is_option (first ∷ second ∷ more) = first == 45
 is_option word = false
 
 -- what a word is read as, by those before it
-abbrev pub behind_word : Place → Text → Place
+abbrev pub behind_word : WordPlace → Text → WordPlace
 behind_word Start word = if is_command word then Free else Other
 behind_word Free word = if wants_value word then Value else (if ends_options word then Behind else Free)
 behind_word Value word = Free
@@ -37,7 +43,7 @@ behind_word Behind word = Behind
 behind_word Other word = Other
 
 -- whether a word names a file: behind a command each that is no option and no option's value, and behind `--` each
-abbrev pub names_file : Place → Text → Bool
+abbrev pub names_file : WordPlace → Text → Bool
 names_file Free word = if is_option word then false else true
 names_file Behind word = true
 names_file place word = false
@@ -46,7 +52,7 @@ names_file place word = false
 pub record Split : Type 0 where
   pub words : List Text
   pub files : List Text
-  pub place : Place
+  pub place : WordPlace
 
 abbrev pub no_words : Split
 no_words = record { words = []; files = []; place = Start }

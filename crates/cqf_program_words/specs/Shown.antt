@@ -4,8 +4,8 @@ use Rattle.std.specs.Char.{is_control}
 use Rattle.std.specs.List.{list_all}
 use Rattle.std.specs.Str.{chars}
 use Rattle.clap.specs.Words.{Text}
-use Rattle.cqf_program_stop.specs.Stops.{line_of}
-use Rattle.cqf_program_stop.specs.declared.stops.Stop.{Stop}
+use Rattle.cqf_press.specs.Stops.{line_of}
+use Rattle.cqf_press.specs.declared.stops.Stop.{Stop}
 
 -- the character is one from the first of two to the last
 abbrev pub is_among : ℕ → ℕ → ℕ → Bool

@@ -1,11 +1,8 @@
 -- What the words of a command line mean (profile): clap's reading of them, for the command that is written out here.
-use Rattle.std.specs.Prelude.{ℕ, ◌≡◌, ◌≢◌, ◌⊎◌, ◌≤◌, Bool, true, false, List, [], ◌∷◌, Option, Some, None, codes, bytes_eq, option_map, string_bytes}
+use Rattle.std.specs.Prelude.{ℕ, ◌≡◌, ◌≢◌, ◌⊎◌, ◌≤◌, Bool, true, false, List, [], Option, Some, None, codes, bytes_eq, option_map, string_bytes}
 use Rattle.std.specs.List.{list_any}
 use Rattle.std.specs.Str.Parse.{IsNumeral, digits_value, without_leading_plus}
-use Rattle.clap.specs.Words.{App, Row, Rule, Text, first_of, fault_of, new_app, new_rule, subcommand_of, with_rule, with_subcommand, IsAmong}
-use Rattle.clap.specs.Simple.{on_top}
-use Rattle.clap.specs.declared.builder.action.ArgAction.TheVariants.{Set, SetTrue}
-use Rattle.clap.specs.declared.builder.value_parser.ValueParser.TheVariants.{Unsigned}
+use Rattle.clap.specs.Words.{App, Row, Text, first_of, fault_of, subcommand_of, IsAmong}
 use Rattle.clap.specs.declared.error.kind.ErrorKind.{ErrorKind}
 use Rattle.clap.specs.declared.error.kind.ErrorKind.TheVariants.{DisplayHelp, DisplayVersion, OutOfMemory}
 use Rattle.cqf_units.specs.declared.timing.Rate.{Rate}
@@ -16,136 +13,12 @@ use Rattle.cqf_program_words.specs.declared.words.Format.TheVariants as form
 use Rattle.cqf_program_words.specs.declared.words.Job.{Job}
 use Rattle.cqf_program_words.specs.declared.words.Job.TheVariants.{Check, Compile, Deliveries, Hops, Latency, Line}
 use Rattle.cqf_program_words.specs.declared.words.Job.TheVariants.{Load, Offers, Plan, Port, Report, Run, Summary}
-use Rattle.cqf_program_stop.specs.Stops.{line_of}
-use Rattle.cqf_program_stop.specs.declared.stops.Stop.{Stop}
+use Rattle.cqf_press.specs.Stops.{line_of}
+use Rattle.cqf_press.specs.declared.stops.Stop.{Stop}
 use Rattle.cqf_model.specs.declared.limits.Limits.{Limits}
-use Rattle.cqf_model.specs.Limits.{large, last_until, limits_where, most_cycles}
+use Rattle.cqf_model.specs.Limits.{large, limits_where, most_cycles}
 use Rattle.cqf_program_words.specs.Candidates.{AreNamed}
-
--- an option `--NAME N` that has to be given
-abbrev pub wanted_rule : Text → Rule
-wanted_rule name = record (new_rule name) { long = Some name; action = Some Set; required = true; value_names = 1 }
-
--- and where N is from least to most
-abbrev pub number_rule : Text → ℕ → ℕ → Rule
-number_rule name least most = record (wanted_rule name) { parser = Some (Unsigned least most) }
-
--- an option `--NAME VALUE`, and the text that stands for its value where it isn't given
-abbrev pub default_rule : Text → Text → Rule
-default_rule name text = record (new_rule name) { long = Some name; action = Some Set; defaults = text ∷ []; value_names = 1 }
-
--- the option `--rate RATE`, 1000 where it isn't given
-abbrev pub rate_rule : Rule
-rate_rule = default_rule (codes "rate") (codes "1000")
-
--- the option `--format FORMAT`, list where it isn't given
-abbrev pub format_rule : Rule
-format_rule = default_rule (codes "format") (codes "list")
-
--- an option `--NAME VALUE` that may be given
-abbrev pub free_rule : Text → Rule
-free_rule name = record (new_rule name) { long = Some name; action = Some Set; value_names = 1 }
-
--- and where it is a number from least to most
-abbrev pub free_number_rule : Text → ℕ → ℕ → Rule
-free_number_rule name least most = record (free_rule name) { parser = Some (Unsigned least most) }
-
--- the option `--seed S`
-abbrev pub seed_rule : Rule
-seed_rule = free_number_rule (codes "seed") 0 4294967295
-
--- the option `--frame F`, where plants may be large or not: a number that an offer may have
-abbrev pub frame_rule : Bool → Rule
-frame_rule is_large = free_number_rule (codes "frame") 1 (limits_where is_large).rows
-
--- a flag `--NAME`
-abbrev pub flag_rule : Text → Rule
-flag_rule name = record (new_rule name) { long = Some name; action = Some SetTrue }
-
--- the flag `--large`
-abbrev pub large_rule : Rule
-large_rule = flag_rule (codes "large")
-
--- `port --until N [--rate RATE]`
-abbrev pub port_app : App
-port_app = with_rule (with_rule (new_app (codes "port")) (number_rule (codes "until") 1 last_until)) rate_rule
-
--- `line --cycles N`
-abbrev pub line_app : App
-line_app = with_rule (new_app (codes "line")) (number_rule (codes "cycles") 1 most_cycles)
-
--- a command with the flag `--large` behind its other options: one that reads a plant
-abbrev pub of_plants : App → App
-of_plants app = with_rule app large_rule
-
--- `compile [--format FORMAT] [--large]`
-abbrev pub compile_app : App
-compile_app = of_plants (with_rule (new_app (codes "compile")) format_rule)
-
--- `load [--large]`
-abbrev pub load_app : App
-load_app = of_plants (new_app (codes "load"))
-
--- `latency [--strict] [--large]`
-abbrev pub latency_app : App
-latency_app = of_plants (with_rule (new_app (codes "latency")) (flag_rule (codes "strict")))
-
--- `run --cycles N [--threads] [--large]`
-abbrev pub run_app : App
-run_app = of_plants (with_rule (with_rule (new_app (codes "run")) (number_rule (codes "cycles") 1 most_cycles)) (flag_rule (codes "threads")))
-
--- `report --cycles N [--large]`
-abbrev pub report_app : App
-report_app = of_plants (with_rule (new_app (codes "report")) (number_rule (codes "cycles") 1 most_cycles))
-
--- `deliveries --cycles N [--large]`
-abbrev pub deliveries_app : App
-deliveries_app = of_plants (with_rule (new_app (codes "deliveries")) (number_rule (codes "cycles") 1 most_cycles))
-
--- `check --cycles N [--large]`
-abbrev pub check_app : App
-check_app = of_plants (with_rule (new_app (codes "check")) (number_rule (codes "cycles") 1 most_cycles))
-
--- `summary --cycles N [--large]`
-abbrev pub summary_app : App
-summary_app = of_plants (with_rule (new_app (codes "summary")) (number_rule (codes "cycles") 1 most_cycles))
-
--- `offers --cycles N [--seed S] [--large]`
-abbrev pub offers_app : App
-offers_app = of_plants (with_rule (with_rule (new_app (codes "offers")) (number_rule (codes "cycles") 1 most_cycles)) seed_rule)
-
--- `hops --cycles N [--stream NAME] [--frame F] [--large]`, where plants may be large or not
-abbrev pub hops_app : Bool → App
-hops_app is_large = of_plants (with_rule
-    (with_rule (with_rule (new_app (codes "hops")) (number_rule (codes "cycles") 1 most_cycles)) (free_rule (codes "stream"))) (frame_rule is_large))
-
--- `plan [--table] [--cycle WORD] [--large]`
-abbrev pub plan_app : App
-plan_app = of_plants (with_rule (with_rule (new_app (codes "plan")) (flag_rule (codes "table"))) (free_rule (codes "cycle")))
-
--- the program's name, and settings: the words come without the program's name, and one of the commands has to be given
-abbrev pub named_app : App
-named_app = on_top (λ s. record s { no_binary_name = true; subcommand_required = true }) (new_app (codes "cqf"))
-
--- the commands that take no domain, those that run no scenario, those that tell nothing of deliveries, those that judge deliveries
--- too, those that read what is offered, and all of the program's, where plants may be large or not
-abbrev pub app_without_domain : App
-app_without_domain = with_subcommand (with_subcommand named_app port_app.top) line_app.top
-
-abbrev pub first_app : App
-first_app = with_subcommand (with_subcommand (with_subcommand app_without_domain compile_app.top) load_app.top) latency_app.top
-
-abbrev pub app_without_deliveries : App
-app_without_deliveries = with_subcommand (with_subcommand first_app run_app.top) report_app.top
-
-abbrev pub app_of_runs : App
-app_of_runs = with_subcommand (with_subcommand app_without_deliveries deliveries_app.top) check_app.top
-
-abbrev pub app_of_scenarios : Bool → App
-app_of_scenarios is_large = with_subcommand (with_subcommand app_of_runs summary_app.top) (hops_app is_large).top
-
-abbrev pub cqf_app : Bool → App
-cqf_app is_large = with_subcommand (with_subcommand (app_of_scenarios is_large) offers_app.top) plan_app.top
+use Rattle.cqf_program_words.specs.Commands.{cqf_app}
 
 -- whether words ask for large plants: one of them is `--large`
 abbrev pub is_large_word : Text → Bool

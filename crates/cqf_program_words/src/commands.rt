@@ -1,370 +1,240 @@
-//! The commands with their options, as `clap` has them.
-ghost use Rattle.std.specs.Prelude.{◌≡◌, ◌<◌, IfOk, codes, false, true};
+//! The program's commands, each once: its name, its options and what help says of it; and all of them, as `clap` has them.
+ghost use Rattle.std.specs.Prelude.{◌≡◌, IfOk, bytes_eq, false};
+ghost use Rattle.std.specs.List.{list_any};
 ghost use Rattle.clap.specs.declared.builder.command.Command.TheViews.{out-Command};
-ghost use Rattle.clap.specs.Words.{app_of, new_app, rule_of, with_rule};
-ghost use Rattle.cqf_program_words.specs.Words.{app_without_deliveries, app_without_domain, check_app, cqf_app};
-ghost use Rattle.cqf_program_words.specs.Words.{compile_app, deliveries_app, first_app, latency_app, line_app, load_app};
-ghost use Rattle.cqf_program_words.specs.Words.{named_app, port_app, report_app, run_app, default_rule, flag_rule, large_rule};
-ghost use Rattle.cqf_program_words.specs.Words.{format_rule, number_rule, rate_rule};
-ghost use Rattle.cqf_program_words.specs.Words.{app_of_runs, app_of_scenarios, free_rule, frame_rule, hops_app, offers_app, plan_app, summary_app};
-ghost use Rattle.cqf_program_words.specs.Words.{seed_rule, wanted_rule};
-ghost use Rattle.cqf_model.specs.Limits.{last_until, most_cycles};
+ghost use Rattle.clap.specs.Words.{app_of, new_app};
+ghost use Rattle.cqf_program_words.specs.Options.{gives_value, option_rule};
+ghost use Rattle.cqf_program_words.specs.Commands.{command_app, cqf_app, does_want_value, name_of, named_app, options_of, with_command, with_option};
+ghost use Rattle.cqf_program_words.specs.Operands.{is_command, wants_value};
 
 use crate::help::{
     CHECK_INPUT, COMPILE_INPUT, DELIVERIES_INPUT, HOPS_INPUT, LATENCY_INPUT, LINE_INPUT,
     LOAD_INPUT, MORE_WORDS, OFFERS_INPUT, PLAN_INPUT, PORT_INPUT, REPORT_INPUT, RUN_INPUT,
     SUMMARY_INPUT,
 };
-use clap::{Arg, ArgAction, Command, value_parser};
+use crate::options::{CommandOption, argument};
+use clap::Command;
 use std::alloc::{AllocError, Global};
 
-/// An option `--NAME N` that has to be given, whatever N is.
-fn wanted_option<'a>(alloc: Global, name: &'static str, help: &'static str) -> Arg<'a>
-    ensures rule { rule_of result ≡ wanted_rule name.now }
-    ensures own { result.global ≡ false }
-{
-    Arg::new(alloc, name)
-        .long(name)
-        .action(ArgAction::Set)
-        .required(true)
-        .value_name("N")
-        .help(help)
+/// A command of the program. All of them take files.
+#[derive(Clone, Copy, Debug, PartialEq, Eq)]
+pub(crate) enum Subcommand {
+    /// `port --until N [--rate RATE]`.
+    Port,
+    /// `line --cycles N`.
+    Line,
+    /// `compile [--format FORMAT] [--large]`.
+    Compile,
+    /// `load [--large]`.
+    Load,
+    /// `latency [--strict] [--large]`.
+    Latency,
+    /// `run --cycles N [--threads] [--large]`.
+    Run,
+    /// `report --cycles N [--large]`.
+    Report,
+    /// `deliveries --cycles N [--large]`.
+    Deliveries,
+    /// `check --cycles N [--large]`.
+    Check,
+    /// `summary --cycles N [--large]`.
+    Summary,
+    /// `hops --cycles N [--stream NAME] [--frame F] [--large]`.
+    Hops,
+    /// `offers --cycles N [--seed S] [--large]`.
+    Offers,
+    /// `plan [--table] [--cycle WORD] [--large]`.
+    Plan,
 }
 
-/// The option `--until N`.
-fn until_option<'a>(alloc: Global) -> Arg<'a>
-    ensures rule { rule_of result ≡ number_rule (codes "until") 1 last_until }
-    ensures own { result.global ≡ false }
-{
-    let help = "starts before this instant, in nanoseconds, 1 to 100000000";
-    wanted_option(alloc, "until", help).value_parser(value_parser!(u64).range(1..100_000_001))
-}
+/// The commands, in the order in which help has them.
+const COMMANDS: [Subcommand; 13] = [
+    Subcommand::Port,
+    Subcommand::Line,
+    Subcommand::Compile,
+    Subcommand::Load,
+    Subcommand::Latency,
+    Subcommand::Run,
+    Subcommand::Report,
+    Subcommand::Deliveries,
+    Subcommand::Check,
+    Subcommand::Summary,
+    Subcommand::Hops,
+    Subcommand::Offers,
+    Subcommand::Plan,
+];
 
-/// An option `--NAME VALUE`, and the text that stands for its value where it isn't given.
-fn default_option<'a>(
-    alloc: Global,
-    name: &'static str,
-    default: &'static str,
-    value: &'static str,
-) -> Arg<'a>
-    ensures rule { rule_of result ≡ default_rule name.now default.now }
-    ensures own { result.global ≡ false }
-{
-    Arg::new(alloc, name)
-        .long(name)
-        .action(ArgAction::Set)
-        .default_value(default)
-        .value_name(value)
-}
+impl Subcommand {
+    /// Its name.
+    fn name(self) -> &'static str
+        ensures { result.now ≡ name_of self }
+    {
+        match self {
+            Subcommand::Port => "port",
+            Subcommand::Line => "line",
+            Subcommand::Compile => "compile",
+            Subcommand::Load => "load",
+            Subcommand::Latency => "latency",
+            Subcommand::Run => "run",
+            Subcommand::Report => "report",
+            Subcommand::Deliveries => "deliveries",
+            Subcommand::Check => "check",
+            Subcommand::Summary => "summary",
+            Subcommand::Hops => "hops",
+            Subcommand::Offers => "offers",
+            Subcommand::Plan => "plan",
+        }
+    }
 
-/// The option `--rate RATE`.
-fn rate_option<'a>(alloc: Global) -> Arg<'a>
-    ensures rule { rule_of result ≡ rate_rule }
-    ensures own { result.global ≡ false }
-{
-    default_option(alloc, "rate", "1000", "RATE").help("the link's rate in Mb/s: 10, 100 or 1000")
-}
+    /// Its options, in the order in which help has them.
+    fn options(self) -> &'static [CommandOption]
+        ensures { result.now ≡ options_of self }
+    {
+        match self {
+            Subcommand::Port => &[CommandOption::Until, CommandOption::Rate],
+            Subcommand::Line => &[CommandOption::Cycles],
+            Subcommand::Compile => &[CommandOption::Format, CommandOption::Large],
+            Subcommand::Load => &[CommandOption::Large],
+            Subcommand::Latency => &[CommandOption::Strict, CommandOption::Large],
+            Subcommand::Run => &[
+                CommandOption::Cycles,
+                CommandOption::Threads,
+                CommandOption::Large,
+            ],
+            Subcommand::Report => &[CommandOption::Cycles, CommandOption::Large],
+            Subcommand::Deliveries => &[CommandOption::Cycles, CommandOption::Large],
+            Subcommand::Check => &[CommandOption::Cycles, CommandOption::Large],
+            Subcommand::Summary => &[CommandOption::Cycles, CommandOption::Large],
+            Subcommand::Hops => &[
+                CommandOption::Cycles,
+                CommandOption::Stream,
+                CommandOption::Frame,
+                CommandOption::Large,
+            ],
+            Subcommand::Offers => &[
+                CommandOption::Cycles,
+                CommandOption::Seed,
+                CommandOption::Large,
+            ],
+            Subcommand::Plan => &[
+                CommandOption::Table,
+                CommandOption::Cycle,
+                CommandOption::Large,
+            ],
+        }
+    }
 
-/// The option `--format FORMAT`.
-fn format_option<'a>(alloc: Global) -> Arg<'a>
-    ensures rule { rule_of result ≡ format_rule }
-    ensures own { result.global ≡ false }
-{
-    default_option(alloc, "format", "list", "FORMAT").help("the form of the output: list or tc")
-}
+    /// What it does, in a line of help.
+    fn about(self) -> &'static str {
+        match self {
+            Subcommand::Port => "the starts of one output port",
+            Subcommand::Line => "the book of one bridge with one stream",
+            Subcommand::Compile => "the gate lists and stream gates of a domain and its streams",
+            Subcommand::Load => "what each link holds and has left",
+            Subcommand::Latency => "how long the frames of each stream take to each listener",
+            Subcommand::Run =>
+                "the history and the book of a domain, its streams, a script and offers",
+            Subcommand::Report => "what each link carries in a run",
+            Subcommand::Deliveries =>
+                "what becomes of each offered frame of a run, at each listener",
+            Subcommand::Check =>
+                "whether all offered frames of a run come to their listeners, in time",
+            Subcommand::Summary =>
+                "how the frames of each stream of a run fare to each of its listeners",
+            Subcommand::Hops => "the book of a run by frame: when each is on which link",
+            Subcommand::Offers => "what the streams of a plant offer",
+            Subcommand::Plan => "a plant for a sketch: its cycle time, and the way of each stream",
+        }
+    }
 
-/// The option `--cycles N`.
-fn cycles_option<'a>(alloc: Global) -> Arg<'a>
-    ensures rule { rule_of result ≡ number_rule (codes "cycles") 1 most_cycles }
-    ensures own { result.global ≡ false }
-{
-    let help = "the number of cycles, 1 to 100000";
-    wanted_option(alloc, "cycles", help).value_parser(value_parser!(u64).range(1..100_001))
-}
+    /// What help says of its input, its output and its work.
+    fn input(self) -> &'static str {
+        match self {
+            Subcommand::Port => PORT_INPUT,
+            Subcommand::Line => LINE_INPUT,
+            Subcommand::Compile => COMPILE_INPUT,
+            Subcommand::Load => LOAD_INPUT,
+            Subcommand::Latency => LATENCY_INPUT,
+            Subcommand::Run => RUN_INPUT,
+            Subcommand::Report => REPORT_INPUT,
+            Subcommand::Deliveries => DELIVERIES_INPUT,
+            Subcommand::Check => CHECK_INPUT,
+            Subcommand::Summary => SUMMARY_INPUT,
+            Subcommand::Hops => HOPS_INPUT,
+            Subcommand::Offers => OFFERS_INPUT,
+            Subcommand::Plan => PLAN_INPUT,
+        }
+    }
 
-/// An option `--NAME N` that may be given, whatever N is.
-fn free_option<'a>(
-    alloc: Global,
-    name: &'static str,
-    value: &'static str,
-    help: &'static str,
-) -> Arg<'a>
-    ensures rule { rule_of result ≡ free_rule name.now }
-    ensures own { result.global ≡ false }
-{
-    Arg::new(alloc, name)
-        .long(name)
-        .action(ArgAction::Set)
-        .value_name(value)
-        .help(help)
-}
+    /// Whether the word is its name.
+    fn is_named(self, word: &str) -> bool
+        ensures { result ≡ bytes_eq word.now (name_of self) }
+    {
+        word == self.name()
+    }
 
-/// The option `--stream NAME`.
-fn stream_option<'a>(alloc: Global) -> Arg<'a>
-    ensures rule { rule_of result ≡ free_rule (codes "stream") }
-    ensures own { result.global ≡ false }
-{
-    free_option(alloc, "stream", "NAME", "only frames of this stream")
-}
-
-/// The option `--frame F` of plants that may be large.
-fn large_frame_option<'a>(alloc: Global) -> Arg<'a>
-    ensures rule { rule_of result ≡ frame_rule true }
-    ensures own { result.global ≡ false }
-{
-    let help = "only this frame, 1 to 10000000";
-    free_option(alloc, "frame", "F", help).value_parser(value_parser!(u64).range(1..10_000_001))
-}
-
-/// The option `--frame F` of plants of the profile.
-fn small_frame_option<'a>(alloc: Global) -> Arg<'a>
-    ensures rule { rule_of result ≡ frame_rule false }
-    ensures own { result.global ≡ false }
-{
-    let help = "only this frame, 1 to 1000000";
-    free_option(alloc, "frame", "F", help).value_parser(value_parser!(u64).range(1..1_000_001))
-}
-
-/// The option `--frame F`, where plants may be large or not.
-fn frame_option<'a>(alloc: Global, is_large: bool) -> Arg<'a>
-    ensures rule { rule_of result ≡ frame_rule is_large }
-    ensures own { result.global ≡ false }
-{
-    if is_large {
-        large_frame_option(alloc)
-    } else {
-        small_frame_option(alloc)
+    /// Whether the word is one of its options, whose value stands behind it as a word of its own.
+    fn wants_value(self, word: &str) -> bool
+        ensures { result ≡ does_want_value word.now self }
+    {
+        is_value_wanted(self.options(), word)
     }
 }
 
-/// The flag `--large`.
-fn large_flag<'a>(alloc: Global) -> Arg<'a>
-    ensures rule { rule_of result ≡ large_rule }
-    ensures own { result.global ≡ false }
+/// Whether the word is one of these options, whose value stands behind it as a word of its own.
+fn is_value_wanted(options: &[CommandOption], word: &str) -> bool
+    ensures { result ≡ list_any (λ option. gives_value word.now (option_rule option)) options.now }
 {
-    Arg::new(alloc, "large")
-        .long("large")
-        .action(ArgAction::SetTrue)
-        .help("a plant of up to 1024 bridges, 4096 links and 16384 streams")
+    options.iter().any(|option| option.wants_value(word))
 }
 
-/// The option `--cycle WORD`.
-fn cycle_option<'a>(alloc: Global) -> Arg<'a>
-    ensures rule { rule_of result ≡ free_rule (codes "cycle") }
-    ensures own { result.global ≡ false }
+/// A command with one option more, where plants may be large or not.
+fn with_option<'a>(
+    command: Command<'a>,
+    alloc: Global,
+    option: CommandOption,
+    is_large: bool,
+) -> Result<Command<'a>, AllocError>
+    requires { (out-Command command).has_globals ≡ false }
+    ensures app { IfOk result (λ added. app_of added ≡ with_option is_large (app_of command.entry) option) }
+    ensures local { IfOk result (λ added. (out-Command added).has_globals ≡ false) }
 {
-    let help = "the candidates for the cycle time in ns: N or FROM..TO/STEP";
-    free_option(alloc, "cycle", "WORD", help)
+    command.arg(argument(alloc, option, is_large))
 }
 
-/// The flag `--table`.
-fn table_flag<'a>(alloc: Global) -> Arg<'a>
-    ensures rule { rule_of result ≡ flag_rule (codes "table") }
-    ensures own { result.global ≡ false }
+/// A command of this name as `clap` has it, without options, and what help says of it.
+fn bare_command<'a>(
+    alloc: Global,
+    name: &'static str,
+    about: &'static str,
+    input: &'static str,
+) -> Command<'a>
+    ensures app { app_of result ≡ new_app name.now }
+    ensures local { (out-Command result).has_globals ≡ false }
 {
-    Arg::new(alloc, "table")
-        .long("table")
-        .action(ArgAction::SetTrue)
-        .help("a line for each candidate in place of a plant")
+    Command::new(alloc, name).about(about).after_help(input)
 }
 
-/// The option `--seed S`.
-fn seed_option<'a>(alloc: Global) -> Arg<'a>
-    ensures rule { rule_of result ≡ seed_rule }
-    ensures own { result.global ≡ false }
-{
-    let help = "how blocks are late by chance, 0 to 4294967295";
-    free_option(alloc, "seed", "S", help).value_parser(value_parser!(u64).range(0..4_294_967_296))
-}
-
-/// The flag `--threads`.
-fn threads_flag<'a>(alloc: Global) -> Arg<'a>
-    ensures rule { rule_of result ≡ flag_rule (codes "threads") }
-    ensures own { result.global ≡ false }
-{
-    Arg::new(alloc, "threads")
-        .long("threads")
-        .action(ArgAction::SetTrue)
-        .help("a thread for each bridge and each administrator of the script")
-}
-
-/// The flag `--strict`.
-fn strict_flag<'a>(alloc: Global) -> Arg<'a>
-    ensures rule { rule_of result ≡ flag_rule (codes "strict") }
-    ensures own { result.global ≡ false }
-{
-    Arg::new(alloc, "strict")
-        .long("strict")
-        .action(ArgAction::SetTrue)
-        .help("status 1 where a deadline isn't kept for sure")
-}
-
-/// `port --until N [--rate RATE]`.
-fn port_command<'a>(alloc: Global) -> Result<Command<'a>, AllocError>
-    ensures app { IfOk result (λ command. app_of command ≡ port_app) }
+/// The command as `clap` has it, where plants may be large or not.
+fn command_of<'a>(
+    alloc: Global,
+    subcommand: Subcommand,
+    is_large: bool,
+) -> Result<Command<'a>, AllocError>
+    ensures app { IfOk result (λ command. app_of command ≡ command_app is_large subcommand) }
     ensures local { IfOk result (λ command. (out-Command command).has_globals ≡ false) }
 {
-    Command::new(alloc, "port")
-        .about("the starts of one output port")
-        .after_help(PORT_INPUT)
-        .arg(until_option(alloc))?
-        .arg(rate_option(alloc))
-}
-
-/// `line --cycles N`.
-fn line_command<'a>(alloc: Global) -> Result<Command<'a>, AllocError>
-    ensures app { IfOk result (λ command. app_of command ≡ line_app) }
-    ensures local { IfOk result (λ command. (out-Command command).has_globals ≡ false) }
-{
-    Command::new(alloc, "line")
-        .about("the book of one bridge with one stream")
-        .after_help(LINE_INPUT)
-        .arg(cycles_option(alloc))
-}
-
-/// `compile [--format FORMAT] [--large]`.
-fn compile_command<'a>(alloc: Global) -> Result<Command<'a>, AllocError>
-    ensures app { IfOk result (λ command. app_of command ≡ compile_app) }
-    ensures local { IfOk result (λ command. (out-Command command).has_globals ≡ false) }
-{
-    Command::new(alloc, "compile")
-        .about("the gate lists and stream gates of a domain and its streams")
-        .after_help(COMPILE_INPUT)
-        .arg(format_option(alloc))?
-        .arg(large_flag(alloc))
-}
-
-/// `load [--large]`.
-fn load_command<'a>(alloc: Global) -> Result<Command<'a>, AllocError>
-    ensures app { IfOk result (λ command. app_of command ≡ load_app) }
-    ensures local { IfOk result (λ command. (out-Command command).has_globals ≡ false) }
-{
-    Command::new(alloc, "load")
-        .about("what each link holds and has left")
-        .after_help(LOAD_INPUT)
-        .arg(large_flag(alloc))
-}
-
-/// `latency [--strict] [--large]`.
-fn latency_command<'a>(alloc: Global) -> Result<Command<'a>, AllocError>
-    ensures app { IfOk result (λ command. app_of command ≡ latency_app) }
-    ensures local { IfOk result (λ command. (out-Command command).has_globals ≡ false) }
-{
-    Command::new(alloc, "latency")
-        .about("how long the frames of each stream take to each listener")
-        .after_help(LATENCY_INPUT)
-        .arg(strict_flag(alloc))?
-        .arg(large_flag(alloc))
-}
-
-/// `run --cycles N [--threads] [--large]`.
-fn run_command<'a>(alloc: Global) -> Result<Command<'a>, AllocError>
-    ensures app { IfOk result (λ command. app_of command ≡ run_app) }
-    ensures local { IfOk result (λ command. (out-Command command).has_globals ≡ false) }
-{
-    Command::new(alloc, "run")
-        .about("the history and the book of a domain, its streams, a script and offers")
-        .after_help(RUN_INPUT)
-        .arg(cycles_option(alloc))?
-        .arg(threads_flag(alloc))?
-        .arg(large_flag(alloc))
-}
-
-/// `report --cycles N [--large]`.
-fn report_command<'a>(alloc: Global) -> Result<Command<'a>, AllocError>
-    ensures app { IfOk result (λ command. app_of command ≡ report_app) }
-    ensures local { IfOk result (λ command. (out-Command command).has_globals ≡ false) }
-{
-    Command::new(alloc, "report")
-        .about("what each link carries in a run")
-        .after_help(REPORT_INPUT)
-        .arg(cycles_option(alloc))?
-        .arg(large_flag(alloc))
-}
-
-/// `deliveries --cycles N [--large]`.
-fn deliveries_command<'a>(alloc: Global) -> Result<Command<'a>, AllocError>
-    ensures app { IfOk result (λ command. app_of command ≡ deliveries_app) }
-    ensures local { IfOk result (λ command. (out-Command command).has_globals ≡ false) }
-{
-    Command::new(alloc, "deliveries")
-        .about("what becomes of each offered frame of a run, at each listener")
-        .after_help(DELIVERIES_INPUT)
-        .arg(cycles_option(alloc))?
-        .arg(large_flag(alloc))
-}
-
-/// `check --cycles N [--large]`.
-fn check_command<'a>(alloc: Global) -> Result<Command<'a>, AllocError>
-    ensures app { IfOk result (λ command. app_of command ≡ check_app) }
-    ensures local { IfOk result (λ command. (out-Command command).has_globals ≡ false) }
-{
-    Command::new(alloc, "check")
-        .about("whether all offered frames of a run come to their listeners, in time")
-        .after_help(CHECK_INPUT)
-        .arg(cycles_option(alloc))?
-        .arg(large_flag(alloc))
-}
-
-/// `summary --cycles N [--large]`.
-fn summary_command<'a>(alloc: Global) -> Result<Command<'a>, AllocError>
-    ensures app { IfOk result (λ command. app_of command ≡ summary_app) }
-    ensures local { IfOk result (λ command. (out-Command command).has_globals ≡ false) }
-{
-    Command::new(alloc, "summary")
-        .about("how the frames of each stream of a run fare to each of its listeners")
-        .after_help(SUMMARY_INPUT)
-        .arg(cycles_option(alloc))?
-        .arg(large_flag(alloc))
-}
-
-/// `offers --cycles N [--seed S] [--large]`.
-fn offers_command<'a>(alloc: Global) -> Result<Command<'a>, AllocError>
-    ensures app { IfOk result (λ command. app_of command ≡ offers_app) }
-    ensures local { IfOk result (λ command. (out-Command command).has_globals ≡ false) }
-{
-    Command::new(alloc, "offers")
-        .about("what the streams of a plant offer")
-        .after_help(OFFERS_INPUT)
-        .arg(cycles_option(alloc))?
-        .arg(seed_option(alloc))?
-        .arg(large_flag(alloc))
-}
-
-/// `hops --cycles N [--stream NAME]`, to which its other options are to be added.
-fn begun_hops_command<'a>(alloc: Global) -> Result<Command<'a>, AllocError>
-    ensures app { IfOk result (λ command. app_of command ≡
-        with_rule (with_rule (new_app (codes "hops")) (number_rule (codes "cycles") 1 most_cycles)) (free_rule (codes "stream"))) }
-    ensures local { IfOk result (λ command. (out-Command command).has_globals ≡ false) }
-{
-    Command::new(alloc, "hops")
-        .about("the book of a run by frame: when each is on which link")
-        .after_help(HOPS_INPUT)
-        .arg(cycles_option(alloc))?
-        .arg(stream_option(alloc))
-}
-
-/// `hops --cycles N [--stream NAME] [--frame F] [--large]`.
-fn hops_command<'a>(alloc: Global, is_large: bool) -> Result<Command<'a>, AllocError>
-    ensures app { IfOk result (λ command. app_of command ≡ hops_app is_large) }
-    ensures local { IfOk result (λ command. (out-Command command).has_globals ≡ false) }
-{
-    begun_hops_command(alloc)?
-        .arg(frame_option(alloc, is_large))?
-        .arg(large_flag(alloc))
-}
-
-/// `plan [--table] [--cycle WORD] [--large]`.
-fn plan_command<'a>(alloc: Global) -> Result<Command<'a>, AllocError>
-    ensures app { IfOk result (λ command. app_of command ≡ plan_app) }
-    ensures local { IfOk result (λ command. (out-Command command).has_globals ≡ false) }
-{
-    Command::new(alloc, "plan")
-        .about("a plant for a sketch: its cycle time, and the way of each stream")
-        .after_help(PLAN_INPUT)
-        .arg(table_flag(alloc))?
-        .arg(cycle_option(alloc))?
-        .arg(large_flag(alloc))
+    let mut command = bare_command(
+        alloc,
+        subcommand.name(),
+        subcommand.about(),
+        subcommand.input(),
+    );
+    let options = subcommand.options();
+    for option in options {
+        command = with_option(command, alloc, *option, is_large)?;
+    }
+    Ok(command)
 }
 
 /// The program without its commands. Its name stands in the usage of each command.
@@ -382,62 +252,19 @@ fn named_command<'a>(alloc: Global) -> Result<Command<'a>, AllocError>
     )
 }
 
-/// The commands that take no domain.
-fn commands_without_domain<'a>(alloc: Global) -> Result<Command<'a>, AllocError>
-    ensures app { IfOk result (λ command. app_of command ≡ app_without_domain) }
-    ensures local { IfOk result (λ command. (out-Command command).has_globals ≡ false) }
+/// A program with one command more, where plants may be large or not.
+fn with_command<'a>(
+    program: Command<'a>,
+    alloc: Global,
+    subcommand: Subcommand,
+    is_large: bool,
+) -> Result<Command<'a>, AllocError>
+    requires { (out-Command program).has_globals ≡ false }
+    ensures app { IfOk result (λ added. app_of added ≡ with_command is_large (app_of program.entry) subcommand) }
+    ensures local { IfOk result (λ added. (out-Command added).has_globals ≡ false) }
 {
-    let port = port_command(alloc)?;
-    let line = line_command(alloc)?;
-    named_command(alloc)?.subcommand(port)?.subcommand(line)
-}
-
-/// The commands that run no scenario.
-fn first_commands<'a>(alloc: Global) -> Result<Command<'a>, AllocError>
-    ensures app { IfOk result (λ command. app_of command ≡ first_app) }
-    ensures local { IfOk result (λ command. (out-Command command).has_globals ≡ false) }
-{
-    let compile = compile_command(alloc)?;
-    let load = load_command(alloc)?;
-    let latency = latency_command(alloc)?;
-    commands_without_domain(alloc)?
-        .subcommand(compile)?
-        .subcommand(load)?
-        .subcommand(latency)
-}
-
-/// The commands that tell nothing of deliveries.
-fn commands_without_deliveries<'a>(alloc: Global) -> Result<Command<'a>, AllocError>
-    ensures app { IfOk result (λ command. app_of command ≡ app_without_deliveries) }
-    ensures local { IfOk result (λ command. (out-Command command).has_globals ≡ false) }
-{
-    let run = run_command(alloc)?;
-    let report = report_command(alloc)?;
-    first_commands(alloc)?.subcommand(run)?.subcommand(report)
-}
-
-/// The commands that judge deliveries, and those before them.
-fn commands_of_runs<'a>(alloc: Global) -> Result<Command<'a>, AllocError>
-    ensures app { IfOk result (λ command. app_of command ≡ app_of_runs) }
-    ensures local { IfOk result (λ command. (out-Command command).has_globals ≡ false) }
-{
-    let deliveries = deliveries_command(alloc)?;
-    let check = check_command(alloc)?;
-    commands_without_deliveries(alloc)?
-        .subcommand(deliveries)?
-        .subcommand(check)
-}
-
-/// The commands that read a scenario, and those before them, where plants may be large or not.
-fn commands_of_scenarios<'a>(alloc: Global, is_large: bool) -> Result<Command<'a>, AllocError>
-    ensures app { IfOk result (λ command. app_of command ≡ app_of_scenarios is_large) }
-    ensures local { IfOk result (λ command. (out-Command command).has_globals ≡ false) }
-{
-    let summary = summary_command(alloc)?;
-    let hops = hops_command(alloc, is_large)?;
-    commands_of_runs(alloc)?
-        .subcommand(summary)?
-        .subcommand(hops)
+    let command = command_of(alloc, subcommand, is_large)?;
+    program.subcommand(command)
 }
 
 /// The program's commands, where plants may be large or not.
@@ -445,9 +272,42 @@ pub(crate) fn commands<'a>(alloc: Global, is_large: bool) -> Result<Command<'a>,
     ensures app { IfOk result (λ command. app_of command ≡ cqf_app is_large) }
     ensures local { IfOk result (λ command. (out-Command command).has_globals ≡ false) }
 {
-    let offers = offers_command(alloc)?;
-    let plan = plan_command(alloc)?;
-    commands_of_scenarios(alloc, is_large)?
-        .subcommand(offers)?
-        .subcommand(plan)
+    let mut program = named_command(alloc)?;
+    let subcommands: &[Subcommand] = &COMMANDS;
+    for subcommand in subcommands {
+        program = with_command(program, alloc, *subcommand, is_large)?;
+    }
+    Ok(program)
+}
+
+/// Whether the word names one of the commands.
+fn is_one_named(subcommands: &[Subcommand], word: &str) -> bool
+    ensures { result ≡ list_any (λ subcommand. bytes_eq word.now (name_of subcommand)) subcommands.now }
+{
+    subcommands
+        .iter()
+        .any(|subcommand| subcommand.is_named(word))
+}
+
+/// Whether the word is a command, all of which take files.
+pub(crate) fn is_command(word: &str) -> bool
+    ensures { result ≡ is_command word.now }
+{
+    is_one_named(&COMMANDS, word)
+}
+
+/// Whether the word is an option of one of the commands, whose value stands behind it as a word of its own.
+fn does_one_want_value(subcommands: &[Subcommand], word: &str) -> bool
+    ensures { result ≡ list_any (λ subcommand. does_want_value word.now subcommand) subcommands.now }
+{
+    subcommands
+        .iter()
+        .any(|subcommand| subcommand.wants_value(word))
+}
+
+/// Whether the word is an option of some command, whose value stands behind it as a word of its own.
+pub(crate) fn wants_value(word: &str) -> bool
+    ensures { result ≡ wants_value word.now }
+{
+    does_one_want_value(&COMMANDS, word)
 }

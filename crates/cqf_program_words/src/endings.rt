@@ -3,12 +3,12 @@ ghost use Rattle.std.specs.Prelude.{◌≡◌, ◌<◌, Some, codes, false, true
 ghost use Rattle.clap.specs.declared.error.kind.ErrorKind.TheVariants.{InvalidValue};
 ghost use Rattle.clap.specs.Words.{kind_of, subcommand_rows_of};
 ghost use Rattle.cqf_program_words.specs.Words.{EndsBy};
-ghost use Rattle.cqf_program_stop.specs.Stops.{EndsWith, line_of};
+ghost use Rattle.cqf_press.specs.Stops.{EndsWith, line_of};
 ghost use Rattle.cqf_program_words.specs.Words.{is_plan};
 
 use clap::error::ErrorKind;
 use clap::{ArgMatches, Command};
-use cqf_program_stop::{DONE, Stop, USAGE};
+use cqf_press::{DONE, Stop, USAGE};
 use std::alloc::Global;
 
 /// The text of an error of clap's, or what there is of it where memory lacks.

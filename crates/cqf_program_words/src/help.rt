@@ -41,9 +41,8 @@ pub(crate) const COMPILE_INPUT: &str = plant_input!(
 With --format tc the output is a shell script that sets the same gates in Linux
 by its command tc. Each bridge runs it as root, with its own name as the only
 argument; what it needs besides stands in its first lines. It is for hardware
-that does all of this itself (full offload), since the kernel's own gates move
-no frame to another queue. What is proved ends with the lists of the script:
-nothing is of what tc, Linux and the hardware do with them."
+that does all of this itself (full offload). What is proved ends with the lists
+of the script: the CAVEATS of cqf(1) say what is left to doubt."
 );
 
 /// What the help of `load` says of standard input and of its output.
@@ -55,9 +54,8 @@ The output has a line for each link: its rate in Mb/s, its budget, what the
 streams hold of it and what is left, the greatest reservation in each cycle that
 still fits, how many streams go by it, and the share of the budget that is held,
 in percent. Budget, held and left are octets a cycle on the wire, where streams
-pause those of the fullest cycle, and of what is reserved, not of what is sent:
-a cost is that of a reservation that is sent in frames of 64 octets, the dearest
-way. A plan that is over is told too: left is then below 0."
+pause those of the fullest cycle, and of what is reserved, not of what is sent.
+A plan that is over is told too: left is then below 0."
 );
 
 /// What the help of `latency` says of standard input and of its output.
@@ -72,12 +70,9 @@ The output has a line for each stream and listener: the bridges on the way, the
 least and the most that a frame takes from its offer to being whole at the
 listener, how far apart the frames of one cycle can be whole there, the stream's
 deadline and the verdict, all in ns. A deadline counts from the edge bridge,
-where the frame is whole at its offer: a planner's deadline runs from the
-talker, so take the talker's link, (octets + 8) octet times, and its delay off
-first; at 100 Mb/s a longest frame takes 122400 ns. Bounds are of covered
-frames: a frame that its reservation doesn't cover is dropped at its edge and
-has no latency, so in-time promises nothing for offers beyond the reservation in
-one cycle of the network's clock.
+where the frame is whole at its offer, so take off first what the talker's own
+link takes. Bounds are of covered frames: in-time promises nothing for offers
+beyond the reservation in one cycle of the network's clock, which are dropped.
 
 With --strict the status is 1 where a deadline isn't kept for sure, and the
 first line whose verdict is late or may-be-late stands on standard error."#
@@ -102,15 +97,14 @@ before what is called for in cycle N.
 
 The output is the history of the calls, a line of %%, and the book of every
 transmission and drop. A run keeps its input and what becomes of each offer in
-memory, and no book: 1 million offers that make 6 million transmissions take 1
-to 2 seconds and 0.14 GB, and 15 million transmissions 1 to 3 seconds and as
-much. With --threads it keeps the book: 6 million take 7 seconds and 1.5 GB.
+memory, and no book; where there are background frames, a list of all starts
+until it is known when those start. With --threads it keeps 16 octets for each
+transmission.
 
 With --threads each bridge and each administrator of the script has a thread of
-its own. The lines of the script before its first seal are done before they
-start. Each administrator does its later lines in order while the bridges run,
-and later lines seal are passed over, since the cycles are closed meanwhile. So
-the history may differ from run to run. The book is always that of the history."#;
+its own, and the cycles are closed meanwhile: lines seal behind the first are
+passed over, and the history may differ from run to run. The book is always that
+of the history."#;
 
 /// What the help of `report` says of standard input and of its work.
 pub(crate) const REPORT_INPUT: &str =
@@ -119,7 +113,7 @@ pub(crate) const REPORT_INPUT: &str =
 
 The output has a line for each link: its frames, their octets, and the most
 octets that it starts in one cycle. Background frames don't count. It runs no
-network: what makes 15 million transmissions takes half a second and 0.13 GB.";
+network.";
 
 /// What the help of `deliveries` says of standard input and of its output.
 pub(crate) const DELIVERIES_INPUT: &str =
@@ -223,14 +217,14 @@ step with the network, with in-step = true, its frames get cycles of their own:
 one in as many as fit its interval, in which its links are least full.
 
 The output is a plant for the first candidate that has room for each stream and
-keeps each deadline. Streams are placed in order, each by the first way of
-fewest links with room, with as many octets as it needs. Where no candidate is
-good the status is 1, and standard error says what hinders the one that places
-most. With --table the output has a line for each candidate instead."#;
+keeps each deadline. Where none is good the status is 1, and standard error says
+what hinders the one that places most. With --table the output has a line for
+each candidate instead."#;
 
 /// What the program's help says of files and of its version.
 pub(crate) const MORE_WORDS: &str =
     r"Behind a command stand files, - for standard input; without one all is read
-from standard input. The help of each command has an example.
+from standard input. The help of each command has an example, and the manual,
+cqf(1), each column and each line of a fault.
 
 cqf --version, or cqf -V, prints the version";

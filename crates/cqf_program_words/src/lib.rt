@@ -1,30 +1,19 @@
-//! The words of a command line, read by the crate `clap`.
+//! The words of a command line, read by the crate `clap`, and the one input that the files come to which they name.
 //!
-//! - [`read_words`] gives the [`Job`] that some words mean, and else the end of the run: clap's text, with status 2 for a
-//!   mistake and 0 for a request for help.
+//! - **Words.** [`read_words`] gives the [`Job`] that some mean, and else the end of the run: clap's text, with status 2 for a mistake and 0 for
+//!   a request for help. [`ask_for_large`] says whether they ask for large plants, and [`limits_of`] gives the limits within which their plants
+//!   are read.
+//! - **Files.** `split_operands` tells those that some words name from the other words; [`check_files`] refuses standard input that is named
+//!   twice. [`composed`] is the input that the files' texts come to, for a job.
+//! - **Lines** that show a text that may hold anything end a run by [`stop_of_file`], [`stop_of_line`] and [`stop_of_long_line`].
 //!
-//! - [`ask_for_large`] says whether words ask for large plants, and [`limits_of`] gives the limits within which their plants are read.
-//!
-//! - [`stop_of_file`], [`stop_of_line`] and [`stop_of_long_line`] end a run with a line that shows a text that may hold anything.
-//!
-//! - [`split_operands`] tells the files that some words name from the other words; [`check_files`] refuses standard input that is named
-//!   twice.
-//!
-//! `specs/Words.antt` has the commands and their options as a value, and what it is that words `Mean` a job, are a mistake
-//! or ask for help.
+//! `specs/Commands.antt` has the commands, and `specs/Options.antt` their options, once: what `clap` takes and which words have their value
+//! behind them are made of these. `specs/Words.antt` says what it is that words `Mean` a job, are a mistake or ask for help, and
+//! `specs/Composing.antt` has the input as a definition.
 //!
 //! ```text
 //! read_words(alloc, &["port", "--until", "5"]) is Ok(Job::Port { until: 5, rate: Rate::Mb1000 })
 //! read_words(alloc, &["port", "--until", "0"]) ends with status 2
-//! ```
-//!
-//! The input that files come to.
-//!
-//! - [`composed`] is the input that the texts of some files come to, for a job.
-//!
-//! `specs/Composing.antt` has the same as a definition.
-//!
-//! ```text
 //! composed(alloc, &Job::Load, &["domain.toml", "streams.toml"], &[b"cycle = 125000", b"streams = []\n"])
 //!     is Ok(b"cycle = 125000\n%%\nstreams = []\n")
 //! ```
@@ -35,8 +24,10 @@ mod commands;
 mod composing;
 mod endings;
 mod help;
+mod laws;
 mod naming;
 mod operands;
+mod options;
 mod shown;
 mod words;
 
@@ -44,7 +35,9 @@ pub use candidates::Candidates;
 pub use composing::{
     composed, composed_behind, composed_between, is_plant, is_toml, is_undivided, joined,
 };
+pub use laws::words_are_read_as_clap_has_them;
 pub use naming::candidates_named;
-pub use operands::{Operands, STANDARD, check_files, operands_of, split_operands};
+pub(crate) use operands::split_operands;
+pub use operands::{Operands, STANDARD, check_files, operands_of};
 pub use shown::{stop_of_file, stop_of_line, stop_of_long_line};
 pub use words::{Format, Job, ask_for_large, limits_of, read_words};

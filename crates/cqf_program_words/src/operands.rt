@@ -1,15 +1,16 @@
 //! The files that the words of a command line name (profile).
 ghost use Rattle.std.specs.Prelude.{◌≡◌, IfErr, IfOk, OnErr, OnOk, codes, false, map, string_bytes, true};
-ghost use Rattle.cqf_program_stop.specs.Stops.{EndsWith, line_of};
-ghost use Rattle.cqf_program_words.specs.Operands.{behind_word, ends_options, is_command, is_option, is_standard, is_standard_twice, names_file};
-ghost use Rattle.cqf_program_words.specs.Operands.{no_words, split_of, split_so_far, wants_value, with_word};
+ghost use Rattle.cqf_press.specs.Stops.{EndsWith, line_of};
+ghost use Rattle.cqf_program_words.specs.Operands.{behind_word, ends_options, is_option, is_standard, is_standard_twice, names_file};
+ghost use Rattle.cqf_program_words.specs.Operands.{split_of, split_so_far, with_word};
 
-use cqf_program_stop::{Stop, USAGE};
+use crate::commands::{is_command, wants_value};
+use cqf_press::{Stop, USAGE};
 use std::alloc::{AllocError, Global};
 
 /// What the next word is read as.
 #[derive(Clone, Copy, Debug, PartialEq, Eq)]
-enum Place {
+enum WordPlace {
     /// The first, a command or else.
     Start,
     /// An option or a file.
@@ -27,40 +28,7 @@ enum Place {
 pub struct Operands<'a> {
     words: Vec<&'a str>,
     files: Vec<&'a str>,
-    place: Place,
-}
-
-/// Whether the word is a command that takes files.
-fn is_command(word: &str) -> bool
-    ensures { result ≡ is_command word.now }
-{
-    word == "port"
-        || word == "line"
-        || word == "compile"
-        || word == "load"
-        || word == "latency"
-        || word == "run"
-        || word == "report"
-        || word == "deliveries"
-        || word == "check"
-        || word == "summary"
-        || word == "offers"
-        || word == "hops"
-        || word == "plan"
-}
-
-/// Whether the word is an option behind which its value stands as a word of its own.
-fn wants_value(word: &str) -> bool
-    ensures { result ≡ wants_value word.now }
-{
-    word == "--until"
-        || word == "--rate"
-        || word == "--cycles"
-        || word == "--format"
-        || word == "--seed"
-        || word == "--stream"
-        || word == "--frame"
-        || word == "--cycle"
+    place: WordPlace,
 }
 
 /// Whether the word is the one that ends the options.
@@ -80,19 +48,19 @@ fn is_option(word: &str) -> bool
     }
 }
 
-impl Place {
+impl WordPlace {
     /// What the word behind this one is read as.
-    fn behind(self, word: &str) -> Place
+    fn behind(self, word: &str) -> WordPlace
         ensures { result ≡ behind_word self word.now }
     {
         match self {
-            Place::Start if is_command(word) => Place::Free,
-            Place::Start => Place::Other,
-            Place::Free if wants_value(word) => Place::Value,
-            Place::Free if ends_options(word) => Place::Behind,
-            Place::Free | Place::Value => Place::Free,
-            Place::Behind => Place::Behind,
-            Place::Other => Place::Other,
+            WordPlace::Start if is_command(word) => WordPlace::Free,
+            WordPlace::Start => WordPlace::Other,
+            WordPlace::Free if wants_value(word) => WordPlace::Value,
+            WordPlace::Free if ends_options(word) => WordPlace::Behind,
+            WordPlace::Free | WordPlace::Value => WordPlace::Free,
+            WordPlace::Behind => WordPlace::Behind,
+            WordPlace::Other => WordPlace::Other,
         }
     }
 
@@ -101,9 +69,9 @@ impl Place {
         ensures { result ≡ names_file self word.now }
     {
         match self {
-            Place::Free => !is_option(word),
-            Place::Behind => true,
-            Place::Start | Place::Value | Place::Other => false,
+            WordPlace::Free => !is_option(word),
+            WordPlace::Behind => true,
+            WordPlace::Start | WordPlace::Value | WordPlace::Other => false,
         }
     }
 }
@@ -145,7 +113,7 @@ pub fn split_operands<'a>(alloc: Global, words: &[&'a str]) -> Result<Operands<'
     let mut operands = Operands {
         words: Vec::new(alloc),
         files: Vec::new(alloc),
-        place: Place::Start,
+        place: WordPlace::Start,
     };
     for word in words {
         operands.put(word)?;

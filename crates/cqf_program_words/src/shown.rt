@@ -5,7 +5,7 @@ ghost use Rattle.std.specs.Str.{chars};
 ghost use Rattle.cqf_program_words.specs.Shown.{EndsShown, Lengthens, ShowsBehind, ShowsLine, ShowsWords, are_printable, is_among, is_printable};
 ghost use Rattle.cqf_program_words.specs.Shown.{is_shown_whole, is_unprintable, is_unseen, no_command, no_words};
 
-use cqf_program_stop::{FAULT, Stop, USAGE};
+use cqf_press::{FAULT, Stop, USAGE};
 use cqf_units::Memory;
 use std::alloc::Global;
 

@@ -17,10 +17,11 @@ use crate::candidates::Candidates;
 use crate::commands::commands;
 use crate::endings::{no_job, stop_of};
 use crate::naming::candidates_named;
+use crate::options::LAST_SEED;
 use crate::shown::stop_of_words;
 use clap::ArgMatches;
 use cqf_model::{LARGE, LAST_UNTIL, Limits, MOST_CYCLES};
-use cqf_program_stop::Stop;
+use cqf_press::Stop;
 use cqf_units::Rate;
 use std::alloc::{AllocError, Global};
 
@@ -209,9 +210,6 @@ fn free_number_in(text: Option<&str>, least: u64, most: u64) -> Option<Option<u3
         },
     }
 }
-
-/// The greatest seed (profile).
-const LAST_SEED: u64 = 4_294_967_295;
 
 /// The seed of the command with these values, which may have none; `None` where something else is given.
 fn seed_of(values: &ArgMatches<'_>) -> Option<Option<u32>>

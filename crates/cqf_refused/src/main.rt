@@ -4,14 +4,20 @@
 //! stands in front of the allocator refuses growths between the marks (bench/refused); where none is, each call is answered as it is to be.
 #![tactic(auto)]
 
-use cqf_refusing::Told;
+mod answers;
+mod engines;
+mod inputs;
+mod program;
+mod words;
+
+use cqf_refused_values::Told;
 use std::alloc::Global;
 use std::env::Env;
 use std::process::ExitCode;
 use std::sync::Wait;
 use std::thread::Threads;
 
-/// What comes of the trial of a name.
+/// What comes of the trial of a name; none where there is no such trial, or what it needs couldn't be made ready.
 fn told_of<R: Threads + Wait + Sync>(rt: &R, alloc: Global, name: &str) -> Option<Told> {
     if let Some(told) = cqf_refused_values::told_of(alloc, name) {
         return Some(told);
@@ -19,21 +25,18 @@ fn told_of<R: Threads + Wait + Sync>(rt: &R, alloc: Global, name: &str) -> Optio
     if let Some(told) = cqf_refused_runs::told_of(rt, alloc, name) {
         return Some(told);
     }
-    if let Some(told) = cqf_refused_threads::told_of(rt, alloc, name) {
-        return Some(told);
-    }
-    cqf_refused_engine::told_of(rt, alloc, name)
+    program::told_of(rt, alloc, name)
 }
 
 /// Writes what comes of the trial of a name, and says whether there is one that came to what it is to. `threads` is for the threads of
 /// trials.
 fn tell<R: Threads + Wait + Sync>(rt: &HostRuntime, threads: &R, name: &str) -> bool {
-    match told_of(threads, rt.alloc(), name) {
-        Some(told) => {
-            println!(rt; "{name}: {told}").is_ok() && matches!(told, Told::Row | Told::Memory)
-        }
-        None => false,
-    }
+    let told = told_of(threads, rt.alloc(), name);
+    let is_written = match told {
+        Some(told) => println!(rt; "{name}: {told}").is_ok(),
+        None => println!(rt; "{name}: not made ready").is_ok(),
+    };
+    is_written && matches!(told, Some(Told::Row | Told::Memory))
 }
 
 /// Writes what comes of all of these trials.
@@ -54,8 +57,7 @@ fn run<R: Threads + Wait + Sync>(rt: &HostRuntime, threads: &R) -> bool {
     let Ok(count) = rt.arg(1, &mut buffer) else {
         return tell_all(rt, threads, cqf_refused_values::NAMES)
             & tell_all(rt, threads, cqf_refused_runs::NAMES)
-            & tell_all(rt, threads, cqf_refused_threads::NAMES)
-            & tell_all(rt, threads, cqf_refused_engine::NAMES);
+            & tell_all(rt, threads, program::NAMES);
     };
     let Some(bytes) = buffer.get(..count) else {
         return false;

@@ -2,7 +2,7 @@
 use crate::pages::{drop_at, is_page, page_of, start_on};
 use cqf_book::{BookClose, CycleBook, Page, PageFault, Pages, Share, Totals};
 use cqf_model::Book;
-use cqf_refusing::{Told, mark, once, twice};
+use cqf_refused_values::{Told, mark, once, twice};
 use cqf_units::Memory;
 use std::alloc::Global;
 use std::sync::Wait;
@@ -45,19 +45,17 @@ fn two_pages(alloc: Global) -> Result<(Pages, Pages), Memory> {
     Ok((first, Pages::new(alloc, 3, 5)?))
 }
 
-pub(crate) fn new_told<R: Wait>(rt: &R, alloc: Global) -> Told {
-    let Ok((pages, twin)) = two_pages(alloc) else {
-        return Told::NotReady;
-    };
+pub(crate) fn new_told<R: Wait>(rt: &R, alloc: Global) -> Option<Told> {
+    let (pages, twin) = two_pages(alloc).ok()?;
     mark(alloc);
     let first = CycleBook::new(alloc, pages);
     mark(alloc);
     if first.is_ok() {
         drop(twin);
-        return once(is_new(rt, first));
+        return Some(once(is_new(rt, first)));
     }
     drop(first);
-    twice(true, is_new(rt, CycleBook::new(alloc, twin)))
+    Some(twice(true, is_new(rt, CycleBook::new(alloc, twin))))
 }
 
 /// A new cycle book with its shares.
@@ -102,18 +100,14 @@ fn posted_by_second<R: Wait>(
     alloc: Global,
     book: &CycleBook,
     shares: &mut [Share],
-) -> Told {
-    match (shares.get_mut(1), page_of(alloc, 1)) {
-        (Some(share), Ok(page)) => posted(rt, alloc, book, share, page),
-        _ => Told::NotReady,
-    }
+) -> Option<Told> {
+    let page = page_of(alloc, 1).ok()?;
+    Some(posted(rt, alloc, book, shares.get_mut(1)?, page))
 }
 
-pub(crate) fn post_told<R: Wait>(rt: &R, alloc: Global) -> Told {
-    match made(alloc) {
-        Ok((book, mut shares)) => posted_by_second(rt, alloc, &book, shares.as_mut_slice()),
-        Err(_) => Told::NotReady,
-    }
+pub(crate) fn post_told<R: Wait>(rt: &R, alloc: Global) -> Option<Told> {
+    let (book, mut shares) = made(alloc).ok()?;
+    posted_by_second(rt, alloc, &book, shares.as_mut_slice())
 }
 
 /// Whether a page came back as one that was posted already.
@@ -131,16 +125,16 @@ fn posted_twice<R: Wait>(
     book: &CycleBook,
     share: &mut Share,
     pages: (Page, Page),
-) -> Told {
+) -> Option<Told> {
     let (page, another) = pages;
     if book.post(rt, share, page).is_err() {
         drop(another);
-        return Told::NotReady;
+        return None;
     }
     mark(alloc);
     let first = book.post(rt, share, another);
     mark(alloc);
-    once(is_double(&first) && has_frames(rt, book, 1) && has_posted(share, true))
+    Some(once(is_double(&first) && has_frames(rt, book, 1) && has_posted(share, true)))
 }
 
 /// The page of the second bridge, twice.
@@ -155,18 +149,14 @@ fn posted_twice_by_second<R: Wait>(
     alloc: Global,
     book: &CycleBook,
     shares: &mut [Share],
-) -> Told {
-    match (shares.get_mut(1), two_of_second(alloc)) {
-        (Some(share), Ok(pages)) => posted_twice(rt, alloc, book, share, pages),
-        _ => Told::NotReady,
-    }
+) -> Option<Told> {
+    let pages = two_of_second(alloc).ok()?;
+    posted_twice(rt, alloc, book, shares.get_mut(1)?, pages)
 }
 
-pub(crate) fn twice_told<R: Wait>(rt: &R, alloc: Global) -> Told {
-    match made(alloc) {
-        Ok((book, mut shares)) => posted_twice_by_second(rt, alloc, &book, shares.as_mut_slice()),
-        Err(_) => Told::NotReady,
-    }
+pub(crate) fn twice_told<R: Wait>(rt: &R, alloc: Global) -> Option<Told> {
+    let (book, mut shares) = made(alloc).ok()?;
+    posted_twice_by_second(rt, alloc, &book, shares.as_mut_slice())
 }
 
 /// Whether the share of a bridge takes its page.
@@ -226,12 +216,8 @@ fn closed(alloc: Global, made: BookAndShares, twin: BookAndShares) -> Told {
     }
 }
 
-pub(crate) fn close_told<R: Wait>(rt: &R, alloc: Global) -> Told {
-    let Some(made) = filled(rt, alloc) else {
-        return Told::NotReady;
-    };
-    match filled(rt, alloc) {
-        Some(twin) => closed(alloc, made, twin),
-        None => Told::NotReady,
-    }
+pub(crate) fn close_told<R: Wait>(rt: &R, alloc: Global) -> Option<Told> {
+    let made = filled(rt, alloc)?;
+    let twin = filled(rt, alloc)?;
+    Some(closed(alloc, made, twin))
 }

@@ -1,7 +1,7 @@
 //! What is read of pages and books, which asks for no memory.
 use crate::pages::{is_page, page_of};
 use cqf_book::{CycleBook, Pages, Share, Totals};
-use cqf_refusing::{Told, mark, once};
+use cqf_refused_values::{Told, looked_at};
 use cqf_units::Cycle;
 use std::alloc::Global;
 use std::sync::Wait;
@@ -26,42 +26,36 @@ fn is_seen(pages: &Pages) -> bool {
 
 /// They are looked at.
 fn pages_seen(alloc: Global, pages: &Pages) -> Told {
-    mark(alloc);
-    let is_so = is_seen(pages);
-    mark(alloc);
-    once(is_so)
+    looked_at!(alloc, is_seen(pages))
 }
 
-pub(crate) fn pages_told(alloc: Global) -> Told {
-    let (Ok(mut pages), Ok(page)) = (Pages::new(alloc, 3, 5), page_of(alloc, 1)) else {
-        return Told::NotReady;
-    };
-    if pages.post(page).is_err() {
-        return Told::NotReady;
+pub(crate) fn pages_told(alloc: Global) -> Option<Told> {
+    let mut pages = Pages::new(alloc, 3, 5).ok()?;
+    if pages.post(page_of(alloc, 1).ok()?).is_err() {
+        return None;
     }
-    pages_seen(alloc, &pages)
+    Some(pages_seen(alloc, &pages))
 }
 
 /// A page is posted by the second share, and then the book is looked at.
-fn book_seen<R: Wait>(rt: &R, alloc: Global, book: &CycleBook, shares: &mut [Share]) -> Told {
-    let (Some(share), Ok(page)) = (shares.get_mut(1), page_of(alloc, 1)) else {
-        return Told::NotReady;
-    };
-    if book.post(rt, share, page).is_err() {
-        return Told::NotReady;
+fn book_seen<R: Wait>(
+    rt: &R,
+    alloc: Global,
+    book: &CycleBook,
+    shares: &mut [Share],
+) -> Option<Told> {
+    let share = shares.get_mut(1)?;
+    if book.post(rt, share, page_of(alloc, 1).ok()?).is_err() {
+        return None;
     }
-    mark(alloc);
-    let is_so = book.whole_cycles(rt) == 0 && book.totals(rt, 1) == ONE && share.bridge() == 1;
-    mark(alloc);
-    once(is_so)
+    Some(looked_at!(
+        alloc,
+        book.whole_cycles(rt) == 0 && book.totals(rt, 1) == ONE && share.bridge() == 1
+    ))
 }
 
-pub(crate) fn book_told<R: Wait>(rt: &R, alloc: Global) -> Told {
-    let Ok(pages) = Pages::new(alloc, 3, 5) else {
-        return Told::NotReady;
-    };
-    match CycleBook::new(alloc, pages) {
-        Ok((book, mut shares)) => book_seen(rt, alloc, &book, shares.as_mut_slice()),
-        Err(_) => Told::NotReady,
-    }
+pub(crate) fn book_told<R: Wait>(rt: &R, alloc: Global) -> Option<Told> {
+    let pages = Pages::new(alloc, 3, 5).ok()?;
+    let (book, mut shares) = CycleBook::new(alloc, pages).ok()?;
+    book_seen(rt, alloc, &book, shares.as_mut_slice())
 }

@@ -1,7 +1,7 @@
 //! Pages of three bridges and five cycles.
 use cqf_book::{Page, PageFault, Pages, Totals};
 use cqf_model::{Dropped, Reason, Started};
-use cqf_refusing::{Told, mark, once, twice};
+use cqf_refused_values::{Told, mark, once, trial, twice};
 use cqf_units::{Cycle, Memory, Nanos};
 use std::alloc::Global;
 
@@ -79,14 +79,14 @@ fn are_new(made: &Result<Pages, Memory>) -> bool {
     }
 }
 
-pub(crate) fn new_told(alloc: Global) -> Told {
-    mark(alloc);
-    let first = Pages::new(alloc, 3, 5);
-    mark(alloc);
-    if first.is_ok() {
-        return once(are_new(&first));
-    }
-    twice(true, are_new(&Pages::new(alloc, 3, 5)))
+pub(crate) fn new_told(alloc: Global) -> Option<Told> {
+    Some(trial!(
+        alloc,
+        Pages::new(alloc, 3, 5),
+        Err(_),
+        true,
+        |answer| are_new(&answer)
+    ))
 }
 
 /// The page that came back is posted again.
@@ -108,12 +108,8 @@ fn posted(alloc: Global, pages: &mut Pages, page: Page) -> Told {
     }
 }
 
-pub(crate) fn post_told(alloc: Global) -> Told {
-    let Ok(mut pages) = Pages::new(alloc, 3, 5) else {
-        return Told::NotReady;
-    };
-    match page_of(alloc, 1) {
-        Ok(page) => posted(alloc, &mut pages, page),
-        Err(_) => Told::NotReady,
-    }
+pub(crate) fn post_told(alloc: Global) -> Option<Told> {
+    let mut pages = Pages::new(alloc, 3, 5).ok()?;
+    let page = page_of(alloc, 1).ok()?;
+    Some(posted(alloc, &mut pages, page))
 }

@@ -1,8 +1,8 @@
 //! Pipes.
 ghost use Rattle.std.specs.Prelude.{◌≡◌, length};
 
-use cqf_refusing::{Told, mark, once, twice};
-use cqf_worker_pipe::{PipeIn, PipeOut, pipe};
+use cqf_refused_values::{Told, looked_at, mark, once, twice};
+use cqf_worker_loops::{PipeIn, PipeOut, pipe};
 use std::alloc::Global;
 use std::sync::Wait;
 
@@ -40,24 +40,19 @@ fn is_made<R: Wait>(rt: &R, alloc: Global) -> bool {
     }
 }
 
-pub(crate) fn pipe_told<R: Wait>(rt: &R, alloc: Global) -> Told {
+pub(crate) fn pipe_told<R: Wait>(rt: &R, alloc: Global) -> Option<Told> {
     mark(alloc);
     let first = pipe::<u32>(alloc);
     mark(alloc);
     match first {
-        Ok((into, out)) => once(is_used(rt, into, out)),
-        Err(_) => twice(true, is_made(rt, alloc)),
+        Ok((into, out)) => Some(once(is_used(rt, into, out))),
+        Err(_) => Some(twice(true, is_made(rt, alloc))),
     }
 }
 
-pub(crate) fn none_told<R: Wait>(rt: &R, alloc: Global) -> Told {
+pub(crate) fn none_told<R: Wait>(rt: &R, alloc: Global) -> Option<Told> {
     match pipe::<u32>(alloc) {
-        Ok((into, out)) => {
-            mark(alloc);
-            let is_so = is_used(rt, into, out);
-            mark(alloc);
-            once(is_so)
-        }
-        Err(_) => Told::NotReady,
+        Ok((into, out)) => Some(looked_at!(alloc, is_used(rt, into, out))),
+        Err(_) => None,
     }
 }

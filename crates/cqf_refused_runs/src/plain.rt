@@ -6,10 +6,10 @@ use cqf_admission::Table;
 use cqf_compile::Plan;
 use cqf_model::{Background, Book, Offer, Reason, Started};
 use cqf_plain::{RunFault, run};
-use cqf_refusing::{Told, X, mark, once, plan_of, tables_of, twice};
+use cqf_refused_values::{Told, X, plan_of, tables_with, trial};
 use cqf_test_fixtures::{
-    Asked, Backing, Offering, admission_of, are_background, are_begun, are_dropped, are_offers,
-    background_of, line, offers_of,
+    Asked, Backing, Offering, are_background, are_begun, are_dropped, are_offers, background_of,
+    line, offers_of,
 };
 use cqf_units::{Cycle, Nanos};
 use std::alloc::Global;
@@ -21,15 +21,6 @@ pub(crate) struct Given {
     pub(crate) tables: Vec<Table>,
     pub(crate) offers: Vec<Offer>,
     pub(crate) background: Vec<Background>,
-}
-
-/// The tables of so many cycles of a plan, with these streams.
-fn tables_with(alloc: Global, plan: &Plan, streams: &[Asked], cycles: u32) -> Option<Vec<Table>> {
-    tables_of(
-        alloc,
-        &mut admission_of(alloc, plan.domain(), streams)?,
-        cycles,
-    )
 }
 
 /// What a run of a domain's text is made of, with so many cycles.
@@ -117,13 +108,13 @@ fn is_made(made: &Result<Book, RunFault>, which: Which) -> bool {
 
 /// Makes a run, and again where it is refused for want of memory.
 fn ran(alloc: Global, given: &Given, which: Which) -> Told {
-    mark(alloc);
-    let first = run_of(alloc, given);
-    mark(alloc);
-    if matches!(first, Err(RunFault::Memory)) {
-        return twice(may_run(given), is_made(&run_of(alloc, given), which));
-    }
-    once(is_made(&first, which))
+    trial!(
+        alloc,
+        run_of(alloc, given),
+        Err(RunFault::Memory),
+        may_run(given),
+        |answer| is_made(&answer, which)
+    )
 }
 
 /// What is offered along the line.
@@ -134,15 +125,13 @@ pub(crate) fn along(alloc: Global) -> Option<Given> {
     make_given(alloc, line(), &[X], 5, OFFERS, &[(0, 1, 0, 1522)])
 }
 
-pub(crate) fn run_told(alloc: Global) -> Told {
-    match along(alloc) {
-        Some(given) => ran(alloc, &given, Which::Along),
-        None => Told::NotReady,
-    }
+pub(crate) fn run_told(alloc: Global) -> Option<Told> {
+    let given = along(alloc)?;
+    Some(ran(alloc, &given, Which::Along))
 }
 
 /// How many frames go along the line, more than are sorted without memory.
-const MANY: u32 = 22;
+const MANY: usize = 22;
 
 /// Whether the starts of one link in one cycle are those of all of them, one behind the other: 84 octets of the wire take 672 ns.
 fn are_all(starts: &[Started], hop: u32) -> bool {
@@ -159,13 +148,13 @@ fn are_all(starts: &[Started], hop: u32) -> bool {
         instant = instant.saturating_add(672);
         frame = frame.saturating_add(1);
     }
-    starts.len() == MANY as usize
+    starts.len() == MANY
 }
 
 /// Whether they go along all three links.
 fn go_along(starts: &[Started]) -> bool {
-    let (first, rest) = starts.split_at(starts.len().min(MANY as usize));
-    let (second, third) = rest.split_at(rest.len().min(MANY as usize));
+    let (first, rest) = starts.split_at(starts.len().min(MANY));
+    let (second, third) = rest.split_at(rest.len().min(MANY));
     are_all(first, 0) && are_all(second, 1) && are_all(third, 2)
 }
 
@@ -178,34 +167,9 @@ fn is_of_many(made: &Result<Book, RunFault>) -> bool {
 }
 
 /// What is offered of them.
-const OF_MANY: &[Offering] = &[
-    (0, 0, "x", 64),
-    (0, 0, "x", 64),
-    (0, 0, "x", 64),
-    (0, 0, "x", 64),
-    (0, 0, "x", 64),
-    (0, 0, "x", 64),
-    (0, 0, "x", 64),
-    (0, 0, "x", 64),
-    (0, 0, "x", 64),
-    (0, 0, "x", 64),
-    (0, 0, "x", 64),
-    (0, 0, "x", 64),
-    (0, 0, "x", 64),
-    (0, 0, "x", 64),
-    (0, 0, "x", 64),
-    (0, 0, "x", 64),
-    (0, 0, "x", 64),
-    (0, 0, "x", 64),
-    (0, 0, "x", 64),
-    (0, 0, "x", 64),
-    (0, 0, "x", 64),
-    (0, 0, "x", 64),
-];
+const OF_MANY: &[Offering] = &[(0, 0, "x", 64); MANY];
 
-pub(crate) fn many_told(alloc: Global) -> Told {
-    match make_given(alloc, line(), &[X], 5, OF_MANY, &[]) {
-        Some(given) => ran(alloc, &given, Which::OfMany),
-        None => Told::NotReady,
-    }
+pub(crate) fn many_told(alloc: Global) -> Option<Told> {
+    let given = make_given(alloc, line(), &[X], 5, OF_MANY, &[])?;
+    Some(ran(alloc, &given, Which::OfMany))
 }

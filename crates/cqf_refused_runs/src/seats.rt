@@ -1,8 +1,8 @@
 //! Seals at a desk with two seats, of which the second seals, and the desk that is closed.
-use crate::desks::{DeskAndSeats, desk_with, is_history};
+use crate::desks::{DeskAndSeats, closed_with, desk_with, is_history};
 use cqf_admission::{SealFault, Table};
 use cqf_desk::{CloseFault, Desk, Seat};
-use cqf_refusing::{Told, X, mark, once, twice};
+use cqf_refused_values::{Told, X, looked_at, mark, once, trial, twice};
 use cqf_units::Cycle;
 use std::alloc::Global;
 use std::sync::Wait;
@@ -34,57 +34,21 @@ type Sealing = (Standing, Standing);
 /// A cycle is closed, and again where memory is wanted. What is told of it leaves the history out.
 fn sealed<R: Wait>(rt: &R, alloc: Global, desk: &Desk, seat: &mut Seat, sealing: Sealing) -> Told {
     let (before, behind) = sealing;
-    mark(alloc);
-    let first = desk.seal(rt, seat);
-    mark(alloc);
-    if first != Err(SealFault::Memory) {
-        return once(first == Ok(()) && stands(seat, behind));
-    }
-    let stood = stands(seat, before);
-    let is_ok = desk.seal(rt, seat) == Ok(());
-    twice(stood, is_ok && stands(seat, behind))
+    trial!(
+        alloc,
+        desk.seal(rt, seat),
+        Err(SealFault::Memory),
+        stands(seat, before),
+        |answer| answer == Ok(()) && stands(seat, behind)
+    )
 }
 
-/// It is, by the second seat.
-fn sealed_by_second<R: Wait>(
-    rt: &R,
-    alloc: Global,
-    desk: &Desk,
-    seats: &mut [Seat],
-    sealing: Sealing,
-) -> Told {
-    match seats.get_mut(1) {
-        Some(seat) => sealed(rt, alloc, desk, seat, sealing),
-        None => Told::NotReady,
-    }
-}
-
-/// What is told of a Seal, where the desk is closed with its seats: it closes with this history, so a Seal that was refused for want of
-/// memory has left nothing.
-fn closed_with(alloc: Global, made: DeskAndSeats, told: Told, text: &str) -> Told {
-    let (desk, seats) = made;
-    let is_closed = is_history(alloc, &desk.close(seats), 1, text);
-    match told {
-        Told::Row => once(is_closed),
-        Told::Memory => twice(is_closed, true),
-        other => other,
-    }
-}
-
-pub(crate) fn seal_told<R: Wait>(rt: &R, alloc: Global) -> Told {
+pub(crate) fn seal_told<R: Wait>(rt: &R, alloc: Global) -> Option<Told> {
     let sealing = (None, Some((0, 1)));
-    match desk_with(alloc, &[X]) {
-        Some((desk, mut seats)) => {
-            let told = sealed_by_second(rt, alloc, &desk, seats.as_mut_slice(), sealing);
-            closed_with(
-                alloc,
-                (desk, seats),
-                told,
-                "0 admit x accepted 0 0\n1 seal\n",
-            )
-        }
-        None => Told::NotReady,
-    }
+    let text = "0 admit x accepted 0 0\n1 seal\n";
+    let (desk, mut seats) = desk_with(alloc, &[X])?;
+    let told = sealed(rt, alloc, &desk, seats.get_mut(1)?, sealing);
+    Some(closed_with(alloc, (desk, seats), told, 1, text))
 }
 
 /// Whether the second seat seals a cycle, the first one withdraws `x`, and the second one seals another cycle.
@@ -117,28 +81,20 @@ const WORKED: &str = "0 admit x accepted 0 0\n1 seal\n0 withdraw x accepted 0 1\
 const LATER: &str = "0 admit x accepted 0 0\n1 seal\n0 withdraw x accepted 0 1\n1 seal\n\
     0 withdraw x refused AlreadyWithdrawn\n1 seal\n";
 
-pub(crate) fn later_told<R: Wait>(rt: &R, alloc: Global) -> Told {
+pub(crate) fn later_told<R: Wait>(rt: &R, alloc: Global) -> Option<Told> {
     let sealing = (Some((1, 1)), Some((2, 1)));
-    match worked(rt, alloc) {
-        Some((desk, mut seats)) => {
-            let told = sealed_by_second(rt, alloc, &desk, seats.as_mut_slice(), sealing);
-            closed_with(alloc, (desk, seats), told, LATER)
-        }
-        None => Told::NotReady,
-    }
+    let (desk, mut seats) = worked(rt, alloc)?;
+    let told = sealed(rt, alloc, &desk, seats.get_mut(1)?, sealing);
+    Some(closed_with(alloc, (desk, seats), told, 1, LATER))
 }
 
 /// A desk whose second seat followed the history is closed, which asks for no memory.
-pub(crate) fn followed_told<R: Wait>(rt: &R, alloc: Global) -> Told {
-    match worked(rt, alloc) {
-        Some((desk, seats)) => {
-            mark(alloc);
-            let closed = desk.close(seats);
-            mark(alloc);
-            once(is_history(alloc, &closed, 1, WORKED))
-        }
-        None => Told::NotReady,
-    }
+pub(crate) fn followed_told<R: Wait>(rt: &R, alloc: Global) -> Option<Told> {
+    let (desk, seats) = worked(rt, alloc)?;
+    mark(alloc);
+    let closed = desk.close(seats);
+    mark(alloc);
+    Some(once(is_history(alloc, &closed, 1, WORKED)))
 }
 
 /// Whether the first seat asks in vain for a withdrawal, and the second one seals a cycle.
@@ -199,14 +155,10 @@ fn closed(alloc: Global, made: DeskAndSeats, twin: DeskAndSeats) -> Told {
     }
 }
 
-pub(crate) fn close_told<R: Wait>(rt: &R, alloc: Global) -> Told {
-    let Some(made) = with_strange_seat(rt, alloc) else {
-        return Told::NotReady;
-    };
-    match with_strange_seat(rt, alloc) {
-        Some(twin) => closed(alloc, made, twin),
-        None => Told::NotReady,
-    }
+pub(crate) fn close_told<R: Wait>(rt: &R, alloc: Global) -> Option<Told> {
+    let made = with_strange_seat(rt, alloc)?;
+    let twin = with_strange_seat(rt, alloc)?;
+    Some(closed(alloc, made, twin))
 }
 
 /// Whether a seat's newest table is that of cycle 0.
@@ -218,22 +170,15 @@ fn has_table(seat: &Seat) -> bool {
 }
 
 /// A seat seals, and then it is looked at, which asks for no memory.
-fn seat_seen<R: Wait>(rt: &R, alloc: Global, desk: &Desk, seats: &mut [Seat]) -> Told {
-    let Some(seat) = seats.get_mut(1) else {
-        return Told::NotReady;
-    };
+fn seat_seen<R: Wait>(rt: &R, alloc: Global, desk: &Desk, seats: &mut [Seat]) -> Option<Told> {
+    let seat = seats.get_mut(1)?;
     if desk.seal(rt, seat).is_err() {
-        return Told::NotReady;
+        return None;
     }
-    mark(alloc);
-    let is_so = has_table(seat) && seat.number() == 1;
-    mark(alloc);
-    once(is_so)
+    Some(looked_at!(alloc, has_table(seat) && seat.number() == 1))
 }
 
-pub(crate) fn seat_told<R: Wait>(rt: &R, alloc: Global) -> Told {
-    match desk_with(alloc, &[X]) {
-        Some((desk, mut seats)) => seat_seen(rt, alloc, &desk, seats.as_mut_slice()),
-        None => Told::NotReady,
-    }
+pub(crate) fn seat_told<R: Wait>(rt: &R, alloc: Global) -> Option<Told> {
+    let (desk, mut seats) = desk_with(alloc, &[X])?;
+    seat_seen(rt, alloc, &desk, seats.as_mut_slice())
 }

@@ -6,23 +6,13 @@ use crate::plain::{Given, along, make_given, may_run};
 use cqf_admission::{Admission, Entry};
 use cqf_model::{Book, Offer, Start};
 use cqf_plain::run;
-use cqf_refusing::{Told, X, domain_of, mark, once, tables_of, twice};
-use cqf_report::{
-    append_book, books_are_in_order, write_book, write_history, write_links, write_starts,
-};
+use cqf_refused_values::{Told, X, domain_of, is_text, tables_of, trial};
+use cqf_report::{books_are_in_order, write_book, write_history, write_links, write_starts};
 use cqf_test_fixtures::{Asked, admission_of, line, one_link, request};
 use cqf_topology::Domain;
-use cqf_units::{Memory, Name, Nanos, Rate};
+use cqf_units::{Name, Nanos, Rate};
 use std::alloc::Global;
 use std::thread::Threads;
-
-/// Whether a text was written.
-fn is_text(written: Result<Vec<u8>, Memory>, text: &str) -> bool {
-    match written {
-        Ok(bytes) => bytes.as_slice() == text.as_bytes(),
-        Err(_) => false,
-    }
-}
 
 /// The book of what is given, over so many cycles, where there is one.
 fn book_of(alloc: Global, given: &Given, cycles: u32) -> Option<Book>
@@ -53,62 +43,19 @@ const BOOK: &str = "what,cycle,where,frame,octets,detail\n\
 
 /// A book is written.
 fn book_written(alloc: Global, domain: &Domain, book: &Book) -> Told {
-    mark(alloc);
-    let first = write_book(alloc, domain, book);
-    mark(alloc);
-    if first.is_ok() {
-        return once(is_text(first, BOOK));
-    }
-    let stands = book.starts.len() == 3 && book.background.len() == 1 && book.drops.len() == 1;
-    twice(stands, is_text(write_book(alloc, domain, book), BOOK))
-}
-
-pub(crate) fn book_told(alloc: Global) -> Told {
-    let Some(given) = along(alloc) else {
-        return Told::NotReady;
-    };
-    match book_of(alloc, &given, 5) {
-        Some(book) => book_written(alloc, given.plan.domain(), &book),
-        None => Told::NotReady,
-    }
-}
-
-/// A text, twice.
-fn two_texts(alloc: Global) -> Result<(Vec<u8>, Vec<u8>), Memory> {
-    let first = Vec::from_slice(alloc, b"%%\n")?;
-    Ok((first, Vec::from_slice(alloc, b"%%\n")?))
-}
-
-/// The text of the book behind another one.
-const BEHIND: &str = "%%\nwhat,cycle,where,frame,octets,detail\n\
-    start,1,a>b,1,64,125000\nstart,2,b>c,1,64,250000\nstart,3,c>s,1,64,375000\n\
-    background,0,b>c,1,1522,0\ndrop,0,b,2,64,other-bridge\n";
-
-/// A book is put behind a text, or else behind its twin.
-fn book_appended(alloc: Global, domain: &Domain, book: &Book) -> Told {
-    let Ok((text, twin)) = two_texts(alloc) else {
-        return Told::NotReady;
-    };
-    mark(alloc);
-    let first = append_book(alloc, text, domain, book);
-    mark(alloc);
-    if first.is_ok() {
-        return once(is_text(first, BEHIND));
-    }
-    twice(
-        true,
-        is_text(append_book(alloc, twin, domain, book), BEHIND),
+    trial!(
+        alloc,
+        write_book(alloc, domain, book),
+        Err(_),
+        book.starts.len() == 3 && book.background.len() == 1 && book.drops.len() == 1,
+        |answer| is_text(answer, BOOK)
     )
 }
 
-pub(crate) fn append_told(alloc: Global) -> Told {
-    let Some(given) = along(alloc) else {
-        return Told::NotReady;
-    };
-    match book_of(alloc, &given, 5) {
-        Some(book) => book_appended(alloc, given.plan.domain(), &book),
-        None => Told::NotReady,
-    }
+pub(crate) fn book_told(alloc: Global) -> Option<Told> {
+    let given = along(alloc)?;
+    let book = book_of(alloc, &given, 5)?;
+    Some(book_written(alloc, given.plan.domain(), &book))
 }
 
 /// A history with a refusal and a Seal.
@@ -117,14 +64,13 @@ const HISTORY: &str =
 
 /// A history is written.
 fn history_written(alloc: Global, entries: &[Entry]) -> Told {
-    mark(alloc);
-    let first = write_history(alloc, entries);
-    mark(alloc);
-    if first.is_ok() {
-        return once(is_text(first, HISTORY));
-    }
-    let stands = entries.len() == 4;
-    twice(stands, is_text(write_history(alloc, entries), HISTORY))
+    trial!(
+        alloc,
+        write_history(alloc, entries),
+        Err(_),
+        entries.len() == 4,
+        |answer| is_text(answer, HISTORY)
+    )
 }
 
 /// Makes the calls of the history behind the first one.
@@ -140,22 +86,18 @@ fn goes_on(alloc: Global, admission: &mut Admission) -> bool {
 }
 
 /// It is written of an admission over a domain.
-fn history_of(alloc: Global, domain: &Domain) -> Told {
-    let Some(mut admission) = admission_of(alloc, domain, &[X]) else {
-        return Told::NotReady;
-    };
+fn history_of(alloc: Global, domain: &Domain) -> Option<Told> {
+    let mut admission = admission_of(alloc, domain, &[X])?;
     if goes_on(alloc, &mut admission) {
-        history_written(alloc, admission.history())
+        Some(history_written(alloc, admission.history()))
     } else {
-        Told::NotReady
+        None
     }
 }
 
-pub(crate) fn history_told(alloc: Global) -> Told {
-    match domain_of(alloc, line()) {
-        Some(domain) => history_of(alloc, &domain),
-        None => Told::NotReady,
-    }
+pub(crate) fn history_told(alloc: Global) -> Option<Told> {
+    let domain = domain_of(alloc, line())?;
+    history_of(alloc, &domain)
 }
 
 /// The start of a frame of 64 octets.
@@ -166,18 +108,15 @@ const START: Start = Start {
     frame: 1,
 };
 
-pub(crate) fn starts_told(alloc: Global) -> Told {
+pub(crate) fn starts_told(alloc: Global) -> Option<Told> {
     let text = "class,frame,start,end\n6,1,125000,125576\n";
-    mark(alloc);
-    let first = write_starts(alloc, &[START], Rate::Mb1000);
-    mark(alloc);
-    if first.is_ok() {
-        return once(is_text(first, text));
-    }
-    twice(
+    Some(trial!(
+        alloc,
+        write_starts(alloc, &[START], Rate::Mb1000),
+        Err(_),
         true,
-        is_text(write_starts(alloc, &[START], Rate::Mb1000), text),
-    )
+        |answer| is_text(answer, text)
+    ))
 }
 
 /// Sums by link are written.
@@ -191,14 +130,13 @@ fn links_written(
     requires { AreSumsInOrder book.now.starts.items }
 {
     let count = book.starts.len();
-    mark(alloc);
-    let first = write_links(rt, alloc, domain, book);
-    mark(alloc);
-    if first.is_ok() {
-        return once(is_text(first, text));
-    }
-    let stands = book.starts.len() == count;
-    twice(stands, is_text(write_links(rt, alloc, domain, book), text))
+    trial!(
+        alloc,
+        write_links(rt, alloc, domain, book),
+        Err(_),
+        book.starts.len() == count,
+        |answer| is_text(answer, text)
+    )
 }
 
 /// They are, of what is given over so many cycles.
@@ -208,19 +146,15 @@ fn links_of(
     given: &Given,
     cycles: u32,
     text: &str,
-) -> Told {
-    match book_of(alloc, given, cycles) {
-        Some(book) => links_written(rt, alloc, given.plan.domain(), &book, text),
-        None => Told::NotReady,
-    }
+) -> Option<Told> {
+    let book = book_of(alloc, given, cycles)?;
+    Some(links_written(rt, alloc, given.plan.domain(), &book, text))
 }
 
-pub(crate) fn links_told(rt: &(impl Threads + Sync), alloc: Global) -> Told {
+pub(crate) fn links_told(rt: &(impl Threads + Sync), alloc: Global) -> Option<Told> {
     let text = "link,frames,octets,most\na>b,1,64,64\nb>c,1,64,64\nc>s,1,64,64\n";
-    match along(alloc) {
-        Some(given) => links_of(rt, alloc, &given, 5, text),
-        None => Told::NotReady,
-    }
+    let given = along(alloc)?;
+    links_of(rt, alloc, &given, 5, text)
 }
 
 /// A stream that takes all of one link's octets: 178 frames of 64 octets a cycle.
@@ -268,10 +202,8 @@ fn given_many(alloc: Global) -> Option<Given> {
     Some(many)
 }
 
-pub(crate) fn many_links_told(rt: &(impl Threads + Sync), alloc: Global) -> Told {
+pub(crate) fn many_links_told(rt: &(impl Threads + Sync), alloc: Global) -> Option<Told> {
     let text = "link,frames,octets,most\na>s,2136,136704,11392\n";
-    match given_many(alloc) {
-        Some(many) => links_of(rt, alloc, &many, 13, text),
-        None => Told::NotReady,
-    }
+    let many = given_many(alloc)?;
+    links_of(rt, alloc, &many, 13, text)
 }

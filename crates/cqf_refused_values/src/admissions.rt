@@ -1,34 +1,10 @@
 //! Calls of admissions over the line.
+use crate::{SEVEN, Told, X, domain_of, granted, line_with, trial, writes};
 use cqf_admission::{Admission, Receipt, Refused, SealFault, Table};
-use cqf_refusing::{Told, X, domain_of, mark, once, twice, writes};
-use cqf_test_fixtures::{Asked, admission_of, line, request};
+use cqf_test_fixtures::{Asked, line, request};
 use cqf_topology::{Domain, Request};
 use cqf_units::{Cycle, Memory};
 use std::alloc::Global;
-
-const PATH: &[&[&str]] = &[&["a", "b", "c", "s"]];
-
-/// Six streams of 1,500 octets, which cost 1,960 of the 15,000 octets of each link; and one, and two more.
-const SIX: &[Asked] = &[
-    ("n0", 1500, PATH),
-    ("n1", 1500, PATH),
-    ("n2", 1500, PATH),
-    ("n3", 1500, PATH),
-    ("n4", 1500, PATH),
-    ("n5", 1500, PATH),
-];
-
-const SEVENTH: Asked = ("n6", 1500, PATH);
-
-const SEVEN: &[Asked] = &[
-    ("n0", 1500, PATH),
-    ("n1", 1500, PATH),
-    ("n2", 1500, PATH),
-    ("n3", 1500, PATH),
-    ("n4", 1500, PATH),
-    ("n5", 1500, PATH),
-    ("n6", 1500, PATH),
-];
 
 /// What can be read of an admission over the line: its history, its next cycle, and what is held on each link.
 #[derive(Clone, Copy)]
@@ -81,11 +57,6 @@ const WITH_SHORT: Standing = Standing {
     held: 13_720,
 };
 
-/// An admission over the line that has admitted streams.
-pub(crate) fn line_with(alloc: Global, streams: &[Asked]) -> Option<Admission> {
-    admission_of(alloc, &domain_of(alloc, line())?, streams)
-}
-
 /// Whether a new admission was made.
 fn is_new(alloc: Global, made: &Result<Admission, Memory>) -> bool {
     let none = Standing {
@@ -101,23 +72,18 @@ fn is_new(alloc: Global, made: &Result<Admission, Memory>) -> bool {
 
 /// An admission is made for a domain.
 fn made(alloc: Global, domain: &Domain) -> Told {
-    mark(alloc);
-    let first = Admission::new(alloc, domain);
-    mark(alloc);
-    if first.is_ok() {
-        return once(is_new(alloc, &first));
-    }
-    twice(
+    trial!(
+        alloc,
+        Admission::new(alloc, domain),
+        Err(_),
         domain.links() == 3,
-        is_new(alloc, &Admission::new(alloc, domain)),
+        |answer| is_new(alloc, &answer)
     )
 }
 
-pub(crate) fn new_told(alloc: Global) -> Told {
-    match domain_of(alloc, line()) {
-        Some(domain) => made(alloc, &domain),
-        None => Told::NotReady,
-    }
+pub(crate) fn new_told(alloc: Global) -> Option<Told> {
+    let domain = domain_of(alloc, line())?;
+    Some(made(alloc, &domain))
 }
 
 /// What is answered, and how an admission stands before and behind that.
@@ -140,46 +106,33 @@ fn is_answered(
 
 /// A stream is asked for.
 fn admitted(alloc: Global, admission: &mut Admission, wanted: &Request, call: &Call) -> Told {
-    mark(alloc);
-    let first = admission.admit(0, wanted);
-    mark(alloc);
-    if first != Err(Refused::Memory) {
-        return once(is_answered(alloc, admission, first, call));
-    }
-    let stood = stands(alloc, admission, call.before);
-    let again = admission.admit(0, wanted);
-    twice(stood, is_answered(alloc, admission, again, call))
+    trial!(
+        alloc,
+        admission.admit(0, wanted),
+        Err(Refused::Memory),
+        stands(alloc, admission, call.before),
+        |answer| is_answered(alloc, admission, answer, call)
+    )
 }
 
 /// A stream is asked for where others are held.
-fn asked_for(alloc: Global, streams: &[Asked], asked: &Asked, call: &Call) -> Told {
-    let Ok(wanted) = request(alloc, asked) else {
-        return Told::NotReady;
-    };
-    match line_with(alloc, streams) {
-        Some(mut admission) => admitted(alloc, &mut admission, &wanted, call),
-        None => Told::NotReady,
-    }
+fn asked_for(alloc: Global, streams: &[Asked], asked: &Asked, call: &Call) -> Option<Told> {
+    let wanted = request(alloc, asked).ok()?;
+    let mut admission = line_with(alloc, streams)?;
+    Some(admitted(alloc, &mut admission, &wanted, call))
 }
 
-/// The answer to a request that is granted.
-pub(crate) fn granted(no: u32, effect: u32) -> Result<Receipt, Refused> {
-    Ok(Receipt {
-        no,
-        effect: Cycle(effect),
-    })
-}
-
-pub(crate) fn admit_told(alloc: Global) -> Told {
+pub(crate) fn admit_told(alloc: Global) -> Option<Told> {
+    let (seventh, six) = SEVEN.split_last()?;
     let call = Call {
         answer: granted(6, 0),
         before: &OF_SIX,
         behind: &OF_SEVEN,
     };
-    asked_for(alloc, SIX, &SEVENTH, &call)
+    asked_for(alloc, six, seventh, &call)
 }
 
-pub(crate) fn short_told(alloc: Global) -> Told {
+pub(crate) fn short_told(alloc: Global) -> Option<Told> {
     let call = Call {
         answer: Err(Refused::BudgetShort {
             link: 0,
@@ -206,27 +159,23 @@ const WITHOUT_X: Standing = Standing {
 
 /// A stream is withdrawn.
 fn withdrawn(alloc: Global, admission: &mut Admission, call: &Call) -> Told {
-    mark(alloc);
-    let first = admission.withdraw(0, "x");
-    mark(alloc);
-    if first != Err(Refused::Memory) {
-        return once(is_answered(alloc, admission, first, call));
-    }
-    let stood = stands(alloc, admission, call.before);
-    let again = admission.withdraw(0, "x");
-    twice(stood, is_answered(alloc, admission, again, call))
+    trial!(
+        alloc,
+        admission.withdraw(0, "x"),
+        Err(Refused::Memory),
+        stands(alloc, admission, call.before),
+        |answer| is_answered(alloc, admission, answer, call)
+    )
 }
 
-pub(crate) fn withdraw_told(alloc: Global) -> Told {
+pub(crate) fn withdraw_told(alloc: Global) -> Option<Told> {
     let call = Call {
         answer: granted(0, 0),
         before: &OF_X,
         behind: &WITHOUT_X,
     };
-    match line_with(alloc, &[X]) {
-        Some(mut admission) => withdrawn(alloc, &mut admission, &call),
-        None => Told::NotReady,
-    }
+    let mut admission = line_with(alloc, &[X])?;
+    Some(withdrawn(alloc, &mut admission, &call))
 }
 
 /// One stream behind a Seal.
@@ -255,22 +204,16 @@ fn is_sealed(alloc: Global, admission: &Admission, given: &Result<Table, SealFau
 
 /// A cycle is closed.
 fn sealed(alloc: Global, admission: &mut Admission) -> Told {
-    mark(alloc);
-    let first = admission.seal(1);
-    mark(alloc);
-    match first {
-        Err(SealFault::Memory) => {
-            let stood = stands(alloc, admission, &OF_X);
-            let again = admission.seal(1);
-            twice(stood, is_sealed(alloc, admission, &again))
-        }
-        given => once(is_sealed(alloc, admission, &given)),
-    }
+    trial!(
+        alloc,
+        admission.seal(1),
+        Err(SealFault::Memory),
+        stands(alloc, admission, &OF_X),
+        |answer| is_sealed(alloc, admission, &answer)
+    )
 }
 
-pub(crate) fn seal_told(alloc: Global) -> Told {
-    match line_with(alloc, &[X]) {
-        Some(mut admission) => sealed(alloc, &mut admission),
-        None => Told::NotReady,
-    }
+pub(crate) fn seal_told(alloc: Global) -> Option<Told> {
+    let mut admission = line_with(alloc, &[X])?;
+    Some(sealed(alloc, &mut admission))
 }

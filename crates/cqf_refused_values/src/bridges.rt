@@ -4,13 +4,13 @@ ghost use Rattle.cqf_model.specs.Run.{AreOffers};
 ghost use Rattle.cqf_laws_cycle.specs.Gathered.{offered_for};
 
 use crate::domains::is_line;
+use crate::{Told, X, mark, once, plan_of, tables_with, trial, twice};
 use cqf_admission::Table;
 use cqf_bridge::{Batch, Bridge, BridgeFault, offers_of};
 use cqf_compile::Plan;
 use cqf_model::{Dropped, Offer, Offered, Reason, Sent};
-use cqf_refusing::{Told, X, mark, once, plan_of, tables_of, twice};
 use cqf_test_fixtures::{
-    Asked, Fell, Offering, admission_of, are_dropped, are_offers, line, offers_of as offers_with,
+    Asked, Fell, Offering, are_dropped, are_offers, line, offers_of as offers_with,
 };
 use cqf_units::{Cycle, Memory, Nanos};
 use std::alloc::Global;
@@ -68,30 +68,27 @@ pub(crate) fn sends(
 fn made(alloc: Global, plan: &Plan) -> Told
     requires { 1 < length plan.now.bridges }
 {
-    mark(alloc);
-    let first = Bridge::new(alloc, plan, 1);
-    mark(alloc);
-    if first.is_ok() {
-        return once(is_new(alloc, first));
-    }
-    let stands = is_line(plan.domain());
-    twice(stands, is_new(alloc, Bridge::new(alloc, plan, 1)))
+    trial!(
+        alloc,
+        Bridge::new(alloc, plan, 1),
+        Err(_),
+        is_line(plan.domain()),
+        |answer| is_new(alloc, answer)
+    )
 }
 
 /// It is, where there is one.
-fn made_of(alloc: Global, plan: &Plan) -> Told {
+fn made_of(alloc: Global, plan: &Plan) -> Option<Told> {
     if plan.domain().bridges() == 3 {
-        made(alloc, plan)
+        Some(made(alloc, plan))
     } else {
-        Told::NotReady
+        None
     }
 }
 
-pub(crate) fn new_told(alloc: Global) -> Told {
-    match plan_of(alloc, line()) {
-        Some(plan) => made_of(alloc, &plan),
-        None => Told::NotReady,
-    }
+pub(crate) fn new_told(alloc: Global) -> Option<Told> {
+    let plan = plan_of(alloc, line())?;
+    made_of(alloc, &plan)
 }
 
 /// The bridge's of some offers in a cycle.
@@ -148,15 +145,10 @@ pub(crate) struct Ready {
     pub(crate) offers: Vec<Offer>,
 }
 
-/// The tables of two cycles of a plan.
-fn tables_with(alloc: Global, plan: &Plan, streams: &[Asked]) -> Option<Vec<Table>> {
-    tables_of(alloc, &mut admission_of(alloc, plan.domain(), streams)?, 2)
-}
-
 /// All of it for the line, where there are three bridges and two tables.
 pub(crate) fn make_ready(alloc: Global, streams: &[Asked], offering: &[Offering]) -> Option<Ready> {
     let plan = plan_of(alloc, line())?;
-    let tables = tables_with(alloc, &plan, streams)?;
+    let tables = tables_with(alloc, &plan, streams, 2)?;
     match offers_with(alloc, offering) {
         Ok(offers) => Some(Ready {
             plan,
@@ -229,14 +221,10 @@ fn two_behind(alloc: Global, ready: &Ready) -> Option<(Bridge, Bridge)> {
     Some((first_behind(alloc, ready)?, first_behind(alloc, ready)?))
 }
 
-pub(crate) fn send_told(alloc: Global) -> Told {
-    let Some(ready) = make_ready(alloc, &[X], ONE) else {
-        return Told::NotReady;
-    };
-    match two_behind(alloc, &ready) {
-        Some((mut bridge, mut twin)) => sent(alloc, &mut bridge, &mut twin),
-        None => Told::NotReady,
-    }
+pub(crate) fn send_told(alloc: Global) -> Option<Told> {
+    let ready = make_ready(alloc, &[X], ONE)?;
+    let (mut bridge, mut twin) = two_behind(alloc, &ready)?;
+    Some(sent(alloc, &mut bridge, &mut twin))
 }
 
 /// What the first bridge sends in its first cycle.
@@ -346,9 +334,14 @@ fn is_received(
 }
 
 /// It receives the cycle, or else its twin does: it is spent then.
-fn received(alloc: Global, bridge: &mut Bridge, twin: &mut Bridge, handed: &Handed<'_>) -> Told {
+fn received(
+    alloc: Global,
+    bridge: &mut Bridge,
+    twin: &mut Bridge,
+    handed: &Handed<'_>,
+) -> Option<Told> {
     let Some(own) = own_of(alloc, bridge, Cycle(1), handed.offers) else {
-        return Told::NotReady;
+        return None;
     };
     mark(alloc);
     let first = bridge.receive(
@@ -363,9 +356,9 @@ fn received(alloc: Global, bridge: &mut Bridge, twin: &mut Bridge, handed: &Hand
         Err(BridgeFault::Memory) => {
             let stands = is_spent(alloc, bridge);
             let again = receive(alloc, twin, handed.table, handed.batches, handed.offers);
-            twice(stands, is_received(alloc, twin, &again, handed))
+            Some(twice(stands, is_received(alloc, twin, &again, handed)))
         }
-        other => once(is_received(alloc, bridge, &other, handed)),
+        other => Some(once(is_received(alloc, bridge, &other, handed))),
     }
 }
 
@@ -375,15 +368,11 @@ fn two_seconds(alloc: Global, ready: &Ready) -> Option<(Bridge, Bridge)> {
 }
 
 /// The second bridge of what is ready receives cycle 1.
-fn received_of(alloc: Global, ready: &Ready, drops: &[Fell], later: usize) -> Told {
-    let Some((mut bridge, mut twin)) = two_seconds(alloc, ready) else {
-        return Told::NotReady;
-    };
-    let (Some(batches), Some(table)) = (full_batches(alloc, ready), ready.tables.get(1)) else {
-        return Told::NotReady;
-    };
+fn received_of(alloc: Global, ready: &Ready, drops: &[Fell], later: usize) -> Option<Told> {
+    let (mut bridge, mut twin) = two_seconds(alloc, ready)?;
+    let batches = full_batches(alloc, ready)?;
     let handed = Handed {
-        table,
+        table: ready.tables.get(1)?,
         batches: batches.as_slice(),
         offers: ready.offers.as_slice(),
         drops,
@@ -399,14 +388,12 @@ pub(crate) fn received_with(
     offering: &[Offering],
     drops: &[Fell],
     later: usize,
-) -> Told {
-    match make_ready(alloc, streams, offering) {
-        Some(ready) => received_of(alloc, &ready, drops, later),
-        None => Told::NotReady,
-    }
+) -> Option<Told> {
+    let ready = make_ready(alloc, streams, offering)?;
+    received_of(alloc, &ready, drops, later)
 }
 
-pub(crate) fn receive_told(alloc: Global) -> Told {
+pub(crate) fn receive_told(alloc: Global) -> Option<Told> {
     let offering = [(0, 0, "x", 64), (125_000, 1, "x", 64)];
     let drops = [(1, 1, 2, 64, Reason::OtherBridge)];
     received_with(alloc, &[X], &offering, &drops, 1)

@@ -1,8 +1,8 @@
 //! Copies, and what comes of them where they are worked with. What was copied stays as it was.
-use crate::admissions::{Standing, granted, line_with, stands};
+use crate::admissions::{Standing, stands};
 use crate::domains::{is_line, is_request};
+use crate::{PATH, Told, X, domain_of, granted, line_with, tables_of, trial};
 use cqf_admission::{Admission, Refused, Table};
-use cqf_refusing::{Told, X, domain_of, mark, once, tables_of, twice};
 use cqf_test_fixtures::{Asked, line, request};
 use cqf_topology::{Domain, Request};
 use cqf_units::{Cycle, Memory};
@@ -26,21 +26,18 @@ fn is_domain(alloc: Global, copy: &Result<Domain, Memory>) -> bool {
 
 /// A domain is copied.
 fn domain_copied(alloc: Global, domain: &Domain) -> Told {
-    mark(alloc);
-    let first = domain.try_copy(alloc);
-    mark(alloc);
-    if first.is_ok() {
-        return once(is_domain(alloc, &first) && is_line(domain));
-    }
-    let stands = is_line(domain);
-    twice(stands, is_domain(alloc, &domain.try_copy(alloc)))
+    trial!(
+        alloc,
+        domain.try_copy(alloc),
+        Err(_),
+        is_line(domain),
+        |answer| is_domain(alloc, &answer) && is_line(domain)
+    )
 }
 
-pub(crate) fn domain_told(alloc: Global) -> Told {
-    match domain_of(alloc, line()) {
-        Some(domain) => domain_copied(alloc, &domain),
-        None => Told::NotReady,
-    }
+pub(crate) fn domain_told(alloc: Global) -> Option<Told> {
+    let domain = domain_of(alloc, line())?;
+    Some(domain_copied(alloc, &domain))
 }
 
 /// Whether a copy of a request was made, which is granted, and is the other's no more once it is changed.
@@ -66,21 +63,18 @@ fn is_granted(alloc: Global, wanted: &Request) -> bool {
 
 /// A request is copied.
 fn request_copied(alloc: Global, wanted: &Request) -> Told {
-    mark(alloc);
-    let first = wanted.try_copy(alloc);
-    mark(alloc);
-    if first.is_ok() {
-        return once(is_copied(alloc, first, wanted));
-    }
-    let stands = is_request(wanted, &X);
-    twice(stands, is_copied(alloc, wanted.try_copy(alloc), wanted))
+    trial!(
+        alloc,
+        wanted.try_copy(alloc),
+        Err(_),
+        is_request(wanted, &X),
+        |answer| is_copied(alloc, answer, wanted)
+    )
 }
 
-pub(crate) fn request_told(alloc: Global) -> Told {
-    match request(alloc, &X) {
-        Ok(wanted) => request_copied(alloc, &wanted),
-        Err(_) => Told::NotReady,
-    }
+pub(crate) fn request_told(alloc: Global) -> Option<Told> {
+    let wanted = request(alloc, &X).ok()?;
+    Some(request_copied(alloc, &wanted))
 }
 
 /// Whether a table is that of a cycle in which `x` is held alone.
@@ -102,33 +96,26 @@ fn is_table_copied(copy: &Result<Table, Memory>) -> bool {
 
 /// A table is copied.
 fn table_copied(alloc: Global, table: &Table) -> Told {
-    mark(alloc);
-    let first = table.try_copy(alloc);
-    mark(alloc);
-    if first.is_ok() {
-        return once(is_table_copied(&first) && is_table(table, 0));
-    }
-    let stands = is_table(table, 0);
-    twice(stands, is_table_copied(&table.try_copy(alloc)))
+    trial!(
+        alloc,
+        table.try_copy(alloc),
+        Err(_),
+        is_table(table, 0),
+        |answer| is_table_copied(&answer) && is_table(table, 0)
+    )
 }
 
-pub(crate) fn table_told(alloc: Global) -> Told {
-    let Some(mut admission) = line_with(alloc, &[X]) else {
-        return Told::NotReady;
-    };
-    let Some(tables) = tables_of(alloc, &mut admission, 1) else {
-        return Told::NotReady;
-    };
-    match tables.first() {
-        Some(table) => table_copied(alloc, table),
-        None => Told::NotReady,
-    }
+pub(crate) fn table_told(alloc: Global) -> Option<Told> {
+    let mut admission = line_with(alloc, &[X])?;
+    let tables = tables_of(alloc, &mut admission, 1)?;
+    let table = tables.first()?;
+    Some(table_copied(alloc, table))
 }
 
 /// A stream that takes all of each link, and another one like it.
-const OLD: Asked = ("old", 11_440, &[&["a", "b", "c", "s"]]);
+const OLD: Asked = ("old", 11_440, PATH);
 
-const NEW: Asked = ("new", 11_440, &[&["a", "b", "c", "s"]]);
+const NEW: Asked = ("new", 11_440, PATH);
 
 /// It is withdrawn in cycle 5, and two cycles later still held.
 const HELD_ON: Standing = Standing {
@@ -173,15 +160,13 @@ fn is_admission(
 
 /// An admission is copied.
 fn admission_copied(alloc: Global, admission: &Admission, wanted: &Request) -> Told {
-    mark(alloc);
-    let first = admission.try_copy(alloc);
-    mark(alloc);
-    if first.is_ok() {
-        return once(is_admission(alloc, first, admission, wanted));
-    }
-    let stood = stands(alloc, admission, &HELD_ON);
-    let again = admission.try_copy(alloc);
-    twice(stood, is_admission(alloc, again, admission, wanted))
+    trial!(
+        alloc,
+        admission.try_copy(alloc),
+        Err(_),
+        stands(alloc, admission, &HELD_ON),
+        |answer| is_admission(alloc, answer, admission, wanted)
+    )
 }
 
 /// An admission that still holds the stream that was withdrawn.
@@ -195,12 +180,8 @@ fn held_on(alloc: Global) -> Option<Admission> {
     Some(admission)
 }
 
-pub(crate) fn admission_told(alloc: Global) -> Told {
-    let Ok(wanted) = request(alloc, &NEW) else {
-        return Told::NotReady;
-    };
-    match held_on(alloc) {
-        Some(admission) => admission_copied(alloc, &admission, &wanted),
-        None => Told::NotReady,
-    }
+pub(crate) fn admission_told(alloc: Global) -> Option<Told> {
+    let wanted = request(alloc, &NEW).ok()?;
+    let admission = held_on(alloc)?;
+    Some(admission_copied(alloc, &admission, &wanted))
 }

@@ -1,5 +1,5 @@
 //! Domains and streams that are read.
-use cqf_refusing::{Told, X, mark, once, twice};
+use crate::{Told, X, trial};
 use cqf_test_fixtures::{Asked, line};
 use cqf_topology::{Domain, DomainFault, Link, Node, Request, StreamsFault, read_streams};
 use cqf_units::Rate;
@@ -50,15 +50,15 @@ fn is_read(read: &Result<Domain, DomainFault>) -> bool {
     }
 }
 
-pub(crate) fn read_told(alloc: Global) -> Told {
+pub(crate) fn read_told(alloc: Global) -> Option<Told> {
     let text = line().as_bytes();
-    mark(alloc);
-    let first = Domain::read(alloc, text);
-    mark(alloc);
-    match first {
-        Err(DomainFault::Memory) => twice(true, is_read(&Domain::read(alloc, text))),
-        other => once(is_read(&other)),
-    }
+    Some(trial!(
+        alloc,
+        Domain::read(alloc, text),
+        Err(DomainFault::Memory),
+        true,
+        |answer| is_read(&answer)
+    ))
 }
 
 /// The line with its first link once more at the end.
@@ -72,15 +72,15 @@ fn is_told(read: &Result<Domain, DomainFault>) -> bool {
     matches!(read, Err(DomainFault::LinkTwice(2)))
 }
 
-pub(crate) fn twice_told(alloc: Global) -> Told {
+pub(crate) fn twice_told(alloc: Global) -> Option<Told> {
     let text = TWICE.as_bytes();
-    mark(alloc);
-    let first = Domain::read(alloc, text);
-    mark(alloc);
-    match first {
-        Err(DomainFault::Memory) => twice(true, is_told(&Domain::read(alloc, text))),
-        other => once(is_told(&other)),
-    }
+    Some(trial!(
+        alloc,
+        Domain::read(alloc, text),
+        Err(DomainFault::Memory),
+        true,
+        |answer| is_told(&answer)
+    ))
 }
 
 /// Whether a branch has these nodes.
@@ -118,25 +118,25 @@ fn is_stream(read: &Result<Vec<Request>, StreamsFault>, asked: &Asked) -> bool {
 
 /// The text of a stream is read.
 fn streams_read(alloc: Global, text: &[u8], asked: &Asked) -> Told {
-    mark(alloc);
-    let first = read_streams(alloc, text);
-    mark(alloc);
-    match first {
-        Err(StreamsFault::Memory) => twice(true, is_stream(&read_streams(alloc, text), asked)),
-        other => once(is_stream(&other, asked)),
-    }
+    trial!(
+        alloc,
+        read_streams(alloc, text),
+        Err(StreamsFault::Memory),
+        true,
+        |answer| is_stream(&answer, asked)
+    )
 }
 
-pub(crate) fn streams_told(alloc: Global) -> Told {
+pub(crate) fn streams_told(alloc: Global) -> Option<Told> {
     let text = "[[streams]]\nname = \"x\"\noctets = 1500\npath = [\"a\", \"b\", \"c\", \"s\"]\n";
-    streams_read(alloc, text.as_bytes(), &X)
+    Some(streams_read(alloc, text.as_bytes(), &X))
 }
 
 /// A stream with two branches.
 const FORKED: Asked = ("x", 1500, &[&["a", "b", "c", "s"], &["a", "b", "t"]]);
 
-pub(crate) fn branches_told(alloc: Global) -> Told {
+pub(crate) fn branches_told(alloc: Global) -> Option<Told> {
     let text =
         "[[streams]]\nname = \"x\"\noctets = 1500\npaths = [[\"a\", \"b\", \"c\", \"s\"], [\"a\", \"b\", \"t\"]]\n";
-    streams_read(alloc, text.as_bytes(), &FORKED)
+    Some(streams_read(alloc, text.as_bytes(), &FORKED))
 }

@@ -1,18 +1,15 @@
 //! Cases that are large enough to ask for what a small one doesn't.
-use crate::admissions::line_with;
 use crate::bridges::received_with;
+use crate::{PATH, Told, X, line_with, tables_of, trial};
 use cqf_admission::{Admission, SealFault, Table};
-use cqf_bridge_gates::StreamGates;
+use cqf_bridge::StreamGates;
 use cqf_gates::Passed;
 use cqf_model::Reason;
-use cqf_refusing::{Told, X, mark, once, tables_of, twice, writes};
 use cqf_report::write_history;
 use cqf_test_fixtures::{Asked, Fell, Offering};
 use cqf_topology::Domain;
 use cqf_units::{Cycle, Nanos, Octets};
 use std::alloc::Global;
-
-const PATH: &[&[&str]] = &[&["a", "b", "c", "s"]];
 
 /// More streams along the line than a Seal numbers anew without a list of them.
 const STREAMS: &[Asked] = &[
@@ -87,135 +84,60 @@ fn stands(alloc: Global, admission: &Admission, history: &[u8]) -> bool {
 
 /// A cycle is closed.
 fn sealed(alloc: Global, admission: &mut Admission, history: &[u8]) -> Told {
-    mark(alloc);
-    let first = admission.seal(1);
-    mark(alloc);
-    match first {
-        Err(SealFault::Memory) => {
-            let stood = stands(alloc, admission, history);
-            twice(stood, is_sealed(&admission.seal(1)))
-        }
-        given => once(is_sealed(&given)),
-    }
+    trial!(
+        alloc,
+        admission.seal(1),
+        Err(SealFault::Memory),
+        stands(alloc, admission, history),
+        |answer| is_sealed(&answer)
+    )
 }
 
-pub(crate) fn seal_told(alloc: Global) -> Told {
-    let Some(mut admission) = line_with(alloc, STREAMS) else {
-        return Told::NotReady;
-    };
-    match write_history(alloc, admission.history()) {
-        Ok(text) => sealed(alloc, &mut admission, text.as_slice()),
-        Err(_) => Told::NotReady,
-    }
+pub(crate) fn seal_told(alloc: Global) -> Option<Told> {
+    let mut admission = line_with(alloc, STREAMS)?;
+    let text = write_history(alloc, admission.history()).ok()?;
+    Some(sealed(alloc, &mut admission, text.as_slice()))
 }
 
-/// A frame at the first bridge, and 21 at the second one that come before the first one's: they aren't gathered in order.
-const OUT_OF_ORDER: &[Offering] = &[
-    (0, 0, "x", 64),
-    (125_000, 1, "x", 64),
-    (125_000, 1, "x", 64),
-    (125_000, 1, "x", 64),
-    (125_000, 1, "x", 64),
-    (125_000, 1, "x", 64),
-    (125_000, 1, "x", 64),
-    (125_000, 1, "x", 64),
-    (125_000, 1, "x", 64),
-    (125_000, 1, "x", 64),
-    (125_000, 1, "x", 64),
-    (125_000, 1, "x", 64),
-    (125_000, 1, "x", 64),
-    (125_000, 1, "x", 64),
-    (125_000, 1, "x", 64),
-    (125_000, 1, "x", 64),
-    (125_000, 1, "x", 64),
-    (125_000, 1, "x", 64),
-    (125_000, 1, "x", 64),
-    (125_000, 1, "x", 64),
-    (125_000, 1, "x", 64),
-    (125_000, 1, "x", 64),
-];
-
-/// Each of these is dropped.
-const DROPPED: &[Fell] = &[
-    (1, 1, 2, 64, Reason::OtherBridge),
-    (1, 1, 3, 64, Reason::OtherBridge),
-    (1, 1, 4, 64, Reason::OtherBridge),
-    (1, 1, 5, 64, Reason::OtherBridge),
-    (1, 1, 6, 64, Reason::OtherBridge),
-    (1, 1, 7, 64, Reason::OtherBridge),
-    (1, 1, 8, 64, Reason::OtherBridge),
-    (1, 1, 9, 64, Reason::OtherBridge),
-    (1, 1, 10, 64, Reason::OtherBridge),
-    (1, 1, 11, 64, Reason::OtherBridge),
-    (1, 1, 12, 64, Reason::OtherBridge),
-    (1, 1, 13, 64, Reason::OtherBridge),
-    (1, 1, 14, 64, Reason::OtherBridge),
-    (1, 1, 15, 64, Reason::OtherBridge),
-    (1, 1, 16, 64, Reason::OtherBridge),
-    (1, 1, 17, 64, Reason::OtherBridge),
-    (1, 1, 18, 64, Reason::OtherBridge),
-    (1, 1, 19, 64, Reason::OtherBridge),
-    (1, 1, 20, 64, Reason::OtherBridge),
-    (1, 1, 21, 64, Reason::OtherBridge),
-    (1, 1, 22, 64, Reason::OtherBridge),
-];
-
-pub(crate) fn receive_told(alloc: Global) -> Told {
-    received_with(alloc, &[X], OUT_OF_ORDER, DROPPED, 1)
+/// A frame at the first bridge, and 21 at the second one that come before the first one's, and each of which is dropped: they aren't gathered
+/// in order.
+pub(crate) fn receive_told(alloc: Global) -> Option<Told> {
+    let mut offering: [Offering; 22] = [(125_000, 1, "x", 64); 22];
+    offering[0] = (0, 0, "x", 64);
+    let mut drops: [Fell; 21] = [(1, 1, 2, 64, Reason::OtherBridge); 21];
+    let mut frame = 2u32;
+    for fell in &mut drops {
+        fell.2 = frame;
+        frame = frame.saturating_add(1);
+    }
+    received_with(alloc, &[X], &offering, &drops, 1)
 }
 
 /// A frame of each of 17 streams at the first bridge: of so many gates a bridge keeps their numbers too.
-const OF_EACH: &[Offering] = &[
-    (0, 0, "n0", 64),
-    (0, 0, "n1", 64),
-    (0, 0, "n2", 64),
-    (0, 0, "n3", 64),
-    (0, 0, "n4", 64),
-    (0, 0, "n5", 64),
-    (0, 0, "n6", 64),
-    (0, 0, "n7", 64),
-    (0, 0, "n8", 64),
-    (0, 0, "n9", 64),
-    (0, 0, "n10", 64),
-    (0, 0, "n11", 64),
-    (0, 0, "n12", 64),
-    (0, 0, "n13", 64),
-    (0, 0, "n14", 64),
-    (0, 0, "n15", 64),
-    (0, 0, "n16", 64),
-];
-
-pub(crate) fn receive_each_told(alloc: Global) -> Told {
-    received_with(alloc, STREAMS, OF_EACH, &[], 17)
+pub(crate) fn receive_each_told(alloc: Global) -> Option<Told> {
+    let mut offering: [Offering; 17] = [(0, 0, "", 64); 17];
+    for (offered, asked) in offering.iter_mut().zip(STREAMS) {
+        offered.2 = asked.0;
+    }
+    received_with(alloc, STREAMS, &offering, &[], 17)
 }
 
 /// The first frame of a stream passes at a new gate, and its reservation is taken.
-fn passed(alloc: Global, domain: &Domain, table: &Table) -> Told {
-    let Some(row) = table.row_of(0) else {
-        return Told::NotReady;
-    };
+fn passed(alloc: Global, domain: &Domain, table: &Table) -> Option<Told> {
+    let row = table.row_of(0)?;
     let mut gates = StreamGates::new(alloc);
-    mark(alloc);
-    let first = gates.pass(domain, row, None, Nanos(0), Octets(1500));
-    mark(alloc);
-    match first {
-        Ok(passed) => once(passed == Passed::Class(6)),
-        Err(_) => {
-            let again = gates.pass(domain, row, None, Nanos(0), Octets(1500));
-            twice(true, again == Ok(Passed::Class(6)))
-        }
-    }
+    Some(trial!(
+        alloc,
+        gates.pass(domain, row, None, Nanos(0), Octets(1500)),
+        Err(_),
+        true,
+        |answer| answer == Ok(Passed::Class(6))
+    ))
 }
 
-pub(crate) fn pass_told(alloc: Global) -> Told {
-    let Some(mut admission) = line_with(alloc, &[X]) else {
-        return Told::NotReady;
-    };
-    let Some(tables) = tables_of(alloc, &mut admission, 1) else {
-        return Told::NotReady;
-    };
-    match tables.first() {
-        Some(table) => passed(alloc, admission.domain(), table),
-        None => Told::NotReady,
-    }
+pub(crate) fn pass_told(alloc: Global) -> Option<Told> {
+    let mut admission = line_with(alloc, &[X])?;
+    let tables = tables_of(alloc, &mut admission, 1)?;
+    let table = tables.first()?;
+    passed(alloc, admission.domain(), table)
 }

@@ -1,12 +1,13 @@
 //! Calls that ask for no memory.
-use crate::admissions::line_with;
 use crate::domains::is_line;
 use crate::gates::LIST;
+use crate::{
+    MOST_ENTRIES, Told, X, domain_of, fills, line_with, looked_at, mark, once, plan_of, tables_of,
+};
 use cqf_admission::{Admission, Refused, Reply, Table};
 use cqf_compile::{Plan, gate_of};
 use cqf_gates::{OpenFor, Passed, StreamEntry, StreamGate, StreamList, TxList, read_tx};
 use cqf_port::{Arrival, Port};
-use cqf_refusing::{Told, X, domain_of, mark, once, plan_of, tables_of};
 use cqf_test_fixtures::{admission_of, line, one_link, request};
 use cqf_topology::{Domain, Node, Request};
 use cqf_units::{Cycle, Name, Nanos, Octets, Rate};
@@ -49,11 +50,8 @@ fn is_read() -> bool {
     }
 }
 
-pub(crate) fn gates_told(alloc: Global) -> Told {
-    mark(alloc);
-    let is_so = is_read() && is_stream_list();
-    mark(alloc);
-    once(is_so)
+pub(crate) fn gates_told(alloc: Global) -> Option<Told> {
+    Some(looked_at!(alloc, is_read() && is_stream_list()))
 }
 
 /// Whether a port that was made answers as it is to.
@@ -61,15 +59,9 @@ fn is_port(port: &Port) -> bool {
     port.now() == Nanos(0) && port.waiting(6) == 0 && port.next_start() == None
 }
 
-pub(crate) fn port_told(alloc: Global) -> Told {
-    let Ok(list) = TxList::new(LIST) else {
-        return Told::NotReady;
-    };
-    mark(alloc);
-    let port = Port::new(alloc, list, Rate::Mb1000);
-    let is_so = is_port(&port);
-    mark(alloc);
-    once(is_so)
+pub(crate) fn port_told(alloc: Global) -> Option<Told> {
+    let list = TxList::new(LIST).ok()?;
+    Some(looked_at!(alloc, is_port(&Port::new(alloc, list, Rate::Mb1000))))
 }
 
 /// A port that has run to 500 ns, with a frame that starts at once.
@@ -94,28 +86,23 @@ fn port_at_500(alloc: Global) -> Option<Port> {
 /// Going on to an instant that isn't behind its own changes nothing.
 fn stays(alloc: Global, port: &mut Port) -> Told {
     let mut starts = Vec::new(alloc);
-    mark(alloc);
-    let is_ok = port.advance(Nanos(500), &mut starts).is_ok();
-    let is_so = starts.is_empty() && port.now() == Nanos(500) && port.waiting(7) == 1;
-    mark(alloc);
-    once(is_ok && is_so)
+    looked_at!(
+        alloc,
+        port.advance(Nanos(500), &mut starts).is_ok()
+            && starts.is_empty()
+            && port.now() == Nanos(500)
+            && port.waiting(7) == 1
+    )
 }
 
-pub(crate) fn stay_told(alloc: Global) -> Told {
-    match port_at_500(alloc) {
-        Some(mut port) => stays(alloc, &mut port),
-        None => Told::NotReady,
-    }
+pub(crate) fn stay_told(alloc: Global) -> Option<Told> {
+    let mut port = port_at_500(alloc)?;
+    Some(stays(alloc, &mut port))
 }
 
-pub(crate) fn domain_told(alloc: Global) -> Told {
-    let Some(domain) = domain_of(alloc, line()) else {
-        return Told::NotReady;
-    };
-    mark(alloc);
-    let is_so = is_line(&domain) && has_names(&domain);
-    mark(alloc);
-    once(is_so)
+pub(crate) fn domain_told(alloc: Global) -> Option<Told> {
+    let domain = domain_of(alloc, line())?;
+    Some(looked_at!(alloc, is_line(&domain) && has_names(&domain)))
 }
 
 /// Whether a domain has the names of the line, and its links by their ends.
@@ -140,27 +127,16 @@ fn is_table(table: &Table, name: &Name) -> bool {
 }
 
 /// A table is looked at.
-fn table_seen(alloc: Global, table: &Table) -> Told {
-    let Some(name) = Name::new(b"x") else {
-        return Told::NotReady;
-    };
-    mark(alloc);
-    let is_so = is_table(table, &name);
-    mark(alloc);
-    once(is_so)
+fn table_seen(alloc: Global, table: &Table) -> Option<Told> {
+    let name = Name::new(b"x")?;
+    Some(looked_at!(alloc, is_table(table, &name)))
 }
 
-pub(crate) fn table_told(alloc: Global) -> Told {
-    let Some(mut admission) = line_with(alloc, &[X]) else {
-        return Told::NotReady;
-    };
-    let Some(tables) = tables_of(alloc, &mut admission, 1) else {
-        return Told::NotReady;
-    };
-    match tables.first() {
-        Some(table) => table_seen(alloc, table),
-        None => Told::NotReady,
-    }
+pub(crate) fn table_told(alloc: Global) -> Option<Told> {
+    let mut admission = line_with(alloc, &[X])?;
+    let tables = tables_of(alloc, &mut admission, 1)?;
+    let table = tables.first()?;
+    table_seen(alloc, table)
 }
 
 /// Whether a plan has its domain and its one list, and a row its gate.
@@ -174,27 +150,16 @@ fn is_plan(plan: &Plan, table: &Table) -> bool {
 }
 
 /// It is looked at.
-fn plan_seen(alloc: Global, plan: &Plan) -> Told {
-    let Some(mut admission) = admission_of(alloc, plan.domain(), &[X]) else {
-        return Told::NotReady;
-    };
-    let Some(tables) = tables_of(alloc, &mut admission, 1) else {
-        return Told::NotReady;
-    };
-    mark(alloc);
-    let is_so = match tables.first() {
-        Some(table) => is_plan(plan, table),
-        None => false,
-    };
-    mark(alloc);
-    once(is_so)
+fn plan_seen(alloc: Global, plan: &Plan) -> Option<Told> {
+    let mut admission = admission_of(alloc, plan.domain(), &[X])?;
+    let tables = tables_of(alloc, &mut admission, 1)?;
+    let table = tables.first()?;
+    Some(looked_at!(alloc, is_plan(plan, table)))
 }
 
-pub(crate) fn plan_told(alloc: Global) -> Told {
-    match plan_of(alloc, line()) {
-        Some(plan) => plan_seen(alloc, &plan),
-        None => Told::NotReady,
-    }
+pub(crate) fn plan_told(alloc: Global) -> Option<Told> {
+    let plan = plan_of(alloc, line())?;
+    plan_seen(alloc, &plan)
 }
 
 /// Whether an admission answers as it is to.
@@ -205,73 +170,49 @@ fn is_admission(admission: &Admission) -> bool {
         && admission.held_on(1).0 == 1960
 }
 
-pub(crate) fn admission_told(alloc: Global) -> Told {
-    let Some(admission) = line_with(alloc, &[X]) else {
-        return Told::NotReady;
-    };
-    mark(alloc);
-    let is_so = is_admission(&admission);
-    mark(alloc);
-    once(is_so)
-}
-
-/// How many entries of a history may be other than Seals.
-const MOST: usize = 100_000;
-
-/// Whether a stream that nobody asked for is withdrawn in vain so often.
-fn fills(admission: &mut Admission) -> bool {
-    for _call in 0..MOST {
-        if admission.withdraw(0, "q") != Err(Refused::NotHeld) {
-            return false;
-        }
-    }
-    true
+pub(crate) fn admission_told(alloc: Global) -> Option<Told> {
+    let admission = line_with(alloc, &[X])?;
+    Some(looked_at!(alloc, is_admission(&admission)))
 }
 
 /// Whether the history is full of that.
 fn is_full(admission: &Admission) -> bool {
     let history = admission.history();
-    history.len() == MOST
+    history.len() == MOST_ENTRIES as usize
         && history.iter().all(|entry| entry.seat == 0
             && entry.reply == Reply::Refused(Refused::NotHeld))
 }
 
 /// A call more than a history holds.
-fn refused(alloc: Global, admission: &mut Admission, wanted: &Request) -> Told {
+fn refused(alloc: Global, admission: &mut Admission, wanted: &Request) -> Option<Told> {
     if !fills(admission) {
-        return Told::NotReady;
+        return None;
     }
     mark(alloc);
     let admitted = admission.admit(0, wanted);
     let withdrawn = admission.withdraw(0, "q");
     mark(alloc);
     let full = Err(Refused::HistoryFull);
-    once(admitted == full && withdrawn == full && is_full(admission))
+    Some(once(admitted == full && withdrawn == full && is_full(admission)))
 }
 
 /// It is made over the domain of a text.
-fn refused_over(alloc: Global, text: &str) -> Told {
-    let Ok(wanted) = request(alloc, &X) else {
-        return Told::NotReady;
-    };
-    match domain_of(alloc, text) {
-        Some(domain) => refused_by(alloc, &domain, &wanted),
-        None => Told::NotReady,
-    }
+fn refused_over(alloc: Global, text: &str) -> Option<Told> {
+    let wanted = request(alloc, &X).ok()?;
+    let domain = domain_of(alloc, text)?;
+    refused_by(alloc, &domain, &wanted)
 }
 
 /// It is, of an admission of that domain.
-fn refused_by(alloc: Global, domain: &Domain, wanted: &Request) -> Told {
-    match admission_of(alloc, domain, &[]) {
-        Some(mut admission) => refused(alloc, &mut admission, wanted),
-        None => Told::NotReady,
-    }
+fn refused_by(alloc: Global, domain: &Domain, wanted: &Request) -> Option<Told> {
+    let mut admission = admission_of(alloc, domain, &[])?;
+    refused(alloc, &mut admission, wanted)
 }
 
-pub(crate) fn full_told(alloc: Global) -> Told {
+pub(crate) fn full_told(alloc: Global) -> Option<Told> {
     refused_over(alloc, one_link())
 }
 
-pub(crate) fn full_line_told(alloc: Global) -> Told {
+pub(crate) fn full_line_told(alloc: Global) -> Option<Told> {
     refused_over(alloc, line())
 }

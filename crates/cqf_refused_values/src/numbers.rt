@@ -1,9 +1,9 @@
 //! Quantities and lanes, of which no call asks for memory.
+use crate::{Told, looked_at};
 use cqf_lanes::{
     eligible, eligible_plain, highest, highest_plain, octet_sum, octet_sum_plain, open_run,
     open_run_plain,
 };
-use cqf_refusing::{Told, mark, once};
 use cqf_units::{
     Cycle, Name, Nanos, Octets, Rate, budget, cost, cycle_of, end_of, idle_from, octet_time, wire,
 };
@@ -33,11 +33,8 @@ fn are_timed() -> bool {
         && idle_from(Nanos(0), frame, Rate::Mb1000) == Nanos(672)
 }
 
-pub(crate) fn units_told(alloc: Global) -> Told {
-    mark(alloc);
-    let is_so = is_name() && are_reserved() && are_timed();
-    mark(alloc);
-    once(is_so)
+pub(crate) fn units_told(alloc: Global) -> Option<Told> {
+    Some(looked_at!(alloc, is_name() && are_reserved() && are_timed()))
 }
 
 /// Whether sums and runs of twenty are as they are to be.
@@ -58,9 +55,6 @@ fn are_chosen() -> bool {
         && highest_plain(0x41) == Some(6)
 }
 
-pub(crate) fn lanes_told(alloc: Global) -> Told {
-    mark(alloc);
-    let is_so = are_summed() && are_chosen();
-    mark(alloc);
-    once(is_so)
+pub(crate) fn lanes_told(alloc: Global) -> Option<Told> {
+    Some(looked_at!(alloc, are_summed() && are_chosen()))
 }

@@ -1,12 +1,12 @@
 //! Plans that are compiled, and configurations that are written.
-ghost use Rattle.std.specs.Prelude.{◌≡◌, IfSome};
+ghost use Rattle.std.specs.Prelude.{IfSome};
 ghost use Rattle.cqf_admission.specs.Tables.{AreAlongLinks};
-ghost use Rattle.cqf_admission_trees.specs.Turns.{AreOfGoodPaces};
+ghost use Rattle.cqf_admission.specs.Turns.{AreOfGoodPaces};
 
-use crate::gates::{LIST, is_text};
+use crate::gates::LIST;
+use crate::{Told, domain_of, is_text, plan_of, trial};
 use cqf_admission::{Admission, Table};
 use cqf_compile::{Plan, compile, write_config};
-use cqf_refusing::{Told, domain_of, mark, once, plan_of, twice};
 use cqf_test_fixtures::{Asked, admission_of, one_link};
 use cqf_topology::Domain;
 use cqf_units::Memory;
@@ -25,21 +25,18 @@ fn is_plan(made: &Result<Plan, Memory>) -> bool {
 
 /// The domain is compiled.
 fn compiled(alloc: Global, domain: &Domain) -> Told {
-    mark(alloc);
-    let first = compile(alloc, domain);
-    mark(alloc);
-    if first.is_ok() {
-        return once(is_plan(&first));
-    }
-    let stands = domain.links() == 1 && domain.bridges() == 1;
-    twice(stands, is_plan(&compile(alloc, domain)))
+    trial!(
+        alloc,
+        compile(alloc, domain),
+        Err(_),
+        domain.links() == 1 && domain.bridges() == 1,
+        |answer| is_plan(&answer)
+    )
 }
 
-pub(crate) fn compile_told(alloc: Global) -> Told {
-    match domain_of(alloc, one_link()) {
-        Some(domain) => compiled(alloc, &domain),
-        None => Told::NotReady,
-    }
+pub(crate) fn compile_told(alloc: Global) -> Option<Told> {
+    let domain = domain_of(alloc, one_link())?;
+    Some(compiled(alloc, &domain))
 }
 
 /// The stream `x` on one link.
@@ -72,30 +69,27 @@ fn written(alloc: Global, plan: &Plan, table: &Table) -> Told
     requires along { AreAlongLinks plan.now table.now.rows }
     requires paced { AreOfGoodPaces table.now.rows }
 {
-    mark(alloc);
-    let first = write_config(alloc, plan, table);
-    mark(alloc);
-    if first.is_ok() {
-        return once(is_text(first, CONFIG));
-    }
-    let stands = table.rows().len() == 1 && plan.domain().links() == 1;
-    twice(stands, is_text(write_config(alloc, plan, table), CONFIG))
+    trial!(
+        alloc,
+        write_config(alloc, plan, table),
+        Err(_),
+        table.rows().len() == 1 && plan.domain().links() == 1,
+        |answer| is_text(answer, CONFIG)
+    )
 }
 
 /// It is, of a plan.
-fn config_of(alloc: Global, plan: &Plan) -> Told {
+fn config_of(alloc: Global, plan: &Plan) -> Option<Told> {
     match first_table(alloc, plan) {
         Some(table) => {
             let _rows = table.rows();
-            written(alloc, plan, &table)
+            Some(written(alloc, plan, &table))
         }
-        None => Told::NotReady,
+        None => None,
     }
 }
 
-pub(crate) fn config_told(alloc: Global) -> Told {
-    match plan_of(alloc, one_link()) {
-        Some(plan) => config_of(alloc, &plan),
-        None => Told::NotReady,
-    }
+pub(crate) fn config_told(alloc: Global) -> Option<Told> {
+    let plan = plan_of(alloc, one_link())?;
+    config_of(alloc, &plan)
 }

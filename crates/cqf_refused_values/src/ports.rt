@@ -1,9 +1,9 @@
 //! A port with two entries, of which the first opens class 7 and the second class 6, for 1,000 ns each.
 ghost use Rattle.std.specs.Prelude.{◌<◌};
 
+use crate::{Told, trial};
 use cqf_gates::TxList;
 use cqf_port::{Arrival, Port, PortFault, Start};
-use cqf_refusing::{Told, mark, once, twice};
 use cqf_units::{Nanos, Rate};
 use std::alloc::Global;
 
@@ -60,40 +60,27 @@ fn has_waiting(port: &Port, frames: usize) -> bool {
 fn offered(alloc: Global, port: &mut Port, before: usize) -> Told
     requires { before < 5 }
 {
-    mark(alloc);
-    let first = port.offer(FRAME);
-    mark(alloc);
-    if first != Err(PortFault::Memory) {
-        return once(first == Ok(()) && has_waiting(port, before + 1));
-    }
-    let stands = has_waiting(port, before);
-    twice(
-        stands,
-        port.offer(FRAME) == Ok(()) && has_waiting(port, before + 1),
+    trial!(
+        alloc,
+        port.offer(FRAME),
+        Err(PortFault::Memory),
+        has_waiting(port, before),
+        |answer| answer == Ok(()) && has_waiting(port, before + 1)
     )
 }
 
-pub(crate) fn offer_told(alloc: Global) -> Told {
-    match port_at_500(alloc) {
-        Some(mut port) => offered(alloc, &mut port, 0),
-        None => Told::NotReady,
-    }
+pub(crate) fn offer_told(alloc: Global) -> Option<Told> {
+    let mut port = port_at_500(alloc)?;
+    Some(offered(alloc, &mut port, 0))
 }
 
 /// The fifth frame wants room that four don't.
-pub(crate) fn offer_behind_told(alloc: Global) -> Told {
-    match port_with(alloc, 4) {
-        Some(mut port) => offered(alloc, &mut port, 4),
-        None => Told::NotReady,
-    }
+pub(crate) fn offer_behind_told(alloc: Global) -> Option<Told> {
+    let mut port = port_with(alloc, 4)?;
+    Some(offered(alloc, &mut port, 4))
 }
 
-/// Whether a port goes on to 1,500 ns with the one start.
-fn advances(port: &mut Port, starts: &mut Vec<Start>) -> bool {
-    port.advance(Nanos(1500), starts).is_ok() && has_started(port, starts.as_slice())
-}
-
-/// Whether it has.
+/// Whether a port has gone on to 1,500 ns with the one start.
 fn has_started(port: &Port, starts: &[Start]) -> bool {
     port.now() == Nanos(1500) && port.waiting(6) == 0 && starts == [START].as_slice()
 }
@@ -101,19 +88,16 @@ fn has_started(port: &Port, starts: &[Start]) -> bool {
 /// A port is advanced at which the frame waits.
 fn advanced(alloc: Global, port: &mut Port) -> Told {
     let mut starts = Vec::new(alloc);
-    mark(alloc);
-    let first = port.advance(Nanos(1500), &mut starts);
-    mark(alloc);
-    if first.is_ok() {
-        return once(has_started(port, starts.as_slice()));
-    }
-    let stands = has_waiting(port, 1) && starts.is_empty();
-    twice(stands, advances(port, &mut starts))
+    trial!(
+        alloc,
+        port.advance(Nanos(1500), &mut starts),
+        Err(_),
+        has_waiting(port, 1) && starts.is_empty(),
+        |answer| answer.is_ok() && has_started(port, starts.as_slice())
+    )
 }
 
-pub(crate) fn advance_told(alloc: Global) -> Told {
-    match port_with(alloc, 1) {
-        Some(mut port) => advanced(alloc, &mut port),
-        None => Told::NotReady,
-    }
+pub(crate) fn advance_told(alloc: Global) -> Option<Told> {
+    let mut port = port_with(alloc, 1)?;
+    Some(advanced(alloc, &mut port))
 }

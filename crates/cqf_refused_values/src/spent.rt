@@ -3,43 +3,39 @@ use crate::bridges::{
     FRAME, ONE, Ready, first_behind, full_batches, is_batch, make_ready, receive, second_behind,
 };
 use crate::domains::is_line;
+use crate::{PATH, Told, X, looked_at, mark, once};
 use cqf_admission::Table;
 use cqf_bridge::{Batch, Bridge, BridgeFault};
-use cqf_refusing::{Told, X, mark, once};
 use cqf_test_fixtures::{Asked, Offering};
 use cqf_units::Cycle;
 use std::alloc::Global;
 
 /// The first bridge and its batch of cycle 1 are looked at.
 fn batch_seen(alloc: Global, bridge: &Bridge, batch: &Batch) -> Told {
-    mark(alloc);
-    let is_so = is_batch(batch, Cycle(1), 0, &[FRAME]) && batch.octets() == 64;
-    let is_first = bridge.number() == 0 && is_line(bridge.domain());
-    let has_none = bridge.background_starts().is_empty();
-    mark(alloc);
-    once(is_so && is_first && has_none)
+    looked_at!(
+        alloc,
+        is_batch(batch, Cycle(1), 0, &[FRAME])
+            && batch.octets() == 64
+            && bridge.number() == 0
+            && is_line(bridge.domain())
+            && bridge.background_starts().is_empty()
+    )
 }
 
 /// They are, where it sends one batch.
-fn batch_sent(alloc: Global, bridge: &mut Bridge) -> Told {
+fn batch_sent(alloc: Global, bridge: &mut Bridge) -> Option<Told> {
     let mut batches = Vec::new(alloc);
-    if bridge.send(alloc, Cycle(1), &[], &mut batches).is_err() {
-        return Told::NotReady;
-    }
+    bridge.send(alloc, Cycle(1), &[], &mut batches).ok()?;
     match batches.as_slice() {
-        [batch] => batch_seen(alloc, bridge, batch),
-        _ => Told::NotReady,
+        [batch] => Some(batch_seen(alloc, bridge, batch)),
+        _ => None,
     }
 }
 
-pub(crate) fn batch_told(alloc: Global) -> Told {
-    let Some(ready) = make_ready(alloc, &[X], ONE) else {
-        return Told::NotReady;
-    };
-    match first_behind(alloc, &ready) {
-        Some(mut bridge) => batch_sent(alloc, &mut bridge),
-        None => Told::NotReady,
-    }
+pub(crate) fn batch_told(alloc: Global) -> Option<Told> {
+    let ready = make_ready(alloc, &[X], ONE)?;
+    let mut bridge = first_behind(alloc, &ready)?;
+    batch_sent(alloc, &mut bridge)
 }
 
 /// A bridge that is spent is asked to receive and to send.
@@ -54,35 +50,32 @@ fn asked(alloc: Global, bridge: &mut Bridge, table: &Table, batches: &[Batch]) -
 }
 
 /// The second bridge is spent by a frame that the first one lets pass, and asked then.
-fn asked_behind(alloc: Global, bridge: &mut Bridge, table: &Table, batches: &[Batch]) -> Told {
+fn asked_behind(
+    alloc: Global,
+    bridge: &mut Bridge,
+    table: &Table,
+    batches: &[Batch],
+) -> Option<Told> {
     match receive(alloc, bridge, table, batches, &[]) {
-        Err(BridgeFault::OverOctets(1)) => asked(alloc, bridge, table, batches),
-        _ => Told::NotReady,
+        Err(BridgeFault::OverOctets(1)) => Some(asked(alloc, bridge, table, batches)),
+        _ => None,
     }
 }
 
 /// It is, by what the first one of another domain sends.
-fn asked_of(alloc: Global, ready: &Ready, other: &Ready) -> Told {
-    let Some(mut bridge) = second_behind(alloc, ready) else {
-        return Told::NotReady;
-    };
-    let (Some(batches), Some(table)) = (full_batches(alloc, other), ready.tables.get(1)) else {
-        return Told::NotReady;
-    };
-    asked_behind(alloc, &mut bridge, table, batches.as_slice())
+fn asked_of(alloc: Global, ready: &Ready, other: &Ready) -> Option<Told> {
+    let mut bridge = second_behind(alloc, ready)?;
+    let batches = full_batches(alloc, other)?;
+    asked_behind(alloc, &mut bridge, ready.tables.get(1)?, batches.as_slice())
 }
 
 /// The stream `x` with fewer octets, and a frame that exceeds them.
-const LESS: Asked = ("x", 64, &[&["a", "b", "c", "s"]]);
+const LESS: Asked = ("x", 64, PATH);
 
 const LONGER: &[Offering] = &[(0, 0, "x", 600)];
 
-pub(crate) fn spent_told(alloc: Global) -> Told {
-    let Some(ready) = make_ready(alloc, &[LESS], &[]) else {
-        return Told::NotReady;
-    };
-    match make_ready(alloc, &[X], LONGER) {
-        Some(other) => asked_of(alloc, &ready, &other),
-        None => Told::NotReady,
-    }
+pub(crate) fn spent_told(alloc: Global) -> Option<Told> {
+    let ready = make_ready(alloc, &[LESS], &[])?;
+    let other = make_ready(alloc, &[X], LONGER)?;
+    asked_of(alloc, &ready, &other)
 }

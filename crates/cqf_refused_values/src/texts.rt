@@ -1,8 +1,7 @@
 //! Tables and scripts that are read.
-use cqf_admission::Call;
-use cqf_admission_script::{ScriptFault, read_script};
+use crate::{Told, X, domain_of, trial};
+use cqf_admission::{Call, ScriptFault, read_script};
 use cqf_model::{Arrival, Background, Offer};
-use cqf_refusing::{Told, X, domain_of, mark, once, twice};
 use cqf_report::{OfferFault, TableFault, read_arrivals, read_background, read_offers};
 use cqf_test_fixtures::{line, one_link, request};
 use cqf_topology::{Domain, Request};
@@ -23,15 +22,15 @@ fn is_arrival(read: &Result<Vec<Arrival>, TableFault>) -> bool {
     }
 }
 
-pub(crate) fn arrivals_told(alloc: Global) -> Told {
+pub(crate) fn arrivals_told(alloc: Global) -> Option<Told> {
     let text = b"at,class,octets,frame\n10,6,64,1\n".as_slice();
-    mark(alloc);
-    let first = read_arrivals(alloc, text);
-    mark(alloc);
-    match first {
-        Err(TableFault::Memory) => twice(true, is_arrival(&read_arrivals(alloc, text))),
-        other => once(is_arrival(&other)),
-    }
+    Some(trial!(
+        alloc,
+        read_arrivals(alloc, text),
+        Err(TableFault::Memory),
+        true,
+        |answer| is_arrival(&answer)
+    ))
 }
 
 /// Whether an offer has these values.
@@ -62,20 +61,18 @@ fn are_offers(read: &Result<Vec<Offer>, OfferFault>) -> bool {
 fn offers_read(alloc: Global, domain: &Domain) -> Told {
     let text =
         b"at,bridge,stream,octets\n0,a,x,64\n0,b,x,64\n125000,a,x,64\n500000,a,x,64\n".as_slice();
-    mark(alloc);
-    let first = read_offers(alloc, domain, text);
-    mark(alloc);
-    match first {
-        Err(OfferFault::Memory) => twice(true, are_offers(&read_offers(alloc, domain, text))),
-        other => once(are_offers(&other)),
-    }
+    trial!(
+        alloc,
+        read_offers(alloc, domain, text),
+        Err(OfferFault::Memory),
+        true,
+        |answer| are_offers(&answer)
+    )
 }
 
-pub(crate) fn offers_told(alloc: Global) -> Told {
-    match domain_of(alloc, line()) {
-        Some(domain) => offers_read(alloc, &domain),
-        None => Told::NotReady,
-    }
+pub(crate) fn offers_told(alloc: Global) -> Option<Told> {
+    let domain = domain_of(alloc, line())?;
+    Some(offers_read(alloc, &domain))
 }
 
 /// Whether the one background frame was read.
@@ -95,23 +92,18 @@ fn is_background(read: &Result<Vec<Background>, OfferFault>) -> bool {
 /// The background frame is read for a domain.
 fn background_read(alloc: Global, domain: &Domain) -> Told {
     let text = b"at,from,to,class,octets\n120000,a,s,0,1522\n".as_slice();
-    mark(alloc);
-    let first = read_background(alloc, domain, text);
-    mark(alloc);
-    match first {
-        Err(OfferFault::Memory) => twice(
-            true,
-            is_background(&read_background(alloc, domain, text)),
-        ),
-        other => once(is_background(&other)),
-    }
+    trial!(
+        alloc,
+        read_background(alloc, domain, text),
+        Err(OfferFault::Memory),
+        true,
+        |answer| is_background(&answer)
+    )
 }
 
-pub(crate) fn background_told(alloc: Global) -> Told {
-    match domain_of(alloc, one_link()) {
-        Some(domain) => background_read(alloc, &domain),
-        None => Told::NotReady,
-    }
+pub(crate) fn background_told(alloc: Global) -> Option<Told> {
+    let domain = domain_of(alloc, one_link())?;
+    Some(background_read(alloc, &domain))
 }
 
 /// Whether a call is to admit `x`.
@@ -146,18 +138,16 @@ fn are_calls(read: &Result<Vec<(u16, Call)>, ScriptFault>) -> bool {
 /// The script is read with these requests.
 fn script_read(alloc: Global, requests: &[Request]) -> Told {
     let text = b"0 admit x\nseal\n0 withdraw x\n".as_slice();
-    mark(alloc);
-    let first = read_script(alloc, text, requests, 6);
-    mark(alloc);
-    match first {
-        Err(ScriptFault::Memory) => twice(true, are_calls(&read_script(alloc, text, requests, 6))),
-        other => once(are_calls(&other)),
-    }
+    trial!(
+        alloc,
+        read_script(alloc, text, requests, 6),
+        Err(ScriptFault::Memory),
+        true,
+        |answer| are_calls(&answer)
+    )
 }
 
-pub(crate) fn script_told(alloc: Global) -> Told {
-    match request(alloc, &X) {
-        Ok(wanted) => script_read(alloc, &[wanted]),
-        Err(_) => Told::NotReady,
-    }
+pub(crate) fn script_told(alloc: Global) -> Option<Told> {
+    let wanted = request(alloc, &X).ok()?;
+    Some(script_read(alloc, &[wanted]))
 }

@@ -1,6 +1,6 @@
 -- The most octets that a link has in one cycle, batch by batch.
-use Rattle.std.proofs.Common.{◌≡◌, ℕ, zero, suc, ◌+◌, ◌-◌, ◌<◌, ◌≤◌, ◌==◌, ◌&&◌, ◌++◌, ◌∷◌, [], Bool, true, false, List, length, max, inl, inr, ◌⊎◌}
-use Rattle.std.proofs.Common.{Contains, sum_by, fold, get_or, replicate, if◌then◌else◌, refl, sym, ap, ◌∙◌, subst, arith, length-append, eq-eqb}
+use Rattle.std.proofs.Common.{◌≡◌, ℕ, zero, suc, ◌+◌, ◌-◌, ◌<◌, ◌==◌, ◌&&◌, ◌++◌, ◌∷◌, [], Bool, true, false, List, length, max, inl, inr}
+use Rattle.std.proofs.Common.{Contains, sum_by, get_or, replicate, if◌then◌else◌, refl, sym, ap, ◌∙◌, subst, arith, length-append, eq-eqb}
 use Rattle.std.specs.List.{IsChunkByPrefix}
 use Rattle.std.specs.Prelude.{slice_index, slice_set}
 use Rattle.std.proofs.lemmas.Bool.{and_parts, cases_eq, cases_lt, eqb-true, false≢true}
@@ -9,74 +9,17 @@ use Rattle.std.proofs.lemmas.List.{get_or-set_same, length-replicate, length-set
 use Rattle.std.proofs.lemmas.List.Sums.{sum_by-append, sum_by-cons}
 use Rattle.cqf_lists.proofs.Members.{contains_here, contains_later}
 use Rattle.cqf_lists.proofs.Pairs.{pairs_second}
-use Rattle.cqf_lists.proofs.Sums.{sum_none, sum_some}
+use Rattle.cqf_lists.proofs.Sums.{sum_none}
 use Rattle.cqf_model.specs.declared.frames.Started.{Started}
-use Rattle.cqf_report.specs.LinkSums.{AreSumsInOrder, IsBefore, IsMost, are_of_one_batch, most_on, octets_summed}
+use Rattle.cqf_laws_coverage.specs.InOneCycle.{IsMost, most_on, octets_summed}
+use Rattle.cqf_laws_coverage.proofs.InOneCycle.{most_is_most, most_is_one}
+use Rattle.cqf_report.specs.LinkSums.{AreSumsInOrder, IsBefore, are_of_one_batch}
 
-module _ {X : Type 0} (f : X → ℕ) where
-  -- the greatest of some numbers is no less than where it began
-  greatest_begins : (a : ℕ) (xs : List X) → a ≤ fold (λ most x. max most (f x)) a xs
-  greatest_begins a [] = omega arith
-  greatest_begins a (x ∷ xs) = omega (arith, greatest_begins (max a (f x)) xs)
-
-  -- nor than any of them
-  greatest_bounds : (a : ℕ) (xs : List X) (x : X) → Contains xs x → f x ≤ fold (λ most x. max most (f x)) a xs
-  greatest_bounds a [] x among = absurd (omega (arith, among.1))
-  greatest_bounds a (y ∷ ys) x (zero, inside, is) = omega (arith, greatest_begins (max a (f y)) ys, ap f is)
-  greatest_bounds a (y ∷ ys) x (suc k, inside, is) = greatest_bounds (max a (f y)) ys x (k, omega (arith, inside), is)
-
-  -- and it is where it began, or one of them
-  greatest_reached : (a : ℕ) (xs : List X) → (fold (λ most x. max most (f x)) a xs ≡ a) ⊎ ((x : X) × (f x ≡ fold (λ most x. max most (f x)) a xs))
-  greatest_reached a [] = inl refl
-  greatest_reached a (x ∷ xs) = elim (greatest_reached (max a (f x)) xs) [
-    | inr found ↦ inr found
-    | inl same ↦ elim (cases_lt a (f x)) [
-      | inl less ↦ inr (x, omega (arith, same, less))
-      | inr more ↦ inl (omega (arith, same, more))
-    ]
-  ]
-
--- a start that counts in a cycle is on the link and of the cycle
-counts_in : (on in_cycle : Bool) (octets : ℕ) → 0 < (if on && in_cycle then octets else 0) → (on ≡ true) × (in_cycle ≡ true)
-counts_in true true octets some = (refl, refl)
-counts_in true false octets some = absurd (omega (arith, some))
-counts_in false in_cycle octets some = absurd (omega (arith, some))
-
--- and one that is on another link, or of another cycle, doesn't
+-- a start that is on another link, or of another cycle, doesn't count in a cycle
 counts_not : (on in_cycle : Bool) (octets : ℕ) → (on ≡ true → in_cycle ≡ true → ⊥) → (if on && in_cycle then octets else 0) ≡ 0
 counts_not true true octets apart = absurd (apart refl refl)
 counts_not true false octets apart = refl
 counts_not false in_cycle octets apart = refl
-
--- the most that a link has in one cycle is so
-pub most_is_most : (link : ℕ) (starts : List Started) → IsMost link starts (most_on link starts)
-most_is_most link starts =
-    let in_cycle_of : Started → ℕ = λ start. octets_summed link start.cycle.0 starts in
-    record {
-      no_more = λ cycle. elim (sum_some (λ (start : Started). if (start.link == link) && (start.cycle.0 == cycle) then start.octets else 0) starts) [
-        | inl none ↦ omega (arith, none)
-        | inr some ↦
-            let counts = counts_in (some.0.link == link) (some.0.cycle.0 == cycle) some.0.octets some.2 in
-            let same : some.0.cycle.0 ≡ cycle = eqb-true some.0.cycle.0 cycle counts.1 in
-            subst (λ (c : ℕ). octets_summed link c starts ≤ most_on link starts) same (greatest_bounds in_cycle_of 0 starts some.0 some.1)
-      ];
-      reached = elim (greatest_reached in_cycle_of 0 starts) [
-        | inl none ↦ inl none
-        | inr found ↦ inr (found.0.cycle.0, found.1)
-      ];
-    }
-
--- of two numbers that are the most, neither is more
-most_within : (link : ℕ) (starts : List Started) (one two : ℕ) → IsMost link starts one → IsMost link starts two → one ≤ two
-most_within link starts one two first second = elim first.reached [
-  | inl none ↦ omega (arith, none)
-  | inr found ↦ omega (arith, found.1, second.no_more found.0)
-]
-
--- so there is one such number
-pub most_is_one : (link : ℕ) (starts : List Started) (one two : ℕ) → IsMost link starts one → IsMost link starts two → one ≡ two
-most_is_one link starts one two first second =
-    omega (arith, most_within link starts one two first second, most_within link starts two one second first)
 
 -- the octets of starts in two lists end to end
 octets_in-append : (link cycle : ℕ) (xs ys : List Started) → octets_summed link cycle (xs ++ ys) ≡ octets_summed link cycle xs + octets_summed link cycle ys
@@ -91,7 +34,7 @@ octets_in-none link cycle starts apart =
     (λ start among. counts_not (start.link == link) (start.cycle.0 == cycle) start.octets
     (λ on in_cycle. apart start among (eqb-true start.link link on) (eqb-true start.cycle.0 cycle in_cycle)))
 
--- one that is on the link in the cycle does
+-- one that is on the link in the cycle counts
 counts_whole : (on in_cycle : Bool) (octets : ℕ) → on ≡ true → in_cycle ≡ true → (if on && in_cycle then octets else 0) ≡ octets
 counts_whole on in_cycle octets is_on is_in = rw (is_on, is_in) refl
 

@@ -11,6 +11,8 @@ pub mod TableLaws
 pub mod HistoryText
 pub mod LinkSums
 pub mod Columns
+pub mod SumsTold
 -- what the inner functions say
+pub mod CallTexts
 pub mod OtherColumns
 pub mod ByLink

@@ -1,29 +1,16 @@
 -- The sums of streams' frames by link, and these as a text (profile).
-use Rattle.std.specs.Prelude.{ℕ, ◌≡◌, ◌≤◌, ◌<◌, ◌++◌, ◌==◌, ◌&&◌, ◌⊎◌, List, [], ◌∷◌, Bool, if◌then◌else◌}
-use Rattle.std.specs.Prelude.{codes, decimal, fold, length, max, sum_by}
+use Rattle.std.specs.Prelude.{ℕ, ◌≡◌, ◌≤◌, ◌<◌, ◌++◌, ◌==◌, ◌&&◌, ◌⊎◌, List, [], ◌∷◌, Bool}
+use Rattle.std.specs.Prelude.{codes, decimal, length}
 use Rattle.std.specs.List.{AllPairs}
 use Rattle.cqf_lists.specs.Lists.{each_below}
 use Rattle.cqf_model.specs.declared.frames.Started.{Started}
 use Rattle.cqf_model.specs.Book.{Contents}
 use Rattle.cqf_model.specs.Domain.{Domain}
 use Rattle.cqf_model.specs.OnLinks.{frames_on, octets_on}
-use Rattle.cqf_report.specs.Books.{name_of_link}
+use Rattle.cqf_laws_coverage.specs.InOneCycle.{most_on}
+use Rattle.cqf_topology.specs.NodeNames.{name_of_link}
 use Rattle.cqf_report.specs.Records.{Fields}
 use Rattle.cqf_report.specs.Written.{line_of_fields}
-
--- the octets of those that are on a link in one cycle
-abbrev pub octets_summed : ℕ → ℕ → List Started → ℕ
-octets_summed link cycle starts =
-    sum_by (λ (start : Started). if (start.link == link) && (start.cycle.0 == cycle) then start.octets else 0) starts
-
--- the most octets that are on a link in one cycle, of the cycles in which anything starts; 0 where nothing does
-abbrev pub most_on : ℕ → List Started → ℕ
-most_on link starts = fold (λ most (start : Started). max most (octets_summed link start.cycle.0 starts)) 0 starts
-
--- a number is the most that a link has in one cycle: no cycle has more, and one has it, unless it is 0
-pub record IsMost (link : ℕ) (starts : List Started) (most : ℕ) : Type 0 where
-  pub no_more : (cycle : ℕ) → octets_summed link cycle starts ≤ most
-  pub reached : (most ≡ 0) ⊎ ((cycle : ℕ) × (octets_summed link cycle starts ≡ most))
 
 -- two starts are of one batch: on one link in one cycle
 abbrev pub are_of_one_batch : Started → Started → Bool

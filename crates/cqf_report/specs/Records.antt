@@ -5,8 +5,8 @@ use Rattle.csv.specs.Reading.{Ready, default_config, expected_len, is_flexible, 
 use Rattle.csv.specs.Reading.{strip_bom}
 use Rattle.csv.specs.declared.reader.Reader.{Reader}
 use Rattle.csv.specs.declared.reader.Trim.TheVariants as trim
-use Rattle.cqf_report.specs.declared.records.Taken.{Taken}
-use Rattle.cqf_report.specs.declared.records.Taken.TheVariants.{Row, End, Refused}
+use Rattle.cqf_report.specs.declared.records.TakenRecord.{TakenRecord}
+use Rattle.cqf_report.specs.declared.records.TakenRecord.TheVariants.{Row, End, Refused}
 
 -- the fields of a record, each by its bytes
 abbrev pub Fields : Type 0
@@ -48,13 +48,13 @@ pub record RefusesRow (expected : Option ℕ) (rows : List Fields) : Type 0 wher
   pub other : count ≢ length fields
 
 -- the next read is of one record again, unless there was none
-abbrev pub StaysReady : {R : Type 0} → Taken → Reader R → Type 0
+abbrev pub StaysReady : {R : Type 0} → TakenRecord → Reader R → Type 0
 StaysReady Row reader = Ready reader
 StaysReady End reader = ⊤
 StaysReady Refused reader = Ready reader
 
 -- what was taken of the rows
-abbrev pub Takes : {R : Type 0} → (R → Option (List ℕ)) → Option ℕ → Taken → Reader R → Fields → List Fields → Type 0
+abbrev pub Takes : {R : Type 0} → (R → Option (List ℕ)) → Option ℕ → TakenRecord → Reader R → Fields → List Fields → Type 0
 Takes remaining expected Row after fields rows = TakesRow remaining expected after fields rows
 Takes remaining expected End after fields rows = rows ≡ []
 Takes remaining expected Refused after fields rows = RefusesRow expected rows

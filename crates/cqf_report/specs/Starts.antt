@@ -15,6 +15,10 @@ abbrev pub start_fields : ℕ → Start → Fields
 start_fields octet_time start =
     decimal start.class ∷ decimal start.frame ∷ decimal start.start.0 ∷ decimal (ending_of start.start.0 start.octets octet_time) ∷ []
 
--- the text of starts: the header, and then one line a start, in their order
+-- a line a start, in their order
+abbrev pub lines_of_port : ℕ → List Start → List ℕ
+lines_of_port octet_time starts = flat_map (λ (start : Start). line_of_fields (start_fields octet_time start)) starts
+
+-- the text of starts: the header, and then their lines
 abbrev pub text_of_starts : ℕ → List Start → List ℕ
-text_of_starts octet_time starts = line_of_fields start_header ++ flat_map (λ (start : Start). line_of_fields (start_fields octet_time start)) starts
+text_of_starts octet_time starts = line_of_fields start_header ++ lines_of_port octet_time starts

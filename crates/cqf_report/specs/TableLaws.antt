@@ -1,5 +1,10 @@
--- Which fault of a table's rows is told, in words of places alone (profile). Places count from 0, and numbers of rows from 1.
-use Rattle.std.specs.Prelude.{ℕ, ◌≡◌, ◌+◌, ◌≤◌, ◌<◌, List, Option, Some, None, MatchResult, length, slice_get}
+-- Which fault of a table's rows is told, in words of places alone, and in which order offers are read (profile). Places count from 0, and numbers
+-- of rows from 1.
+use Rattle.std.specs.Prelude.{ℕ, ◌≡◌, ◌+◌, ◌≤◌, ◌<◌, List, Option, Some, None, Ok, MatchResult, length, slice_get}
+use Rattle.cqf_model.specs.declared.frames.Offer.{Offer}
+use Rattle.cqf_model.specs.Domain.{Domain}
+use Rattle.cqf_laws_coverage.specs.Judged.{StandInOrder}
+use Rattle.cqf_report.specs.Offers.{offers_of}
 use Rattle.cqf_report.specs.Records.{Fields}
 use Rattle.cqf_report.specs.Table.{rows_from}
 use Rattle.cqf_report.specs.declared.tables.TableFault.{TableFault}
@@ -61,3 +66,7 @@ abbrev pub TellsFirst : {A : Type 0} → ℕ → (Fields → Option A) → (A �
 TellsFirst most read instant rows = MatchResult (rows_from most read instant 1 0 rows)
     (λ items. (length rows ≤ most) × AreGoodBefore read instant rows (length rows))
     (λ fault. IsFirstFault most read instant rows fault)
+
+-- the offers that a text writes stand in order of instant
+abbrev pub ReadInOrder : Type 0
+ReadInOrder = (d : Domain) (text : List ℕ) (offers : List Offer) → offers_of d text ≡ Ok offers → StandInOrder offers

@@ -42,7 +42,7 @@ fn read_arrival(at: &[u8], class: &[u8], octets: &[u8], frame: &[u8]) -> Option<
 struct ArrivalRows;
 
 impl RowFormat for ArrivalRows {
-    type Row = Arrival;
+    type RowValue = Arrival;
 
     ghost header = { arrival_header };
 

@@ -81,7 +81,7 @@ struct BackgroundRows<'d> {
 }
 
 impl RowFormat for BackgroundRows<'_> {
-    type Row = Background;
+    type RowValue = Background;
 
     ghost header = { background_header };
 

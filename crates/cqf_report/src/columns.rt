@@ -1,23 +1,15 @@
 //! The sums of streams' frames by link, from what each link carries in each cycle.
 ghost use Rattle.std.specs.Prelude.{◌≡◌, IfOk, fold, length, max};
-ghost use Rattle.cqf_report.specs.Columns.{columns_text, frames_by, octets_by};
+ghost use Rattle.cqf_laws_coverage.specs.Columns.{frames_by, octets_by};
+ghost use Rattle.cqf_report.specs.Columns.{columns_text};
 
-use crate::lines::{open_writer, written_text};
-use crate::links::{Sums, sum_of, write_header, write_sums};
-use crate::names::LinkNames;
+use crate::links::{FrameSums, put_header, put_sums, sum_of};
+use cqf_laws_coverage::Column;
+use cqf_press::{Press, Sheet, Told, told_text};
 use cqf_topology::Domain;
 use cqf_units::Memory;
 use std::alloc::Global;
 use std::thread::Threads;
-
-/// What a link carries.
-#[derive(Debug, Drop)]
-pub struct Column {
-    /// How many frames it starts.
-    pub frames: u64,
-    /// The octets that it starts in each cycle, from cycle 0 on; in later cycles it starts none.
-    pub octets: Vec<u32>,
-}
 
 /// The most octets that are listed, 0 where none are.
 fn most_of(listed: &[u32]) -> u32
@@ -41,22 +33,18 @@ pub fn write_columns(
     requires { length columns.now ≡ length domain.now.links }
     ensures { IfOk result (λ text. text.items ≡ columns_text domain.now (frames_by columns.now) (octets_by columns.now)) }
 {
-    let names = LinkNames::new(alloc, domain)?;
-    let mut writer = open_writer(alloc);
-    write_header(&mut writer)?;
+    let mut told = Told::new(Vec::new(alloc));
+    let mut press = Press::new(&mut told, Sheet::new(alloc)?);
+    put_header(&mut press);
     for link in 0..domain.links() {
         let column = &columns[usize::from(link)];
         let listed = column.octets.as_slice();
-        let sums = Sums {
+        let sums = FrameSums {
             frames: u128::from(column.frames),
             octets: sum_of(rt, listed),
         };
-        write_sums(
-            &mut writer,
-            names.name_of(link),
-            sums,
-            u128::from(most_of(listed)),
-        )?;
+        put_sums(&mut press, domain, link, sums, u128::from(most_of(listed)));
     }
-    written_text(writer)
+    let _told = press.close();
+    told_text(told)
 }

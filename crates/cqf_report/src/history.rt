@@ -1,58 +1,147 @@
-//! The history of a run, written as a text.
+//! The history of a run as a text, line by line.
 
-ghost use Rattle.std.specs.Prelude.{◌≡◌, ◌++◌, ◌∷◌, [], IfOk, Some, map};
-ghost use Rattle.std.specs.String.{string_bytes};
-ghost use Rattle.cqf_admission.specs.Admission.{recorded_of};
-ghost use Rattle.cqf_report.specs.HistoryText.{history_text, line_of_entry, reply_text};
+ghost use Rattle.std.specs.Prelude.{◌≡◌, ◌++◌, IfOk, codes, decimal, map};
+ghost use Rattle.cqf_admission.specs.Admission.{act_of, recorded_of};
+ghost use Rattle.cqf_model.specs.Refusals.{text_of_refusal};
+ghost use Rattle.cqf_press.specs.Press.{Puts};
+ghost use Rattle.cqf_report.specs.HistoryText.{entry_text, history_text, line_of_entry, reply_text};
+ghost use Rattle.cqf_report.specs.CallTexts.{named_text};
 
 use cqf_admission::{Call, Entry};
-use cqf_model::Reply;
+use cqf_model::{Receipt, Refused, Reply};
+use cqf_press::{Press, Sheet, Sink, Told, told_text};
 use cqf_units::Memory;
 use std::alloc::Global;
-use std::fmt;
 
-/// An answer, as a history tells it.
-#[derive(Clone, Copy)]
-struct ToldReply(Reply);
+/// Puts a word, and a number behind it.
+fn put_numbered<W: Sink>(press: &mut Press<'_, W>, word: &[u8], number: usize)
+    ensures { Puts W.contents press.old press.new (word.now ++ decimal number) }
+{
+    press.put(word);
+    press.put_number(number);
+}
 
-impl fmt::Display for ToldReply {
-    ghost output = { λ told. Some (reply_text told.0) };
+/// Puts that a link's budget has too few octets left.
+fn put_short<W: Sink>(press: &mut Press<'_, W>, link: u16, left: u32)
+    ensures { Puts W.contents press.old press.new (text_of_refusal (Refused.BudgetShort link left)) }
+{
+    press.put(b"BudgetShort ");
+    press.put_number(link);
+    press.put(b" ");
+    press.put_number(left);
+}
 
-    fn fmt<W: fmt::Write>(&self, f: &mut fmt::Formatter<W>) -> fmt::Result {
-        match self.0 {
-            Reply::Accepted(receipt) => write!(f, "accepted {} {}", receipt.no, receipt.effect.0),
-            Reply::Refused(refused) => write!(f, "refused {refused}"),
-            Reply::Sealed => f.write_str("sealed"),
-        }
+/// Puts a refusal's name, and its values behind it.
+fn put_refusal<W: Sink>(press: &mut Press<'_, W>, refused: Refused)
+    ensures { Puts W.contents press.old press.new (text_of_refusal refused) }
+{
+    match refused {
+        Refused::BadName => press.put(b"BadName"),
+        Refused::BadOctets => press.put(b"BadOctets"),
+        Refused::UnknownNode(place) => put_numbered(press, b"UnknownNode ", place),
+        Refused::BrokenPath(place) => put_numbered(press, b"BrokenPath ", place),
+        Refused::LoopingPath(place) => put_numbered(press, b"LoopingPath ", place),
+        Refused::NotATree(branch) => put_numbered(press, b"NotATree ", branch),
+        Refused::NameHeld => press.put(b"NameHeld"),
+        Refused::TooManyHops => press.put(b"TooManyHops"),
+        Refused::BadPace => press.put(b"BadPace"),
+        Refused::TooManyStreams => press.put(b"TooManyStreams"),
+        Refused::BudgetShort { link, left } => put_short(press, link, left),
+        Refused::NotHeld => press.put(b"NotHeld"),
+        Refused::AlreadyWithdrawn => press.put(b"AlreadyWithdrawn"),
+        Refused::HistoryFull => press.put(b"HistoryFull"),
+        Refused::Memory => press.put(b"Memory"),
     }
 }
 
-/// The line of an entry.
-fn entry_line(alloc: Global, entry: &Entry) -> Result<String, Memory>
-    ensures { IfOk result (λ line. string_bytes line ≡ line_of_entry (recorded_of entry.now)) }
+/// Puts the stream's number and the effect cycle.
+fn put_receipt<W: Sink>(press: &mut Press<'_, W>, receipt: Receipt)
+    ensures { Puts W.contents press.old press.new (reply_text (Reply.Accepted receipt)) }
 {
-    let seat = entry.seat;
-    let reply = ToldReply(entry.reply);
+    press.put(b"accepted ");
+    press.put_number(receipt.no);
+    press.put(b" ");
+    press.put_number(receipt.effect.0);
+}
+
+/// Puts why a call is refused.
+fn put_refused<W: Sink>(press: &mut Press<'_, W>, refused: Refused)
+    ensures { Puts W.contents press.old press.new (reply_text (Reply.Refused refused)) }
+{
+    press.put(b"refused ");
+    put_refusal(press, refused);
+}
+
+/// Puts an answer.
+fn put_reply<W: Sink>(press: &mut Press<'_, W>, reply: Reply)
+    ensures { Puts W.contents press.old press.new (reply_text reply) }
+{
+    match reply {
+        Reply::Accepted(receipt) => put_receipt(press, receipt),
+        Reply::Refused(refused) => put_refused(press, refused),
+        Reply::Sealed => press.put(b"sealed"),
+    }
+}
+
+/// Puts the line of a call that names a stream.
+pub(crate) fn put_call<W: Sink>(
+    press: &mut Press<'_, W>,
+    seat: u16,
+    word: &[u8],
+    name: &str,
+    reply: Reply,
+)
+    ensures { Puts W.contents press.old press.new (named_text seat word.now name.now reply) }
+{
+    press.put_number(seat);
+    press.put(word);
+    press.put(name.as_bytes());
+    press.put(b" ");
+    put_reply(press, reply);
+}
+
+/// Puts a Seal's line without its end.
+pub(crate) fn put_seal<W: Sink>(press: &mut Press<'_, W>, seat: u16)
+    ensures { Puts W.contents press.old press.new (decimal seat ++ codes " seal") }
+{
+    press.put_number(seat);
+    press.put(b" seal");
+}
+
+/// Puts an entry's line without its end.
+fn put_text<W: Sink>(press: &mut Press<'_, W>, entry: &Entry)
+    ensures { Puts W.contents press.old press.new (entry_text entry.now.seat (act_of entry.now.call) entry.now.reply) }
+{
     match &entry.call {
         Call::Admit(request) => {
             let name = request.name.as_str();
-            let line = format!(in alloc; "{seat} admit {name} {reply}\n")?;
-            Ok(line)
+            put_call(press, entry.seat, b" admit ", name, entry.reply);
         }
         Call::AdmitPaced(request) => {
             let name = request.name.as_str();
-            let line = format!(in alloc; "{seat} admit {name} {reply}\n")?;
-            Ok(line)
+            put_call(press, entry.seat, b" admit ", name, entry.reply);
         }
         Call::Withdraw(name) => {
-            let name = name.as_str();
-            let line = format!(in alloc; "{seat} withdraw {name} {reply}\n")?;
-            Ok(line)
+            put_call(press, entry.seat, b" withdraw ", name.as_str(), entry.reply);
         }
-        Call::Seal => {
-            let line = format!(in alloc; "{seat} seal\n")?;
-            Ok(line)
-        }
+        Call::Seal => put_seal(press, entry.seat),
+    }
+}
+
+/// Puts the line of an entry.
+fn put_entry<W: Sink>(press: &mut Press<'_, W>, entry: &Entry)
+    ensures { Puts W.contents press.old press.new (line_of_entry (recorded_of entry.now)) }
+{
+    put_text(press, entry);
+    press.put_byte(b'\n');
+}
+
+/// Puts the text of a history, as [`write_history`] gives it.
+pub fn put_history<W: Sink>(press: &mut Press<'_, W>, entries: &[Entry])
+    ensures { Puts W.contents press.old press.new (history_text (map recorded_of entries.now)) }
+{
+    for entry in entries {
+        put_entry(press, entry);
     }
 }
 
@@ -63,10 +152,9 @@ fn entry_line(alloc: Global, entry: &Entry) -> Result<String, Memory>
 pub fn write_history(alloc: Global, entries: &[Entry]) -> Result<Vec<u8>, Memory>
     ensures { IfOk result (λ text. text.items ≡ history_text (map recorded_of entries.now)) }
 {
-    let mut text = Vec::new(alloc);
-    for entry in entries {
-        let line = entry_line(alloc, entry)?;
-        text.extend_from_slice(line.as_bytes())?;
-    }
-    Ok(text)
+    let mut told = Told::new(Vec::new(alloc));
+    let mut press = Press::new(&mut told, Sheet::new(alloc)?);
+    put_history(&mut press, entries);
+    let _told = press.close();
+    told_text(told)
 }

@@ -1,7 +1,6 @@
-//! What the definitions of the tables mean in words of places alone, and those of the sums by link.
+//! What the definitions of the tables mean in words of places alone, and what those of the sums by link tell of a book.
 
 ghost use Rattle.std.specs.Prelude.{ℕ, List};
-ghost use Rattle.cqf_model.specs.declared.frames.Started.{Started};
 ghost use Rattle.cqf_model.specs.Book.{Contents, IsBook};
 ghost use Rattle.cqf_model.specs.Domain.{Domain as DomainValue};
 ghost use Rattle.cqf_model.specs.GateList.{Entry};
@@ -9,11 +8,12 @@ ghost use Rattle.cqf_model.specs.Limits.{profile, rows_within};
 ghost use Rattle.cqf_model.specs.Run.{Run};
 ghost use Rattle.cqf_report.specs.Arrivals.{arrival_instant, arrival_of};
 ghost use Rattle.cqf_report.specs.BackgroundFrames.{background_instant, background_of_table};
-ghost use Rattle.cqf_report.specs.LinkSums.{AreSumsInOrder, IsMost, most_on};
+ghost use Rattle.cqf_report.specs.LinkSums.{AreSumsInOrder};
 ghost use Rattle.cqf_report.specs.Offers.{offer_instant, offer_of};
 ghost use Rattle.cqf_report.specs.Records.{Fields};
+ghost use Rattle.cqf_report.specs.SumsTold.{ReportIsTold};
 ghost use Rattle.cqf_report.specs.Table.{in_five, in_four};
-ghost use Rattle.cqf_report.specs.TableLaws.{TellsFirst};
+ghost use Rattle.cqf_report.specs.TableLaws.{ReadInOrder, TellsFirst};
 
 /// Law: the fault that is told of the rows of a table is the first. Each row before it writes what a row of this table
 /// writes, and not before the row before it; it is the first that breaks one of the two, or there are more rows than may be.
@@ -23,13 +23,21 @@ pub fn first_fault_is_told()
     ensures background { (d : DomainValue) (rows : List Fields) → TellsFirst (rows_within d.limits) (in_five (background_of_table d)) background_instant rows }
 {}
 
-/// Law: the most octets that a link has in one cycle is so, over all cycles: no cycle has more, and one has it, unless it
-/// is 0.
-pub fn most_is_the_greatest()
-    ensures { (link : ℕ) (starts : List Started) → IsMost link starts (most_on link starts) }
+/// Law: the offers that a text writes stand in order of instant.
+pub fn offers_are_read_in_order()
+    ensures { ReadInOrder }
 {}
 
 /// Law: the starts of every book stand in order of cycle, and within a cycle in order of link.
 pub fn books_are_in_order()
     ensures { (run : Run) (lists : ℕ → List Entry) (cycles : ℕ) (book : Contents) → IsBook run lists cycles book → AreSumsInOrder book.starts }
 {}
+
+/// Law: the text of a book's sums by link is told from a count of frames and a column of octets for each link, where these are those of the hops
+/// of the covered offers (profile).
+pub fn report_is_told()
+    ensures { ReportIsTold }
+{
+    cqf_laws_coverage::report_is_counted();
+    cqf_laws_coverage::columns_tell();
+}

@@ -1,14 +1,18 @@
-//! Tables as comma-separated values, read and written by the crate `csv`: offers, background frames and arrivals in, starts
-//! and books out. And histories, which are written line by line.
+//! Tables as comma-separated values: offers, background frames and arrivals are read, by the crate `csv`; starts, books and histories
+//! are put on a press, line by line, or written as one list of bytes.
 //!
 //! - [`read_offers`] reads the offers of a run, [`read_background`] its background frames, and [`read_arrivals`] the
 //!   arrivals of a port.
 //! - [`TableFault`] says why a table is refused, and at which row.
-//! - [`write_book`] writes the book of a run, [`append_book`] puts it behind a text, with a drop's reason as [`reason_name`]
-//!   has it; [`write_links`] writes its sums by link, [`write_history`] its history, and [`write_starts`] the starts of a port.
+//! - `put_book` puts the text of a book, with a drop's reason as [`reason_name`] has it, [`put_history`] that of a history, and
+//!   [`put_log`] that of the history that a ledger's log stands for. No memory is asked for.
+//! - [`put_book_header`], [`put_starts`] and [`put_drops`] put the parts of a book's text, where the book isn't at hand as a whole, and
+//!   [`put_port_header`] and [`put_port_start`] those of the text of a port's starts.
+//! - [`write_book`] writes the book of a run, [`write_links`] its sums by link, as [`write_columns`] does from what its links carry,
+//!   [`write_history`] its history, and [`write_starts`] the starts of a port.
 //!
 //! `specs/` says what a text holds (`Records`, by what `csv` reads), what its rows mean (`Table`, `Offers`,
-//! `BackgroundFrames`, `Arrivals`), how a fault prints (`Faults`), and which text is written (`Written`, `Starts`, `Books`,
+//! `BackgroundFrames`, `Arrivals`), how a fault prints (`Faults`), and which text is put or written (`Written`, `Starts`, `Books`,
 //! `HistoryText`, `LinkSums`).
 //!
 //! ```text
@@ -16,6 +20,8 @@
 //!     is Ok of one arrival: class 6, 64 octets, frame 1, at instant 10
 //! read_arrivals(alloc, b"at,class,octets,frame\n10,8,64,1\n")
 //!     is Err(TableFault::BadRow(1)), since there is no class 8
+//! put_history(&mut press, admission.history());
+//!     puts "0 admit x accepted 0 0\n1 seal\n"
 //! ```
 #![tactic(auto)]
 
@@ -25,22 +31,22 @@ mod books;
 mod columns;
 mod history;
 mod laws;
-mod lines;
 mod links;
-mod names;
 mod offers;
 mod records;
 mod rows;
 mod starts;
 mod tables;
+mod told_logs;
 
 pub use arrivals::read_arrivals;
 pub use background::read_background;
-pub use books::{append_book, reason_name, write_book};
-pub use columns::{Column, write_columns};
-pub use history::write_history;
-pub use laws::{books_are_in_order, first_fault_is_told, most_is_the_greatest};
+pub use books::{put_book_header, put_drops, put_starts, reason_name, write_book};
+pub use columns::write_columns;
+pub use history::{put_history, write_history};
+pub use laws::{books_are_in_order, first_fault_is_told, offers_are_read_in_order, report_is_told};
 pub use links::write_links;
 pub use offers::read_offers;
-pub use starts::write_starts;
+pub use starts::{put_port_header, put_port_start, write_starts};
 pub use tables::{OfferFault, TableFault};
+pub use told_logs::put_log;

@@ -1,25 +1,24 @@
 //! The sums of streams' frames by link, written as a text.
 
-ghost use Rattle.std.specs.Prelude.{ℕ, ◌≡◌, ◌≤◌, ◌<◌, ◌^◌, ◌++◌, [], List, IfOk, OnOk, Some, length, map, max, replicate, sum, sum_by, slice_index, slice_set};
+ghost use Rattle.std.specs.Prelude.{ℕ, ◌≡◌, ◌≤◌, ◌<◌, ◌^◌, [], List, IfOk, OnOk, length, map, max, replicate, sum, sum_by, slice_index, slice_set};
 ghost use Rattle.cqf_lists.specs.ByNumber.{AddsTo, lists_of};
 ghost use Rattle.cqf_model.specs.Book.{contents_of};
 ghost use Rattle.cqf_model.specs.declared.frames.Started.{Started as AStarted};
 ghost use Rattle.cqf_model.specs.OnLinks.{frames_on, octets_on};
-ghost use Rattle.cqf_report.specs.Written.{HasWritten, IsPlain, line_of_fields};
+ghost use Rattle.cqf_press.specs.Press.{Puts};
+ghost use Rattle.cqf_laws_coverage.specs.InOneCycle.{most_on};
+ghost use Rattle.cqf_topology.specs.NodeNames.{name_of_link};
+ghost use Rattle.cqf_report.specs.Written.{line_of_fields};
 ghost use Rattle.cqf_report.specs.ByLink.{AreListsByLink};
-ghost use Rattle.cqf_report.specs.LinkSums.{AreSumsInOrder, are_of_one_batch, link_header, links_text, most_on, sums_fields};
+ghost use Rattle.cqf_report.specs.LinkSums.{AreSumsInOrder, are_of_one_batch, link_header, links_text, sums_fields};
 
-use crate::lines::{open_writer, write_line, written_text};
-use crate::names::LinkNames;
 use cqf_lanes::octet_sum;
 use cqf_model::{Book, Started};
-use cqf_topology::Domain;
+use cqf_press::{Press, Sheet, Sink, Told, told_text};
+use cqf_topology::{Domain, put_link};
 use cqf_units::Memory;
-use csv::Writer;
-use itoa::Buffer;
 use rayon::prelude::*;
 use std::alloc::Global;
-use std::io::Write;
 use std::thread::Threads;
 
 /// The most starts that are summed at a time.
@@ -30,7 +29,7 @@ const LINKS: usize = 65_536;
 
 /// How many frames there are, and how many octets they have together.
 #[derive(Clone, Copy)]
-pub(crate) struct Sums {
+pub(crate) struct FrameSums {
     pub(crate) frames: u128,
     pub(crate) octets: u128,
 }
@@ -94,13 +93,13 @@ pub(crate) fn sum_of(rt: &(impl Threads + Sync), listed: &[u32]) -> u128
 }
 
 /// The sums of a link's starts, by the octets that are listed for each link.
-fn sums_of_link(rt: &(impl Threads + Sync), by_link: &[Vec<u32>], link: u16) -> Sums
+fn sums_of_link(rt: &(impl Threads + Sync), by_link: &[Vec<u32>], link: u16) -> FrameSums
     requires { length by_link.now ≡ 65536 }
     ensures frames { (starts : List AStarted) → AreListsByLink starts 65536 (lists_of by_link.now) → result.frames ≡ frames_on link starts }
     ensures octets { (starts : List AStarted) → AreListsByLink starts 65536 (lists_of by_link.now) → result.octets ≡ octets_on link starts }
 {
     let listed = by_link[usize::from(link)].as_slice();
-    Sums {
+    FrameSums {
         frames: listed.len() as u128,
         octets: sum_of(rt, listed),
     }
@@ -164,43 +163,32 @@ fn most_by_link(alloc: Global, starts: &[Started]) -> Result<Vec<u128>, Memory>
     Ok(most)
 }
 
-/// Writes the line of a link.
-pub(crate) fn write_sums<W: Write + Drop>(
-    writer: &mut Writer<W>,
-    link: &str,
-    sums: Sums,
+/// Puts the line of a link.
+pub(crate) fn put_sums<W: Sink>(
+    press: &mut Press<'_, W>,
+    domain: &Domain,
+    link: u16,
+    sums: FrameSums,
     most: u128,
-) -> Result<(), Memory>
-    requires { IsPlain link.now }
-    ensures { IfOk result (λ _. (text : List ℕ) → HasWritten W.contents writer.old text
-        → HasWritten W.contents writer.new (text ++ line_of_fields (sums_fields link.now sums.frames sums.octets most))) }
+)
+    ensures { Puts W.contents press.old press.new
+        (line_of_fields (sums_fields (name_of_link domain.now link) sums.frames sums.octets most)) }
 {
-    let mut in_frames = Buffer::new();
-    let mut in_octets = Buffer::new();
-    let mut in_most = Buffer::new();
-    write_line(
-        writer,
-        &[
-            link.as_bytes(),
-            in_frames.format(sums.frames).as_bytes(),
-            in_octets.format(sums.octets).as_bytes(),
-            in_most.format(most).as_bytes(),
-        ],
-    )
+    put_link(press, domain, link);
+    press.put_byte(b',');
+    press.put_number(sums.frames);
+    press.put_byte(b',');
+    press.put_number(sums.octets);
+    press.put_byte(b',');
+    press.put_number(most);
+    press.put_byte(b'\n');
 }
 
-/// Writes the header.
-pub(crate) fn write_header<W: Write + Drop>(writer: &mut Writer<W>) -> Result<(), Memory>
-    ensures { IfOk result (λ _. (text : List ℕ) → HasWritten W.contents writer.old text →
-        HasWritten W.contents writer.new (text ++ line_of_fields link_header)) }
+/// Puts the header.
+pub(crate) fn put_header<W: Sink>(press: &mut Press<'_, W>)
+    ensures { Puts W.contents press.old press.new (line_of_fields link_header) }
 {
-    let names = [
-        b"link".as_slice(),
-        b"frames".as_slice(),
-        b"octets".as_slice(),
-        b"most".as_slice(),
-    ];
-    write_line(writer, &names)
+    press.put(b"link,frames,octets,most\n");
 }
 
 /// The sums of a book's streams' frames by link: the header `link,frames,octets,most`, and one line a link, by number,
@@ -217,19 +205,15 @@ pub fn write_links(
     ensures { IfOk result (λ text. text.items ≡ links_text domain.now (contents_of book.now)) }
 {
     let starts = book.starts.as_slice();
-    let names = LinkNames::new(alloc, domain)?;
     let most = most_by_link(alloc, starts)?;
     let by_link = octets_by_link(alloc, starts)?;
-    let mut writer = open_writer(alloc);
-    write_header(&mut writer)?;
+    let mut told = Told::new(Vec::new(alloc));
+    let mut press = Press::new(&mut told, Sheet::new(alloc)?);
+    put_header(&mut press);
     for link in 0..domain.links() {
         let sums = sums_of_link(rt, by_link.as_slice(), link);
-        write_sums(
-            &mut writer,
-            names.name_of(link),
-            sums,
-            most[usize::from(link)],
-        )?;
+        put_sums(&mut press, domain, link, sums, most[usize::from(link)]);
     }
-    written_text(writer)
+    let _told = press.close();
+    told_text(told)
 }

@@ -73,7 +73,7 @@ struct OfferRows<'d> {
 }
 
 impl RowFormat for OfferRows<'_> {
-    type Row = Offer;
+    type RowValue = Offer;
 
     ghost header = { offer_header };
 

@@ -12,7 +12,7 @@ use std::io::Read;
 
 /// What was taken of a reader.
 #[derive(Clone, Copy, Debug, PartialEq, Eq)]
-pub(crate) enum Taken {
+pub(crate) enum TakenRecord {
     /// The next record.
     Row,
     /// Nothing: there is no further record.
@@ -26,17 +26,17 @@ pub(crate) enum Taken {
 pub(crate) fn take_record<R: Read>(
     reader: &mut Reader<R>,
     row: &mut ByteRecord,
-) -> Result<Taken, Memory>
+) -> Result<TakenRecord, Memory>
     requires { Ready reader.old }
     ensures ready { IfOk result (λ taken. StaysReady taken reader.new) }
     ensures taken { IfOk result (λ taken. (expected : Option ℕ) (rows : List Fields) → StillGives R.remaining expected reader.old rows
         → Takes R.remaining expected taken reader.new (fields_of row.new) rows) }
 {
     match reader.read_byte_record(row) {
-        Ok(true) => Ok(Taken::Row),
-        Ok(false) => Ok(Taken::End),
+        Ok(true) => Ok(TakenRecord::Row),
+        Ok(false) => Ok(TakenRecord::End),
         Err(error) => match error.kind() {
-            ErrorKind::UnequalLengths { .. } => Ok(Taken::Refused),
+            ErrorKind::UnequalLengths { .. } => Ok(TakenRecord::Refused),
             ErrorKind::Io(_) => Err(AllocError),
             ErrorKind::OutOfMemory => Err(AllocError),
             ErrorKind::Utf8 { .. } => unreachable!(),

@@ -7,7 +7,7 @@ ghost use Rattle.cqf_report.specs.Records.{Fields, StillGives};
 ghost use Rattle.cqf_report.specs.Table.{IsFaultOf, TakesHeader, TakesNext, has_header, is_header, rows_from, table_read};
 ghost use Rattle.cqf_report.specs.declared.tables.TableFault.TheVariants as fault_kind;
 
-use crate::records::{Taken, take_record};
+use crate::records::{TakenRecord, take_record};
 use crate::tables::{TableFault, open_table};
 use cqf_units::Nanos;
 use csv::{ByteRecord, Reader};
@@ -17,24 +17,24 @@ use std::io::Read;
 /// A kind of table: its header, and what its rows write.
 pub(crate) trait RowFormat {
     /// What a row writes.
-    type Row: Drop;
+    type RowValue: Drop;
 
     ghost header: { List (List ℕ) };
 
-    ghost row_of: { Self → List (List ℕ) → Option Self.Row };
+    ghost row_of: { Self → List (List ℕ) → Option Self.RowValue };
 
-    ghost instant_of: { Self.Row → ℕ };
+    ghost instant_of: { Self.RowValue → ℕ };
 
     /// Whether the record is the header.
     fn names_columns(fields: &ByteRecord) -> bool
         ensures { result ≡ is_header header (fields_of fields.now) };
 
     /// What the record writes, if it has the form of a row.
-    fn read_row(&self, fields: &ByteRecord) -> Option<Self::Row>
+    fn read_row(&self, fields: &ByteRecord) -> Option<Self::RowValue>
         ensures { result ≡ row_of self.now (fields_of fields.now) };
 
     /// The row's instant, by which rows are in order.
-    fn instant(row: &Self::Row) -> Nanos
+    fn instant(row: &Self::RowValue) -> Nanos
         ensures { result.0 ≡ instant_of row.now };
 
     ghost no_row_of_others: { (format : Self) (fields : List (List ℕ)) → (length header ≡ length fields → ⊥) → row_of format fields ≡ None };
@@ -53,15 +53,15 @@ fn take_header<F: RowFormat, R: Read>(
         → (fault ≡ fault_kind.BadHeader) × (has_header F.header rows ≡ false)) }
 {
     match take_record(reader, fields)? {
-        Taken::Row => {
+        TakenRecord::Row => {
             if F::names_columns(fields) {
                 Ok(())
             } else {
                 Err(TableFault::BadHeader)
             }
         }
-        Taken::End => Err(TableFault::BadHeader),
-        Taken::Refused => Err(TableFault::BadHeader),
+        TakenRecord::End => Err(TableFault::BadHeader),
+        TakenRecord::Refused => Err(TableFault::BadHeader),
     }
 }
 
@@ -73,7 +73,7 @@ fn next_row<F: RowFormat, R: Read>(
     most: u32,
     number: u32,
     before: Nanos,
-) -> Result<Option<F::Row>, TableFault>
+) -> Result<Option<F::RowValue>, TableFault>
     requires few { number ≤ most }
     requires ready { Ready reader.old }
     ensures ready { IfOk result (λ row. IfSome row (λ _. Ready reader.new)) }
@@ -81,9 +81,9 @@ fn next_row<F: RowFormat, R: Read>(
         → TakesNext most (length F.header) (F.row_of format.now) F.instant_of R.remaining number before.0 rows reader.new result }
 {
     match take_record(reader, fields)? {
-        Taken::End => Ok(None),
-        Taken::Refused => Err(TableFault::BadRow(number)),
-        Taken::Row => {
+        TakenRecord::End => Ok(None),
+        TakenRecord::Refused => Err(TableFault::BadRow(number)),
+        TakenRecord::Row => {
             let Some(row) = format.read_row(fields) else {
                 return Err(TableFault::BadRow(number));
             };
@@ -102,7 +102,7 @@ fn read_rows<F: RowFormat, R: Read>(
     reader: &mut Reader<R>,
     fields: &mut ByteRecord,
     most: u32,
-) -> Result<Vec<F::Row>, TableFault>
+) -> Result<Vec<F::RowValue>, TableFault>
     requires { Ready reader.old }
     ensures ok { IfOk result (λ taken. (rows : List Fields) → StillGives R.remaining (Some (length F.header)) reader.old rows
         → rows_from most (F.row_of format.now) F.instant_of 1 0 rows ≡ Ok taken.items) }
@@ -119,9 +119,9 @@ fn read_rows<F: RowFormat, R: Read>(
         rows.push(row)?;
     }
     match take_record(reader, fields)? {
-        Taken::End => Ok(rows),
-        Taken::Row => Err(TableFault::TooMany),
-        Taken::Refused => Err(TableFault::TooMany),
+        TakenRecord::End => Ok(rows),
+        TakenRecord::Row => Err(TableFault::TooMany),
+        TakenRecord::Refused => Err(TableFault::TooMany),
     }
 }
 
@@ -131,7 +131,7 @@ pub(crate) fn read_table<F: RowFormat>(
     format: &F,
     most: u32,
     text: &[u8],
-) -> Result<Vec<F::Row>, TableFault>
+) -> Result<Vec<F::RowValue>, TableFault>
     ensures ok { IfOk result (λ rows. table_read most F.header (F.row_of format.now) F.instant_of text.now ≡ Ok rows.items) }
     ensures err { IfErr result (λ fault. IsFaultOf (table_read most F.header (F.row_of format.now) F.instant_of text.now) fault) }
 {

@@ -1,42 +1,47 @@
-//! The starts of a port, written as a text.
+//! The starts of a port as a text, line by line.
 
-ghost use Rattle.std.specs.Prelude.{ℕ, ◌≡◌, ◌^◌, ◌<◌, ◌++◌, List, All, IfOk, Some};
+ghost use Rattle.std.specs.Prelude.{◌≡◌, ◌^◌, ◌<◌, All, IfOk};
+ghost use Rattle.cqf_press.specs.Press.{Puts};
 ghost use Rattle.cqf_units.specs.Timing.{nanos_of_octet};
-ghost use Rattle.cqf_report.specs.Written.{HasWritten, line_of_fields};
-ghost use Rattle.cqf_report.specs.Starts.{start_fields, text_of_starts};
+ghost use Rattle.cqf_report.specs.Written.{line_of_fields};
+ghost use Rattle.cqf_report.specs.Starts.{lines_of_port, start_fields, start_header, text_of_starts};
 
-use crate::lines::{open_writer, write_line, written_text};
 use cqf_model::Start;
+use cqf_press::{Press, Sheet, Sink, Told, told_text};
 use cqf_units::{Memory, Octets, Rate, end_of};
-use csv::Writer;
-use itoa::Buffer;
 use std::alloc::Global;
-use std::io::Write;
 
-/// Writes a start's line.
-fn write_start<W: Write + Drop>(
-    writer: &mut Writer<W>,
-    start: &Start,
-    rate: Rate,
-) -> Result<(), Memory>
+/// Puts the header of a port's starts.
+pub fn put_port_header<W: Sink>(press: &mut Press<'_, W>)
+    ensures { Puts W.contents press.old press.new (line_of_fields start_header) }
+{
+    press.put(b"class,frame,start,end\n");
+}
+
+/// Puts the line of a start, with the instant at which its frame is over at this rate.
+pub fn put_port_start<W: Sink>(press: &mut Press<'_, W>, start: &Start, rate: Rate)
     requires { start.now.start.0 < 2 ^ 63 }
-    ensures { IfOk result (λ _. (text : List ℕ) → HasWritten W.contents writer.old text
-        → HasWritten W.contents writer.new (text ++ line_of_fields (start_fields (nanos_of_octet rate) start.now))) }
+    ensures { Puts W.contents press.old press.new (line_of_fields (start_fields (nanos_of_octet rate) start.now)) }
 {
     let end = end_of(start.start, Octets(start.octets), rate);
-    let mut class = Buffer::new();
-    let mut frame = Buffer::new();
-    let mut first = Buffer::new();
-    let mut last = Buffer::new();
-    write_line(
-        writer,
-        &[
-            class.format(start.class).as_bytes(),
-            frame.format(start.frame).as_bytes(),
-            first.format(start.start.0).as_bytes(),
-            last.format(end.0).as_bytes(),
-        ],
-    )
+    press.put_number(start.class);
+    press.put_byte(b',');
+    press.put_number(start.frame);
+    press.put_byte(b',');
+    press.put_number(start.start.0);
+    press.put_byte(b',');
+    press.put_number(end.0);
+    press.put_byte(b'\n');
+}
+
+/// Puts a line for each start.
+fn put_each<W: Sink>(press: &mut Press<'_, W>, starts: &[Start], rate: Rate)
+    requires { All (λ start. start.start.0 < 2 ^ 63) starts.now }
+    ensures { Puts W.contents press.old press.new (lines_of_port (nanos_of_octet rate) starts.now) }
+{
+    for start in starts {
+        put_port_start(press, start, rate);
+    }
 }
 
 /// The text of starts: the header `class,frame,start,end`, and one line a start, in their order. `end` is the instant
@@ -45,16 +50,10 @@ pub fn write_starts(alloc: Global, starts: &[Start], rate: Rate) -> Result<Vec<u
     requires { All (λ start. start.start.0 < 2 ^ 63) starts.now }
     ensures { IfOk result (λ text. text.items ≡ text_of_starts (nanos_of_octet rate) starts.now) }
 {
-    let mut writer = open_writer(alloc);
-    let names = [
-        b"class".as_slice(),
-        b"frame".as_slice(),
-        b"start".as_slice(),
-        b"end".as_slice(),
-    ];
-    write_line(&mut writer, &names)?;
-    for start in starts {
-        write_start(&mut writer, start, rate)?;
-    }
-    written_text(writer)
+    let mut told = Told::new(Vec::new(alloc));
+    let mut press = Press::new(&mut told, Sheet::new(alloc)?);
+    put_port_header(&mut press);
+    put_each(&mut press, starts, rate);
+    let _told = press.close();
+    told_text(told)
 }

@@ -12,7 +12,7 @@ use Rattle.cqf_topology.specs.declared.faults.DomainFault.TheVariants.{UnknownNa
 use Rattle.cqf_topology.specs.DomainText.{place_of, with_front}
 use Rattle.cqf_topology.proofs.Accepted.{place-within}
 use Rattle.cqf_topology.proofs.Refusals.{and_then-Ok, ok_or-Ok}
-use Rattle.cqf_sketch.specs.declared.draft.DraftLink.{DraftLink}
+use Rattle.cqf_sketch.specs.declared.draft.SketchLink.{SketchLink}
 use Rattle.cqf_sketch.specs.declared.draft.OneWay.{OneWay}
 use Rattle.cqf_sketch.specs.declared.faults.SketchFault.{SketchFault}
 use Rattle.cqf_sketch.specs.declared.faults.SketchFault.TheVariants.{Domain}
@@ -80,13 +80,13 @@ directions_joined bridges stations true edge is =
 directions_joined bridges stations false edge is = All-cons (IsJoinedEdge bridges stations) edge [] is (All-nil (IsJoinedEdge bridges stations))
 
 -- the delays of the links behind the first
-later_delays : (link : DraftLink) (links : List DraftLink) → All (λ (l : DraftLink). l.there.delay ≤ longest_cycle) (link ∷ links) →
-    All (λ (l : DraftLink). l.there.delay ≤ longest_cycle) links
+later_delays : (link : SketchLink) (links : List SketchLink) → All (λ (l : SketchLink). l.there.delay ≤ longest_cycle) (link ∷ links) →
+    All (λ (l : SketchLink). l.there.delay ≤ longest_cycle) links
 later_delays link links most k d within = most (suc k) d (omega (arith, within))
 
 -- and of all
-pub all_joined : (bridges stations : List (List ℕ)) (element : ℕ) (links : List DraftLink) (edges : List Edge) →
-    All (λ (l : DraftLink). l.there.delay ≤ longest_cycle) links → joined bridges stations element links ≡ Ok edges →
+pub all_joined : (bridges stations : List (List ℕ)) (element : ℕ) (links : List SketchLink) (edges : List Edge) →
+    All (λ (l : SketchLink). l.there.delay ≤ longest_cycle) links → joined bridges stations element links ≡ Ok edges →
     All (IsJoinedEdge (length bridges) (length stations)) edges
 all_joined bridges stations element [] edges most e =
     let same : [] ≡ edges = cc in subst (All (IsJoinedEdge (length bridges) (length stations))) same (All-nil (IsJoinedEdge (length bridges) (length stations)))

@@ -4,7 +4,7 @@ use Rattle.std.specs.Prelude.{suc}
 use Rattle.std.proofs.lemmas.List.{append-nil, drop_all, drop_more}
 use Rattle.cqf_lists.specs.Results.{and_then}
 use Rattle.cqf_topology.specs.DomainText.{with_front}
-use Rattle.cqf_sketch.specs.declared.draft.DraftLink.{DraftLink}
+use Rattle.cqf_sketch.specs.declared.draft.SketchLink.{SketchLink}
 use Rattle.cqf_sketch.specs.declared.faults.SketchFault.{SketchFault}
 use Rattle.cqf_sketch.specs.Edges.{Edge, edges_of, joined, joined_edge}
 
@@ -13,7 +13,7 @@ fronts : {A E : Type 0} (done xs : List A) (rest : Result (List A) E) → with_f
 fronts done xs (Ok ys) = ap Ok (sym (append_assoc done xs ys))
 fronts done xs (Err e) = refl
 
-module _ (bridges stations : List (List ℕ)) (links : List DraftLink) (i : ℕ) (link : DraftLink) (inside : i < length links)
+module _ (bridges stations : List (List ℕ)) (links : List SketchLink) (i : ℕ) (link : SketchLink) (inside : i < length links)
     (is : link ≡ get_or links i link) where
   next_is : drop i links ≡ link ∷ drop (i + 1) links
   next_is = drop_more links i link inside ∙ ap (λ l. l ∷ drop (i + 1) links) (sym is)
@@ -39,7 +39,7 @@ module _ (bridges stations : List (List ℕ)) (links : List DraftLink) (i : ℕ)
       ap (with_front done) (opened ∙ ap (λ r. and_then r (λ e. with_front (edges_of link.duplex e) (joined bridges stations (i + 1) (drop (i + 1) links)))) found)
 
 -- behind the last link nothing is left
-pub joined_all : (bridges stations : List (List ℕ)) (links : List DraftLink) (i : ℕ) → length links ≤ i → (done : List Edge) →
+pub joined_all : (bridges stations : List (List ℕ)) (links : List SketchLink) (i : ℕ) → length links ≤ i → (done : List Edge) →
     with_front done (joined bridges stations i (drop i links)) ≡ Ok done
 joined_all bridges stations links i all done =
     ap (λ rest. with_front done (joined bridges stations i rest)) (drop_all i links all) ∙ ap Ok (append-nil done)

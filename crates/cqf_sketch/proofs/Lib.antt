@@ -5,3 +5,12 @@ pub mod InsideLemmas
 pub mod CheckedLemmas
 pub mod ReadLemmas
 pub mod OpenLemmas
+pub mod TwiceLemmas
+pub mod StepLemmas
+pub mod OrderLemmas
+pub mod MarkLemmas
+pub mod LinkLemmas
+pub mod WayLemmas
+pub mod PartLemmas
+pub mod ShortLemmas
+pub mod ListenerLemmas

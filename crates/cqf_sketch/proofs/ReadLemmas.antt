@@ -11,13 +11,13 @@ use Rattle.cqf_lists.specs.Results.{and_then}
 use Rattle.cqf_units.specs.Name.{is_name}
 use Rattle.cqf_model.specs.declared.limits.Limits.{Limits}
 use Rattle.cqf_model.specs.Limits.{longest_cycle}
-use Rattle.cqf_topology_fields.specs.declared.keys.Key.TheVariants.{Cycle, Guard, Bridges, Stations, Links, From, To, Rate, Delay}
-use Rattle.cqf_topology_fields.specs.declared.faults.TomlFault.{TomlFault}
-use Rattle.cqf_topology_fields.specs.declared.faults.TomlFault.TheVariants.{BadValue}
-use Rattle.cqf_topology_fields.specs.Fields.{are_tables, name_from, names_at, number_from, read_at, value_at, whole_document, within_range}
+use Rattle.cqf_topology.specs.declared.keys.Key.TheVariants.{Cycle, Guard, Bridges, Stations, Links, From, To, Rate, Delay}
+use Rattle.cqf_topology.specs.declared.toml_faults.TomlFault.{TomlFault}
+use Rattle.cqf_topology.specs.declared.toml_faults.TomlFault.TheVariants.{BadValue}
+use Rattle.cqf_topology.specs.Fields.{are_tables, name_from, names_at, number_from, read_at, value_at, whole_document, within_range}
 use Rattle.cqf_topology.specs.DomainText.{if_some, link_keys, rate_from}
 use Rattle.cqf_topology.proofs.Refusals.{and_then-Ok, and_then-Some, each_from-All, if_some-Ok, names-named, number-range, ok_or-Ok, within_range-Some}
-use Rattle.cqf_sketch.specs.declared.draft.DraftLink.{DraftLink}
+use Rattle.cqf_sketch.specs.declared.draft.SketchLink.{SketchLink}
 use Rattle.cqf_sketch.specs.declared.draft.OneWay.{OneWay}
 use Rattle.cqf_sketch.specs.Faults.{or_sketch, sketch_fault}
 use Rattle.cqf_sketch.specs.SketchDomain.{AreCandidates, IsCycleTime, IsReadableSketch}
@@ -87,30 +87,30 @@ way_range table way h =
     let same : made ≡ way = cc in
     subst (λ (w : OneWay). w.delay ≤ longest_cycle) same (number-range Delay 0 10000000 table delay delay_is).1
 
-link_range : (table : Members) (link : DraftLink) → link_read table ≡ Ok link → link.there.delay ≤ longest_cycle
+link_range : (table : Members) (link : SketchLink) → link_read table ≡ Ok link → link.there.delay ≤ longest_cycle
 link_range table link h =
     let (there, there_is, h1) = and_then-Ok (or_sketch (one_way_read table)) _ link h in
     let (duplex, duplex_is, h2) = and_then-Ok (duplex_at table) _ link h1 in
-    let made : DraftLink = record { there = there; duplex = duplex } in
+    let made : SketchLink = record { there = there; duplex = duplex } in
     let same : made ≡ link = cc in
-    subst (λ (l : DraftLink). l.there.delay ≤ longest_cycle) same (way_range table there (or_sketch_read (one_way_read table) there there_is))
+    subst (λ (l : SketchLink). l.there.delay ≤ longest_cycle) same (way_range table there (or_sketch_read (one_way_read table) there there_is))
 
-element_range : (d : Data) (link : DraftLink) → and_then (ok_or (as_table d) (sketch_fault (BadValue Links))) link_read ≡ Ok link →
+element_range : (d : Data) (link : SketchLink) → and_then (ok_or (as_table d) (sketch_fault (BadValue Links))) link_read ≡ Ok link →
     link.there.delay ≤ longest_cycle
 element_range d link h =
     let (table, is, read) = and_then-Ok (ok_or (as_table d) (sketch_fault (BadValue Links))) link_read link h in link_range table link read
 
 -- the delays of all
-array_range : (items : Items) (links : List DraftLink) → links_of_array items ≡ Ok links → All (λ (l : DraftLink). l.there.delay ≤ longest_cycle) links
+array_range : (items : Items) (links : List SketchLink) → links_of_array items ≡ Ok links → All (λ (l : SketchLink). l.there.delay ≤ longest_cycle) links
 array_range items links h = by (are_tables items) h
   where
-    by : (b : Bool) → cond b (links_from items) (Err (sketch_fault (BadValue Links))) ≡ Ok links → All (λ (l : DraftLink). l.there.delay ≤ longest_cycle) links
+    by : (b : Bool) → cond b (links_from items) (Err (sketch_fault (BadValue Links))) ≡ Ok links → All (λ (l : SketchLink). l.there.delay ≤ longest_cycle) links
     by true read =
-        each_from-All (λ (l : DraftLink). l.there.delay ≤ longest_cycle)
+        each_from-All (λ (l : SketchLink). l.there.delay ≤ longest_cycle)
         (λ d. and_then (ok_or (as_table d) (sketch_fault (BadValue Links))) link_read) element_range items links read
     by false read = absurd cc
 
-links_range : (table : Members) (links : List DraftLink) → links_read table ≡ Ok links → All (λ (l : DraftLink). l.there.delay ≤ longest_cycle) links
+links_range : (table : Members) (links : List SketchLink) → links_read table ≡ Ok links → All (λ (l : SketchLink). l.there.delay ≤ longest_cycle) links
 links_range table links h =
     let (items, is, array) = and_then-Ok (or_sketch (read_at Links as_array table)) links_of_array links h in array_range items links array
 

@@ -13,7 +13,7 @@ use Rattle.cqf_topology.specs.declared.faults.DomainFault.TheVariants as domain
 use Rattle.cqf_topology.specs.declared.joined.End.{End}
 use Rattle.cqf_topology.specs.DomainText.{place_of, with_front}
 use Rattle.cqf_topology.specs.JoinedLink.{node_of}
-use Rattle.cqf_sketch.specs.declared.draft.DraftLink.{DraftLink}
+use Rattle.cqf_sketch.specs.declared.draft.SketchLink.{SketchLink}
 use Rattle.cqf_sketch.specs.declared.draft.OneWay.{OneWay}
 use Rattle.cqf_sketch.specs.declared.faults.SketchFault.{SketchFault}
 use Rattle.cqf_sketch.specs.declared.faults.SketchFault.TheVariants as fault
@@ -55,7 +55,7 @@ edges_of true edge = edge ∷ back_of edge ∷ []
 edges_of false edge = edge ∷ []
 
 -- each link of the text from an element on, with its ends found, or the first fault
-abbrev pub joined : List (List ℕ) → List (List ℕ) → ℕ → List DraftLink → Result (List Edge) SketchFault
+abbrev pub joined : List (List ℕ) → List (List ℕ) → ℕ → List SketchLink → Result (List Edge) SketchFault
 joined bridges stations element [] = Ok []
 joined bridges stations element (link ∷ links) =
     and_then (joined_edge bridges stations element link.there) (λ edge.

@@ -1,7 +1,7 @@
 -- Why a sketch's domain is refused, and how that is told (profile).
 use Rattle.std.specs.Prelude.{ℕ, ◌++◌, List, Result, codes}
 use Rattle.std.specs.Result.{result_map_both}
-use Rattle.cqf_topology_fields.specs.declared.faults.TomlFault.{TomlFault}
+use Rattle.cqf_topology.specs.declared.toml_faults.TomlFault.{TomlFault}
 use Rattle.cqf_topology.specs.DomainText.{domain_fault}
 use Rattle.cqf_topology.specs.Faults.{domain_fault_text}
 use Rattle.cqf_sketch.specs.declared.faults.SketchFault.{SketchFault}

@@ -2,3 +2,9 @@ pub mod Faults
 pub mod SketchText
 pub mod Edges
 pub mod SketchDomain
+pub mod StreamsText
+pub mod Ways
+pub mod Steps
+pub mod Ends
+pub mod WayLaws
+pub mod Listeners

@@ -12,7 +12,7 @@ use Rattle.cqf_model.specs.declared.topology.Node.{Node}
 use Rattle.cqf_model.specs.declared.topology.Node.TheVariants.{Bridge, Station}
 use Rattle.cqf_topology.specs.declared.faults.DomainFault.TheVariants as domain
 use Rattle.cqf_topology.specs.DomainText.{IsDomain, domain_with, first_taken, if_so}
-use Rattle.cqf_sketch.specs.declared.draft.DraftLink.{DraftLink}
+use Rattle.cqf_sketch.specs.declared.draft.SketchLink.{SketchLink}
 use Rattle.cqf_sketch.specs.declared.domain.TalkerLink.{TalkerLink}
 use Rattle.cqf_sketch.specs.declared.faults.SketchFault.{SketchFault}
 use Rattle.cqf_sketch.specs.declared.faults.SketchFault.TheVariants as fault
@@ -169,7 +169,7 @@ pub record IsReadableSketch (text : SketchText) : Type 0 where
   pub some_bridge : 0 < length text.bridges
   pub bridges_named : All (λ name. IsTrue (is_name name)) text.bridges
   pub stations_named : All (λ name. IsTrue (is_name name)) text.stations
-  pub delays_most : All (λ (link : DraftLink). link.there.delay ≤ longest_cycle) text.links
+  pub delays_most : All (λ (link : SketchLink). link.there.delay ≤ longest_cycle) text.links
 
 -- a text's names by number: none of them stands twice
 pub record HasNumberedNames (text : SketchText) (bridges stations : List (List ℕ)) : Type 0 where

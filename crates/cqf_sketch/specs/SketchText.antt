@@ -3,13 +3,13 @@ use Rattle.std.specs.Prelude.{ℕ, List, [], ◌∷◌, ◌&&◌, Bool, false, i
 use Rattle.toml.specs.Data.{Data, Items, Members, as_array, as_bool, as_table, get_member}
 use Rattle.cqf_lists.specs.Results.{and_then}
 use Rattle.cqf_model.specs.declared.limits.Limits.{Limits}
-use Rattle.cqf_topology_fields.specs.declared.keys.Key.{Key}
-use Rattle.cqf_topology_fields.specs.declared.keys.Key.TheVariants.{Cycle, Guard, Bridges, Stations, Links, From, To, Rate, Delay}
-use Rattle.cqf_topology_fields.specs.declared.faults.TomlFault.{TomlFault}
-use Rattle.cqf_topology_fields.specs.declared.faults.TomlFault.TheVariants.{BadValue}
-use Rattle.cqf_topology_fields.specs.Fields.{are_tables, each_from, name_from, names_at, number_from, read_at, value_at, whole_document}
+use Rattle.cqf_topology.specs.declared.keys.Key.{Key}
+use Rattle.cqf_topology.specs.declared.keys.Key.TheVariants.{Cycle, Guard, Bridges, Stations, Links, From, To, Rate, Delay}
+use Rattle.cqf_topology.specs.declared.toml_faults.TomlFault.{TomlFault}
+use Rattle.cqf_topology.specs.declared.toml_faults.TomlFault.TheVariants.{BadValue}
+use Rattle.cqf_topology.specs.Fields.{are_tables, each_from, name_from, names_at, number_from, read_at, value_at, whole_document}
 use Rattle.cqf_topology.specs.DomainText.{domain_keys, if_some, link_keys, rate_from}
-use Rattle.cqf_sketch.specs.declared.draft.DraftLink.{DraftLink}
+use Rattle.cqf_sketch.specs.declared.draft.SketchLink.{SketchLink}
 use Rattle.cqf_sketch.specs.declared.draft.OneWay.{OneWay}
 use Rattle.cqf_sketch.specs.declared.faults.SketchFault.{SketchFault}
 use Rattle.cqf_sketch.specs.declared.faults.SketchFault.TheVariants.{BadDuplex}
@@ -23,7 +23,7 @@ pub record SketchText : Type 0 where
   pub guard : ℕ
   pub bridges : List (List ℕ)
   pub stations : List (List ℕ)
-  pub links : List DraftLink
+  pub links : List SketchLink
 
 -- its keys, in reading order: where candidates are given, that of the cycle time isn't read
 abbrev pub sketch_keys : Option (List ℕ) → List Key
@@ -75,20 +75,20 @@ one_way_read table =
     and_then (read_at Delay (number_from 0 10000000) table) (λ delay.
     Ok (record { from = from; to = to; rate = rate; delay = delay })))))
 
-abbrev pub link_read : Members → Result DraftLink SketchFault
+abbrev pub link_read : Members → Result SketchLink SketchFault
 link_read table =
     and_then (or_sketch (one_way_read table)) (λ there.
     and_then (duplex_at table) (λ duplex.
     Ok (record { there = there; duplex = duplex })))
 
 -- the elements of the array of links, each a table
-abbrev pub links_from : Items → Result (List DraftLink) SketchFault
+abbrev pub links_from : Items → Result (List SketchLink) SketchFault
 links_from items = each_from (λ d. and_then (ok_or (as_table d) (sketch_fault (BadValue Links))) link_read) items
 
-abbrev pub links_of_array : Items → Result (List DraftLink) SketchFault
+abbrev pub links_of_array : Items → Result (List SketchLink) SketchFault
 links_of_array items = if are_tables items then links_from items else Err (sketch_fault (BadValue Links))
 
-abbrev pub links_read : Members → Result (List DraftLink) SketchFault
+abbrev pub links_read : Members → Result (List SketchLink) SketchFault
 links_read table = and_then (or_sketch (read_at Links as_array table)) links_of_array
 
 -- a domain's table

@@ -1,11 +1,11 @@
 //! The checks of a sketch's links: the first that fails each.
 ghost use Rattle.std.specs.Prelude.{◌≡◌, ◌<◌, All, IfOk, IfSome, Some, length, map, option_map};
-ghost use Rattle.cqf_topology_fields.specs.Fields.{Gives};
+ghost use Rattle.cqf_topology.specs.Fields.{Gives};
 ghost use Rattle.cqf_sketch.specs.SketchDomain.{EdgeInside, StationInside, is_guard_too_long, is_too_many, second_talker, sketch_with, with_edges};
 ghost use Rattle.cqf_sketch.specs.Edges.{element_at, ends_of, first_again, first_long_delay, first_long_gap, first_twice, from_alone, from_at, pair_of, plant_count, talkers_of};
 
 use crate::SketchFault;
-use crate::draft::Draft;
+use crate::draft::SketchDraft;
 use crate::ends::JoinedEdge;
 use crate::repeats::find_repeat;
 use cqf_model::Node;
@@ -85,7 +85,11 @@ fn find_again(
 }
 
 /// The first station that gets a second talker's link.
-fn second_talker(alloc: Global, draft: &Draft, edges: &[JoinedEdge]) -> Result<Option<Name>, Memory>
+fn second_talker(
+    alloc: Global,
+    draft: &SketchDraft,
+    edges: &[JoinedEdge],
+) -> Result<Option<Name>, Memory>
     requires { All (EdgeInside (length draft.now.bridges) (length draft.now.stations)) edges.now }
     ensures { IfOk result (λ name. name ≡ second_talker draft.now edges.now) }
 {
@@ -147,7 +151,7 @@ pub(crate) fn plant_count(edges: &[JoinedEdge]) -> usize
 }
 
 /// Whether the guard time reaches each candidate.
-fn is_guard_too_long(draft: &Draft) -> bool
+fn is_guard_too_long(draft: &SketchDraft) -> bool
     ensures { result ≡ is_guard_too_long draft.now }
 {
     let guard = draft.guard();
@@ -155,7 +159,7 @@ fn is_guard_too_long(draft: &Draft) -> bool
 }
 
 /// Whether there are more bridges, stations or links of the plant than a domain may have.
-fn is_too_many(draft: &Draft, edges: &[JoinedEdge]) -> bool
+fn is_too_many(draft: &SketchDraft, edges: &[JoinedEdge]) -> bool
     ensures { result ≡ is_too_many draft.now edges.now }
 {
     let limits = draft.limits();
@@ -165,7 +169,11 @@ fn is_too_many(draft: &Draft, edges: &[JoinedEdge]) -> bool
 }
 
 /// The checks of a sketch's domain whose links are numbered, but those of its names and ends: the first that it fails.
-pub(crate) fn check(alloc: Global, draft: &Draft, edges: &[JoinedEdge]) -> Result<(), SketchFault>
+pub(crate) fn check(
+    alloc: Global,
+    draft: &SketchDraft,
+    edges: &[JoinedEdge],
+) -> Result<(), SketchFault>
     requires { All (EdgeInside (length draft.now.bridges) (length draft.now.stations)) edges.now }
     ensures { Gives (SketchFault.Domain DomainFault.Memory) (λ _. sketch_with draft.now edges.now) result (with_edges draft.now edges.now) }
 {

@@ -1,11 +1,11 @@
 //! The candidates for a cycle time.
-ghost use Rattle.std.specs.Prelude.{◌≡◌, ◌++◌, ◌∷◌, [], ok_or, Ok};
+ghost use Rattle.std.specs.Prelude.{◌≡◌, ◌∷◌, [], ok_or, Ok};
 ghost use Rattle.toml.specs.View.{items_view, table_view, view};
-ghost use Rattle.cqf_topology_fields.specs.Fields.{Gives, value_at};
+ghost use Rattle.cqf_topology.specs.Fields.{Gives, value_at};
 ghost use Rattle.cqf_sketch.specs.SketchText.{candidates_from, candidates_of, cycle_from, cycles_from, some_few};
 
 use cqf_model::LONGEST_CYCLE;
-use cqf_topology_fields::{Key, TomlFault, value_at};
+use cqf_topology::{Key, TomlFault, value_at};
 use std::alloc::Global;
 use toml::{Table, Value};
 

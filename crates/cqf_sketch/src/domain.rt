@@ -2,13 +2,13 @@
 ghost use Rattle.std.specs.Prelude.{◌≡◌, All, IfOk, IfSome, find, map, nat_lt, option_map};
 ghost use Rattle.cqf_model.specs.Limits.{most_bridges, most_stations};
 ghost use Rattle.cqf_sketch.specs.Edges.{talkers_of};
-ghost use Rattle.cqf_topology_fields.specs.Fields.{Gives};
+ghost use Rattle.cqf_topology.specs.Fields.{Gives};
 ghost use Rattle.cqf_sketch.specs.SketchDomain.{AreCandidates, AreCheckedEdges, HasNumberedNames, HasTalkerLinks, IsOpenCycle, IsReadableSketch, domain_at, open_cycle};
 ghost use Rattle.cqf_sketch.specs.SketchDomain.{EdgeInside, checked, link_of, plant_of, sketch_domain_of_text, sketch_with, talker_of, with_names};
 
 use crate::SketchFault;
 use crate::checks::check;
-use crate::draft::{Draft, read_draft};
+use crate::draft::{SketchDraft, read_draft};
 use crate::ends::{JoinedEdge, join_edges};
 use cqf_model::{Limits, Link};
 use cqf_topology::{Domain, DomainFault, LinkList, NameList, numbered_names};
@@ -110,7 +110,7 @@ fn talker_links(alloc: Global, edges: &[JoinedEdge]) -> Result<Vec<TalkerLink>, 
 /// The links of a draft whose names are numbered, one direction each, or the first check that the draft fails.
 fn checked_edges(
     alloc: Global,
-    draft: &Draft,
+    draft: &SketchDraft,
     bridges: &NameList,
     stations: &NameList,
 ) -> Result<Vec<JoinedEdge>, SketchFault>
@@ -128,7 +128,7 @@ impl SketchDomain {
     /// The domain of a draft whose names are numbered, or the first check that it fails.
     fn of_names(
         alloc: Global,
-        draft: &Draft,
+        draft: &SketchDraft,
         bridges: NameList,
         stations: NameList,
     ) -> Result<SketchDomain, SketchFault>
@@ -152,7 +152,7 @@ impl SketchDomain {
     }
 
     /// The domain that a draft means, or the first check that it fails.
-    fn of_draft(alloc: Global, draft: &Draft) -> Result<SketchDomain, SketchFault>
+    fn of_draft(alloc: Global, draft: &SketchDraft) -> Result<SketchDomain, SketchFault>
         requires { IsReadableSketch draft.now }
         ensures { Gives (SketchFault.Domain DomainFault.Memory) (λ domain. domain) result (checked draft.now) }
     {
@@ -242,6 +242,15 @@ impl SketchDomain {
         ensures { result.now ≡ self.now.links }
     {
         self.links.as_slice()
+    }
+
+    /// Does nothing, and makes known to a proof what was seen to when the sketch was read: each talker's link goes from a station to a
+    /// bridge of the sketch, and no station has two.
+    pub fn know(&self)
+        ensures there { HasTalkerLinks self.now }
+    {
+        // a use of a field: with it the invariant is known
+        let _ = &self.talkers;
     }
 
     /// The talkers' links, each from a station to a bridge of the sketch. No station has two.

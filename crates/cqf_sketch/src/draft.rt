@@ -3,7 +3,7 @@ ghost use Rattle.std.specs.Prelude.{◌≡◌, codes, drop, if◌then◌else◌,
 ghost use Rattle.toml.specs.View.{items_view, table_view, view};
 ghost use Rattle.toml.specs.Data.{as_bool, as_table, get_member};
 ghost use Rattle.cqf_lists.specs.Results.{and_then};
-ghost use Rattle.cqf_topology_fields.specs.Fields.{Gives, names_at};
+ghost use Rattle.cqf_topology.specs.Fields.{Gives, names_at};
 ghost use Rattle.cqf_topology.specs.DomainText.{if_some};
 ghost use Rattle.cqf_sketch.specs.Faults.{sketch_fault};
 ghost use Rattle.cqf_sketch.specs.SketchText.{candidates_read, duplex_at, link_read, links_from, links_read, one_way_read, sketch_from, sketch_of_text};
@@ -11,9 +11,9 @@ ghost use Rattle.cqf_sketch.specs.SketchText.{candidates_read, duplex_at, link_r
 use crate::SketchFault;
 use crate::cycles::candidates_at;
 use cqf_model::{LONGEST_CYCLE, Limits};
-use cqf_topology::{DomainFault, rate_at};
-use cqf_topology_fields::{
-    Key, TomlFault, are_all_tables, array_at, name_at, names_at, number_at, read_document, value_at,
+use cqf_topology::{
+    DomainFault, Key, TomlFault, are_all_tables, array_at, name_at, names_at, number_at, rate_at,
+    read_document, value_at,
 };
 use cqf_units::{Name, Rate};
 use std::alloc::Global;
@@ -32,23 +32,23 @@ pub struct OneWay {
 
 /// A link of a sketch: there, and where it is `duplex` back too.
 #[derive(Debug, Drop)]
-pub struct DraftLink {
+pub struct SketchLink {
     pub there: OneWay,
     pub duplex: bool,
 }
 
 /// A sketch's domain as its text says it: times in nanoseconds, and links by the names of their ends.
 #[derive(Debug, Drop)]
-pub struct Draft {
+pub struct SketchDraft {
     limits: Limits,
     candidates: Vec<u32>,
     guard: u32,
     bridges: Vec<Name>,
     stations: Vec<Name>,
-    links: Vec<DraftLink>,
+    links: Vec<SketchLink>,
 }
 
-impl Model for Draft {
+impl Model for SketchDraft {
     ghost use Rattle.cqf_sketch.specs.SketchText.{SketchText};
 
     ghost Value = { SketchText };
@@ -56,7 +56,7 @@ impl Model for Draft {
     ghost view = { λ d. record { limits = d.limits; candidates = d.candidates.items; guard = d.guard; bridges = d.bridges.items; stations = d.stations.items; links = d.links.items } };
 }
 
-impl Draft {
+impl SketchDraft {
     /// The limits within which it is read.
     pub fn limits(&self) -> Limits
         ensures { result ≡ self.now.limits }
@@ -89,7 +89,7 @@ impl Draft {
         self.stations.as_slice()
     }
 
-    pub fn links(&self) -> &[DraftLink]
+    pub fn links(&self) -> &[SketchLink]
         ensures { result.now ≡ self.now.links }
     {
         self.links.as_slice()
@@ -152,16 +152,16 @@ fn read_duplex(table: &Table) -> Result<bool, SketchFault>
 }
 
 /// A link's table.
-fn read_link(table: &Table) -> Result<DraftLink, SketchFault>
+fn read_link(table: &Table) -> Result<SketchLink, SketchFault>
     ensures { result ≡ link_read (table_view table.now) }
 {
     let there = read_one_way(table)?;
     let duplex = read_duplex(table)?;
-    Ok(DraftLink { there, duplex })
+    Ok(SketchLink { there, duplex })
 }
 
 /// A link, as an element of the array of links.
-fn link_in(value: &Value) -> Result<DraftLink, SketchFault>
+fn link_in(value: &Value) -> Result<SketchLink, SketchFault>
     ensures { result ≡ and_then (ok_or (as_table (view value.now)) (sketch_fault (TomlFault.BadValue Key.Links))) link_read }
 {
     match value.as_table() {
@@ -171,7 +171,7 @@ fn link_in(value: &Value) -> Result<DraftLink, SketchFault>
 }
 
 /// The elements of the array of links.
-fn links_in(alloc: Global, values: &[Value]) -> Result<Vec<DraftLink>, SketchFault>
+fn links_in(alloc: Global, values: &[Value]) -> Result<Vec<SketchLink>, SketchFault>
     ensures { Gives (SketchFault.Domain DomainFault.Memory) (λ links. links.items) result (links_from (items_view values.now)) }
 {
     let mut links = Vec::new(alloc);
@@ -183,7 +183,7 @@ fn links_in(alloc: Global, values: &[Value]) -> Result<Vec<DraftLink>, SketchFau
 }
 
 /// The links of a domain's table.
-fn read_links(alloc: Global, table: &Table) -> Result<Vec<DraftLink>, SketchFault>
+fn read_links(alloc: Global, table: &Table) -> Result<Vec<SketchLink>, SketchFault>
     ensures { Gives (SketchFault.Domain DomainFault.Memory) (λ links. links.items) result (links_read (table_view table.now)) }
 {
     let values = array_at(table, Key::Links)?;
@@ -224,7 +224,7 @@ fn read_table(
     table: &Table,
     limits: Limits,
     given: Option<Vec<u32>>,
-) -> Result<Draft, SketchFault>
+) -> Result<SketchDraft, SketchFault>
     ensures { Gives (SketchFault.Domain DomainFault.Memory) (λ draft. draft) result
         (sketch_from limits (option_map (λ cycles. cycles.items) given) (table_view table.now)) }
 {
@@ -233,7 +233,7 @@ fn read_table(
     let bridges = read_bridges(alloc, table)?;
     let stations = names_at(alloc, table, Key::Stations)?;
     let links = read_links(alloc, table)?;
-    Ok(Draft {
+    Ok(SketchDraft {
         limits,
         candidates,
         guard,
@@ -261,7 +261,7 @@ pub fn read_draft(
     text: &[u8],
     limits: Limits,
     given: Option<Vec<u32>>,
-) -> Result<Draft, SketchFault>
+) -> Result<SketchDraft, SketchFault>
     ensures { Gives (SketchFault.Domain DomainFault.Memory) (λ draft. draft) result
         (sketch_of_text limits (option_map (λ cycles. cycles.items) given) text.now) }
 {

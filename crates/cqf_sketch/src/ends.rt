@@ -1,14 +1,14 @@
 //! Links one direction each, by the numbers of their ends.
 ghost use Rattle.std.specs.Prelude.{◌≡◌, ◌++◌, OnOk};
 ghost use Rattle.cqf_model.specs.Limits.{most_bridges, most_stations};
-ghost use Rattle.cqf_topology_fields.specs.Fields.{Gives};
+ghost use Rattle.cqf_topology.specs.Fields.{Gives};
 ghost use Rattle.cqf_topology.specs.JoinedLink.{node_of};
 ghost use Rattle.cqf_sketch.specs.SketchDomain.{EdgeInside, NodeInside, link_of, number_of, talker_of};
 ghost use Rattle.cqf_sketch.specs.Edges.{back_of, edges_of, ends_of, from_alone, has_long_delay, has_long_gap, is_talkers, joined, joined_edge, may_lead, pair_of};
 
 use crate::SketchFault;
 use crate::domain::TalkerLink;
-use crate::draft::{DraftLink, OneWay};
+use crate::draft::{OneWay, SketchLink};
 use cqf_model::{Link, Node};
 use cqf_topology::{DomainFault, End, NameList, end_of_name};
 use cqf_units::{Memory, Name, Rate, octet_time};
@@ -213,7 +213,7 @@ pub(crate) fn join_edges(
     alloc: Global,
     bridges: &NameList,
     stations: &NameList,
-    links: &[DraftLink],
+    links: &[SketchLink],
 ) -> Result<Vec<JoinedEdge>, SketchFault>
     ensures { Gives (SketchFault.Domain DomainFault.Memory) (λ edges. edges.items) result (joined bridges.now.keys stations.now.keys 0 links.now) }
 {

@@ -2,8 +2,7 @@
 ghost use Rattle.std.specs.Prelude.{◌≡◌, Some};
 ghost use Rattle.cqf_sketch.specs.Faults.{sketch_fault, sketch_fault_text};
 
-use cqf_topology::DomainFault;
-use cqf_topology_fields::TomlFault;
+use cqf_topology::{DomainFault, TomlFault};
 use cqf_units::{Memory, Name};
 use std::alloc::AllocFailed;
 use std::fmt;

@@ -1,9 +1,15 @@
-//! The domain of a sketch: a plant's domain, of which the cycle time isn't chosen yet, with the links by which talkers send
-//! (profile).
+//! Sketches, of which a planner has candidates for the cycle time: their domains, their streams, and ways for these (profile).
 //!
-//! [`SketchDomain::read`] gives the domain that a text means, or a [`SketchFault`], the first thing wrong. `cycle` may be an array
-//! of candidates, a link may be `duplex`, and it may come from a station. [`read_draft`] reads the text alone, and looks at no
-//! names and ends.
+//! - **Domains.** [`SketchDomain::read`] gives the domain that a text means, a plant's domain of which the cycle time isn't chosen yet, with each
+//!   [`TalkerLink`], by which talkers send; or a [`SketchFault`], the first thing wrong. `cycle` may be an array of candidates, a link may be
+//!   `duplex`, and it may come from a station. `read_draft` reads the text alone, as a `SketchDraft` of `SketchLink`s, and looks at no names and
+//!   ends.
+//! - **Streams.** [`read_sketch_streams`] gives those of a text, each a [`Stream`] with traffic, a deadline, the ways that are [`WantedWay`], given
+//!   branches or the ends that they go between, and its [`Pacing`]; or the first thing wrong ([`FlowsFault`]).
+//! - **Ways.** A [`Room`] has the links of a network, what each has left, and what a stream costs. [`first_way`] finds the first way from a
+//!   bridge to a node on which each link has room, of those with fewest links, exactly where there is one, and [`first_ways`] those to several
+//!   stations, which are the branches of a tree ([`first_ways_are_a_tree`]), or a [`WaysFault`]. Where there is none for want of room,
+//!   [`first_short`] names the link that lacks it on the first way of all, which is found at a cost of 0 ([`full_ways_have_a_short_link`]).
 //!
 //! ```text
 //! cycle = [250000, 125000]
@@ -16,8 +22,28 @@
 //! ]
 //! ```
 //!
-//! has two candidates and the plant's links a to b, b to a and b to s, numbered from 0; the way back from s to b is the talker's
-//! link of s. With a third link from s to a it is refused: `TwoTalkerLinks s`.
+//! has two candidates and the plant's links a to b, b to a and b to s, numbered from 0; the way back from s to b is the talker's link of s. With
+//! a third link from s to a it is refused: `TwoTalkerLinks s`.
+//!
+//! ```text
+//! [[streams]]
+//! name = "mic"
+//! from = "mic"
+//! to = ["desk", "recorder"]
+//! interval = 125000
+//! size = 704
+//! ```
+//!
+//! is a stream from the talker mic to two listeners. With `path` beside `from` it is refused: `BadValue from`; and with `every` beside
+//! `in-step = true`, which says that its talker is in step with the network: `BadValue every`.
+//!
+//! The first way from a to s, with links 0 from bridge a to bridge b, 1 from a to c, 2 from b to station s and 3 from c to s:
+//!
+//! ```text
+//! all have room         0, 2
+//! link 2 has none       1, 3
+//! nor has link 3        none; the first way of all is 0, 2, and its first link without room is 2
+//! ```
 #![tactic(auto)]
 
 mod checks;
@@ -26,8 +52,24 @@ mod domain;
 mod draft;
 mod ends;
 mod faults;
+mod lacks;
+mod laws;
+mod listeners;
+mod pacing;
 mod repeats;
+mod room;
+mod streams;
+mod wanted;
+mod way_ends;
+mod ways;
 
+pub use cqf_traffic::FlowsFault;
 pub use domain::{SketchDomain, TalkerLink};
-pub use draft::{Draft, DraftLink, OneWay, read_draft};
 pub use faults::SketchFault;
+pub use laws::{first_ways_are_a_tree, full_ways_have_a_short_link};
+pub use listeners::{WaysFault, first_ways};
+pub use pacing::Pacing;
+pub use room::Room;
+pub use streams::{Stream, read_sketch_streams};
+pub use wanted::WantedWay;
+pub use ways::{first_short, first_way};

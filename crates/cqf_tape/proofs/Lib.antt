@@ -1,8 +1,7 @@
 pub mod Leaving
-pub mod Keeping
+pub mod ByTwo
 mod Stretches
 pub mod Held
-mod Behind
 mod Rows
 mod Gathered
 mod Told

@@ -1,12 +1,13 @@
 -- Rows of a table, one of them shortened, and what elements by number come to.
-use Rattle.std.proofs.Common.{◌≡◌, ◌≢◌, ℕ, zero, suc, ◌<◌, ◌∷◌, ◌++◌, [], List, length, get_or, map, set, sym, ap, ◌∙◌, arith, refl}
-use Rattle.std.specs.Prelude.{Option, Some, slice_get}
+use Rattle.std.proofs.Common.{◌≡◌, ℕ, zero, suc, ◌<◌, ◌∷◌, ◌++◌, [], List, length, get_or, map, set, sym, ap, ◌∙◌, refl}
+use Rattle.std.specs.Prelude.{Option, slice_get}
 use Rattle.std.specs.Global.{Global}
 use Rattle.std.specs.Option.{option_map_or}
 use Rattle.std.specs.declared.vec.Vec.{Vec}
 use Rattle.std.proofs.lemmas.List.{append-nil, append_assoc, length-map, length-set, map-append}
 use Rattle.std.proofs.lemmas.Option.{slice_get-get_or}
 use Rattle.cqf_lists.specs.ByNumber.{lists_of}
+use Rattle.cqf_lists.proofs.Written.{slice_get-set_other, slice_get-set_same}
 use Rattle.cqf_model.specs.declared.frames.Dropped.{Dropped}
 use Rattle.cqf_tape.specs.declared.reel.Reel.{Reel}
 use Rattle.cqf_tape.specs.declared.tape.Tape.{Tape}
@@ -17,19 +18,6 @@ pub made_at : {A B : Type 0} (f : A → B) (xs : List A) (k : ℕ) (none : B) �
 made_at f [] k none = refl
 made_at f (x ∷ xs) zero none = refl
 made_at f (x ∷ xs) (suc k) none = made_at f xs k none
-
--- an element at another place stays
-pub slice_get-set_other : {A : Type 0} (xs : List A) (i j : ℕ) (x : A) → j ≢ i → slice_get (set xs i x) j ≡ slice_get xs j
-slice_get-set_other [] i j x apart = refl
-slice_get-set_other (y ∷ xs) zero zero x apart = absurd (apart refl)
-slice_get-set_other (y ∷ xs) zero (suc j) x apart = refl
-slice_get-set_other (y ∷ xs) (suc i) zero x apart = refl
-slice_get-set_other (y ∷ xs) (suc i) (suc j) x apart = slice_get-set_other xs i j x (λ same. apart (ap (λ (n : ℕ). suc n) same))
-
-slice_get-set_same : {A : Type 0} (xs : List A) (i : ℕ) (x : A) → i < length xs → slice_get (set xs i x) i ≡ Some x
-slice_get-set_same [] i x inside = absurd (omega (arith, inside))
-slice_get-set_same (y ∷ xs) zero x inside = refl
-slice_get-set_same (y ∷ xs) (suc i) x inside = slice_get-set_same xs i x (omega (arith, inside))
 
 -- a row inside of a table
 pub row_here : {X : Type 0} (rows : List (Vec X Global)) (place : ℕ) (d : Vec X Global) → place < length rows → row_at rows place ≡ (get_or rows place d).items

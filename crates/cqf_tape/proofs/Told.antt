@@ -10,7 +10,7 @@ use Rattle.cqf_lists.proofs.Members.{contains_from_filter}
 use Rattle.cqf_model.specs.declared.frames.Dropped.{Dropped}
 use Rattle.cqf_model.specs.Domain.{Domain, cycle_of}
 use Rattle.cqf_tape.specs.declared.tape.Mark.{Mark}
-use Rattle.cqf_tape.specs.declared.tapes.Kind.{Kind}
+use Rattle.cqf_tape.specs.declared.tapes.TransmissionKind.{TransmissionKind}
 use Rattle.cqf_tape.specs.declared.tapes.Tapes.{Tapes}
 use Rattle.cqf_tape.specs.Tapes.{IsDropsEndBefore, IsEndBefore, MayBeTold, StandByNumber, drops_at, first_links, is_in, link_of_tape, marks_at}
 use Rattle.cqf_tape.specs.Tapes.{started_by, started_in, told_on}
@@ -75,25 +75,26 @@ module _ (Before After : ℕ → ℕ → Type 0) (many : ℕ) where
           (subst (λ (n : ℕ). After n end) number here)
 
 -- places by link, of which the first are those behind a cycle
-abbrev pub AreLinksPlacedTo : Domain → Kind → Tapes → ℕ → ℕ → List ℕ → Type 0
+abbrev pub AreLinksPlacedTo : Domain → TransmissionKind → Tapes → ℕ → ℕ → List ℕ → Type 0
 AreLinksPlacedTo d kind tapes cycle next places =
     ArePlacedTo (λ link place. IsEndBefore d cycle (marks_at kind tapes link) place) (λ link place. IsEndBefore d (cycle + 1) (marks_at kind tapes link) place)
     (length d.links) next places
 
-pub no_link_placed : (d : Domain) (kind : Kind) (tapes : Tapes) (cycle : ℕ) (places : List ℕ) → ArePlaces d kind tapes cycle places →
+pub no_link_placed : (d : Domain) (kind : TransmissionKind) (tapes : Tapes) (cycle : ℕ) (places : List ℕ) → ArePlaces d kind tapes cycle places →
     AreLinksPlacedTo d kind tapes cycle 0 places
 no_link_placed d kind tapes cycle places h =
     none_placed (λ link place. IsEndBefore d cycle (marks_at kind tapes link) place) (λ link place. IsEndBefore d (cycle + 1) (marks_at kind tapes link) place)
     (length d.links) places h.many h.ends
 
-pub link_placed : (d : Domain) (kind : Kind) (tapes : Tapes) (cycle next place : ℕ) (places : List ℕ) (end : ℕ) (marks : List Mark) →
+pub link_placed : (d : Domain) (kind : TransmissionKind) (tapes : Tapes) (cycle next place : ℕ) (places : List ℕ) (end : ℕ) (marks : List Mark) →
     AreLinksPlacedTo d kind tapes cycle next places → place ≡ next → next < length d.links → marks ≡ marks_at kind tapes next →
     IsEndBefore d (cycle + 1) marks end → AreLinksPlacedTo d kind tapes cycle (next + 1) (set places place end)
 link_placed d kind tapes cycle next place places end marks h is inside are here =
     one_placed (λ link place. IsEndBefore d cycle (marks_at kind tapes link) place) (λ link place. IsEndBefore d (cycle + 1) (marks_at kind tapes link) place)
     (length d.links) next place places end h is inside (subst (λ (ms : List Mark). IsEndBefore d (cycle + 1) ms end) are here)
 
-pub links_placed : (d : Domain) (kind : Kind) (tapes : Tapes) (cycle next : ℕ) (places : List ℕ) → AreLinksPlacedTo d kind tapes cycle next places →
+pub links_placed : (d : Domain) (kind : TransmissionKind) (tapes : Tapes) (cycle next : ℕ) (places : List ℕ) →
+    AreLinksPlacedTo d kind tapes cycle next places →
     length d.links ≤ next → ArePlaces d kind tapes (cycle + 1) places
 links_placed d kind tapes cycle next places h all =
     record { many = h.enough; ends = λ link inside. h.done link (omega (arith, inside, all)) inside }
@@ -145,7 +146,7 @@ zero_there places count k are inside = ap (λ (ps : List ℕ). get_or ps k 0) ar
 enough_there : (places : List ℕ) (count many : ℕ) → places ≡ replicate {A = ℕ} count 0 → count ≡ many → many ≤ length places
 enough_there places count many are is = let long : length places ≡ count = ap length are ∙ length-replicate count 0 in omega (arith, long, is)
 
-pub first_places : (d : Domain) (kind : Kind) (tapes : Tapes) (places : List ℕ) (count : ℕ) → places ≡ replicate {A = ℕ} count 0 → count ≡ length d.links →
+pub first_places : (d : Domain) (kind : TransmissionKind) (tapes : Tapes) (places : List ℕ) (count : ℕ) → places ≡ replicate {A = ℕ} count 0 → count ≡ length d.links →
     ArePlaces d kind tapes 0 places
 first_places d kind tapes places count are is = record {
   many = enough_there places count (length d.links) are is;

@@ -1,18 +1,15 @@
 -- What a bridge's reel has of what the bridge did, and the tapes that the reels of all bridges come to (profile).
-use Rattle.std.specs.Prelude.{ℕ, ◌≡◌, ◌≢◌, ◌<◌, ◌++◌, List, [], ◌∷◌, All, Contains, Some, if◌then◌else◌, length, slice_get, true}
-use Rattle.std.specs.List.{flat_map}
+use Rattle.std.specs.Prelude.{ℕ, ◌≡◌, ◌≢◌, ◌<◌, ◌++◌, List, [], ◌∷◌, Some, if◌then◌else◌, length, slice_get}
 use Rattle.std.specs.Option.{option_map_or}
 use Rattle.cqf_lists.specs.Lists.{each_below}
 use Rattle.cqf_model.specs.declared.frames.Dropped.{Dropped}
-use Rattle.cqf_model.specs.declared.frames.Started.{Started}
-use Rattle.cqf_model.specs.Book.{Contents}
 use Rattle.cqf_model.specs.Domain.{Domain, bridge_of, leaves}
 use Rattle.std.specs.Global.{Global}
 use Rattle.std.specs.declared.vec.Vec.{Vec}
 use Rattle.cqf_tape.specs.declared.reel.Reel.{Reel}
 use Rattle.cqf_tape.specs.declared.tape.Tape.{Tape}
 use Rattle.cqf_tape.specs.declared.tapes.Tapes.{Tapes}
-use Rattle.cqf_tape.specs.Tapes.{background_at, drops_at, first_links, links_of, marks_on, starts_at}
+use Rattle.cqf_tape.specs.Tapes.{background_at, drops_at, first_links, links_of, starts_at}
 
 -- the link, where it leaves the bridge
 abbrev pub with_link : Domain → ℕ → ℕ → List ℕ
@@ -21,20 +18,6 @@ with_link d bridge link = if leaves d link bridge then link ∷ [] else []
 -- the links that leave a bridge, by number
 abbrev pub links_leaving : Domain → ℕ → List ℕ
 links_leaving d bridge = each_below (with_link d bridge) (length d.links)
-
--- nothing stands on a tape
-abbrev pub IsBlank : Tape → Type 0
-IsBlank tape = (tape.starts.items ≡ []) × (tape.background.items ≡ [])
-
--- a bridge's reel has kept what stands on these pages, one behind the other: on each link's tape what the pages have on the link, and their
--- drops
-pub record HasKept (d : Domain) (bridge : ℕ) (pages : List Contents) (reel : Reel) : Type 0 where
-  pub links : links_of reel.tapes.items ≡ links_leaving d bridge
-  pub starts : (link : ℕ) → leaves d link bridge ≡ true →
-      starts_at reel.tapes.items link ≡ flat_map (λ (page : Contents). marks_on link page.starts) pages
-  pub background : (link : ℕ) → leaves d link bridge ≡ true →
-      background_at reel.tapes.items link ≡ flat_map (λ (page : Contents). marks_on link page.background) pages
-  pub drops : reel.drops.items ≡ flat_map (λ (page : Contents). page.drops) pages
 
 -- the reels of all bridges, by number, each with the tapes of the links that leave its bridge
 pub record AreReelsOf (d : Domain) (reels : List Reel) : Type 0 where
@@ -56,23 +39,6 @@ pub record AreGatheredFrom (d : Domain) (reels : List Reel) (tapes : Tapes) : Ty
       background_at tapes.links.items link ≡ background_at (tapes_of reels (bridge_of d link)) link
   pub each_bridge : length tapes.drops.items ≡ length d.bridges
   pub drops : (bridge : ℕ) → bridge < length d.bridges → drops_at tapes bridge ≡ dropped_by reels bridge
-
--- background frames stand behind what their links' tapes had, and nothing else is changed
-pub record KeepsBackground (starts : List Started) (before after : List Tape) : Type 0 where
-  pub links : links_of after ≡ links_of before
-  pub starts_stay : (link : ℕ) → starts_at after link ≡ starts_at before link
-  pub more : (link : ℕ) → Contains (links_of before) link → background_at after link ≡ background_at before link ++ marks_on link starts
-
--- drops stand behind what a reel had, and nothing else is changed
-pub record KeepsDrops (drops : List Dropped) (before after : Reel) : Type 0 where
-  pub tapes : after.tapes.items ≡ before.tapes.items
-  pub more : after.drops.items ≡ before.drops.items ++ drops
-
--- a reel with nothing on it, for the links that leave a bridge
-pub record IsNewReel (d : Domain) (bridge : ℕ) (reel : Reel) : Type 0 where
-  pub links : links_of reel.tapes.items ≡ links_leaving d bridge
-  pub blank : All IsBlank reel.tapes.items
-  pub none : reel.drops.items ≡ []
 
 -- the rows of a table by number, and none where there is no such row
 abbrev pub row_at : {X : Type 0} → List (Vec X Global) → ℕ → List X

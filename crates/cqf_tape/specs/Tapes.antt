@@ -6,21 +6,25 @@ use Rattle.cqf_lists.specs.Lists.{each_below}
 use Rattle.cqf_model.specs.declared.frames.Dropped.{Dropped}
 use Rattle.cqf_model.specs.declared.frames.Sent.{Sent}
 use Rattle.cqf_model.specs.declared.frames.Started.{Started}
+use Rattle.cqf_model.specs.declared.ports.Start.{Start}
 use Rattle.cqf_model.specs.Book.{Contents}
 use Rattle.cqf_model.specs.Domain.{Domain, cycle_of}
 use Rattle.cqf_laws_cycle.specs.PageLaws.{is_on_link}
 use Rattle.cqf_tape.specs.declared.tape.Mark.{Mark}
 use Rattle.cqf_tape.specs.declared.tape.Tape.{Tape}
-use Rattle.cqf_tape.specs.declared.tapes.Kind.{Kind}
-use Rattle.cqf_tape.specs.declared.tapes.Kind.TheVariants.{Stream, Background}
+use Rattle.cqf_tape.specs.declared.tapes.TransmissionKind.{TransmissionKind}
+use Rattle.cqf_tape.specs.declared.tapes.TransmissionKind.TheVariants.{Stream, Background}
 use Rattle.cqf_tape.specs.declared.tapes.Tapes.{Tapes}
 
--- a transmission of a book, and a frame that a link carries, as a tape has them
+-- a transmission of a book, a frame that a link carries, and a background frame that it starts, as a tape has them
 abbrev pub mark_of : Started → Mark
 mark_of s = record { start = s.start; frame = s.frame; octets = s.octets }
 
 abbrev pub mark_of_sent : Sent → Mark
 mark_of_sent s = record { start = s.start; frame = s.frame; octets = s.octets }
+
+abbrev pub mark_of_start : Start → Mark
+mark_of_start s = record { start = s.start; frame = s.frame; octets = s.octets }
 
 -- those of some transmissions that are on a link
 abbrev pub marks_on : ℕ → List Started → List Mark
@@ -58,7 +62,7 @@ abbrev pub StandByNumber : Tapes → Type 0
 StandByNumber tapes = links_of tapes.links.items ≡ first_links (length tapes.links.items)
 
 -- what stands on a link's tape of a kind
-abbrev pub marks_at : Kind → Tapes → ℕ → List Mark
+abbrev pub marks_at : TransmissionKind → Tapes → ℕ → List Mark
 marks_at Stream tapes link = starts_at tapes.links.items link
 marks_at Background tapes link = background_at tapes.links.items link
 
@@ -91,10 +95,10 @@ abbrev pub told_on : Domain → ℕ → ℕ → List Mark → List Started
 told_on d cycle link marks = map (started_by d link) (filter (is_in d cycle) marks)
 
 -- what tapes of a kind tell of a cycle, link by link of so many, and of so many cycles
-abbrev pub told_on_links : Domain → Kind → Tapes → ℕ → ℕ → List Started
+abbrev pub told_on_links : Domain → TransmissionKind → Tapes → ℕ → ℕ → List Started
 told_on_links d kind tapes cycle links = each_below (λ link. told_on d cycle link (marks_at kind tapes link)) links
 
-abbrev pub told_in_cycles : Domain → Kind → Tapes → ℕ → List Started
+abbrev pub told_in_cycles : Domain → TransmissionKind → Tapes → ℕ → List Started
 told_in_cycles d kind tapes cycles = each_below (λ cycle. told_on_links d kind tapes cycle (length d.links)) cycles
 
 -- and what they tell of drops, bridge by bridge of so many, and of so many cycles
@@ -122,7 +126,7 @@ AreDropsByCycle drops = AllPairs (λ (a b : Dropped). a.cycle.0 ≤ b.cycle.0) d
 -- what tapes have to be to be told with nothing sorted
 pub record MayBeTold (d : Domain) (tapes : Tapes) : Type 0 where
   pub each_link : links_of tapes.links.items ≡ first_links (length d.links)
-  pub in_order : (kind : Kind) (link : ℕ) → link < length d.links → IsInOrder (marks_at kind tapes link)
+  pub in_order : (kind : TransmissionKind) (link : ℕ) → link < length d.links → IsInOrder (marks_at kind tapes link)
   pub each_bridge : length tapes.drops.items ≡ length d.bridges
   pub drops : (bridge : ℕ) → bridge < length d.bridges → AreDropsByCycle (drops_at tapes bridge)
 

@@ -1,12 +1,12 @@
 -- How far tapes are told.
 use Rattle.std.specs.Prelude.{ℕ, ◌≤◌, ◌<◌, List, length, slice_index}
 use Rattle.cqf_model.specs.Domain.{Domain}
-use Rattle.cqf_tape.specs.declared.tapes.Kind.{Kind}
+use Rattle.cqf_tape.specs.declared.tapes.TransmissionKind.{TransmissionKind}
 use Rattle.cqf_tape.specs.declared.tapes.Tapes.{Tapes}
 use Rattle.cqf_tape.specs.Tapes.{IsDropsEndBefore, IsEndBefore, drops_at, marks_at}
 
 -- by link the place where the cycles before one end on its tape; there may be places of more links
-pub record ArePlaces (d : Domain) (kind : Kind) (tapes : Tapes) (cycle : ℕ) (places : List ℕ) : Type 0 where
+pub record ArePlaces (d : Domain) (kind : TransmissionKind) (tapes : Tapes) (cycle : ℕ) (places : List ℕ) : Type 0 where
   pub many : length d.links ≤ length places
   pub ends : (link : ℕ) → link < length d.links → IsEndBefore d cycle (marks_at kind tapes link) (slice_index places link)
 

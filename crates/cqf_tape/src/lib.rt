@@ -10,7 +10,7 @@
 //! `specs/Tapes.antt` says whose tapes they are (`AreTapesOf`), and what they tell (`told_from`).
 //!
 //! ```text
-//! Reel::new(alloc, &domain, 0)      a tape for each link that leaves bridge 0, with nothing on it
+//! gather(alloc, &domain, reels)           the tape of a>s, by its number, from the reel of bridge a
 //! book_of(alloc, &domain, 2, &tapes)      start,1,a>s,1,64,125000 where the tape of a>s has (125000, 1, 64)
 //! ```
 #![tactic(auto)]
@@ -24,5 +24,5 @@ mod telling;
 pub use gathering::gather;
 pub use reel::Reel;
 pub use tape::{Mark, Tape};
-pub use tapes::{Kind, Tapes};
+pub use tapes::{Tapes, TransmissionKind};
 pub use telling::{book_of, drops_end_of, end_of, started_on};

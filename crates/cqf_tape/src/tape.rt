@@ -1,9 +1,6 @@
 //! What one link sends.
-ghost use Rattle.std.specs.Prelude.{◌≡◌, ◌++◌, [], ◌∷◌, OnOk, filter, map};
-ghost use Rattle.cqf_laws_cycle.specs.PageLaws.{is_on_link};
-ghost use Rattle.cqf_tape.specs.Tapes.{mark_of};
+ghost use Rattle.std.specs.Prelude.{◌≡◌, ◌++◌, [], ◌∷◌, OnOk};
 
-use cqf_model::Started;
 use cqf_units::{Memory, Nanos};
 use std::alloc::Global;
 
@@ -27,17 +24,6 @@ pub struct Tape {
     pub background: Vec<Mark>,
 }
 
-/// A transmission without its link and its cycle.
-fn marked(started: &Started) -> Mark
-    ensures { result ≡ mark_of started.now }
-{
-    Mark {
-        start: started.start,
-        frame: started.frame,
-        octets: started.octets,
-    }
-}
-
 impl Tape {
     /// A link's tape with nothing on it. It takes no memory yet.
     pub fn new(alloc: Global, link: u16) -> Tape
@@ -59,21 +45,6 @@ impl Tape {
         ensures background { self.new.background.items ≡ self.old.background.items }
     {
         self.starts.push(mark)?;
-        Ok(())
-    }
-
-    /// Puts those of some background frames behind the others that were sent on the link. `Memory` where a growth is refused.
-    pub fn keep_background(&mut self, starts: &[Started]) -> Result<(), Memory>
-        ensures link { self.new.link ≡ self.old.link }
-        ensures starts { self.new.starts.items ≡ self.old.starts.items }
-        ensures background { OnOk result (self.new.background.items ≡
-            self.old.background.items ++ map mark_of (filter (is_on_link self.old.link) starts.now)) }
-    {
-        for started in starts {
-            if started.link == self.link {
-                self.background.push(marked(started))?;
-            }
-        }
         Ok(())
     }
 }

@@ -7,7 +7,7 @@ use cqf_model::Dropped;
 
 /// Which of the transmissions on a tape.
 #[derive(Clone, Copy, Debug, PartialEq, Eq)]
-pub enum Kind {
+pub enum TransmissionKind {
     /// Those of streams' frames.
     Stream,
     /// Those of background frames.
@@ -25,15 +25,15 @@ pub struct Tapes {
 
 impl Tapes {
     /// The transmissions of a kind on a link, in order of instant.
-    pub fn marks(&self, kind: Kind, link: u16) -> &[Mark]
+    pub fn marks(&self, kind: TransmissionKind, link: u16) -> &[Mark]
         requires inside { link < length self.now.links.items }
         requires by_number { StandByNumber self.now }
         ensures { result.now ≡ marks_at kind self.now link }
     {
         let tape = &self.links.as_slice()[usize::from(link)];
         match kind {
-            Kind::Stream => tape.starts.as_slice(),
-            Kind::Background => tape.background.as_slice(),
+            TransmissionKind::Stream => tape.starts.as_slice(),
+            TransmissionKind::Background => tape.background.as_slice(),
         }
     }
 

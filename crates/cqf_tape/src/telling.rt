@@ -7,7 +7,7 @@ ghost use Rattle.cqf_tape.specs.Tapes.{drops_at_bridges, drops_in_cycles, told_f
 ghost use Rattle.cqf_tape.specs.Telling.{AreDropPlaces, ArePlaces};
 
 use crate::tape::Mark;
-use crate::tapes::{Kind, Tapes};
+use crate::tapes::{Tapes, TransmissionKind};
 use cqf_model::{Book, Dropped, Started};
 use cqf_topology::Domain;
 use cqf_units::{Cycle, Memory};
@@ -87,7 +87,7 @@ fn add_on_link(
 fn add_cycle(
     domain: &Domain,
     tapes: &Tapes,
-    kind: Kind,
+    kind: TransmissionKind,
     cycle: Cycle,
     places: &mut [usize],
     told: &mut Vec<Started>,
@@ -111,7 +111,7 @@ fn starts_of_kind(
     alloc: Global,
     domain: &Domain,
     tapes: &Tapes,
-    kind: Kind,
+    kind: TransmissionKind,
     cycles: u32,
 ) -> Result<Vec<Started>, Memory>
     requires few { cycles ≤ most_cycles }
@@ -190,8 +190,8 @@ pub fn book_of(alloc: Global, domain: &Domain, tapes: &Tapes, cycles: u32) -> Re
     ensures { IfOk result (λ book. contents_of book ≡ told_from domain.now cycles tapes.now) }
 {
     Ok(Book {
-        starts: starts_of_kind(alloc, domain, tapes, Kind::Stream, cycles)?,
-        background: starts_of_kind(alloc, domain, tapes, Kind::Background, cycles)?,
+        starts: starts_of_kind(alloc, domain, tapes, TransmissionKind::Stream, cycles)?,
+        background: starts_of_kind(alloc, domain, tapes, TransmissionKind::Background, cycles)?,
         drops: all_drops(alloc, domain, tapes, cycles)?,
     })
 }

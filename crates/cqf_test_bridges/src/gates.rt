@@ -1,5 +1,5 @@
 //! Which frames gates let pass, by hand-worked values.
-use cqf_bridge_gates::StreamGates;
+use cqf_bridge::StreamGates;
 use cqf_gates::Passed;
 use cqf_model::{Hop, Pace, Row, Tree};
 use cqf_test_fixtures::line;

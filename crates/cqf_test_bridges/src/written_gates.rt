@@ -1,6 +1,6 @@
 //! The gates of a stream that pauses, at each bridge of its tree.
-ghost use Rattle.std.specs.Prelude.{◌≡◌, IfSome};
-ghost use Rattle.cqf_admission_trees.specs.Turns.{IsGoodPace};
+ghost use Rattle.std.specs.Prelude.{IfSome};
+ghost use Rattle.cqf_admission.specs.Turns.{IsGoodPace};
 
 use crate::tables::plan_of;
 use cqf_compile::{Plan, gate_of};

@@ -1,14 +1,12 @@
-//! Texts of domains that the tests of several crates read, and what they ask for, offer and expect. Only tests use this crate.
+//! What the tests of several crates read, ask for, offer and expect. Only tests, and trials of refused memory, use this crate.
 //!
-//! - [`line`] is a domain of three bridges in a line, [`one_link`] one of a single bridge, and [`ring`] one whose first
-//!   and last bridge have links to each other too; [`fork`] is a line that branches.
-//! - A test makes changed forms of them with `replacen`.
-//! - [`are_offers`] and [`are_background`] tell what a run of a domain may be given.
-//! - [`request`], [`offers_of`] and [`background_of`] make what is asked for and offered of plain values, [`is_request`] tells
-//!   whether a request has such values, and [`are_begun`] and [`are_dropped`] whether a book has.
-//! - [`admission_of`] is an admission that has admitted some streams.
-//!
-//! All have a cycle time of 125,000 ns, and links of 1,000 Mb/s with a delay of 500 ns. The guard time is 5,000 ns.
+//! - **Texts of domains**, of which a test makes changed forms with `replacen`: [`line`] is one of three bridges in a line, [`one_link`] one of a
+//!   single bridge, and [`ring`] one whose first and last bridge have links to each other too; [`fork`] is a line that branches. All have a cycle
+//!   time of 125,000 ns, a guard time of 5,000 ns, and links of 1,000 Mb/s with a delay of 500 ns.
+//! - **What is asked for and offered**: [`request`] makes a request of plain values, [`Asked`], and [`is_request`] tells whether one has such;
+//!   [`offers_of`] and [`background_of`] make frames, of each [`Offering`] and [`Backing`]. [`admission_of`] is an admission that has admitted
+//!   some streams. [`are_offers`] and [`are_background`] tell what a run of a domain may be given.
+//! - **What is expected**: [`are_begun`] and [`are_dropped`] tell whether a book has some starts, each [`Begun`], and some drops, each [`Fell`].
 #![tactic(auto)]
 
 mod admitted;

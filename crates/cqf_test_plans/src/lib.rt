@@ -1,9 +1,11 @@
-//! Tests of orders, domains, admission, scripts and pages, with values from outside. A crate that has tests is proved twice, so
-//! these stand in one of their own.
+//! Tests of domains and streams read, of admission and its scripts, of pages and the order of drops, and of sketches read, ways found and plants
+//! told, with values from outside. A crate that has tests is proved twice, so these stand in one of their own.
 #![tactic(auto)]
 
 #[cfg(test)]
 mod admission;
+#[cfg(test)]
+mod domains;
 #[cfg(test)]
 mod order;
 #[cfg(test)]
@@ -11,4 +13,10 @@ mod pages;
 #[cfg(test)]
 mod scripts;
 #[cfg(test)]
+mod streams;
+#[cfg(test)]
+mod told;
+#[cfg(test)]
 mod topology;
+#[cfg(test)]
+mod ways;

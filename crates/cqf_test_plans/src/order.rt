@@ -1,5 +1,5 @@
 //! Drops in the order of a book, with values by hand.
-use cqf_book_order::sort_drops;
+use cqf_book::sort_drops;
 use cqf_model::{Dropped, Reason};
 use cqf_test_fixtures::{Fell, are_dropped};
 use cqf_units::Cycle;

@@ -1,6 +1,5 @@
 //! Scripts read, and refused.
-use cqf_admission::Call;
-use cqf_admission_script::{ScriptFault, read_script};
+use cqf_admission::{Call, ScriptFault, read_script};
 use cqf_test_fixtures::{Asked, request};
 use cqf_topology::Request;
 use std::alloc::Global;

@@ -2,7 +2,7 @@
 
 ghost use Rattle.std.specs.Prelude.{⊤};
 
-use cqf_program_press::{Press, Sheet, Sink, Told};
+use cqf_press::{Press, Sheet, Sink, Told};
 use std::alloc::Global;
 use std::io;
 use std::io::{ErrorKind, Write};

@@ -1,5 +1,5 @@
 //! How a run ends early.
-use cqf_program_stop::Stop;
+use cqf_press::Stop;
 use std::alloc::Global;
 use std::io;
 use std::io::ErrorKind;

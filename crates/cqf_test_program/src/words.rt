@@ -1,5 +1,5 @@
 //! Words read.
-use cqf_program_stop::{DONE, USAGE};
+use cqf_press::{DONE, USAGE};
 use cqf_program_words::{Format, Job, candidates_named, read_words};
 use cqf_units::Rate;
 use std::alloc::Global;

@@ -1,13 +1,12 @@
 //! Administrations whose calls are those of a script, with the tables of the cycles that they close.
 ghost use Rattle.std.specs.Prelude.{◌≡◌, ◌≤◌, IfOk, length};
-ghost use Rattle.cqf_laws_report.specs.Judged.{StandInOrder};
+ghost use Rattle.cqf_laws_coverage.specs.Judged.{StandInOrder};
 ghost use Rattle.cqf_model.specs.Limits.{most_rows};
 ghost use Rattle.cqf_model.specs.Run.{AreOffers};
-ghost use Rattle.cqf_instants_layout.specs.History.{SomeHistory};
+ghost use Rattle.cqf_instants_run.specs.HistoryStarts.{SomeHistory};
 
-use cqf_admission::{Admission, Call, Table};
-use cqf_admission_script::read_script;
-use cqf_instants_coverage::{Judgement, cover};
+use cqf_admission::{Admission, Call, Table, read_script};
+use cqf_instants_run::{EdgeVerdict, cover};
 use cqf_model::{Offer, Row};
 use cqf_topology::{Domain, read_streams};
 use cqf_units::Memory;
@@ -104,7 +103,7 @@ pub(crate) fn judged(
     admission: &Admission,
     cycles: u32,
     offers: &[Offer],
-) -> Result<(Vec<Row>, Vec<Judgement>), Memory>
+) -> Result<(Vec<Row>, Vec<EdgeVerdict>), Memory>
     requires offers { AreOffers admission.now.domain offers.now }
     requires order { StandInOrder offers.now }
     requires few { length offers.now ≤ most_rows }
@@ -115,6 +114,6 @@ pub(crate) fn judged(
         return Err(AllocError);
     }
     let (_entries, rows) = admission.try_copy(alloc)?.into_parts()?;
-    let judgements = cover(alloc, admission.domain(), rows.as_slice(), offers)?;
-    Ok((rows, judgements))
+    let edge_verdicts = cover(alloc, admission.domain(), rows.as_slice(), offers)?;
+    Ok((rows, edge_verdicts))
 }

@@ -1,18 +1,17 @@
 //! The text of a small history's book, put while its starts are found, and worked out by hand.
 ghost use Rattle.std.specs.Prelude.{◌≡◌, ◌≤◌, length};
 ghost use Rattle.cqf_model.specs.Limits.{most_rows};
-ghost use Rattle.cqf_laws_report.specs.Judged.{StandInOrder};
+ghost use Rattle.cqf_laws_coverage.specs.Judged.{StandInOrder};
 ghost use Rattle.cqf_model.specs.Run.{AreOffers};
 
 use crate::administrations::{administered, judged};
 use cqf_admission::Admission;
 use cqf_instants::Pass;
-use cqf_instants_layout::pass_of_history;
-use cqf_laws_report::offers_stand_in_order;
+use cqf_instants_run::pass_of_history;
 use cqf_model::{Dropped, Offer, Reason, Started};
-use cqf_program_press::{Press, Sheet, Told};
-use cqf_program_telling::ExactBook;
-use cqf_report::read_offers;
+use cqf_press::{Press, Sheet, Told};
+use cqf_program_scenario::ExactBook;
+use cqf_report::{offers_are_read_in_order, read_offers};
 use cqf_test_fixtures::fork;
 use cqf_topology::Domain;
 use cqf_units::{Cycle, Nanos};
@@ -76,11 +75,11 @@ fn tells(alloc: Global, admission: &Admission, offers: &[Offer], cycles: u32, wa
         return false;
     };
     let rows = granted.as_slice();
-    let judgements = covered.as_slice();
+    let edge_verdicts = covered.as_slice();
     let Ok(sheet) = Sheet::new(alloc) else {
         return false;
     };
-    match pass_of_history(alloc, domain, cycles, rows, offers, judgements) {
+    match pass_of_history(alloc, domain, cycles, rows, offers, edge_verdicts) {
         Ok(pass) => told_of(alloc, domain, pass, sheet).as_slice() == wanted,
         Err(_) => false,
     }
@@ -88,7 +87,7 @@ fn tells(alloc: Global, admission: &Admission, offers: &[Offer], cycles: u32, wa
 
 /// Whether the book of the stream's history has its text.
 fn comes_out(alloc: Global, domain: &Domain) -> bool {
-    offers_stand_in_order();
+    offers_are_read_in_order();
     let Some(made) = administered(alloc, domain, STREAM, "0 admit x\n", 4) else {
         return false;
     };

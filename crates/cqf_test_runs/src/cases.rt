@@ -1,14 +1,13 @@
 //! Runs of small histories, and whether they come out as worked out by hand.
 ghost use Rattle.std.specs.Prelude.{◌≤◌, length};
 ghost use Rattle.cqf_model.specs.Limits.{most_rows};
-ghost use Rattle.cqf_laws_report.specs.Judged.{StandInOrder};
+ghost use Rattle.cqf_laws_coverage.specs.Judged.{StandInOrder};
 ghost use Rattle.cqf_model.specs.Run.{AreOffers};
 
 use crate::administrations::{Administration, administered};
 use crate::ways::{Wanted, agree};
-use cqf_laws_report::offers_stand_in_order;
 use cqf_model::{Background, MOST_ROWS, Offer};
-use cqf_report::read_offers;
+use cqf_report::{offers_are_read_in_order, read_offers};
 use cqf_test_fixtures::{Backing, are_background, background_of};
 use cqf_topology::Domain;
 use std::alloc::Global;
@@ -48,7 +47,7 @@ fn comes_out_with(
 
 /// Whether a case comes out so.
 fn comes_out(alloc: Global, domain: &Domain, case: &Case) -> bool {
-    offers_stand_in_order();
+    offers_are_read_in_order();
     let Ok(background) = background_of(alloc, case.background) else {
         return false;
     };

@@ -1,15 +1,13 @@
 //! The book of a run by both ways: by exact instants, and by bridges with ports and gates.
 ghost use Rattle.std.specs.Prelude.{◌≤◌, length};
 ghost use Rattle.cqf_model.specs.Limits.{most_rows};
-ghost use Rattle.cqf_laws_report.specs.Judged.{StandInOrder};
+ghost use Rattle.cqf_laws_coverage.specs.Judged.{StandInOrder};
 ghost use Rattle.cqf_model.specs.Run.{AreBackground, AreOffers};
 
 use crate::administrations::{Administration, judged};
 use cqf_admission::Admission;
 use cqf_compile::compile;
-use cqf_instants_background::background_of_history;
-use cqf_instants_drops::{book_of_parts, drops_of};
-use cqf_instants_layout::starts_of_history;
+use cqf_instants_run::{background_of_history, book_of_parts, drops_of, starts_of_history};
 use cqf_model::{Background, Book, Offer, Started};
 use cqf_plain::run;
 use cqf_test_fixtures::{Begun, Fell, are_begun, are_dropped};
@@ -86,11 +84,11 @@ fn exact_book(
     let domain = admission.domain();
     let (granted, covered) = judged(alloc, admission, cycles, offers)?;
     let rows = granted.as_slice();
-    let judgements = covered.as_slice();
-    let starts = starts_of_history(alloc, domain, cycles, rows, offers, judgements)?;
+    let edge_verdicts = covered.as_slice();
+    let starts = starts_of_history(alloc, domain, cycles, rows, offers, edge_verdicts)?;
     let starting = starts.as_slice();
     let backed = background_of_history(alloc, domain, cycles, starting, background)?;
-    let drops = drops_of(alloc, domain, cycles, offers, judgements)?;
+    let drops = drops_of(alloc, domain, cycles, offers, edge_verdicts)?;
     Ok(book_of_parts(starts, backed, drops))
 }
 

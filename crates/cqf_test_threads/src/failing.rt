@@ -7,10 +7,8 @@ use cqf_admission::{Admission, Table};
 use cqf_model::Offer;
 use cqf_test_fixtures::{Asked, Offering, are_offers, line, offers_of, request};
 use cqf_topology::Domain;
-use cqf_worker_loops::{Carried, Free, Worker};
-use cqf_worker_pipe::PipeIn;
-use cqf_worker_threads::{ConductFault, Faults, join_workers, start_workers};
-use cqf_worker_wires::{Laid, lay};
+use cqf_worker::{ConductFault, Faults, Laid, join_workers, lay, start_workers};
+use cqf_worker_loops::{Carried, Free, PipeIn, Worker};
 use std::alloc::Global;
 use std::collections::VecDeque;
 use std::sync::Wait;
@@ -190,7 +188,7 @@ fn ends_on<R: Threads + Wait + Sync>(
     requires offers { AreOffers domain.now offers.now }
     requires few_offers { length offers.now ≤ 1000000 }
 {
-    match lay(alloc, domain, offers, &[], CYCLES) {
+    match lay(alloc, domain, offers, CYCLES) {
         Ok(
             Laid {
                 workers,

@@ -1,6 +1,6 @@
 //! What a fault of a run prints as.
 use cqf_bridge::BridgeFault;
-use cqf_worker_threads::ConductFault;
+use cqf_worker::ConductFault;
 use std::alloc::Global;
 
 /// Faults, and their texts.

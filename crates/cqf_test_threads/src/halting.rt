@@ -2,8 +2,7 @@
 
 use cqf_admission::Table;
 use cqf_units::Memory;
-use cqf_worker_loops::{Carried, LinkEnd, stop_each, stop_tables};
-use cqf_worker_pipe::{PipeOut, pipe};
+use cqf_worker_loops::{Carried, LinkEnd, PipeOut, pipe, stop_each, stop_tables};
 use std::alloc::Global;
 use std::sync::Wait;
 

@@ -1,7 +1,7 @@
 //! Pipes, with values by hand.
 ghost use Rattle.std.specs.Prelude.{◌≡◌, ◌≤◌, length};
 
-use cqf_worker_pipe::{PipeIn, PipeOut, pipe};
+use cqf_worker_loops::{PipeIn, PipeOut, pipe};
 use std::alloc::Global;
 use std::collections::VecDeque;
 use std::sync::Wait;

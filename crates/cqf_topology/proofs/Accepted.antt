@@ -17,11 +17,11 @@ use Rattle.cqf_model.specs.declared.topology.Node.TheVariants.{Bridge, Station}
 use Rattle.cqf_model.specs.Domain.{Domain, IsNode, node_or, same_node}
 use Rattle.cqf_model.specs.Limits.{bridges_within, links_within, stations_within}
 use Rattle.cqf_topology.specs.declared.draft.DraftLink.{DraftLink}
-use Rattle.cqf_topology_fields.specs.declared.keys.Key.TheVariants.{Cycle, Guard, Bridges, Stations, Links}
+use Rattle.cqf_topology.specs.declared.keys.Key.TheVariants.{Cycle, Guard, Bridges, Stations, Links}
 use Rattle.cqf_topology.specs.declared.faults.DomainFault.{DomainFault}
 use Rattle.cqf_topology.specs.declared.faults.DomainFault.TheVariants as fault
 use Rattle.cqf_lists.specs.Results.{and_then, refuse}
-use Rattle.cqf_topology_fields.specs.Fields.{and_first, read_at, whole_document, tables_of_key, number_from, names_at}
+use Rattle.cqf_topology.specs.Fields.{and_first, read_at, whole_document, tables_of_key, number_from, names_at}
 use Rattle.cqf_topology.specs.DomainText.{DomainText, IsReadable, HasNames, IsNumberedDomain, IsDomain, NoLinkTwice, is_among, first_taken, place_of, apart}
 use Rattle.cqf_topology.specs.DomainText.{joined, first_long_delay, first_long_gap, if_some, link_read, link_keys, domain_keys, domain_from, read_text, checked}
 use Rattle.cqf_topology.specs.DomainText.{joined_link, with_links}

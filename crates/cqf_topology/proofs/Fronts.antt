@@ -2,7 +2,7 @@
 use Rattle.std.proofs.Common.{◌≡◌, ◌<◌, ◌≤◌, ◌+◌, ℕ, suc, List, [], ◌∷◌, ◌++◌, Result, Ok, Err, length, get_or, drop}
 use Rattle.std.proofs.Common.{map, take, drop-cons, add-one, append_assoc, refl, ap, sym, ◌∙◌}
 use Rattle.std.proofs.lemmas.List.{append-nil, drop_all, map-append, take_more}
-use Rattle.cqf_topology_fields.specs.Fields.{and_first}
+use Rattle.cqf_topology.specs.Fields.{and_first}
 use Rattle.cqf_topology.specs.DomainText.{with_front}
 
 -- what is read behind one element more is read behind the others with this one in front

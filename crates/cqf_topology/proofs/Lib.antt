@@ -1,3 +1,4 @@
+pub mod Arrays
 pub mod HeldEnds
 mod LinkEnds
 pub mod FirstNamed

@@ -8,10 +8,10 @@ use Rattle.std.proofs.lemmas.Bool.Decides.{nat_tests}
 use Rattle.std.proofs.lemmas.List.Elements.{All-cons, All-nil}
 use Rattle.toml.specs.Data.{Data, Items, no_items, item, Members, as_integer, as_array, as_str}
 use Rattle.cqf_units.specs.Name.{is_name}
-use Rattle.cqf_topology_fields.specs.declared.keys.Key.{Key}
-use Rattle.cqf_topology_fields.specs.declared.faults.TomlFault.TheVariants.{BadValue}
+use Rattle.cqf_topology.specs.declared.keys.Key.{Key}
+use Rattle.cqf_topology.specs.declared.toml_faults.TomlFault.TheVariants.{BadValue}
 use Rattle.cqf_lists.specs.Results.{and_then, refuse}
-use Rattle.cqf_topology_fields.specs.Fields.{Gives, and_first, value_at, read_at, each_from, within_range, number_from, if_name, name_from, names_at}
+use Rattle.cqf_topology.specs.Fields.{Gives, and_first, value_at, read_at, each_from, within_range, number_from, if_name, name_from, names_at}
 use Rattle.cqf_topology.specs.DomainText.{if_some}
 
 -- two steps that went well

@@ -1,7 +1,7 @@
 -- The texts of the faults of domain texts (profile): a fault's name, and then its value, after a space: a key and a name as
 -- they are, a link by its number.
 use Rattle.std.specs.Prelude.{ℕ, ◌++◌, List, codes, decimal}
-use Rattle.cqf_topology_fields.specs.Fields.{key_text}
+use Rattle.cqf_topology.specs.Fields.{key_text}
 use Rattle.cqf_topology.specs.declared.faults.DomainFault.{DomainFault}
 use Rattle.cqf_topology.specs.declared.faults.DomainFault.TheVariants as domain_fault
 

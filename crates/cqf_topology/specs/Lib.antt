@@ -1,6 +1,9 @@
+pub mod Fields
+pub mod TomlFaults
 pub mod DomainText
 pub mod JoinedLink
 pub mod Names
+pub mod NodeNames
 pub mod Links
 pub mod StreamsText
 pub mod PacedText

@@ -2,9 +2,9 @@
 use Rattle.std.specs.Prelude.{ℕ, List, map, Result, Ok, string_bytes}
 use Rattle.toml.specs.Data.{as_str, Members}
 use Rattle.cqf_lists.specs.Results.{and_then}
-use Rattle.cqf_topology_fields.specs.declared.keys.Key.TheVariants.{Streams, Name, Octets, Every, Phase}
-use Rattle.cqf_topology_fields.specs.declared.faults.TomlFault.{TomlFault}
-use Rattle.cqf_topology_fields.specs.Fields.{whole_document, read_at, tables_of_key, number_from, number_or}
+use Rattle.cqf_topology.specs.declared.keys.Key.TheVariants.{Streams, Name, Octets, Every, Phase}
+use Rattle.cqf_topology.specs.declared.toml_faults.TomlFault.{TomlFault}
+use Rattle.cqf_topology.specs.Fields.{whole_document, read_at, tables_of_key, number_from, number_or}
 use Rattle.cqf_topology.specs.declared.paced.PacedRequest.{PacedRequest}
 use Rattle.cqf_topology.specs.StreamsText.{RequestText, branches_from, streams_keys, stream_keys}
 

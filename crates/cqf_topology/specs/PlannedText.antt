@@ -2,9 +2,9 @@
 use Rattle.std.specs.Prelude.{ℕ, List, Option, Some, None, Result, Ok}
 use Rattle.toml.specs.Data.{Data, Members}
 use Rattle.cqf_lists.specs.Results.{and_then}
-use Rattle.cqf_topology_fields.specs.declared.keys.Key.TheVariants.{Streams, Deadline}
-use Rattle.cqf_topology_fields.specs.declared.faults.TomlFault.{TomlFault}
-use Rattle.cqf_topology_fields.specs.Fields.{value_at, whole_document, read_at, tables_of_key, number_from}
+use Rattle.cqf_topology.specs.declared.keys.Key.TheVariants.{Streams, Deadline}
+use Rattle.cqf_topology.specs.declared.toml_faults.TomlFault.{TomlFault}
+use Rattle.cqf_topology.specs.Fields.{value_at, whole_document, read_at, tables_of_key, number_from}
 use Rattle.cqf_topology.specs.declared.planned.Planned.{Planned}
 use Rattle.cqf_topology.specs.PacedText.{PacedText, paced_from, paced_text}
 use Rattle.cqf_topology.specs.StreamsText.{streams_keys, stream_keys}

@@ -1,13 +1,13 @@
 -- The streams that a text asks for, or the first fault of the text (profile).
 use Rattle.std.specs.Prelude.{ℕ, List, [], ◌∷◌, map, Option, Some, None, Result, Ok, Err, string_bytes}
 use Rattle.toml.specs.Data.{Data, as_str, Members}
-use Rattle.cqf_topology_fields.specs.declared.keys.Key.{Key}
-use Rattle.cqf_topology_fields.specs.declared.keys.Key.TheVariants.{Streams, Name, Octets, Path, Paths}
-use Rattle.cqf_topology_fields.specs.declared.faults.TomlFault.{TomlFault}
-use Rattle.cqf_topology_fields.specs.declared.faults.TomlFault.TheVariants.{BadValue}
+use Rattle.cqf_topology.specs.declared.keys.Key.{Key}
+use Rattle.cqf_topology.specs.declared.keys.Key.TheVariants.{Streams, Name, Octets, Path, Paths}
+use Rattle.cqf_topology.specs.declared.toml_faults.TomlFault.{TomlFault}
+use Rattle.cqf_topology.specs.declared.toml_faults.TomlFault.TheVariants.{BadValue}
 use Rattle.cqf_topology.specs.declared.streams.Request.{Request}
 use Rattle.cqf_lists.specs.Results.{and_then}
-use Rattle.cqf_topology_fields.specs.Fields.{value_at, whole_document, read_at, tables_of_key, number_from, texts_at, text_lists_at}
+use Rattle.cqf_topology.specs.Fields.{value_at, whole_document, read_at, tables_of_key, number_from, texts_at, text_lists_at}
 
 -- the keys of a streams text, and those of each stream, in reading order; `paths` may stand in place of `path`
 abbrev pub streams_keys : List Key

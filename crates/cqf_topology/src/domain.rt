@@ -1,7 +1,7 @@
 //! A domain of bridges and stations.
 ghost use Rattle.std.specs.Prelude.{◌≡◌, ◌<◌, length, slice_get, Some, IfOk};
 ghost use Rattle.cqf_model.specs.Domain.{IsAccepted, node_named, link_between};
-ghost use Rattle.cqf_topology_fields.specs.Fields.{Gives};
+ghost use Rattle.cqf_topology.specs.Fields.{Gives};
 ghost use Rattle.cqf_topology.specs.DomainText.{IsDomain, IsOnlyLink, IsReadable, HasBridges, HasNames, IsNumberedDomain};
 ghost use Rattle.cqf_topology.specs.DomainText.{with_links, with_these, checked, domain_of_text, domain_within, domain_with};
 

@@ -1,15 +1,15 @@
 //! What a domain text says, before it is asked whether a network can be like that.
-ghost use Rattle.std.specs.Prelude.{◌≡◌, ◌++◌, ◌∷◌, [], OnOk, IsOkUnless, option_and_then, ok_or};
+ghost use Rattle.std.specs.Prelude.{◌≡◌, ◌++◌, ◌∷◌, [], OnOk, IsOkUnless, ok_or};
 ghost use Rattle.toml.specs.View.{view, table_view, items_view};
 ghost use Rattle.toml.specs.Data.{as_table};
 ghost use Rattle.cqf_lists.specs.Results.{and_then};
-ghost use Rattle.cqf_topology_fields.specs.Fields.{Gives, read_at, tables_of_key, tables_from, names_at};
+ghost use Rattle.cqf_topology.specs.Fields.{Gives, read_at, tables_of_key, tables_from, names_at};
 ghost use Rattle.cqf_topology.specs.DomainText.{rate_of, rate_from, link_read, if_some, with_front, domain_from, read_text};
 
-use cqf_model::{LONGEST_CYCLE, Limits};
-use cqf_topology_fields::{
+use crate::{
     Key, TomlFault, are_all_tables, array_at, name_at, names_at, number_at, read_document, value_at,
 };
+use cqf_model::{LONGEST_CYCLE, Limits};
 use cqf_units::{Name, Rate};
 use std::alloc::Global;
 use std::marker::Model;

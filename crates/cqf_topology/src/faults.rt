@@ -3,7 +3,7 @@ ghost use Rattle.std.specs.Prelude.{◌≡◌, Some};
 ghost use Rattle.cqf_topology.specs.Faults.{domain_fault_text};
 ghost use Rattle.cqf_topology.specs.DomainText.{domain_fault};
 
-use cqf_topology_fields::{Key, TomlFault};
+use crate::{Key, TomlFault};
 use cqf_units::{Memory, Name as NodeName};
 use std::alloc::AllocFailed;
 use std::fmt;

@@ -4,7 +4,7 @@ ghost use Rattle.std.specs.List.{list_any};
 ghost use Rattle.cqf_units.specs.Timing.{nanos_of_octet};
 ghost use Rattle.cqf_model.specs.Domain.{node_or};
 ghost use Rattle.cqf_lists.specs.Results.{refuse};
-ghost use Rattle.cqf_topology_fields.specs.Fields.{Gives};
+ghost use Rattle.cqf_topology.specs.Fields.{Gives};
 ghost use Rattle.cqf_topology.specs.DomainText.{is_among, first_taken, numbered_with, place_of, joined_link, joined};
 ghost use Rattle.cqf_topology.specs.DomainText.{first_twice, first_long_delay, first_long_gap};
 ghost use Rattle.cqf_topology.specs.JoinedLink.{node_of, ends_held, ends_of, are_same_ends, IsSmallNode, HasSmallEnds};

@@ -3,13 +3,14 @@ ghost use Rattle.std.specs.Prelude.{◌≡◌, map, ok_or, IfOk};
 ghost use Rattle.toml.specs.Data.{as_table};
 ghost use Rattle.toml.specs.View.{items_view, view, table_view};
 ghost use Rattle.cqf_lists.specs.Results.{and_then};
-ghost use Rattle.cqf_topology_fields.specs.Fields.{Gives, tables_of_key, tables_from};
+ghost use Rattle.cqf_topology.specs.Fields.{Gives, tables_of_key, tables_from};
 ghost use Rattle.cqf_topology.specs.PacedText.{in_each_cycle, paced_from, paced_of_text, paced_text};
 ghost use Rattle.cqf_topology.specs.StreamsText.{request_text};
 
 use crate::streams::{KEYS, Request, STREAM_KEYS, branches_of, copied_paths};
-use crate::{Key, StreamsFault};
-use cqf_topology_fields::{are_all_tables, array_at, number_at, number_or, read_document, text_at};
+use crate::{
+    Key, StreamsFault, are_all_tables, array_at, number_at, number_or, read_document, text_at,
+};
 use cqf_units::Memory;
 use std::alloc::Global;
 use toml::{Table, Value};

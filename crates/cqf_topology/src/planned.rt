@@ -1,15 +1,14 @@
 //! Streams with the deadlines that a planner gives them.
-ghost use Rattle.std.specs.Prelude.{◌≡◌, map, ok_or, IfOk};
+ghost use Rattle.std.specs.Prelude.{◌≡◌, map, ok_or};
 ghost use Rattle.toml.specs.Data.{as_table};
 ghost use Rattle.toml.specs.View.{items_view, view, table_view};
 ghost use Rattle.cqf_lists.specs.Results.{and_then};
-ghost use Rattle.cqf_topology_fields.specs.Fields.{Gives, tables_of_key, tables_from};
+ghost use Rattle.cqf_topology.specs.Fields.{Gives, tables_of_key, tables_from};
 ghost use Rattle.cqf_topology.specs.PlannedText.{deadline_from, planned_from, planned_of_text, planned_text};
 
 use crate::paced::{PacedRequest, read_paced};
 use crate::streams::{KEYS, STREAM_KEYS};
-use crate::{Key, StreamsFault};
-use cqf_topology_fields::{are_all_tables, array_at, number_at, read_document, value_at};
+use crate::{Key, StreamsFault, are_all_tables, array_at, number_at, read_document, value_at};
 use std::alloc::Global;
 use toml::{Table, Value};
 

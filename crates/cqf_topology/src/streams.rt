@@ -3,12 +3,12 @@ ghost use Rattle.std.specs.Prelude.{◌≡◌, ◌∷◌, [], map, ok_or, string
 ghost use Rattle.toml.specs.Data.{as_str, as_table};
 ghost use Rattle.toml.specs.View.{items_view, view, table_view};
 ghost use Rattle.cqf_lists.specs.Results.{and_then};
-ghost use Rattle.cqf_topology_fields.specs.Fields.{Gives, read_at, tables_of_key, tables_from};
+ghost use Rattle.cqf_topology.specs.Fields.{Gives, tables_of_key, tables_from};
 ghost use Rattle.cqf_topology.specs.StreamsText.{branches_from, request_from, request_text, streams_of_text};
 
-use crate::{Key, StreamsFault};
-use cqf_topology_fields::{
-    are_all_tables, array_at, number_at, read_document, text_at, text_lists_at, texts_at, value_at,
+use crate::{
+    Key, StreamsFault, are_all_tables, array_at, number_at, read_document, text_at, text_lists_at,
+    texts_at, value_at,
 };
 use cqf_units::Memory;
 use std::alloc::Global;

@@ -1,0 +1,3 @@
+mod Arranging
+mod Keeping
+mod Putting

@@ -1,14 +1,14 @@
 -- The streams that a text asks for with their deadlines and traffic, or the first fault of the text (profile).
-use Rattle.std.specs.Prelude.{ℕ, ◌++◌, List, [], Option, Some, None, Result, Ok, Err, codes, if◌then◌else◌, ok_or, option_map, option_and_then}
+use Rattle.std.specs.Prelude.{ℕ, ◌++◌, List, [], Option, None, Result, Ok, Err, codes, if◌then◌else◌, ok_or, option_map, option_and_then}
 use Rattle.std.specs.Option.{option_or}
 use Rattle.std.specs.Result.{result_map_both}
-use Rattle.toml.specs.Data.{Data, Items, no_items, item, Members, as_array, as_table}
+use Rattle.toml.specs.Data.{Items, no_items, item, Members, as_array, as_table}
 use Rattle.cqf_lists.specs.Results.{and_then, refuse}
-use Rattle.cqf_topology_fields.specs.declared.keys.Key.TheVariants as key
-use Rattle.cqf_topology_fields.specs.declared.faults.TomlFault.{TomlFault}
-use Rattle.cqf_topology_fields.specs.declared.faults.TomlFault.TheVariants as toml_fault
-use Rattle.cqf_topology_fields.specs.Fields.{are_tables, each_from, first_absent, read_at, value_at, whole_document}
-use Rattle.cqf_topology_fields.specs.Faults.{toml_fault_text}
+use Rattle.cqf_topology.specs.declared.keys.Key.TheVariants as key
+use Rattle.cqf_topology.specs.declared.toml_faults.TomlFault.{TomlFault}
+use Rattle.cqf_topology.specs.declared.toml_faults.TomlFault.TheVariants as toml_fault
+use Rattle.cqf_topology.specs.Fields.{are_tables, each_from, first_absent, read_at, value_at, whole_document}
+use Rattle.cqf_topology.specs.TomlFaults.{toml_fault_text}
 use Rattle.cqf_topology.specs.PlannedText.{PlannedText, planned_from, planned_text}
 use Rattle.cqf_topology.specs.StreamsText.{stream_keys, streams_keys}
 use Rattle.cqf_traffic.specs.declared.faults.FlowsFault.{FlowsFault}

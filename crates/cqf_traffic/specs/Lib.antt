@@ -1,3 +1,5 @@
 pub mod Keys
 pub mod TrafficText
 pub mod FlowsText
+pub mod Offering
+pub mod Conforming

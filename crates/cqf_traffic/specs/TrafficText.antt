@@ -1,10 +1,10 @@
 -- The traffic of a stream's table (profile): what its talker promises, and when its offers begin.
-use Rattle.std.specs.Prelude.{ℕ, ◌≤◌, ◌&&◌, Bool, List, Option, Some, None, Result, Ok, is_none, is_some, find, if◌then◌else◌, ok_or}
+use Rattle.std.specs.Prelude.{ℕ, ◌≤◌, ◌&&◌, Bool, Option, Some, None, Result, Ok, is_none, is_some, find, if◌then◌else◌, ok_or}
 use Rattle.std.specs.List.{list_any}
 use Rattle.toml.specs.Data.{Data, Members, get_member}
 use Rattle.cqf_lists.specs.Results.{and_then}
-use Rattle.cqf_topology_fields.specs.Fields.{number_from}
-use Rattle.cqf_laws_traffic.specs.Traffic.{Traffic}
+use Rattle.cqf_topology.specs.Fields.{number_from}
+use Rattle.cqf_laws_timing.specs.Traffic.{Traffic}
 use Rattle.cqf_traffic.specs.declared.keys.TrafficKey.{TrafficKey}
 use Rattle.cqf_traffic.specs.declared.keys.TrafficKey.TheVariants.{Interval, Frames, Size, Jitter, Offset}
 use Rattle.cqf_traffic.specs.Keys.{default_of, key_text, least_of, most_of, traffic_keys}

@@ -38,7 +38,7 @@ impl fmt::Display for FlowsFault {
 
 /// Want of memory, as a fault.
 impl From<Memory> for FlowsFault {
-    ghost use Rattle.cqf_topology_fields.specs.declared.faults.TomlFault.TheVariants as toml;
+    ghost use Rattle.cqf_topology.specs.declared.toml_faults.TomlFault.TheVariants as toml;
     ghost use Rattle.cqf_traffic.specs.declared.faults.FlowsFault.TheVariants as variant;
 
     ghost from_gives = { λ _ fault. fault ≡ variant.Streams toml.Memory };
@@ -50,7 +50,7 @@ impl From<Memory> for FlowsFault {
 
 /// Want of room for a value, likewise.
 impl<T: Drop> From<AllocFailed<T>> for FlowsFault {
-    ghost use Rattle.cqf_topology_fields.specs.declared.faults.TomlFault.TheVariants as toml;
+    ghost use Rattle.cqf_topology.specs.declared.toml_faults.TomlFault.TheVariants as toml;
     ghost use Rattle.cqf_traffic.specs.declared.faults.FlowsFault.TheVariants as variant;
 
     ghost from_gives = { λ _ fault. fault ≡ variant.Streams toml.Memory };

@@ -3,15 +3,16 @@ ghost use Rattle.std.specs.Prelude.{◌≡◌, [], map, ok_or, option_and_then};
 ghost use Rattle.toml.specs.Data.{as_table};
 ghost use Rattle.toml.specs.View.{items_view, table_view, view};
 ghost use Rattle.cqf_lists.specs.Results.{and_then};
-ghost use Rattle.cqf_topology_fields.specs.Fields.{Gives, first_absent, whole_document};
-ghost use Rattle.cqf_topology.specs.StreamsText.{stream_keys, streams_keys};
+ghost use Rattle.cqf_topology.specs.Fields.{Gives, first_absent};
+ghost use Rattle.cqf_topology.specs.StreamsText.{stream_keys};
 ghost use Rattle.cqf_traffic.specs.FlowsText.{first_lack, first_lack_of, first_lack_within, flow_from, flow_text, flows_from, flows_in};
-ghost use Rattle.cqf_traffic.specs.FlowsText.{flows_of_array, flows_of_text, traffic_or};
+ghost use Rattle.cqf_traffic.specs.FlowsText.{flows_of_text, traffic_or};
 
 use crate::traffic::{Traffic, traffic_of};
 use crate::{FlowsFault, first_owed};
-use cqf_topology::{Key, Planned, StreamsFault, read_planned};
-use cqf_topology_fields::{are_all_tables, array_at, read_document, value_at};
+use cqf_topology::{
+    Key, Planned, StreamsFault, are_all_tables, array_at, read_document, read_planned, value_at,
+};
 use std::alloc::Global;
 use toml::{Table, Value};
 

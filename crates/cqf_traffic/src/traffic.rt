@@ -1,8 +1,8 @@
 //! A talker's promise, as its stream's table has it.
 ghost use Rattle.std.specs.Prelude.{◌≡◌, ◌≤◌, option_map};
 ghost use Rattle.toml.specs.View.{table_view, view};
-ghost use Rattle.cqf_laws_traffic.specs.Traffic.{intervals_in, needed};
-ghost use Rattle.cqf_topology_fields.specs.Fields.{number_from};
+ghost use Rattle.cqf_laws_timing.specs.Traffic.{intervals_in, needed};
+ghost use Rattle.cqf_topology.specs.Fields.{number_from};
 ghost use Rattle.cqf_traffic.specs.TrafficText.{has_traffic, number_at, numbers_from, promise_of, traffic_from, value_at};
 ghost use Rattle.cqf_traffic.specs.Keys.{least_of, most_of};
 
@@ -37,6 +37,14 @@ impl Model for Traffic {
 
 impl Traffic {
     ghost use Rattle.cqf_traffic.specs.TrafficText.{IsTrafficText};
+
+    /// Does nothing, and makes known to a proof what was seen to when the traffic was read: each number is in its range.
+    pub fn know(self)
+        ensures range { IsTrafficText self }
+    {
+        // a use of a field: with it the invariant is known
+        let _ = self.interval;
+    }
 
     /// How long an interval is, from 1 to 1,000,000,000 ns.
     pub fn interval(self) -> Nanos

@@ -26,22 +26,22 @@ use Rattle.cqf_laws_account.specs.Seated.{AreSeated, ClosesItsCycles, ConductorH
 use Rattle.cqf_laws_network.specs.NetworkLaws.{LegalNetworkExists}
 use Rattle.cqf_laws_shift.specs.BookOfHistory.{BookOfHistorySaysTheShift}
 use Rattle.cqf_laws_shift.specs.Run.{IsLegalRun}
-use Rattle.cqf_laws_flow.specs.Following.{TablesMayCome}
-use Rattle.cqf_laws_flow.specs.Taped.{BackedTapesAreTheBooks, HaveTheStreams, StationsKeepTheTapes}
-use Rattle.cqf_instants_background.specs.Taping.{BacksTheTapes, SomeTapedRun}
+use Rattle.cqf_laws_relay.specs.Following.{TablesMayCome}
+use Rattle.cqf_laws_relay.specs.Taped.{BackedTapesAreTheBooks, HaveTheStreams, RelaysKeepTheTapes}
+use Rattle.cqf_instants_run.specs.Taping.{BacksTheTapes, SomeTapedRun}
 use Rattle.cqf_worker.specs.declared.account.Account.{Account}
-use Rattle.cqf_worker.specs.declared.account.PagedAccount.{PagedAccount}
+use Rattle.cqf_worker.specs.declared.account.TapedAccount.{TapedAccount}
 use Rattle.cqf_worker_loops.specs.declared.carried.Carried.TheVariants.{Item}
-use Rattle.cqf_worker.specs.declared.conducting.Prepared.{Prepared}
-use Rattle.cqf_worker_threads.specs.declared.threads.Administrator.{Administrator}
-use Rattle.cqf_worker_threads.specs.declared.threads.Ended.{Ended}
-use Rattle.cqf_worker.specs.Account.{IsAccount, IsPagedAccount, IsOutcomeOf, all_asked, entries_of}
-use Rattle.cqf_worker_wires.specs.Closing.{reel_at}
+use Rattle.cqf_worker.specs.declared.conducting.PreparedRun.{PreparedRun}
+use Rattle.cqf_worker.specs.declared.threads.Administrator.{Administrator}
+use Rattle.cqf_worker.specs.declared.threads.EndedRun.{EndedRun}
+use Rattle.cqf_worker.specs.Account.{IsAccount, IsOutcomeOf, IsTapedAccount, all_asked, entries_of}
+use Rattle.cqf_worker.specs.Closing.{reel_at}
 use Rattle.cqf_worker.specs.Conducting.{IsPrepared, IsSettled, all_seats, seat_of}
 use Rattle.cqf_worker_loops.specs.Handing.{TableEnd}
-use Rattle.cqf_worker_wires.specs.Laying.{traffic_of}
-use Rattle.cqf_worker_threads.specs.Running.{IsEnded, IsReadyWorker}
-use Rattle.cqf_worker_wires.specs.Wires.{AreWired, Wiring, pipe_of_tables, tables_pipe}
+use Rattle.cqf_worker.specs.Laying.{traffic_of}
+use Rattle.cqf_worker.specs.Running.{IsEnded, IsReadyWorker}
+use Rattle.cqf_worker.specs.Wires.{AreWired, Wiring, pipe_of_tables, tables_pipe}
 use Rattle.cqf_worker.proofs.Apart.{still_reels, still_tables, still_wired}
 use Rattle.cqf_worker.proofs.Come.{HaveRun, all_come, all_sends, have_gone}
 use Rattle.cqf_worker.proofs.Taped.{book_on_tapes, have_taped, legal_run, some_taped}
@@ -59,7 +59,7 @@ no_calls_yet count administrators seats place a below =
     ap (λ (s : Sitting). s.calls) its
 
 module _ (d : Domain) (opening : List Recorded) (offers : List Offer) (background : List Background) (cycles : ℕ) (admins : List (List Command))
-    (p : Prepared) (is : IsPrepared d opening offers background cycles admins p) where
+    (p : PreparedRun) (is : IsPrepared d opening offers cycles admins p) where
   -- what is prepared is ready
   pub is_ready : cycles ≤ 100000 → IsReadyWorker cycles p.ready
   is_ready few = record {
@@ -71,7 +71,7 @@ module _ (d : Domain) (opening : List Recorded) (offers : List Offer) (backgroun
     nothing_put = is.laid.nothing_put;
   }
 
-  module _ (e : Ended) (ended : IsEnded cycles p.ready e) where
+  module _ (e : EndedRun) (ended : IsEnded cycles p.ready e) where
     -- each end is still of the pipe on its link
     pub wired_in_the_end : (wiring : Wiring) × AreWired wiring e.workers.items
     wired_in_the_end = still_wired cycles p.ready.workers.items e.workers.items ended.worked is.laid.wired
@@ -83,7 +83,7 @@ module _ (d : Domain) (opening : List Recorded) (offers : List Offer) (backgroun
     -- and the reels are of the bridges
     pub reels_in_the_end : AreReelsOf d (map reel_at e.workers.items)
     reels_in_the_end =
-        still_reels (traffic_of d offers background) cycles p.ready.workers.items e.workers.items is.laid.workers is.laid.many ended.worked
+        still_reels (traffic_of d offers) cycles p.ready.workers.items e.workers.items is.laid.workers is.laid.many ended.worked
 
     -- the seats in the end, of which the conductor's is the sealing one
     pub seated_so : (s : AreSeated (all_asked admins) cycles (all_seats e)) × (s.conductor ≡ e.sealed.seat)
@@ -91,7 +91,7 @@ module _ (d : Domain) (opening : List Recorded) (offers : List Offer) (backgroun
         are_seated admins p.ready.administrators.items p.ready.conductor e.seats.items e.sealed.seat cycles p.ready.tables.items e.sealed.tables.items
         is.seated ended.called ended.sealed
 
-    module _ (account : PagedAccount) (settled : IsSettled d p.desk e account) where
+    module _ (account : TapedAccount) (settled : IsSettled d p.desk e account) where
       -- the history is of the seats, as many as were asked and one more
       of_seats : IsOfSeats opening d (length (all_asked admins) + 1) (all_seats e) (entries_of account.history)
       of_seats =
@@ -117,7 +117,7 @@ module _ (d : Domain) (opening : List Recorded) (offers : List Offer) (backgroun
 
       module _ (accepted : IsAccepted d) (unsealed : seals opening ≡ 0) (good_offers : AreOffers d offers) (few_offers : length offers ≤ 16777215)
           (good_background : AreBackground d background) (seats : SeatsGiveTheHistory) (has_tables : ConductorHasTheTables)
-          (exists : LegalNetworkExists) (come : TablesMayCome) (keep : StationsKeepTheTapes) where
+          (exists : LegalNetworkExists) (come : TablesMayCome) (keep : RelaysKeepTheTapes) where
         abbrev entries : List Recorded
         entries = entries_of account.history
 
@@ -131,7 +131,7 @@ module _ (d : Domain) (opening : List Recorded) (offers : List Offer) (backgroun
         all_sealed = omega (arith, closes.sealed)
 
         -- what its workers have done
-        have_run : HaveRun (traffic_of d offers background) entries cycles p.ready.workers.items e.workers.items e.sealed.tables.items
+        have_run : HaveRun (traffic_of d offers) entries cycles p.ready.workers.items e.workers.items e.sealed.tables.items
         have_run = record {
           accepted = accepted;
           may_come = come d entries cycles history.legal all_sealed;
@@ -149,26 +149,26 @@ module _ (d : Domain) (opening : List Recorded) (offers : List Offer) (backgroun
         its_net = legal_run d entries offers background cycles exists come accepted history.legal all_sealed good_offers good_background
 
         -- and its tapes have what the streams send
-        streams : HaveTheStreams (run_of_history d entries offers background cycles) its_net.0 account.pages
+        streams : HaveTheStreams (run_of_history d entries offers background cycles) its_net.0 account.tapes
         streams =
             keep (run_of_history d entries offers background cycles) its_net.0
-            (all_sends (traffic_of d offers background) entries cycles p.ready.workers.items e.workers.items e.sealed.tables.items have_run)
-            (all_come (traffic_of d offers background) entries cycles p.ready.workers.items e.workers.items e.sealed.tables.items have_run)
-            (map reel_at e.workers.items) account.pages its_net.1 (omega (arith, few_offers))
-            (have_gone (traffic_of d offers background) entries cycles p.ready.workers.items e.workers.items e.sealed.tables.items have_run)
-            (have_taped (traffic_of d offers background) entries cycles p.ready.workers.items e.workers.items e.sealed.tables.items have_run)
+            (all_sends (traffic_of d offers) entries cycles p.ready.workers.items e.workers.items e.sealed.tables.items have_run)
+            (all_come (traffic_of d offers) entries cycles p.ready.workers.items e.workers.items e.sealed.tables.items have_run)
+            (map reel_at e.workers.items) account.tapes its_net.1 (omega (arith, few_offers))
+            (have_gone (traffic_of d offers) entries cycles p.ready.workers.items e.workers.items e.sealed.tables.items have_run background)
+            (have_taped (traffic_of d offers) entries cycles p.ready.workers.items e.workers.items e.sealed.tables.items have_run background)
             settled.gathered
 
         -- so they may take their background frames
-        pub may_back : cycles ≤ 100000 → SomeTapedRun d (cycles * d.cycle_time) background account.pages.links.items
-        may_back short = some_taped d entries offers background cycles its_net.0 its_net.1 account.pages streams short
+        pub may_back : cycles ≤ 100000 → SomeTapedRun d (cycles * d.cycle_time) background account.tapes.links.items
+        may_back short = some_taped d entries offers background cycles its_net.0 its_net.1 account.tapes streams short
 
         -- and with these the account is that of the run
-        pub account_is : cycles ≤ 100000 → BackedTapesAreTheBooks → BookOfHistorySaysTheShift → (pages : Tapes) → pages.drops ≡ account.pages.drops →
-            BacksTheTapes d (cycles * d.cycle_time) background account.pages.links.items pages.links.items →
-            IsPagedAccount d opening offers background cycles admins (record { history = account.history; pages = pages })
-        account_is short law promise pages same backs =
-            let has = book_on_tapes d entries offers background cycles its_net.0 its_net.1 account.pages streams short law all_sealed pages same backs in
+        pub account_is : cycles ≤ 100000 → BackedTapesAreTheBooks → BookOfHistorySaysTheShift → (tapes : Tapes) → tapes.drops ≡ account.tapes.drops →
+            BacksTheTapes d (cycles * d.cycle_time) background account.tapes.links.items tapes.links.items →
+            IsTapedAccount d opening offers background cycles admins (record { history = account.history; tapes = tapes })
+        account_is short law promise tapes same backs =
+            let has = book_on_tapes d entries offers background cycles its_net.0 its_net.1 account.tapes streams short law all_sealed tapes same backs in
             let is_account : IsAccountOf d opening offers background cycles (all_asked admins) entries has.0 = record {
               history = history;
               sealed = has.1.of_history.sealed;
@@ -178,14 +178,14 @@ module _ (d : Domain) (opening : List Recorded) (offers : List Offer) (backgroun
               book = has.0;
               run = record { opens = settled.history.opening ∙ ap (λ (desk : Counter). length desk.opening.entries) is.desk; is = is_account };
               some = has.1.some;
-              its_pages = has.1.tapes_of;
+              its_tapes = has.1.tapes_of;
             }
 
--- an account by pages, and the book that these tell, are an account
+-- an account by tapes, and the book that these tell, are an account
 pub told_account : (d : Domain) (opening : List Recorded) (offers : List Offer) (background : List Background) (cycles : ℕ)
-    (admins : List (List Command)) (paged : PagedAccount) (account : Account) → TapesTellTheBook → IsAccepted d →
-    IsPagedAccount d opening offers background cycles admins paged → account.history ≡ paged.history →
-    contents_of account.book ≡ told_from d cycles paged.pages → IsAccount d opening offers background cycles admins account
+    (admins : List (List Command)) (paged : TapedAccount) (account : Account) → TapesTellTheBook → IsAccepted d →
+    IsTapedAccount d opening offers background cycles admins paged → account.history ≡ paged.history →
+    contents_of account.book ≡ told_from d cycles paged.tapes → IsAccount d opening offers background cycles admins account
 told_account d opening offers background cycles admins paged account law accepted is same told =
     subst₂ (λ (history : History) (book : Contents). IsOutcomeOf d opening offers background cycles admins history book) (sym same)
-    ((law d cycles paged.pages is.book accepted is.some is.its_pages).told ∙ sym told) is.run
+    ((law d cycles paged.tapes is.book accepted is.some is.its_tapes).told ∙ sym told) is.run

@@ -10,16 +10,15 @@ use Rattle.cqf_lists.proofs.Members.{contains_at, contains_from_map, contains_ma
 use Rattle.cqf_tape.specs.declared.reel.Reel.{Reel}
 use Rattle.cqf_tape.specs.Reels.{AreReelsOf, links_leaving}
 use Rattle.cqf_tape.specs.Tapes.{links_of}
-use Rattle.cqf_laws_bridge.specs.Courses.{Traffic}
-use Rattle.cqf_flow.specs.declared.moving.Flow.{Flow}
-use Rattle.cqf_flow.specs.Standing.{links_into}
+use Rattle.cqf_relay.specs.declared.moving.Stretch.{Stretch}
+use Rattle.cqf_relay.specs.Standing.{links_into}
 use Rattle.cqf_worker_loops.specs.declared.carried.Carried.{Carried}
 use Rattle.cqf_worker_loops.specs.declared.worker.Worker.{Worker}
 use Rattle.cqf_worker_loops.specs.Rows.{wire_at, wires_of}
-use Rattle.cqf_worker_loops.specs.Workers.{FlowPort, HasGoneThrough, IsWorkerOf, Works, link_of, links_onward}
-use Rattle.cqf_worker_pipe.specs.PipeEnds.{PipeId}
-use Rattle.cqf_worker_wires.specs.Closing.{reel_at}
-use Rattle.cqf_worker_wires.specs.Wires.{AreOn, AreWired, AreWorkersOf, Wiring, tables_pipe}
+use Rattle.cqf_worker_loops.specs.Workers.{HasGoneThrough, IsWorkerOf, Offering, StretchPort, Works, link_of, links_onward}
+use Rattle.cqf_worker_loops.specs.PipeEnds.{PipeId}
+use Rattle.cqf_worker.specs.Closing.{reel_at}
+use Rattle.cqf_worker.specs.Wires.{AreOn, AreWired, AreWorkersOf, Wiring, tables_pipe}
 
 -- a value in front of those of later numbers
 abbrev ahead : {Y : Type 0} → Y → (ℕ → Y) → ℕ → Y
@@ -55,12 +54,12 @@ element_at xs k inside = elim (slice_get_cases xs k).1 [
 ]
 
 -- ports that keep their wires keep their links
-kept_links : (before after : List FlowPort) → wires_of after ≡ wires_of before → map link_of after ≡ map link_of before
+kept_links : (before after : List StretchPort) → wires_of after ≡ wires_of before → map link_of after ≡ map link_of before
 kept_links before after same =
     sym (map-map link wire_at after) ∙ ap (map link) same ∙ map-map link wire_at before
   where
     -- a wire's link
-    link : ℕ × PipeId (Carried Flow) → ℕ
+    link : ℕ × PipeId (Carried Stretch) → ℕ
     link wire = wire.0
 
 -- each that is done was the worker at its place
@@ -74,7 +73,7 @@ was_at cycles workers dones place done worked there =
           (AllZip-get_or (Works cycles) workers dones place done done worked below),
     )
 
-module _ (t : Traffic) (cycles : ℕ) (workers dones : List Worker) (of_bridges : AreWorkersOf t workers) (worked : AllZip (Works cycles) workers dones)
+module _ (t : Offering) (cycles : ℕ) (workers dones : List Worker) (of_bridges : AreWorkersOf t workers) (worked : AllZip (Works cycles) workers dones)
     (place : ℕ) (done : Worker) (there : slice_get dones place ≡ Some done) where
   -- what it was, of its bridge
   was : (w : Worker) × (slice_get workers place ≡ Some w) × Works cycles w done
@@ -96,7 +95,7 @@ module _ (t : Traffic) (cycles : ℕ) (workers dones : List Worker) (of_bridges 
   kept_outs = kept_links was.0.outs.items done.outs.items was.2.outs ∙ was_of.links_out
 
 -- the reels of workers that are done are of their bridges
-pub still_reels : (t : Traffic) (cycles : ℕ) (workers dones : List Worker) → AreWorkersOf t workers → length workers ≡ length t.domain.bridges →
+pub still_reels : (t : Offering) (cycles : ℕ) (workers dones : List Worker) → AreWorkersOf t workers → length workers ≡ length t.domain.bridges →
     AllZip (Works cycles) workers dones → AreReelsOf t.domain (map reel_at dones)
 still_reels t cycles workers dones of_bridges many worked = record {
   many = length-map dones reel_at ∙ sym (length_all_zip (Works cycles) workers dones worked) ∙ many;
@@ -115,18 +114,18 @@ still_reels t cycles workers dones of_bridges many worked = record {
         absurd (omega (arith, past.0, slice_get_within (map reel_at dones) bridge reel there, length-map dones reel_at))
 
 -- ports that keep their wires are of the pipes on their links still
-still_on : (wiring : Wiring) (before after : List FlowPort) → wires_of after ≡ wires_of before → AreOn wiring before → AreOn wiring after
+still_on : (wiring : Wiring) (before after : List StretchPort) → wires_of after ≡ wires_of before → AreOn wiring before → AreOn wiring after
 still_on wiring before after same on p there =
     let wire : Contains (wires_of before) (wire_at p) =
-    subst (λ (ws : List (ℕ × PipeId (Carried Flow))). Contains ws (wire_at p)) same (contains_map wire_at after p there) in
+    subst (λ (ws : List (ℕ × PipeId (Carried Stretch))). Contains ws (wire_at p)) same (contains_map wire_at after p there) in
     let was = contains_from_map wire_at before (wire_at p) wire in
     ap wiring (sym (ap link was.2)) ∙ on was.0 was.1 ∙ ap Some (ap pipe was.2)
   where
     -- a wire's link, and its pipe
-    link : ℕ × PipeId (Carried Flow) → ℕ
+    link : ℕ × PipeId (Carried Stretch) → ℕ
     link w = w.0
 
-    pipe : ℕ × PipeId (Carried Flow) → PipeId (Carried Flow)
+    pipe : ℕ × PipeId (Carried Stretch) → PipeId (Carried Stretch)
     pipe w = w.1
 
 -- so workers that are done are wired as they were

@@ -13,6 +13,7 @@ use Rattle.cqf_lists.specs.Lists.{each_below}
 use Rattle.cqf_lists.proofs.EachBelow.{get_or-singles, length-singles, map_below}
 use Rattle.cqf_lists.proofs.Members.{contains_at, contains_from_filter, contains_from_map, contains_map, place_of_member}
 use Rattle.cqf_lists.proofs.Numbers.{kept_number, numbers_ascend}
+use Rattle.cqf_model.specs.declared.frames.Background.{Background}
 use Rattle.cqf_model.specs.declared.frames.Sent.{Sent}
 use Rattle.cqf_model.specs.declared.topology.Link.{Link}
 use Rattle.cqf_model.specs.declared.topology.Node.{Node}
@@ -24,26 +25,24 @@ use Rattle.cqf_model.specs.HistoryBook.{run_of_history}
 use Rattle.cqf_model.specs.Run.{Run}
 use Rattle.cqf_admission.specs.Tables.{CycleTable}
 use Rattle.cqf_tape.specs.Tapes.{mark_of_sent, starts_at}
-use Rattle.cqf_bridge_turn.specs.Agenda.{offers_listed_at}
+use Rattle.cqf_bridge.specs.Agenda.{offers_listed_at}
 use Rattle.cqf_laws_cycle.specs.Gathered.{offered_for}
-use Rattle.cqf_laws_bridge.specs.Courses.{Traffic}
-use Rattle.cqf_laws_bridge.proofs.LinkNumbers.{link_listed, links_ascend}
-use Rattle.cqf_laws_links.specs.Going.{Sendings}
+use Rattle.cqf_bridge.proofs.LinkNumbers.{link_listed, links_ascend}
 use Rattle.cqf_laws_account.specs.Sealing.{cycle_tables}
-use Rattle.cqf_laws_account.proofs.Gathering.{leaves_one}
-use Rattle.cqf_flow.specs.declared.moving.Flow.{Flow}
-use Rattle.cqf_flow.specs.Flows.{AreNextFlows, all_frames, batch_at, came_in, end_of_flows}
-use Rattle.cqf_flow.specs.Logs.{is_in}
-use Rattle.cqf_flow.specs.Standing.{Come, HasGoneOnBy, MayBeTables, is_onward, links_from, links_into, offers_in}
-use Rattle.cqf_laws_flow.specs.Following.{HasCome, HaveGone}
+use Rattle.cqf_tape.proofs.Leaving.{leaves_one}
+use Rattle.cqf_relay.specs.declared.moving.Stretch.{Stretch}
+use Rattle.cqf_relay.specs.Stretches.{AreNextStretches, Sendings, all_frames, batch_at, came_in, end_of_stretches}
+use Rattle.cqf_relay.specs.Logs.{is_in}
+use Rattle.cqf_relay.specs.Standing.{Come, HasGoneOnBy, MayBeTables, is_onward, links_from, links_into, offers_in}
+use Rattle.cqf_laws_relay.specs.Following.{HasCome, HaveGone}
 use Rattle.cqf_worker_loops.specs.declared.carried.Carried.TheVariants.{Item}
 use Rattle.cqf_worker_loops.specs.declared.worker.Worker.{Worker}
 use Rattle.cqf_worker_loops.specs.Handing.{TableEnd}
-use Rattle.cqf_worker_loops.specs.Workers.{FlowPort, HasGoneThrough, HasPut, HasSentAll, MayHaveComeTo, Works, come_to, flows_at, flows_in}
-use Rattle.cqf_worker_loops.specs.Workers.{items_in, link_of, links_onward, rows_in}
-use Rattle.cqf_worker_wires.specs.Wires.{AreFedByWires, AreGiven, AreWorkersOf, IsBeginning, IsFed, pipe_of_tables, tables_pipe}
+use Rattle.cqf_worker_loops.specs.Workers.{HasGoneThrough, HasPut, HasSentAll, MayHaveComeTo, Offering, StretchPort, Works}
+use Rattle.cqf_worker_loops.specs.Workers.{come_to, items_in, link_of, links_onward, rows_in, stretches_at, stretches_in}
+use Rattle.cqf_worker.specs.Wires.{AreFedByWires, AreGiven, AreWorkersOf, IsBeginning, IsFed, pipe_of_tables, tables_pipe}
 use Rattle.cqf_worker.proofs.Apart.{chosen, element_at, kept_ins, kept_outs, kept_part}
-use Rattle.cqf_worker.proofs.Flows.{begins_whole, ends_within, flows_there, has_all_frames, items_all, items_begin, next_begin, next_by_links, of_member}
+use Rattle.cqf_worker.proofs.Stretches.{begins_whole, ends_within, has_all_frames, items_all, items_begin, next_begin, next_by_links, of_member, stretches_there}
 use Rattle.cqf_worker.proofs.Lacking.{ends_there, link_there}
 
 -- the rows of a history's tables
@@ -79,7 +78,7 @@ onward_ascend d bridge =
     AllPairs-filter (λ (a b : ℕ). a < b) (is_onward d) (links_from d bridge) (numbers_ascend (λ k. leaves d k bridge) (length d.links))
 
 -- all that may come where there is no worker
-abbrev come_elsewhere : Traffic → List (List Row) → ℕ → Come
+abbrev come_elsewhere : Offering → List (List Row) → ℕ → Come
 come_elsewhere t tables bridge = record {
   tables = tables;
   offers = each_below (λ cycle. offered_for t.domain t.offers bridge cycle ∷ []) (length tables);
@@ -88,25 +87,25 @@ come_elsewhere t tables bridge = record {
 }
 
 -- what has come to each bridge
-abbrev pub come_of : Traffic → List (List Row) → List Worker → ℕ → Come
+abbrev pub come_of : Offering → List (List Row) → List Worker → ℕ → Come
 come_of t tables dones bridge = option_map_or come_to (slice_get dones bridge) (come_elsewhere t tables bridge)
 
-pub come_is : (t : Traffic) (tables : List (List Row)) (dones : List Worker) (bridge : ℕ) (done : Worker) → slice_get dones bridge ≡ Some done →
+pub come_is : (t : Offering) (tables : List (List Row)) (dones : List Worker) (bridge : ℕ) (done : Worker) → slice_get dones bridge ≡ Some done →
     come_of t tables dones bridge ≡ come_to done
 come_is t tables dones bridge done there = ap (λ (o : Option Worker). option_map_or come_to o (come_elsewhere t tables bridge)) there
 
 -- what the links of a worker's bridge have sent, each that leaves it
-pub record HasSentBy (t : Traffic) (number cycles : ℕ) (done : Worker) (sends : Sendings) : Type 0 where
+pub record HasSentBy (t : Offering) (number cycles : ℕ) (done : Worker) (sends : Sendings) : Type 0 where
   pub gone : (l : ℕ) → leaves t.domain l number ≡ true → HasGoneOnBy t.domain number (come_to done) l (sends l)
   pub all : (l : ℕ) → leaves t.domain l number ≡ true → length (sends l) ≡ cycles
   pub put : (l cycle : ℕ) → leaves t.domain l number ≡ true → is_onward t.domain l ≡ true →
-      filter (is_in cycle) (all_frames (flows_at done.outs.items l)) ≡ map (came_in t.domain l cycle) (batch_at (sends l) cycle)
+      filter (is_in cycle) (all_frames (stretches_at done.outs.items l)) ≡ map (came_in t.domain l cycle) (batch_at (sends l) cycle)
   pub starts : (l : ℕ) → leaves t.domain l number ≡ true →
       starts_at done.reel.tapes.items l ≡ map mark_of_sent (flat_map (λ (batch : List Sent). batch) (sends l))
 
 -- workers of all bridges of a traffic that are done, with their pipes closed, and the ends at which tables were put for each: those of
 -- the first cycles of a history
-pub record HaveRun (t : Traffic) (entries : List Recorded) (cycles : ℕ) (workers dones : List Worker) (ends : List TableEnd) : Type 0 where
+pub record HaveRun (t : Offering) (entries : List Recorded) (cycles : ℕ) (workers dones : List Worker) (ends : List TableEnd) : Type 0 where
   pub accepted : IsAccepted t.domain
   pub may_come : MayBeTables t.domain (tables_of t.domain entries cycles)
   pub of_bridges : AreWorkersOf t workers
@@ -118,12 +117,12 @@ pub record HaveRun (t : Traffic) (entries : List Recorded) (cycles : ℕ) (worke
   pub put : (place : ℕ) (d : TableEnd) → place < length ends → (slice_index_or ends place d).items ≡ map Item (cycle_tables t.domain entries cycles)
 
 -- a port at which a worker takes, and what was put for it
-pub record IsPutFor (cycles : ℕ) (dones : List Worker) (p : FlowPort) : Type 0 where
+pub record IsPutFor (cycles : ℕ) (dones : List Worker) (p : StretchPort) : Type 0 where
   pub fed : IsFed dones p
-  pub beginning : IsBeginning (flows_in p) (flows_in fed.out)
+  pub beginning : IsBeginning (stretches_in p) (stretches_in fed.out)
   pub put : HasPut cycles fed.out
 
-module _ (t : Traffic) (entries : List Recorded) (cycles : ℕ) (workers dones : List Worker) (ends : List TableEnd)
+module _ (t : Offering) (entries : List Recorded) (cycles : ℕ) (workers dones : List Worker) (ends : List TableEnd)
     (run : HaveRun t entries cycles workers dones ends) where
   -- as many are done as there are bridges
   pub as_many : length dones ≡ length t.domain.bridges
@@ -154,7 +153,7 @@ module _ (t : Traffic) (entries : List Recorded) (cycles : ℕ) (workers dones :
     outs_ascend = subst (AllPairs (λ (a b : ℕ). a < b)) (sym outs_links) (onward_ascend t.domain place)
 
     -- the link of a port at which it puts leaves its bridge, and ends in another
-    leaves_it : (out : FlowPort) → Contains done.outs.items out → (leaves t.domain out.link place ≡ true) × (is_onward t.domain out.link ≡ true)
+    leaves_it : (out : StretchPort) → Contains done.outs.items out → (leaves t.domain out.link place ≡ true) × (is_onward t.domain out.link ≡ true)
     leaves_it out held =
         let among : Contains (links_onward t.domain place) out.link =
         subst (λ (ls : List ℕ). Contains ls out.link) outs_links (contains_map link_of done.outs.items out held) in
@@ -162,7 +161,7 @@ module _ (t : Traffic) (entries : List Recorded) (cycles : ℕ) (workers dones :
         ((kept_number (λ l. leaves t.domain l place) (length t.domain.links) out.link kept.0).1, kept.1)
 
     -- and each link that ends in its bridge has a port at which it takes
-    port_of : (m : ℕ) → enters t.domain m place ≡ true → (p : FlowPort) × Contains done.ins.items p × (p.link ≡ m)
+    port_of : (m : ℕ) → enters t.domain m place ≡ true → (p : StretchPort) × Contains done.ins.items p × (p.link ≡ m)
     port_of m here =
         contains_from_map link_of done.ins.items m
         (subst (λ (ls : List ℕ). Contains ls m) (sym ins_links) (link_listed t.domain place m here))
@@ -188,10 +187,10 @@ module _ (t : Traffic) (entries : List Recorded) (cycles : ℕ) (workers dones :
     pub offers_are : (cycle : ℕ) → cycle < cycles → offers_in (come_to done) cycle ≡ offered_for t.domain t.offers place cycle
     offers_are cycle within =
         get_or-singles (offers_listed_at done.agenda) (length (items_in done.tables.items)) cycle [] (omega (arith, within, gone_at.had_tables))
-        ∙ gone_at.is_agenda.offers_are cycle
+        ∙ gone_at.is_agenda cycle
 
   -- what was put for a port at which a worker takes
-  put_for : (place : ℕ) (done : Worker) (p : FlowPort) → slice_get dones place ≡ Some done → Contains done.ins.items p → IsPutFor cycles dones p
+  put_for : (place : ℕ) (done : Worker) (p : StretchPort) → slice_get dones place ≡ Some done → Contains done.ins.items p → IsPutFor cycles dones p
   put_for place done p there held =
       let fed = run.fed done p (contains_at dones place done there) held in
       let source = place_of_member dones fed.from fed.of_workers in
@@ -204,8 +203,8 @@ module _ (t : Traffic) (entries : List Recorded) (cycles : ℕ) (workers dones :
   -- so what came to a worker may come
   may_have_come : (place : ℕ) (done : Worker) → slice_get dones place ≡ Some done → MayHaveComeTo t done
   may_have_come place done there = record {
-    flows = next_by_links done.ins.items (λ p held. (let put = put_for place done p there held in
-        next_begin 0 (flows_in p) put.beginning.0 (subst (AreNextFlows 0) put.beginning.1 put.put.next)));
+    stretches = next_by_links done.ins.items (λ p held. (let put = put_for place done p there held in
+        next_begin 0 (stretches_in p) put.beginning.0 (subst (AreNextStretches 0) put.beginning.1 put.put.next)));
     tables = subst (MayBeTables t.domain) (sym (tables_are place done there)) run.may_come;
   }
 
@@ -234,27 +233,27 @@ module _ (t : Traffic) (entries : List Recorded) (cycles : ℕ) (workers dones :
   all_come = come_of t (tables_of t.domain entries cycles) dones
 
   module _ (place : ℕ) (done : Worker) (there : slice_get dones place ≡ Some done) (m : ℕ) (here : enters t.domain m place ≡ true) where
-    port : (p : FlowPort) × Contains done.ins.items p × (p.link ≡ m)
+    port : (p : StretchPort) × Contains done.ins.items p × (p.link ≡ m)
     port = port_of place done there m here
 
     put : IsPutFor cycles dones port.0
     put = put_for place done port.0 there port.1
 
     -- it came up to the last cycle
-    far : cycles ≤ end_of_flows 0 (flows_in port.0)
-    far = of_member (λ (p : FlowPort). cycles ≤ end_of_flows 0 (flows_in p)) done.ins.items port.0 (sent_all place done there).came port.1
+    far : cycles ≤ end_of_stretches 0 (stretches_in port.0)
+    far = of_member (λ (p : StretchPort). cycles ≤ end_of_stretches 0 (stretches_in p)) done.ins.items port.0 (sent_all place done there).came port.1
 
-    flows_here : flows_at done.ins.items m ≡ flows_in port.0
-    flows_here =
-        ap (flows_at done.ins.items) (sym port.2) ∙ flows_there done.ins.items port.0 (ins_ascend place done there) port.1
+    stretches_here : stretches_at done.ins.items m ≡ stretches_in port.0
+    stretches_here =
+        ap (stretches_at done.ins.items) (sym port.2) ∙ stretches_there done.ins.items port.0 (ins_ascend place done there) port.1
 
     -- and no further
-    upto_so : end_of_flows 0 (flows_at done.ins.items m) ≡ cycles
+    upto_so : end_of_stretches 0 (stretches_at done.ins.items m) ≡ cycles
     upto_so =
-        let near : end_of_flows 0 (flows_in port.0) ≤ cycles =
-        ends_within cycles (flows_in port.0) (flows_in put.fed.out) put.beginning put.put.next put.put.ends in
-        let same : end_of_flows 0 (flows_in port.0) ≡ cycles = omega (arith, far, near) in
-        ap (end_of_flows 0) flows_here ∙ same
+        let near : end_of_stretches 0 (stretches_in port.0) ≤ cycles =
+        ends_within cycles (stretches_in port.0) (stretches_in put.fed.out) put.beginning put.put.next put.put.ends in
+        let same : end_of_stretches 0 (stretches_in port.0) ≡ cycles = omega (arith, far, near) in
+        ap (end_of_stretches 0) stretches_here ∙ same
 
     -- the worker that put it
     source : (k : ℕ) × (slice_get dones k ≡ Some put.fed.from)
@@ -268,72 +267,73 @@ module _ (t : Traffic) (entries : List Recorded) (cycles : ℕ) (workers dones :
         subst (λ (l : ℕ). (leaves t.domain l source.0 ≡ true) × (is_onward t.domain l ≡ true)) same_link
         (leaves_it source.0 put.fed.from source.1 put.fed.out put.fed.at_worker)
 
-    flows_put : flows_at put.fed.from.outs.items m ≡ flows_in put.fed.out
-    flows_put =
-        ap (flows_at put.fed.from.outs.items) (sym same_link)
-        ∙ flows_there put.fed.from.outs.items put.fed.out (outs_ascend source.0 put.fed.from source.1) put.fed.at_worker
+    stretches_put : stretches_at put.fed.from.outs.items m ≡ stretches_in put.fed.out
+    stretches_put =
+        ap (stretches_at put.fed.from.outs.items) (sym same_link)
+        ∙ stretches_there put.fed.from.outs.items put.fed.out (outs_ascend source.0 put.fed.from source.1) put.fed.at_worker
 
     -- what the link brought is what it has sent
-    brought_so : (cycle : ℕ) → filter (is_in cycle) (all_frames (flows_at done.ins.items m)) ≡ map (came_in t.domain m cycle) (batch_at (all_sends m) cycle)
+    brought_so : (cycle : ℕ) → filter (is_in cycle) (all_frames (stretches_at done.ins.items m)) ≡ map (came_in t.domain m cycle) (batch_at (all_sends m) cycle)
     brought_so cycle =
-        ap (λ (flows : List Flow). filter (is_in cycle) (all_frames flows)) flows_here
+        ap (λ (stretches : List Stretch). filter (is_in cycle) (all_frames stretches)) stretches_here
         ∙ ap (filter (is_in cycle))
-        (has_all_frames cycles (flows_in port.0) (flows_in put.fed.out) put.beginning put.put.next put.put.ends far)
-        ∙ ap (λ (flows : List Flow). filter (is_in cycle) (all_frames flows)) (sym flows_put)
+        (has_all_frames cycles (stretches_in port.0) (stretches_in put.fed.out) put.beginning put.put.next put.put.ends far)
+        ∙ ap (λ (stretches : List Stretch). filter (is_in cycle) (all_frames stretches)) (sym stretches_put)
         ∙ (sent_by source.0 put.fed.from source.1).put m cycle leaves_source.0 leaves_source.1
         ∙ ap (λ (b : ℕ). map (came_in t.domain m cycle) (batch_at (own_sends b m) cycle)) (sym (leaves_one t.domain m source.0 leaves_source.0))
 
-  -- the run of the history's first cycles
-  abbrev pub its_run : Run
-  its_run = run_of_history t.domain entries t.offers t.background cycles
+  module _ (background : List Background) where
+    -- the run of the history's first cycles
+    abbrev pub its_run : Run
+    its_run = run_of_history t.domain entries t.offers background cycles
 
-  abbrev count : length its_run.tables ≡ cycles
-  count = tables_count t.domain entries cycles
+    abbrev count : length its_run.tables ≡ cycles
+    count = tables_count t.domain entries cycles
 
-  -- all has come to a worker's bridge
-  come_there : (place : ℕ) (done : Worker) → slice_get dones place ≡ Some done → HasCome its_run all_sends place (come_to done)
-  come_there place done there = record {
-    tables = tables_are place done there;
-    offers = λ cycle within. offers_are place done there cycle (omega (arith, within, count));
-    upto = λ m here. upto_so place done there m here ∙ sym count;
-    brought = λ m cycle here. brought_so place done there m here cycle;
-  }
+    -- all has come to a worker's bridge
+    come_there : (place : ℕ) (done : Worker) → slice_get dones place ≡ Some done → HasCome its_run all_sends place (come_to done)
+    come_there place done there = record {
+      tables = tables_are place done there;
+      offers = λ cycle within. offers_are place done there cycle (omega (arith, within, count));
+      upto = λ m here. upto_so place done there m here ∙ sym count;
+      brought = λ m cycle here. brought_so place done there m here cycle;
+    }
 
-  -- and what isn't one of the bridges has no links
-  come_nowhere : (place : ℕ) → length dones ≤ place → HasCome its_run all_sends place (come_elsewhere t its_run.tables place)
-  come_nowhere place behind =
-      let none : (m : ℕ) → enters t.domain m place ≡ true → ⊥ =
-      λ m here. (omega (arith, behind, as_many, enters_bridge t.domain m place run.accepted here)) in
-      record {
-        tables = refl;
-        offers = λ cycle within. get_or-singles (offered_for t.domain t.offers place) (length its_run.tables) cycle [] within;
-        upto = λ m here. absurd (none m here);
-        brought = λ m cycle here. absurd (none m here);
-      }
+    -- and what isn't one of the bridges has no links
+    come_nowhere : (place : ℕ) → length dones ≤ place → HasCome its_run all_sends place (come_elsewhere t its_run.tables place)
+    come_nowhere place behind =
+        let none : (m : ℕ) → enters t.domain m place ≡ true → ⊥ =
+        λ m here. (omega (arith, behind, as_many, enters_bridge t.domain m place run.accepted here)) in
+        record {
+          tables = refl;
+          offers = λ cycle within. get_or-singles (offered_for t.domain t.offers place) (length its_run.tables) cycle [] within;
+          upto = λ m here. absurd (none m here);
+          brought = λ m cycle here. absurd (none m here);
+        }
 
-  has_come : (bridge : ℕ) → HasCome its_run all_sends bridge (all_come bridge)
-  has_come bridge = elim (slice_get_cases dones bridge).1 [
-    | inl w ↦
-        subst (HasCome its_run all_sends bridge) (sym (come_is t its_run.tables dones bridge w.0 w.2)) (come_there bridge w.0 w.2)
-    | inr past ↦
-        subst (HasCome its_run all_sends bridge)
-        (sym (ap (λ (o : Option Worker). option_map_or come_to o (come_elsewhere t its_run.tables bridge)) past.1)) (come_nowhere bridge past.0)
-  ]
+    has_come : (bridge : ℕ) → HasCome its_run all_sends bridge (all_come bridge)
+    has_come bridge = elim (slice_get_cases dones bridge).1 [
+      | inl w ↦
+          subst (HasCome its_run all_sends bridge) (sym (come_is t its_run.tables dones bridge w.0 w.2)) (come_there bridge w.0 w.2)
+      | inr past ↦
+          subst (HasCome its_run all_sends bridge)
+          (sym (ap (λ (o : Option Worker). option_map_or come_to o (come_elsewhere t its_run.tables bridge)) past.1)) (come_nowhere bridge past.0)
+    ]
 
-  -- the worker of the bridge that a link leaves
-  worker_of : (l : ℕ) → l < length t.domain.links → (done : Worker) × (slice_get dones (bridge_of t.domain l) ≡ Some done)
-  worker_of l inside = element_at dones (bridge_of t.domain l) (omega (arith, as_many, (leaves_bridge t.domain l run.accepted inside).0))
+    -- the worker of the bridge that a link leaves
+    worker_of : (l : ℕ) → l < length t.domain.links → (done : Worker) × (slice_get dones (bridge_of t.domain l) ≡ Some done)
+    worker_of l inside = element_at dones (bridge_of t.domain l) (omega (arith, as_many, (leaves_bridge t.domain l run.accepted inside).0))
 
-  -- so each link has gone on over all cycles
-  pub have_gone : HaveGone its_run all_sends all_come
-  have_gone = record {
-    has_come = has_come;
-    gone = λ l inside.
-        (let w = worker_of l inside in
-        subst (λ (come : Come). HasGoneOnBy t.domain (bridge_of t.domain l) come l (all_sends l))
-        (sym (come_is t its_run.tables dones (bridge_of t.domain l) w.0 w.1))
-        ((sent_by (bridge_of t.domain l) w.0 w.1).gone l (leaves_bridge t.domain l run.accepted inside).1));
-    all = λ l inside.
-        (let w = worker_of l inside in
-        (sent_by (bridge_of t.domain l) w.0 w.1).all l (leaves_bridge t.domain l run.accepted inside).1 ∙ sym count);
-  }
+    -- so each link has gone on over all cycles
+    pub have_gone : HaveGone its_run all_sends all_come
+    have_gone = record {
+      has_come = has_come;
+      gone = λ l inside.
+          (let w = worker_of l inside in
+          subst (λ (come : Come). HasGoneOnBy t.domain (bridge_of t.domain l) come l (all_sends l))
+          (sym (come_is t its_run.tables dones (bridge_of t.domain l) w.0 w.1))
+          ((sent_by (bridge_of t.domain l) w.0 w.1).gone l (leaves_bridge t.domain l run.accepted inside).1));
+      all = λ l inside.
+          (let w = worker_of l inside in
+          (sent_by (bridge_of t.domain l) w.0 w.1).all l (leaves_bridge t.domain l run.accepted inside).1 ∙ sym count);
+    }

@@ -20,13 +20,11 @@ use Rattle.cqf_model.specs.declared.topology.Link.{Link}
 use Rattle.cqf_model.specs.declared.topology.Node.{Node}
 use Rattle.cqf_model.specs.declared.topology.Node.TheVariants.{Bridge, Station}
 use Rattle.cqf_model.specs.Domain.{Domain, IsAccepted, enters, leaves, node_is}
-use Rattle.cqf_flow.specs.Standing.{is_bridge, is_onward, links_from, links_into}
-use Rattle.cqf_laws_bridge.specs.Courses.{Traffic}
-use Rattle.cqf_laws_bridge.proofs.LinkNumbers.{link_into, links_ascend}
+use Rattle.cqf_relay.specs.Standing.{is_bridge, is_onward, links_from, links_into}
+use Rattle.cqf_bridge.proofs.LinkNumbers.{link_into, links_ascend}
 use Rattle.cqf_worker_loops.specs.declared.worker.Worker.{Worker}
-use Rattle.cqf_worker_loops.specs.Workers.{Works, link_of, links_onward}
-use Rattle.cqf_worker_wires.specs.Wires.{AreWorkersOf, count_on, ins_at, outs_at}
-use Rattle.cqf_worker_loops.specs.Workers.{FlowPort}
+use Rattle.cqf_worker_loops.specs.Workers.{Offering, StretchPort, Works, link_of, links_onward}
+use Rattle.cqf_worker.specs.Wires.{AreWorkersOf, count_on, ins_at, outs_at}
 use Rattle.cqf_worker.proofs.Apart.{element_at, kept_ins, kept_outs}
 
 module _ {X : Type 0} (p : X → Bool) where
@@ -180,10 +178,11 @@ module _ (d : Domain) (l : ℕ) where
       (subst (λ (ks : List ℕ). Contains ks l) (sym (cond-true (leaves d l b) (l ∷ []) [] starts)) (contains_here l [])) in
       (b, (accepted.links_good l link.0 link.1).from_bridge, contains_filter (is_onward d) (links_from d b) l listed onward)
 
-module _ (t : Traffic) (cycles : ℕ) (workers dones : List Worker) (of_bridges : AreWorkersOf t workers) (many : length workers ≡ length t.domain.bridges)
+module _ (t : Offering) (cycles : ℕ) (workers dones : List Worker) (of_bridges : AreWorkersOf t workers)
+    (many : length workers ≡ length t.domain.bridges)
     (worked : AllZip (Works cycles) workers dones) where
   -- the link of a port at which a worker takes ends in its bridge
-  enters_its_worker : (place : ℕ) (done : Worker) (port : FlowPort) → slice_get dones place ≡ Some done → Contains done.ins.items port →
+  enters_its_worker : (place : ℕ) (done : Worker) (port : StretchPort) → slice_get dones place ≡ Some done → Contains done.ins.items port →
       enters t.domain port.link place ≡ true
   enters_its_worker place done port there held =
       let among : Contains (links_into t.domain place) port.link =
@@ -193,7 +192,7 @@ module _ (t : Traffic) (cycles : ℕ) (workers dones : List Worker) (of_bridges 
 
   module _ (link : ℕ) where
     -- whether a port is of the link
-    abbrev is_on : FlowPort → Bool
+    abbrev is_on : StretchPort → Bool
     is_on port = port.link == link
 
     -- a worker has one taking end of it at most

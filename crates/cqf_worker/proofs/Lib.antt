@@ -1,6 +1,11 @@
+mod Wiring
+mod Unwiring
+mod Zipped
+mod Joining
+mod Notings
 mod Seating
 mod Preparing
-mod Flows
+mod Stretches
 mod Apart
 mod Come
 mod Taped

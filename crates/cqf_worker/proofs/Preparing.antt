@@ -7,12 +7,12 @@ use Rattle.cqf_tape.specs.declared.reel.Reel.{Reel}
 use Rattle.cqf_tape.specs.Reels.{AreGatheredFrom}
 use Rattle.cqf_desk.specs.Closing.{IsClosed}
 use Rattle.cqf_desk.specs.Desk.{Counter, Sitting}
-use Rattle.cqf_worker.specs.declared.account.PagedAccount.{PagedAccount}
-use Rattle.cqf_worker_threads.specs.declared.faults.ConductFault.{ConductFault}
-use Rattle.cqf_worker_threads.specs.declared.threads.Ended.{Ended}
-use Rattle.cqf_worker_wires.specs.Closing.{reel_at}
+use Rattle.cqf_worker.specs.declared.account.TapedAccount.{TapedAccount}
+use Rattle.cqf_worker.specs.declared.faults.ConductFault.{ConductFault}
+use Rattle.cqf_worker.specs.declared.threads.EndedRun.{EndedRun}
+use Rattle.cqf_worker.specs.Closing.{reel_at}
 use Rattle.cqf_worker.specs.Conducting.{IsDeskFault, IsPipeFault, IsSettleFault, IsSettled, all_seats}
-use Rattle.cqf_worker_wires.specs.Wires.{AreFedByWires, AreGiven}
+use Rattle.cqf_worker.specs.Wires.{AreFedByWires, AreGiven}
 
 -- what holds of a fault holds of the answer that hands it on
 pub passed_on : {V F : Type 0} (result : Result V F) (fault : F) (P : F → Type 0) → IsErrAnd result (λ e. e ≡ fault) → P fault → IfErr result P
@@ -32,17 +32,17 @@ desk_is desk opening d many count is domain same =
     ∙ ap (λ (n : ℕ). desk_of (record { domain = d; entries = opening.entries }) n) same
 
 -- what the closed desk and the gathered tapes give is the account of the run's seats and reels
-pub settled_so : (d : Domain) (desk : Counter) (e : Ended) (seats : List Sitting) (reels : List Reel) (account : PagedAccount) →
+pub settled_so : (d : Domain) (desk : Counter) (e : EndedRun) (seats : List Sitting) (reels : List Reel) (account : TapedAccount) →
     AreFedByWires e.workers.items → AreGiven e.sealed.tables.items e.workers.items → seats ≡ all_seats e → reels ≡ map reel_at e.workers.items →
-    IsClosed desk seats account.history → AreGatheredFrom d reels account.pages → IsSettled d desk e account
+    IsClosed desk seats account.history → AreGatheredFrom d reels account.tapes → IsSettled d desk e account
 settled_so d desk e seats reels account fed given all own closed gathered = record {
   fed = fed;
   given = given;
   history = subst (λ (ss : List Sitting). IsClosed desk ss account.history) all closed;
-  gathered = subst (λ (rs : List Reel). AreGatheredFrom d rs account.pages) own gathered;
+  gathered = subst (λ (rs : List Reel). AreGatheredFrom d rs account.tapes) own gathered;
 }
 
-module _ (desk : Counter) (e : Ended) where
+module _ (desk : Counter) (e : EndedRun) where
   -- why pipes aren't closed is told of the run
   pub told_of_pipes : (fault : ConductFault) → IsPipeFault e.workers.items fault → IsSettleFault desk e fault
   told_of_pipes fault why = elim why [

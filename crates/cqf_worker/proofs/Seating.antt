@@ -17,12 +17,12 @@ use Rattle.cqf_admission.specs.declared.entries.Command.TheVariants.{Admit, Admi
 use Rattle.cqf_admission.specs.Commands.{act_of_command}
 use Rattle.cqf_desk.specs.Desk.{Sitting, fresh_seats}
 use Rattle.cqf_laws_account.specs.Seated.{AreSeated, AsksForNoSeal}
-use Rattle.cqf_worker_threads.specs.declared.threads.Administrator.{Administrator}
+use Rattle.cqf_worker.specs.declared.threads.Administrator.{Administrator}
 use Rattle.cqf_worker.specs.Account.{all_asked}
 use Rattle.cqf_worker_loops.specs.Commands.{acts_asked}
 use Rattle.cqf_worker.specs.Conducting.{AreSeatedFor, commands_of, seat_of}
 use Rattle.cqf_worker_loops.specs.Handing.{HasSealed, TableEnd}
-use Rattle.cqf_worker_threads.specs.Running.{CallsOf}
+use Rattle.cqf_worker.specs.Running.{CallsOf}
 
 -- a seat with which nobody has called yet
 abbrev pub fresh_seat : ℕ → Sitting

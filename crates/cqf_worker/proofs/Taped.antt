@@ -23,20 +23,19 @@ use Rattle.cqf_laws_shift.specs.Run.{IsLegalRun}
 use Rattle.cqf_laws_network.specs.NetworkLaws.{LegalNetworkExists}
 use Rattle.cqf_tape.specs.declared.tapes.Tapes.{Tapes}
 use Rattle.cqf_tape.specs.Tapes.{mark_of_sent}
-use Rattle.cqf_instants_background.specs.Taping.{BacksTheTapes, IsTapedRun, SomeTapedRun}
+use Rattle.cqf_instants_run.specs.Taping.{BacksTheTapes, IsTapedRun, SomeTapedRun}
 use Rattle.cqf_laws_cycle.specs.Gathered.{offered_for}
-use Rattle.cqf_laws_bridge.specs.Courses.{Traffic}
-use Rattle.cqf_laws_links.specs.Going.{Sendings}
 use Rattle.cqf_laws_account.specs.Taped.{HasTheTapes}
-use Rattle.cqf_laws_account.proofs.Gathering.{leaves_one}
-use Rattle.cqf_laws_flow.specs.Following.{TablesMayCome}
-use Rattle.cqf_laws_flow.specs.Taped.{BackedTapesAreTheBooks, HasTaped, HaveTaped, HaveTheStreams, book_of_run}
-use Rattle.cqf_flow.specs.Offering.{dropped_behind}
-use Rattle.cqf_flow.specs.Standing.{offers_in}
+use Rattle.cqf_tape.proofs.Leaving.{leaves_one}
+use Rattle.cqf_laws_relay.specs.Following.{TablesMayCome}
+use Rattle.cqf_laws_relay.specs.Taped.{BackedTapesAreTheBooks, HasTaped, HaveTaped, HaveTheStreams, book_of_run}
+use Rattle.cqf_relay.specs.Stretches.{Sendings}
+use Rattle.cqf_relay.specs.Offering.{dropped_behind}
+use Rattle.cqf_relay.specs.Standing.{offers_in}
 use Rattle.cqf_worker_loops.specs.declared.worker.Worker.{Worker}
 use Rattle.cqf_worker_loops.specs.Handing.{TableEnd}
-use Rattle.cqf_worker_loops.specs.Workers.{HasSentAll, come_to}
-use Rattle.cqf_worker_wires.specs.Closing.{reel_at}
+use Rattle.cqf_worker_loops.specs.Workers.{HasSentAll, Offering, come_to}
+use Rattle.cqf_worker.specs.Closing.{reel_at}
 use Rattle.cqf_worker.proofs.Apart.{element_at}
 use Rattle.cqf_worker.proofs.Come.{HaveRun, all_sends, as_many, gone_at, its_run, offers_are, own_sends, sent_all, sent_by, tables_are, tables_count}
 
@@ -46,10 +45,10 @@ early_end cycles cycle_time short less =
     let most : cycles * cycle_time ≤ 100000 * 10000000 = mul-le cycles cycle_time 100000 10000000 short less in
     omega (arith, most)
 
-module _ (t : Traffic) (entries : List Recorded) (cycles : ℕ) (workers dones : List Worker) (ends : List TableEnd)
-    (run : HaveRun t entries cycles workers dones ends) where
+module _ (t : Offering) (entries : List Recorded) (cycles : ℕ) (workers dones : List Worker) (ends : List TableEnd)
+    (run : HaveRun t entries cycles workers dones ends) (background : List Background) where
   abbrev the_run : Run
-  the_run = its_run t entries cycles workers dones ends run
+  the_run = its_run t entries cycles workers dones ends run background
 
   abbrev the_sends : Sendings
   the_sends = all_sends t entries cycles workers dones ends run

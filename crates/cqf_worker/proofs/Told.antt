@@ -8,13 +8,13 @@ use Rattle.cqf_model.specs.History.{Recorded}
 use Rattle.cqf_admission.specs.declared.entries.Command.{Command}
 use Rattle.cqf_desk.specs.Closing.{IsCloseFault}
 use Rattle.cqf_desk.specs.Desk.{Counter}
-use Rattle.cqf_worker_threads.specs.declared.faults.ConductFault.{ConductFault}
-use Rattle.cqf_worker_threads.specs.declared.faults.ConductFault.TheVariants as conduct
-use Rattle.cqf_worker_threads.specs.declared.threads.Ended.{Ended}
-use Rattle.cqf_worker_threads.specs.Running.{IsEnded}
-use Rattle.cqf_worker_threads.specs.Telling.{IsStartFault, MayBeTold}
-use Rattle.cqf_worker_wires.specs.Laying.{traffic_of}
-use Rattle.cqf_worker.specs.declared.conducting.Prepared.{Prepared}
+use Rattle.cqf_worker.specs.declared.faults.ConductFault.{ConductFault}
+use Rattle.cqf_worker.specs.declared.faults.ConductFault.TheVariants as conduct
+use Rattle.cqf_worker.specs.declared.threads.EndedRun.{EndedRun}
+use Rattle.cqf_worker.specs.Running.{IsEnded}
+use Rattle.cqf_worker.specs.Telling.{IsStartFault, MayBeTold}
+use Rattle.cqf_worker.specs.Laying.{traffic_of}
+use Rattle.cqf_worker.specs.declared.conducting.PreparedRun.{PreparedRun}
 use Rattle.cqf_worker.specs.Conducting.{IsPrepared, IsSettleFault, all_seats, commands_of}
 use Rattle.cqf_worker.specs.Failing.{IsConductFault, SomeCall}
 use Rattle.cqf_worker.proofs.Accounts.{seated_so}
@@ -30,7 +30,7 @@ module _ (d : Domain) (opening : List Recorded) (offers : List Offer) (backgroun
   told_before conduct.ChannelLost is = absurd is
   told_before conduct.Spawn is = tt
 
-  module _ (p : Prepared) (is : IsPrepared d opening offers background cycles admins p) where
+  module _ (p : PreparedRun) (is : IsPrepared d opening offers cycles admins p) where
     -- an administrator with commands is one of those that were asked
     calls_somewhere : (commands : List Command) → Contains (map commands_of p.ready.administrators.items) commands → 0 < length commands → SomeCall admins
     calls_somewhere commands there some = (commands, subst (λ (all : List (List Command)). Contains all commands) is.seated.commands there, some)
@@ -49,7 +49,7 @@ module _ (d : Domain) (opening : List Recorded) (offers : List Offer) (backgroun
     told_of_threads conduct.ChannelLost may = may
     told_of_threads conduct.Spawn may = tt
 
-    module _ (e : Ended) (ended : IsEnded cycles p.ready e) where
+    module _ (e : EndedRun) (ended : IsEnded cycles p.ready e) where
       -- why it isn't closed
       pub told_in_the_end : IsAccepted d → (fault : ConductFault) → IsSettleFault p.desk e fault →
           IsConductFault d opening offers background cycles admins fault
@@ -64,6 +64,6 @@ module _ (d : Domain) (opening : List Recorded) (offers : List Offer) (backgroun
       }))
       told_in_the_end accepted conduct.BookDisagrees why = absurd why
       told_in_the_end accepted conduct.ChannelLost why =
-          absurd (none_lacks (traffic_of d offers background) cycles p.ready.workers.items e.workers.items is.laid.workers is.laid.many ended.worked accepted
+          absurd (none_lacks (traffic_of d offers) cycles p.ready.workers.items e.workers.items is.laid.workers is.laid.many ended.worked accepted
           why.0 why.1)
       told_in_the_end accepted conduct.Spawn why = absurd why

@@ -13,7 +13,7 @@ use Rattle.cqf_admission.specs.Admission.{recorded_of}
 use Rattle.cqf_desk.specs.declared.history.History.{History}
 use Rattle.cqf_tape.specs.Tapes.{AreTapesOf}
 use Rattle.cqf_worker.specs.declared.account.Account.{Account}
-use Rattle.cqf_worker.specs.declared.account.PagedAccount.{PagedAccount}
+use Rattle.cqf_worker.specs.declared.account.TapedAccount.{TapedAccount}
 use Rattle.cqf_worker_loops.specs.Commands.{acts_asked}
 
 -- what each administrator's commands call for
@@ -36,10 +36,10 @@ abbrev pub IsAccount : Domain → List Recorded → List Offer → List Backgrou
 IsAccount d opening offers background cycles admins account =
     IsOutcomeOf d opening offers background cycles admins account.history (contents_of account.book)
 
--- and one by pages has such a history, and the pages of such a book, link by link
-pub record IsPagedAccount (d : Domain) (opening : List Recorded) (offers : List Offer) (background : List Background) (cycles : ℕ)
-    (admins : List (List Command)) (account : PagedAccount) : Type 0 where
+-- and one by tapes has such a history, and the tapes of such a book, link by link
+pub record IsTapedAccount (d : Domain) (opening : List Recorded) (offers : List Offer) (background : List Background) (cycles : ℕ)
+    (admins : List (List Command)) (account : TapedAccount) : Type 0 where
   pub book : Contents
   pub run : IsOutcomeOf d opening offers background cycles admins account.history book
   pub some : IsSomeBook d cycles book
-  pub its_pages : AreTapesOf d account.pages book
+  pub its_tapes : AreTapesOf d account.tapes book

@@ -1,7 +1,6 @@
 -- A run on threads before they begin, and when all have ended (profile).
 use Rattle.std.specs.Prelude.{ℕ, ◌≡◌, ◌⊎◌, ◌++◌, List, [], ◌∷◌, All, length, map}
 use Rattle.std.specs.List.{flat_map}
-use Rattle.cqf_model.specs.declared.frames.Background.{Background}
 use Rattle.cqf_model.specs.declared.frames.Offer.{Offer}
 use Rattle.cqf_model.specs.Domain.{Domain}
 use Rattle.cqf_model.specs.History.{Recorded}
@@ -11,19 +10,19 @@ use Rattle.cqf_tape.specs.Reels.{AreGatheredFrom}
 use Rattle.cqf_desk.specs.declared.faults.CloseFault.TheVariants as closing
 use Rattle.cqf_desk.specs.Closing.{IsCloseFault, IsClosed}
 use Rattle.cqf_desk.specs.Desk.{Counter, Sitting, fresh_seats}
-use Rattle.cqf_worker.specs.declared.account.PagedAccount.{PagedAccount}
-use Rattle.cqf_worker.specs.declared.conducting.Prepared.{Prepared}
+use Rattle.cqf_worker.specs.declared.account.TapedAccount.{TapedAccount}
+use Rattle.cqf_worker.specs.declared.conducting.PreparedRun.{PreparedRun}
 use Rattle.cqf_worker.specs.Failing.{desk_of_run}
-use Rattle.cqf_worker_threads.specs.declared.faults.ConductFault.{ConductFault}
-use Rattle.cqf_worker_threads.specs.declared.faults.ConductFault.TheVariants as conduct
-use Rattle.cqf_worker_threads.specs.declared.threads.Administrator.{Administrator}
-use Rattle.cqf_worker_threads.specs.declared.threads.Ended.{Ended}
+use Rattle.cqf_worker.specs.declared.faults.ConductFault.{ConductFault}
+use Rattle.cqf_worker.specs.declared.faults.ConductFault.TheVariants as conduct
+use Rattle.cqf_worker.specs.declared.threads.Administrator.{Administrator}
+use Rattle.cqf_worker.specs.declared.threads.EndedRun.{EndedRun}
 use Rattle.cqf_worker_loops.specs.declared.worker.Worker.{Worker}
-use Rattle.cqf_worker_wires.specs.Closing.{reel_at}
+use Rattle.cqf_worker.specs.Closing.{reel_at}
 use Rattle.cqf_worker_loops.specs.Handing.{TableEnd}
 use Rattle.cqf_worker_loops.specs.Workers.{MayWork}
-use Rattle.cqf_worker_wires.specs.Laying.{traffic_of}
-use Rattle.cqf_worker_wires.specs.Wires.{AreFedByWires, AreGiven, AreWired, AreWorkersOf, LackEnds, Wiring, ins_at, outs_at, pipe_of_tables, tables_pipe}
+use Rattle.cqf_worker.specs.Laying.{traffic_of}
+use Rattle.cqf_worker.specs.Wires.{AreFedByWires, AreGiven, AreWired, AreWorkersOf, LackEnds, Wiring, ins_at, outs_at, pipe_of_tables, tables_pipe}
 
 -- what an administrator is to make, and with which seat
 abbrev pub commands_of : Administrator → List Command
@@ -39,23 +38,23 @@ pub record AreSeatedFor (admins : List (List Command)) (administrators : List Ad
   pub next : conductor ≡ record { number = length admins; calls = []; tables = [] }
 
 -- the workers of all bridges, which have done nothing, with pipes between them, and an end of each one's pipe for tables
-pub record AreLaidFor (d : Domain) (offers : List Offer) (background : List Background) (cycles : ℕ) (those : List Worker) (ends : List TableEnd) : Type 0 where
+pub record AreLaidFor (d : Domain) (offers : List Offer) (cycles : ℕ) (those : List Worker) (ends : List TableEnd) : Type 0 where
   pub many : length those ≡ length d.bridges
-  pub workers : AreWorkersOf (traffic_of d offers background) those
+  pub workers : AreWorkersOf (traffic_of d offers) those
   pub may_work : All (MayWork cycles) those
   pub wired : (wiring : Wiring) × AreWired wiring those
   pub tables : map pipe_of_tables ends ≡ map tables_pipe those
   pub nothing_put : All (λ (end : TableEnd). end.items ≡ []) ends
 
 -- a run that is ready to begin
-pub record IsPrepared (d : Domain) (opening : List Recorded) (offers : List Offer) (background : List Background) (cycles : ℕ)
-    (admins : List (List Command)) (p : Prepared) : Type 0 where
+pub record IsPrepared (d : Domain) (opening : List Recorded) (offers : List Offer) (cycles : ℕ) (admins : List (List Command))
+    (p : PreparedRun) : Type 0 where
   pub desk : p.desk ≡ desk_of_run d opening (length admins)
-  pub laid : AreLaidFor d offers background cycles p.ready.workers.items p.ready.tables.items
+  pub laid : AreLaidFor d offers cycles p.ready.workers.items p.ready.tables.items
   pub seated : AreSeatedFor admins p.ready.administrators.items p.ready.conductor
 
 -- all seats in the end: the administrators', and behind them the conductor's
-abbrev pub all_seats : Ended → List Sitting
+abbrev pub all_seats : EndedRun → List Sitting
 all_seats e = e.seats.items ++ e.sealed.seat ∷ []
 
 -- all pipes are closed: what was taken from each is the beginning of what was put there, and the reels are those of the workers
@@ -79,15 +78,15 @@ IsPipeFault those fault =
 
 -- its pipes and its desk are closed, and its tapes gathered: what was taken from each pipe is the beginning of what was put there, the history
 -- is that of the seats, and the tapes are those of the workers' reels
-pub record IsSettled (d : Domain) (desk : Counter) (e : Ended) (account : PagedAccount) : Type 0 where
+pub record IsSettled (d : Domain) (desk : Counter) (e : EndedRun) (account : TapedAccount) : Type 0 where
   pub fed : AreFedByWires e.workers.items
   pub given : AreGiven e.sealed.tables.items e.workers.items
   pub history : IsClosed desk (all_seats e) account.history
-  pub gathered : AreGatheredFrom d (map reel_at e.workers.items) account.pages
+  pub gathered : AreGatheredFrom d (map reel_at e.workers.items) account.tapes
 
 -- why an ended run isn't closed: memory is refused; of some link there are fewer putting than taking ends; or its desk isn't closed with its
 -- seats, for another cause than memory
-abbrev pub IsSettleFault : Counter → Ended → ConductFault → Type 0
+abbrev pub IsSettleFault : Counter → EndedRun → ConductFault → Type 0
 IsSettleFault desk e conduct.Memory = Unit {0}
 IsSettleFault desk e (conduct.Bridge bridge reason) = ⊥
 IsSettleFault desk e conduct.DeskDisagrees = KeepsOpen closing.Memory (IsCloseFault desk (all_seats e))

@@ -11,8 +11,8 @@ use Rattle.cqf_desk.specs.Closing.{IsCloseFault}
 use Rattle.cqf_desk.specs.Desk.{Counter, Sitting}
 use Rattle.cqf_laws_account.specs.Seated.{AreSeated}
 use Rattle.cqf_worker.specs.Account.{all_asked}
-use Rattle.cqf_worker_threads.specs.declared.faults.ConductFault.{ConductFault}
-use Rattle.cqf_worker_threads.specs.declared.faults.ConductFault.TheVariants as conduct
+use Rattle.cqf_worker.specs.declared.faults.ConductFault.{ConductFault}
+use Rattle.cqf_worker.specs.declared.faults.ConductFault.TheVariants as conduct
 
 -- one of the administrators has commands
 abbrev pub SomeCall : List (List Command) → Type 0

@@ -1,3 +1,10 @@
+pub mod Wires
+pub mod Laying
+pub mod Closing
+pub mod Faults
+pub mod Noting
+pub mod Running
+pub mod Telling
 pub mod Account
 pub mod Failing
 -- what the inner functions say

@@ -11,9 +11,9 @@ pub struct Account {
     pub book: Book,
 }
 
-/// The same with the pages of the book, as the bridges kept them: link by link what each sent, and what each bridge dropped.
+/// The same with the tapes of the book, as the bridges kept them: link by link what each sent, and what each bridge dropped.
 #[derive(Debug, Drop)]
-pub struct PagedAccount {
+pub struct TapedAccount {
     pub history: History,
-    pub pages: Tapes,
+    pub tapes: Tapes,
 }

@@ -1,35 +1,36 @@
 //! The conductor: a whole run on threads.
 ghost use Rattle.std.specs.Prelude.{◌≡◌, ◌≤◌, ◌+◌, ◌*◌, IfErr, IfOk, OnOk, length, map};
-ghost use Rattle.cqf_instants_background.specs.Taping.{BacksTheTapes, SomeTapedRun};
+ghost use Rattle.cqf_instants_run.specs.Taping.{BacksTheTapes, SomeTapedRun};
 ghost use Rattle.cqf_desk.specs.Closing.{IsClosed};
 ghost use Rattle.cqf_desk.specs.Desk.{fresh_seats};
 ghost use Rattle.cqf_model.specs.History.{seals};
 ghost use Rattle.cqf_model.specs.Run.{AreBackground, AreOffers};
-ghost use Rattle.cqf_worker_wires.specs.Wires.{AreWired, Wiring, pipe_of_tables, tables_pipe};
-ghost use Rattle.cqf_worker_threads.specs.Telling.{IsStartFault};
-ghost use Rattle.cqf_worker.specs.Account.{IsAccount, IsPagedAccount};
+ghost use Rattle.cqf_worker.specs.Wires.{AreWired, Wiring, pipe_of_tables, tables_pipe};
+ghost use Rattle.cqf_worker.specs.Telling.{IsStartFault};
+ghost use Rattle.cqf_worker.specs.Account.{IsAccount, IsTapedAccount};
 ghost use Rattle.cqf_worker.specs.Conducting.{AreLaidFor, AreSeatedFor, AreShut, IsDeskFault, IsPipeFault, IsPrepared, IsSettleFault, IsSettled};
-ghost use Rattle.cqf_worker_wires.specs.Closing.{reel_at};
+ghost use Rattle.cqf_worker.specs.Closing.{reel_at};
 ghost use Rattle.cqf_tape.specs.Reels.{AreReelsOf};
 ghost use Rattle.cqf_worker.specs.Failing.{IsConductFault};
 ghost use Rattle.cqf_model.specs.Limits.{most_cycles, most_rows};
 
-use crate::account::{Account, PagedAccount};
+use crate::account::{Account, TapedAccount};
+use crate::{
+    Administrator, ClosingFault, ConductFault, EndedRun, Laid, ReadyRun, close_pipes, lay,
+    run_threads,
+};
 use cqf_admission::{Admission, Command, Table};
 use cqf_desk::{CloseFault, Desk, History, Seat};
-use cqf_instants_background::keep_background;
+use cqf_instants_run::keep_background;
 use cqf_laws_account::{seats_give_the_history, tapes_tell_the_book};
-use cqf_laws_flow::{backed_tapes_are_the_books, stations_keep_the_tapes, tables_may_come};
 use cqf_laws_network::legal_network_exists;
+use cqf_laws_relay::{backed_tapes_are_the_books, relays_keep_the_tapes, tables_may_come};
 use cqf_laws_shift::book_of_history_says_the_shift;
 use cqf_model::{Background, Offer};
 use cqf_tape::{Reel, Tapes, book_of, gather};
 use cqf_topology::Domain;
 use cqf_units::{Memory, Nanos};
-use cqf_worker_loops::{Carried, Pace, Sealed, Worker};
-use cqf_worker_pipe::PipeIn;
-use cqf_worker_threads::{Administrator, ConductFault, Ended, Ready, run_threads};
-use cqf_worker_wires::{ClosingFault, Laid, close_pipes, lay};
+use cqf_worker_loops::{Carried, Pace, PipeIn, Sealed, Worker};
 use std::alloc::Global;
 use std::sync::Wait;
 use std::thread::Threads;
@@ -37,7 +38,7 @@ use std::thread::Threads;
 /// What a run is given beside its admission, its administrators and its cycles: a domain, what is offered at its bridges, and the background
 /// frames of its links.
 #[derive(Clone, Copy)]
-struct Given<'d, 'o, 'b> {
+struct GivenRun<'d, 'o, 'b> {
     domain: &'d Domain,
     offers: &'o [Offer],
     background: &'b [Background],
@@ -45,9 +46,9 @@ struct Given<'d, 'o, 'b> {
 
 /// A run that is ready to begin: its desk, and what its threads begin with.
 #[derive(Drop)]
-struct Prepared {
+struct PreparedRun {
     desk: Desk,
-    ready: Ready,
+    ready: ReadyRun,
 }
 
 /// A desk of the admission with a seat for each administrator and one for the conductor.
@@ -96,46 +97,42 @@ fn seat_each(
 }
 
 /// The workers of the domain's bridges, with pipes between them.
-fn lay_all(alloc: Global, given: Given<'_, '_, '_>, cycles: u32) -> Result<Laid, ConductFault>
+fn lay_all(alloc: Global, given: GivenRun<'_, '_, '_>, cycles: u32) -> Result<Laid, ConductFault>
     requires offers { AreOffers given.domain.now given.offers.now }
     requires few_offers { length given.offers.now ≤ most_rows }
-    requires background { AreBackground given.domain.now given.background.now }
-    requires few_background { length given.background.now ≤ most_rows }
     ensures ok { IfOk result (λ laid.
-        AreLaidFor given.entry.domain.now given.entry.offers.now given.entry.background.now cycles laid.workers.items laid.tables.items) }
+        AreLaidFor given.entry.domain.now given.entry.offers.now cycles laid.workers.items laid.tables.items) }
     ensures err { IfErr result IsStartFault }
 {
-    let laid = lay(alloc, given.domain, given.offers, given.background, cycles)?;
+    let laid = lay(alloc, given.domain, given.offers, cycles)?;
     Ok(laid)
 }
 
 /// Makes all that a run begins with.
 fn prepare(
     alloc: Global,
-    given: Given<'_, '_, '_>,
+    given: GivenRun<'_, '_, '_>,
     admission: Admission,
     admins: Vec<Vec<Command>>,
     cycles: u32,
-) -> Result<Prepared, ConductFault>
+) -> Result<PreparedRun, ConductFault>
     requires domain { admission.domain ≡ given.domain.now }
     requires offers { AreOffers given.domain.now given.offers.now }
     requires few_offers { length given.offers.now ≤ most_rows }
-    requires background { AreBackground given.domain.now given.background.now }
-    requires few_background { length given.background.now ≤ most_rows }
-    ensures ok { IfOk result (IsPrepared given.entry.domain.now admission.entries given.entry.offers.now given.entry.background.now cycles
+    ensures ok { IfOk result (IsPrepared given.entry.domain.now admission.entries given.entry.offers.now cycles
         (map (λ c. c.items) admins.items)) }
     ensures err { IfErr result IsStartFault }
 {
     let (desk, seats) = open_desk(alloc, admission, admins.len())?;
     let (administrators, conductor) = seat_each(alloc, seats, admins)?;
     let Laid { workers, tables } = lay_all(alloc, given, cycles)?;
-    let ready = Ready {
+    let ready = ReadyRun {
         workers,
         tables,
         administrators,
         conductor,
     };
-    Ok(Prepared { desk, ready })
+    Ok(PreparedRun { desk, ready })
 }
 
 /// Closes a desk.
@@ -173,15 +170,15 @@ fn settle(
     alloc: Global,
     domain: &Domain,
     desk: Desk,
-    ended: Ended,
-) -> Result<PagedAccount, ConductFault>
+    ended: EndedRun,
+) -> Result<TapedAccount, ConductFault>
     requires wired { (wiring : Wiring) × AreWired wiring ended.workers.items }
     requires tables { map pipe_of_tables ended.sealed.tables.items ≡ map tables_pipe ended.workers.items }
     requires reels { AreReelsOf domain.now (map reel_at ended.workers.items) }
     ensures ok { IfOk result (IsSettled domain.now desk ended) }
     ensures err { IfErr result (IsSettleFault desk ended) }
 {
-    let Ended {
+    let EndedRun {
         workers,
         mut seats,
         sealed,
@@ -190,14 +187,14 @@ fn settle(
     let reels = shut_pipes(alloc, tables, workers)?;
     seats.push(seat)?;
     let history = close_desk(desk, seats)?;
-    let pages = gather(alloc, domain, reels)?;
-    Ok(PagedAccount { history, pages })
+    let tapes = gather(alloc, domain, reels)?;
+    Ok(TapedAccount { history, tapes })
 }
 
 /// Puts on the tapes of a run of so many cycles what their links start of background frames.
 fn back(
     alloc: Global,
-    given: Given<'_, '_, '_>,
+    given: GivenRun<'_, '_, '_>,
     cycles: u32,
     tapes: &mut Tapes,
 ) -> Result<(), Memory>
@@ -221,17 +218,17 @@ fn back(
 
 /// Runs a network under administration: a thread for each bridge of the domain, one for each administrator, and the calling one,
 /// which closes the cycles. Administrator i makes its commands in order with seat i, while the bridges run; the cycles are closed
-/// with the next seat. What comes of it is one history and the pages of one book, and the book is the one that the compiled gate lists
-/// demand for that history, whatever turns the threads took (IEEE 802.1Q, Annex T; history and book: profile). The pages tell it with
+/// with the next seat. What comes of it is one history and the tapes of one book, and the book is the one that the compiled gate lists
+/// demand for that history, whatever turns the threads took (IEEE 802.1Q, Annex T; history and book: profile). The tapes tell it with
 /// nothing to be sorted.
 ///
 /// The admission is for that domain and has no Seal yet. `cycles` is at most 100,000; there are at most 1,000,000 offers, each at a
 /// bridge of the domain, and 1,000,000 background frames, each on a link of it. Before each command and before each step of a bridge
 /// the pace is asked, while no lock is held. It waits until all threads have ended.
 ///
-/// Refused with the first fault in the order that [`ConductFault`] tells; then the history and the pages are gone. `Bridge` and
+/// Refused with the first fault in the order that [`ConductFault`] tells; then the history and the tapes are gone. `Bridge` and
 /// `BookDisagrees` never come, and `ChannelLost` never as pipes are closed.
-pub fn conduct_pages<R: Threads + Wait + Sync, P: Pace>(
+pub fn conduct_tapes<R: Threads + Wait + Sync, P: Pace>(
     rt: &R,
     alloc: Global,
     domain: &Domain,
@@ -241,7 +238,7 @@ pub fn conduct_pages<R: Threads + Wait + Sync, P: Pace>(
     cycles: u32,
     admins: Vec<Vec<Command>>,
     pace: &P,
-) -> Result<PagedAccount, ConductFault>
+) -> Result<TapedAccount, ConductFault>
     requires domain { admission.domain ≡ domain.now }
     requires unsealed { seals admission.entries ≡ 0 }
     requires short { cycles ≤ most_cycles }
@@ -249,29 +246,29 @@ pub fn conduct_pages<R: Threads + Wait + Sync, P: Pace>(
     requires few_offers { length offers.now ≤ most_rows }
     requires background { AreBackground domain.now background.now }
     requires few_background { length background.now ≤ most_rows }
-    ensures ok { IfOk result (IsPagedAccount domain.now admission.entries offers.now background.now cycles (map (λ c. c.items) admins.items)) }
+    ensures ok { IfOk result (IsTapedAccount domain.now admission.entries offers.now background.now cycles (map (λ c. c.items) admins.items)) }
     ensures err { IfErr result (IsConductFault domain.now admission.entries offers.now background.now cycles (map (λ c. c.items) admins.items)) }
 {
     seats_give_the_history();
     legal_network_exists();
     tables_may_come();
-    stations_keep_the_tapes();
+    relays_keep_the_tapes();
     backed_tapes_are_the_books();
     book_of_history_says_the_shift();
     domain.know();
-    let given = Given {
+    let given = GivenRun {
         domain,
         offers,
         background,
     };
-    let Prepared { desk, ready } = prepare(alloc, given, admission, admins, cycles)?;
+    let PreparedRun { desk, ready } = prepare(alloc, given, admission, admins, cycles)?;
     let ended = run_threads(rt, alloc, pace, &desk, cycles, ready)?;
     let mut account = settle(alloc, domain, desk, ended)?;
-    back(alloc, given, cycles, &mut account.pages)?;
+    back(alloc, given, cycles, &mut account.tapes)?;
     Ok(account)
 }
 
-/// Runs a network as [`conduct_pages`] does, of which it takes the same and is refused with the same, and gives the book that the pages
+/// Runs a network as [`conduct_tapes`] does, of which it takes the same and is refused with the same, and gives the book that the tapes
 /// tell, in order: the one that the compiled gate lists demand for the history, whatever turns the threads took (IEEE 802.1Q, Annex T;
 /// history and book: profile). Refused too with `Memory` where the book has no room; then the history and the book are gone.
 pub fn conduct<R: Threads + Wait + Sync, P: Pace>(
@@ -297,9 +294,9 @@ pub fn conduct<R: Threads + Wait + Sync, P: Pace>(
 {
     tapes_tell_the_book();
     domain.know();
-    let PagedAccount { history, pages } = conduct_pages(
+    let TapedAccount { history, tapes } = conduct_tapes(
         rt, alloc, domain, admission, offers, background, cycles, admins, pace,
     )?;
-    let book = book_of(alloc, domain, &pages, cycles)?;
+    let book = book_of(alloc, domain, &tapes, cycles)?;
     Ok(Account { history, book })
 }

@@ -5,9 +5,9 @@ use Rattle.std.proofs.lemmas.Bool.{cases_Bool, cases_eq, false≢true}
 use Rattle.std.proofs.lemmas.List.{get_or_default, get_or-set_other, get_or-set_same, length-set}
 use Rattle.std.proofs.Math.Seq.{map-set_same}
 use Rattle.cqf_worker_loops.specs.Handing.{GivesEach, GivesSome, pipes_of}
-use Rattle.cqf_worker_pipe.specs.PipeEnds.{End}
+use Rattle.cqf_worker_loops.specs.PipeEnds.{End}
 use Rattle.cqf_worker_loops.specs.Rows.{MayGet, with_items}
-use Rattle.cqf_worker_pipe.specs.PipeRule.{most_items}
+use Rattle.cqf_worker_loops.specs.PipeRule.{most_items}
 
 -- the first ends, so many, have the items more where all have them; those behind are as they were
 pub record HandsOn {T : Type 0} (xs : List T) (before after : List (End T)) (count : ℕ) (all : Bool) : Type 0 where

@@ -1,3 +1,5 @@
+mod PipeSteps
+mod Waiting
 mod Each
 mod Stopping
 mod HandedTables
@@ -6,6 +8,6 @@ mod Passing
 mod Ports
 mod UnderWay
 mod TakenTables
-mod TakenFlows
-mod HandedFlows
+mod TakenStretches
+mod HandedStretches
 mod Through

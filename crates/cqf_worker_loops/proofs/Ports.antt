@@ -1,4 +1,4 @@
--- Ports through which flows go, by link.
+-- Ports through which stretches go, by link.
 use Rattle.std.proofs.Common.{◌≡◌, ◌∙◌, ℕ, zero, suc, ◌<◌, Bool, true, false, List, [], ◌∷◌, ◌++◌, Some, None, Option, All, AllPairs, Contains}
 use Rattle.std.proofs.Common.{length, map, set, option_map, refl, sym, ap, subst, arith, inl, inr, append-nil, eq-eqb, ne_eqb}
 use Rattle.std.specs.Prelude.{◌==◌, ◌⊎◌, if◌then◌else◌, slice_get}
@@ -11,14 +11,14 @@ use Rattle.cqf_lists.proofs.Members.{contains_at, contains_cases, contains_later
 use Rattle.cqf_lists.proofs.Numbers.{numbers_ascend}
 use Rattle.cqf_lists.proofs.Pairs.{one_of_pairs, pairs_from_map, pairs_head, pairs_tail}
 use Rattle.cqf_model.specs.Domain.{Domain, enters, leaves}
-use Rattle.cqf_flow.specs.declared.log.Came.{Came}
-use Rattle.cqf_flow.specs.declared.moving.Flow.{Flow}
-use Rattle.cqf_flow.specs.Flows.{AreNextFlows, IsNextFlow, all_frames, end_of_flows, frames_of}
-use Rattle.cqf_flow.specs.Standing.{is_onward, links_from, links_into}
+use Rattle.cqf_relay.specs.declared.log.ArrivedFrame.{ArrivedFrame}
+use Rattle.cqf_relay.specs.declared.moving.Stretch.{Stretch}
+use Rattle.cqf_relay.specs.Stretches.{AreNextStretches, IsNextStretch, all_frames, end_of_stretches, frames_of}
+use Rattle.cqf_relay.specs.Standing.{is_onward, links_from, links_into}
 use Rattle.cqf_worker_loops.specs.declared.carried.Carried.{Carried}
 use Rattle.cqf_worker_loops.specs.declared.carried.Carried.TheVariants.{Item}
 use Rattle.cqf_worker_loops.specs.Rows.{wire_at, wires_of, with_item_at}
-use Rattle.cqf_worker_loops.specs.Workers.{FlowPort, IsUnused, flows_at, flows_in, item_in, items_in, link_of, links_onward}
+use Rattle.cqf_worker_loops.specs.Workers.{IsUnused, StretchPort, item_in, items_in, link_of, links_onward, stretches_at, stretches_in}
 
 -- ---- lists of which two things are made alike
 
@@ -96,90 +96,90 @@ module _ {X : Type 0} (key : X → ℕ) where
   one_of_key xs x y up here there same =
       one_of_pairs (λ (a b : X). key a < key b) xs x y up here there (λ l. omega (arith, l, same)) (λ l. omega (arith, l, same))
 
--- ---- flows that went through ports
+-- ---- stretches that went through ports
 
 -- the items of a pipe with one more
 pub items_in_more : {T : Type 0} (carried : List (Carried T)) (x : T) → items_in (carried ++ Item x ∷ []) ≡ items_in carried ++ x ∷ []
 items_in_more carried x = flat_map-append item_in carried (Item x ∷ [])
 
 -- what went through a port of ports each of another link went through the port of its link
-pub flows_at_port : (ports : List FlowPort) (port : FlowPort) → Ascend link_of ports → Contains ports port → flows_at ports port.link ≡ flows_in port
-flows_at_port [] port up held = absurd (contains_none port held)
-flows_at_port (p ∷ ports) port up held = elim (contains_cases p ports port held) [
+pub stretches_at_port : (ports : List StretchPort) (port : StretchPort) → Ascend link_of ports → Contains ports port → stretches_at ports port.link ≡ stretches_in port
+stretches_at_port [] port up held = absurd (contains_none port held)
+stretches_at_port (p ∷ ports) port up held = elim (contains_cases p ports port held) [
   | inl same ↦
-      cond-true (p.link == port.link) (flows_in p) (flows_at ports port.link) (eq-eqb p.link port.link (ap link_of same)) ∙ ap flows_in same
+      cond-true (p.link == port.link) (stretches_in p) (stretches_at ports port.link) (eq-eqb p.link port.link (ap link_of same)) ∙ ap stretches_in same
   | inr rest ↦
-      let less : p.link < port.link = pairs_head (λ (a b : FlowPort). a.link < b.link) p ports port up rest in
-      cond-false (p.link == port.link) (flows_in p) (flows_at ports port.link) (ne_eqb p.link port.link (λ same. omega (arith, same, less)))
-      ∙ flows_at_port ports port (pairs_tail (λ (a b : FlowPort). a.link < b.link) p ports up) rest
+      let less : p.link < port.link = pairs_head (λ (a b : StretchPort). a.link < b.link) p ports port up rest in
+      cond-false (p.link == port.link) (stretches_in p) (stretches_at ports port.link) (ne_eqb p.link port.link (λ same. omega (arith, same, less)))
+      ∙ stretches_at_port ports port (pairs_tail (λ (a b : StretchPort). a.link < b.link) p ports up) rest
 ]
 
--- a flow more at the port of a link is one more there
-pub flows_at_own : (ports : List FlowPort) (k : ℕ) (port : FlowPort) (flow : Flow) → Ascend link_of ports → slice_get ports k ≡ Some port →
-    flows_at (set ports k (with_item_at port (Item flow))) port.link ≡ flows_at ports port.link ++ flow ∷ []
-flows_at_own [] k port flow up there = absurd (contains_none port (contains_at [] k port there))
-flows_at_own (p ∷ ports) zero port flow up there =
+-- a stretch more at the port of a link is one more there
+pub stretches_at_own : (ports : List StretchPort) (k : ℕ) (port : StretchPort) (stretch : Stretch) → Ascend link_of ports → slice_get ports k ≡ Some port →
+    stretches_at (set ports k (with_item_at port (Item stretch))) port.link ≡ stretches_at ports port.link ++ stretch ∷ []
+stretches_at_own [] k port stretch up there = absurd (contains_none port (contains_at [] k port there))
+stretches_at_own (p ∷ ports) zero port stretch up there =
     let same : p ≡ port = same_Some p port there in
-    cond-true (port.link == port.link) (items_in (port.pipe.items ++ Item flow ∷ [])) (flows_at ports port.link) (eq-eqb port.link port.link refl)
-    ∙ items_in_more port.pipe.items flow
-    ∙ sym (ap (λ (flows : List Flow). flows ++ flow ∷ [])
-    (cond-true (p.link == port.link) (flows_in p) (flows_at ports port.link) (eq-eqb p.link port.link (ap link_of same)) ∙ ap flows_in same))
-flows_at_own (p ∷ ports) (suc k) port flow up there =
-    let less : p.link < port.link = pairs_head (λ (a b : FlowPort). a.link < b.link) p ports port up (contains_at ports k port there) in
+    cond-true (port.link == port.link) (items_in (port.pipe.items ++ Item stretch ∷ [])) (stretches_at ports port.link) (eq-eqb port.link port.link refl)
+    ∙ items_in_more port.pipe.items stretch
+    ∙ sym (ap (λ (stretches : List Stretch). stretches ++ stretch ∷ [])
+    (cond-true (p.link == port.link) (stretches_in p) (stretches_at ports port.link) (eq-eqb p.link port.link (ap link_of same)) ∙ ap stretches_in same))
+stretches_at_own (p ∷ ports) (suc k) port stretch up there =
+    let less : p.link < port.link = pairs_head (λ (a b : StretchPort). a.link < b.link) p ports port up (contains_at ports k port there) in
     let apart : (p.link == port.link) ≡ false = ne_eqb p.link port.link (λ same. omega (arith, same, less)) in
-    cond-false (p.link == port.link) (flows_in p) (flows_at (set ports k (with_item_at port (Item flow))) port.link) apart
-    ∙ flows_at_own ports k port flow (pairs_tail (λ (a b : FlowPort). a.link < b.link) p ports up) there
-    ∙ sym (ap (λ (flows : List Flow). flows ++ flow ∷ []) (cond-false (p.link == port.link) (flows_in p) (flows_at ports port.link) apart))
+    cond-false (p.link == port.link) (stretches_in p) (stretches_at (set ports k (with_item_at port (Item stretch))) port.link) apart
+    ∙ stretches_at_own ports k port stretch (pairs_tail (λ (a b : StretchPort). a.link < b.link) p ports up) there
+    ∙ sym (ap (λ (stretches : List Stretch). stretches ++ stretch ∷ []) (cond-false (p.link == port.link) (stretches_in p) (stretches_at ports port.link) apart))
 
 -- and changes nothing of other links
-pub flows_at_other : (ports : List FlowPort) (k : ℕ) (port : FlowPort) (flow : Flow) (l : ℕ) → slice_get ports k ≡ Some port → (port.link ≡ l → ⊥) →
-    flows_at (set ports k (with_item_at port (Item flow))) l ≡ flows_at ports l
-flows_at_other [] k port flow l there apart = refl
-flows_at_other (p ∷ ports) zero port flow l there apart =
+pub stretches_at_other : (ports : List StretchPort) (k : ℕ) (port : StretchPort) (stretch : Stretch) (l : ℕ) → slice_get ports k ≡ Some port → (port.link ≡ l → ⊥) →
+    stretches_at (set ports k (with_item_at port (Item stretch))) l ≡ stretches_at ports l
+stretches_at_other [] k port stretch l there apart = refl
+stretches_at_other (p ∷ ports) zero port stretch l there apart =
     let same : p ≡ port = same_Some p port there in
-    cond-false (port.link == l) (items_in (port.pipe.items ++ Item flow ∷ [])) (flows_at ports l) (ne_eqb port.link l apart)
-    ∙ sym (cond-false (p.link == l) (flows_in p) (flows_at ports l) (ne_eqb p.link l (λ e. apart (sym (ap link_of same) ∙ e))))
-flows_at_other (p ∷ ports) (suc k) port flow l there apart =
-    ap (λ (flows : List Flow). if p.link == l then flows_in p else flows) (flows_at_other ports k port flow l there apart)
+    cond-false (port.link == l) (items_in (port.pipe.items ++ Item stretch ∷ [])) (stretches_at ports l) (ne_eqb port.link l apart)
+    ∙ sym (cond-false (p.link == l) (stretches_in p) (stretches_at ports l) (ne_eqb p.link l (λ e. apart (sym (ap link_of same) ∙ e))))
+stretches_at_other (p ∷ ports) (suc k) port stretch l there apart =
+    ap (λ (stretches : List Stretch). if p.link == l then stretches_in p else stretches) (stretches_at_other ports k port stretch l there apart)
 
 -- through unused ports none went
-pub none_at : (ports : List FlowPort) (l : ℕ) → All IsUnused ports → flows_at ports l ≡ []
+pub none_at : (ports : List StretchPort) (l : ℕ) → All IsUnused ports → stretches_at ports l ≡ []
 none_at [] l unused = refl
 none_at (p ∷ ports) l unused = none (p.link == l) (none_at ports l (λ k d inside. unused (suc k) d (omega (arith, inside))))
   where
     -- neither here nor there
-    none : (b : Bool) → flows_at ports l ≡ [] → (if b then flows_in p else flows_at ports l) ≡ []
+    none : (b : Bool) → stretches_at ports l ≡ [] → (if b then stretches_in p else stretches_at ports l) ≡ []
     none true rest = ap items_in (unused 0 p (omega arith))
     none false rest = rest
 
--- ---- flows one behind the other
+-- ---- stretches one behind the other
 
 -- one more that may come next
-pub next_more : (begin : ℕ) (flows : List Flow) (flow : Flow) → AreNextFlows begin flows → IsNextFlow (end_of_flows begin flows) flow →
-    AreNextFlows begin (flows ++ flow ∷ [])
-next_more begin [] flow are next = (next, tt)
-next_more begin (x ∷ flows) flow are next = (are.0, next_more x.upto flows flow are.1 next)
+pub next_more : (begin : ℕ) (stretches : List Stretch) (stretch : Stretch) → AreNextStretches begin stretches → IsNextStretch (end_of_stretches begin stretches) stretch →
+    AreNextStretches begin (stretches ++ stretch ∷ [])
+next_more begin [] stretch are next = (next, tt)
+next_more begin (x ∷ stretches) stretch are next = (are.0, next_more x.upto stretches stretch are.1 next)
 
 -- those before the last may come, and the last next behind them
-pub next_front : (begin : ℕ) (flows : List Flow) (flow : Flow) → AreNextFlows begin (flows ++ flow ∷ []) →
-    AreNextFlows begin flows × IsNextFlow (end_of_flows begin flows) flow
-next_front begin [] flow are = (tt, are.0)
-next_front begin (x ∷ flows) flow are = let rest = next_front x.upto flows flow are.1 in ((are.0, rest.0), rest.1)
+pub next_front : (begin : ℕ) (stretches : List Stretch) (stretch : Stretch) → AreNextStretches begin (stretches ++ stretch ∷ []) →
+    AreNextStretches begin stretches × IsNextStretch (end_of_stretches begin stretches) stretch
+next_front begin [] stretch are = (tt, are.0)
+next_front begin (x ∷ stretches) stretch are = let rest = next_front x.upto stretches stretch are.1 in ((are.0, rest.0), rest.1)
 
 -- they end where the last ends
-pub end_more : (begin : ℕ) (flows : List Flow) (flow : Flow) → end_of_flows begin (flows ++ flow ∷ []) ≡ flow.upto
-end_more begin [] flow = refl
-end_more begin (x ∷ flows) flow = end_more x.upto flows flow
+pub end_more : (begin : ℕ) (stretches : List Stretch) (stretch : Stretch) → end_of_stretches begin (stretches ++ stretch ∷ []) ≡ stretch.upto
+end_more begin [] stretch = refl
+end_more begin (x ∷ stretches) stretch = end_more x.upto stretches stretch
 
 -- and its frames stand behind those before
-pub frames_more : (flows : List Flow) (flow : Flow) → all_frames (flows ++ flow ∷ []) ≡ all_frames flows ++ frames_of flow
-frames_more flows flow =
-    flat_map-append frames_of flows (flow ∷ []) ∙ ap (λ (xs : List Came). all_frames flows ++ xs) (append-nil (frames_of flow))
+pub frames_more : (stretches : List Stretch) (stretch : Stretch) → all_frames (stretches ++ stretch ∷ []) ≡ all_frames stretches ++ frames_of stretch
+frames_more stretches stretch =
+    flat_map-append frames_of stretches (stretch ∷ []) ∙ ap (λ (xs : List ArrivedFrame). all_frames stretches ++ xs) (append-nil (frames_of stretch))
 
 -- a port keeps its wire, its link and that it carries items, whatever item it gets
-pub wires_with : (ports : List FlowPort) (k : ℕ) (port : FlowPort) (flow : Flow) → slice_get ports k ≡ Some port →
-    wires_of (set ports k (with_item_at port (Item flow))) ≡ wires_of ports
-wires_with [] k port flow there = refl
-wires_with (p ∷ ports) zero port flow there =
+pub wires_with : (ports : List StretchPort) (k : ℕ) (port : StretchPort) (stretch : Stretch) → slice_get ports k ≡ Some port →
+    wires_of (set ports k (with_item_at port (Item stretch))) ≡ wires_of ports
+wires_with [] k port stretch there = refl
+wires_with (p ∷ ports) zero port stretch there =
     ap (λ w. w ∷ wires_of ports) (ap wire_at (sym (same_Some p port there)))
-wires_with (p ∷ ports) (suc k) port flow there = ap (λ ws. wire_at p ∷ ws) (wires_with ports k port flow there)
+wires_with (p ∷ ports) (suc k) port stretch there = ap (λ ws. wire_at p ∷ ws) (wires_with ports k port stretch there)

@@ -23,7 +23,7 @@ use Rattle.cqf_worker_loops.specs.Handing.{fault_of_seal, pipes_of}
 use Rattle.cqf_worker_loops.specs.Stops.{AreItemsThenStop}
 use Rattle.cqf_worker_loops.proofs.Each.{written_back}
 use Rattle.cqf_worker_loops.proofs.Stopping.{HasItems, items_or_none, items_then_stop}
-use Rattle.cqf_worker_pipe.specs.PipeRule.{most_items}
+use Rattle.cqf_worker_loops.specs.PipeRule.{most_items}
 
 -- what a Seal leaves with a seat
 pub seals_as : (old new : Sitting) (table : CycleTable) → new ≡ with_seal old table → SealsOne old new table

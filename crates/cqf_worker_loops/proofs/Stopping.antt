@@ -5,7 +5,7 @@ use Rattle.std.proofs.lemmas.List.{length-append, length-map, map-append}
 use Rattle.cqf_worker_loops.specs.declared.carried.Carried.{Carried}
 use Rattle.cqf_worker_loops.specs.declared.carried.Carried.TheVariants.{Item, Stop}
 use Rattle.cqf_worker_loops.specs.declared.link_ends.LinkEnd.{LinkEnd}
-use Rattle.cqf_worker_pipe.specs.PipeEnds.{End}
+use Rattle.cqf_worker_loops.specs.PipeEnds.{End}
 use Rattle.cqf_worker_loops.specs.Rows.{MayGet, MayHaveGot, wire_at, wires_of, with_items}
 use Rattle.cqf_worker_loops.specs.Stops.{AreItems, AreItemsThenStop, AreStopped}
 use Rattle.cqf_worker_loops.proofs.Each.{written_back}

@@ -11,30 +11,28 @@ use Rattle.cqf_lists.specs.Lists.{each_below}
 use Rattle.cqf_lists.proofs.EachBelow.{contains_from_below, length-singles, same_below}
 use Rattle.cqf_lists.proofs.Members.{all_from_members, contains_from_filter, contains_none}
 use Rattle.cqf_lists.proofs.Pairs.{pairs_none}
-use Rattle.cqf_model.specs.declared.frames.Background.{Background}
 use Rattle.cqf_model.specs.declared.frames.Dropped.{Dropped}
-use Rattle.cqf_model.specs.declared.frames.Offer.{Offer}
 use Rattle.cqf_model.specs.declared.frames.Offered.{Offered}
 use Rattle.cqf_model.specs.declared.topology.Row.{Row}
 use Rattle.cqf_model.specs.Domain.{Domain, budget}
 use Rattle.cqf_model.specs.Table.{AreOrderly, link_cost, table_of}
 use Rattle.cqf_model.specs.Traffic.{is_offered_at, numbered}
 use Rattle.cqf_admission.specs.Tables.{CycleTable}
-use Rattle.cqf_bridge_turn.specs.Agenda.{AgendaOf, IsAgendaOf, offers_listed_at}
-use Rattle.cqf_laws_bridge.specs.Courses.{Traffic}
-use Rattle.cqf_flow.specs.Flows.{AreNextFlows}
-use Rattle.cqf_flow.specs.Offering.{IsOfCycle, dropped_behind}
-use Rattle.cqf_flow.specs.Standing.{AreOfCycle, Come, MayBeTables, StandsSo, TakesTable, offers_in, with_table}
+use Rattle.cqf_bridge.specs.Agenda.{AgendaOf, offers_listed_at}
+use Rattle.cqf_relay.specs.Stretches.{AreNextStretches}
+use Rattle.cqf_relay.specs.Offering.{IsOfCycle, dropped_behind}
+use Rattle.cqf_relay.specs.Standing.{AreOfCycle, Come, MayBeTables, StandsSo, TakesTable, offers_in, with_table}
 use Rattle.cqf_worker_loops.specs.declared.carried.Carried.{Carried}
 use Rattle.cqf_worker_loops.specs.declared.carried.Carried.TheVariants.{Item}
 use Rattle.cqf_worker_loops.specs.declared.worker.Worker.{Worker}
-use Rattle.cqf_worker_pipe.specs.declared.pipe_ends.Found.{Found}
-use Rattle.cqf_worker_pipe.specs.declared.pipe_ends.Found.TheVariants as found_is
-use Rattle.cqf_worker_pipe.specs.PipeEnds.{End, items_found}
+use Rattle.cqf_worker_loops.specs.declared.pipe_ends.FoundItem.{FoundItem}
+use Rattle.cqf_worker_loops.specs.declared.pipe_ends.FoundItem.TheVariants as found_is
+use Rattle.cqf_worker_loops.specs.PipeEnds.{End, items_found}
 use Rattle.cqf_worker_loops.specs.Rows.{with_item, wires_of}
 use Rattle.cqf_worker_loops.specs.Stepping.{EntersTable, GoesFurther, HasComeSoFar, HasTable, IsUnderWay, SomeUnderWay}
 use Rattle.cqf_worker_loops.specs.Stops.{AreItems}
-use Rattle.cqf_worker_loops.specs.Workers.{AreDropsOf, FlowPort, MayHaveComeTo, come_by, come_to, flows_at, items_in, link_of, rows_in}
+use Rattle.cqf_worker_loops.specs.Workers.{AreDropsOf, HasItsOffers, MayHaveComeTo, Offering, StretchPort}
+use Rattle.cqf_worker_loops.specs.Workers.{come_by, come_to, items_in, link_of, rows_in, stretches_at}
 use Rattle.cqf_worker_loops.proofs.Ports.{items_in_more}
 use Rattle.cqf_worker_loops.proofs.Stopping.{CarriesItems, items_and_one}
 use Rattle.cqf_worker_loops.proofs.UnderWay.{handed_still, takes_under_way}
@@ -42,12 +40,14 @@ use Rattle.cqf_worker_loops.proofs.UnderWay.{handed_still, takes_under_way}
 -- ---- offers of a cycle
 
 -- what is offered at a bridge in a cycle is of the cycle
-pub offers_of_cycle : (d : Domain) (offers : List Offer) (background : List Background) (bridge cycle : ℕ) (agenda : AgendaOf) →
-    IsAgendaOf d offers background bridge agenda → AreOfCycle d cycle (offers_listed_at agenda cycle)
-offers_of_cycle d offers background bridge cycle agenda is =
+pub offers_of_cycle : (t : Offering) (bridge cycle : ℕ) (agenda : AgendaOf) → HasItsOffers t bridge agenda →
+    AreOfCycle t.domain cycle (offers_listed_at agenda cycle)
+offers_of_cycle t bridge cycle agenda is =
+    let d = t.domain in
+    let offers = t.offers in
     let begin = cycle * d.cycle_time in
     let offered = each_below (λ offset. filter (is_offered_at bridge (begin + offset)) (numbered offers)) d.cycle_time in
-    subst (AreOfCycle d cycle) (sym (is.offers_are cycle)) (all_from_members (IsOfCycle d cycle) offered (λ x held.
+    subst (AreOfCycle d cycle) (sym (is cycle)) (all_from_members (IsOfCycle d cycle) offered (λ x held.
     let at = contains_from_below (λ offset. filter (is_offered_at bridge (begin + offset)) (numbered offers)) d.cycle_time x held in
     let test = (contains_from_filter (is_offered_at bridge (begin + at.0)) (numbered offers) x at.2).1 in
     let instant : x.offer.at.0 ≡ begin + at.0 = eqb-true x.offer.at.0 (begin + at.0) (second (x.offer.bridge == bridge) (x.offer.at.0 == (begin + at.0)) test) in
@@ -161,8 +161,8 @@ drops_more d number come table offers cycles drops fresh many long was own up =
 
 -- ---- the table
 
-module _ (t : Traffic) (number : ℕ) (table : CycleTable) (older after : Worker) (offers : List Offered)
-    (takes : TakesTable table.rows offers older.station after.station) (listed : offers ≡ offers_listed_at older.agenda older.station.tables)
+module _ (t : Offering) (number : ℕ) (table : CycleTable) (older after : Worker) (offers : List Offered)
+    (takes : TakesTable table.rows offers older.relay after.relay) (listed : offers ≡ offers_listed_at older.agenda older.relay.tables)
     (agenda : after.agenda ≡ older.agenda) (tables : after.tables.items ≡ older.tables.items ++ Item table ∷ [])
     (ins : after.ins.items ≡ older.ins.items) (outs : after.outs.items ≡ older.outs.items) (way : IsUnderWay t number older) where
   -- one table more among the items
@@ -170,11 +170,11 @@ module _ (t : Traffic) (number : ℕ) (table : CycleTable) (older after : Worker
   one_table_more = ap items_in tables ∙ items_in_more older.tables.items table
 
   -- as many offers as tables
-  as_many_offers : length (come_to older).offers ≡ older.station.tables
+  as_many_offers : length (come_to older).offers ≡ older.relay.tables
   as_many_offers =
       length-singles (λ cycle. offers_listed_at older.agenda cycle) (length (items_in older.tables.items)) ∙ sym way.tables_taken
 
-  as_many_tables : length (come_to older).tables ≡ older.station.tables
+  as_many_tables : length (come_to older).tables ≡ older.relay.tables
   as_many_tables = length-map (items_in older.tables.items) rows_in ∙ sym way.tables_taken
 
   -- what has come now is that with the table and the cycle's offers
@@ -197,7 +197,7 @@ module _ (t : Traffic) (number : ℕ) (table : CycleTable) (older after : Worker
   -- it was what may come before
   may_before_table : MayHaveComeTo t after → MayHaveComeTo t older
   may_before_table may = record {
-    flows = subst (λ (ports : List FlowPort). (l : ℕ) → AreNextFlows 0 (flows_at ports l)) ins may.flows;
+    stretches = subst (λ (ports : List StretchPort). (l : ℕ) → AreNextStretches 0 (stretches_at ports l)) ins may.stretches;
     tables = tables_before (come_to older).tables table.rows t.domain
         (subst (λ (come : Come). MayBeTables t.domain come.tables) come_with_table may.tables);
   }
@@ -208,25 +208,25 @@ module _ (t : Traffic) (number : ℕ) (table : CycleTable) (older after : Worker
       let before = way.come (may_before_table may) in
       let can : MayBeTables t.domain ((come_to older).tables ++ table.rows ∷ []) =
       subst (λ (come : Come). MayBeTables t.domain come.tables) come_with_table may.tables in
-      let fresh : IsPermutation (dropped_behind t.domain number older.station.tables table.rows [] offers) takes.fresh =
-      subst (λ (n : ℕ). IsPermutation (dropped_behind t.domain n older.station.tables table.rows [] offers) takes.fresh) way.number_is
+      let fresh : IsPermutation (dropped_behind t.domain number older.relay.tables table.rows [] offers) takes.fresh =
+      subst (λ (n : ℕ). IsPermutation (dropped_behind t.domain n older.relay.tables table.rows [] offers) takes.fresh) way.number_is
       (takes.are_drops t.domain (come_to older) before.sends before.stands can) in
-      let drops : AreDropsOf t.domain number (with_table (come_to older) table.rows offers) (older.station.tables + 1)
-      (older.station.edge.drops.items ++ takes.fresh) =
-      drops_more t.domain number (come_to older) table.rows offers older.station.tables older.station.edge.drops.items takes.fresh as_many_tables
+      let drops : AreDropsOf t.domain number (with_table (come_to older) table.rows offers) (older.relay.tables + 1)
+      (older.relay.edge.drops.items ++ takes.fresh) =
+      drops_more t.domain number (come_to older) table.rows offers older.relay.tables older.relay.edge.drops.items takes.fresh as_many_tables
       as_many_offers before.drops fresh takes.by_frame in
       record {
         sends = before.sends;
-        stands = subst (λ (come : Come). StandsSo t.domain come before.sends after.station) (sym come_with_table)
+        stands = subst (λ (come : Come). StandsSo t.domain come before.sends after.relay) (sym come_with_table)
             (takes.stands t.domain (come_to older) before.sends before.stands can);
         handed = handed_still t older after takes.same takes.told_same outs before.sends before.sends (λ _ _ _ _. refl) before.handed;
-        drops = subst (λ (come : Come). AreDropsOf t.domain number come after.station.tables after.station.edge.drops.items) (sym come_with_table)
-            (subst (λ (n : ℕ). AreDropsOf t.domain number (with_table (come_to older) table.rows offers) n after.station.edge.drops.items) (sym takes.taken)
-            (subst (AreDropsOf t.domain number (with_table (come_to older) table.rows offers) (older.station.tables + 1)) (sym takes.behind) drops));
+        drops = subst (λ (come : Come). AreDropsOf t.domain number come after.relay.tables after.relay.edge.drops.items) (sym come_with_table)
+            (subst (λ (n : ℕ). AreDropsOf t.domain number (with_table (come_to older) table.rows offers) n after.relay.edge.drops.items) (sym takes.taken)
+            (subst (AreDropsOf t.domain number (with_table (come_to older) table.rows offers) (older.relay.tables + 1)) (sym takes.behind) drops));
       }
 
   -- and it is under way with it
-  pub table_under_way : older.station.tables < older.station.cycles → IsUnderWay t number after
+  pub table_under_way : older.relay.tables < older.relay.cycles → IsUnderWay t number after
   table_under_way early = takes_under_way t number older after
       (record {
         stays = takes.same;
@@ -242,14 +242,14 @@ module _ (t : Traffic) (number : ℕ) (table : CycleTable) (older after : Worker
       }) way stands_with_table
 
 -- a worker that has taken its table goes on with its bridge that takes it
-pub entered : (t : Traffic) (number : ℕ) (table : CycleTable) (older before after : Worker) (offers : List Offered) → IsUnderWay t number older →
-    older.station.tables < older.station.cycles → before ≡ record older { tables = with_item older.tables (Item table) } →
-    TakesTable table.rows offers before.station after.station → offers ≡ offers_listed_at before.agenda before.station.tables →
+pub entered : (t : Offering) (number : ℕ) (table : CycleTable) (older before after : Worker) (offers : List Offered) → IsUnderWay t number older →
+    older.relay.tables < older.relay.cycles → before ≡ record older { tables = with_item older.tables (Item table) } →
+    TakesTable table.rows offers before.relay after.relay → offers ≡ offers_listed_at before.agenda before.relay.tables →
     after.agenda ≡ before.agenda → after.tables ≡ before.tables → after.ins ≡ before.ins → after.outs ≡ before.outs → IsUnderWay t number after
 entered t number table older before after offers way early was takes listed agenda tables ins outs =
     table_under_way t number table older after offers
-    (subst (λ (w : Worker). TakesTable table.rows offers w.station after.station) was takes)
-    (subst (λ (w : Worker). offers ≡ offers_listed_at w.agenda w.station.tables) was listed)
+    (subst (λ (w : Worker). TakesTable table.rows offers w.relay after.relay) was takes)
+    (subst (λ (w : Worker). offers ≡ offers_listed_at w.agenda w.relay.tables) was listed)
     (agenda ∙ ap (λ (w : Worker). w.agenda) was)
     (ap (λ end. end.items) (tables ∙ ap (λ (w : Worker). w.tables) was))
     (ap (λ ports. ports.items) (ins ∙ ap (λ (w : Worker). w.ins) was))
@@ -257,22 +257,22 @@ entered t number table older before after offers way early was takes listed agen
     way early
 
 -- the offers that are listed for it are of its cycle
-pub offers_entered : (w : Worker) (table : CycleTable) (offers : List Offered) (cycle : ℕ) → HasTable table w → cycle ≡ w.station.tables →
-    offers ≡ offers_listed_at w.agenda cycle → AreOfCycle w.station.domain w.station.tables offers
+pub offers_entered : (w : Worker) (table : CycleTable) (offers : List Offered) (cycle : ℕ) → HasTable table w → cycle ≡ w.relay.tables →
+    offers ≡ offers_listed_at w.agenda cycle → AreOfCycle w.relay.domain w.relay.tables offers
 offers_entered w table offers cycle has at listed =
     let t = has.was.traffic in
-    let of_cycle : AreOfCycle t.domain has.before.station.tables (offers_listed_at has.before.agenda has.before.station.tables) =
-    offers_of_cycle t.domain t.offers t.background has.was.number has.before.station.tables has.before.agenda has.was.is.is_agenda in
-    let old : AreOfCycle has.before.station.domain has.before.station.tables (offers_listed_at has.before.agenda has.before.station.tables) =
-    subst (λ (d : Domain). AreOfCycle d has.before.station.tables (offers_listed_at has.before.agenda has.before.station.tables))
+    let of_cycle : AreOfCycle t.domain has.before.relay.tables (offers_listed_at has.before.agenda has.before.relay.tables) =
+    offers_of_cycle t has.was.number has.before.relay.tables has.before.agenda has.was.is.is_agenda in
+    let old : AreOfCycle has.before.relay.domain has.before.relay.tables (offers_listed_at has.before.agenda has.before.relay.tables) =
+    subst (λ (d : Domain). AreOfCycle d has.before.relay.tables (offers_listed_at has.before.agenda has.before.relay.tables))
     (sym has.was.is.of_domain) of_cycle in
-    let now : AreOfCycle w.station.domain w.station.tables (offers_listed_at w.agenda w.station.tables) =
-    subst (λ (it : Worker). AreOfCycle it.station.domain it.station.tables (offers_listed_at it.agenda it.station.tables)) (sym has.is) old in
-    subst (AreOfCycle w.station.domain w.station.tables) (sym (listed ∙ ap (offers_listed_at w.agenda) at)) now
+    let now : AreOfCycle w.relay.domain w.relay.tables (offers_listed_at w.agenda w.relay.tables) =
+    subst (λ (it : Worker). AreOfCycle it.relay.domain it.relay.tables (offers_listed_at it.agenda it.relay.tables)) (sym has.is) old in
+    subst (AreOfCycle w.relay.domain w.relay.tables) (sym (listed ∙ ap (offers_listed_at w.agenda) at)) now
 
 -- a worker whose bridge takes the table of its next cycle has entered it
-pub enters_table : (table : CycleTable) (before after : Worker) (offers : List Offered) → TakesTable table.rows offers before.station after.station →
-    offers ≡ offers_listed_at before.agenda before.station.tables → after.agenda ≡ before.agenda → after.tables ≡ before.tables →
+pub enters_table : (table : CycleTable) (before after : Worker) (offers : List Offered) → TakesTable table.rows offers before.relay after.relay →
+    offers ≡ offers_listed_at before.agenda before.relay.tables → after.agenda ≡ before.agenda → after.tables ≡ before.tables →
     after.ins ≡ before.ins → after.outs ≡ before.outs → EntersTable table before after
 enters_table table before after offers takes listed agenda tables ins outs = record {
   same = record {
@@ -291,26 +291,26 @@ enters_table table before after offers takes listed agenda tables ins outs = rec
 
 -- ---- what a look at a pipe finds
 
-module _ {T : Type 0} (old new : End T) (found : Found T) (pipe : new.pipe ≡ old.pipe) (items : new.items ≡ old.items ++ items_found found) where
+module _ {T : Type 0} (old new : End T) (found : FoundItem T) (pipe : new.pipe ≡ old.pipe) (items : new.items ≡ old.items ++ items_found found) where
   -- an item more was taken there
   pub found_item : (x : T) → found ≡ found_is.Item x → new ≡ with_item old x
   found_item x is =
-      let more : new.items ≡ old.items ++ x ∷ [] = items ∙ ap (λ (f : Found T). old.items ++ items_found f) is in
+      let more : new.items ≡ old.items ++ x ∷ [] = items ∙ ap (λ (f : FoundItem T). old.items ++ items_found f) is in
       λ i. record { pipe = pipe i; items = more i }
 
   -- or none
   pub found_nothing : found ≡ found_is.Nothing → new ≡ old
   found_nothing is =
-      let same : new.items ≡ old.items = items ∙ ap (λ (f : Found T). old.items ++ items_found f) is ∙ append-nil old.items in
+      let same : new.items ≡ old.items = items ∙ ap (λ (f : FoundItem T). old.items ++ items_found f) is ∙ append-nil old.items in
       λ i. record { pipe = pipe i; items = same i }
 
 -- a worker that has taken a table from the pipe
 pub has_table : (table : CycleTable) (before : Worker) (new : End (Carried CycleTable)) → SomeUnderWay before →
-    before.station.tables < before.station.cycles → new ≡ with_item before.tables (Item table) → HasTable table (record before { tables = new })
+    before.relay.tables < before.relay.cycles → new ≡ with_item before.tables (Item table) → HasTable table (record before { tables = new })
 has_table table before new some wants is = record { before = before; was = some; wants = wants; is = λ i. record before { tables = is i } }
 
 -- goes on with its bridge that takes it
-pub goes_with_table : (table : CycleTable) (before after : Worker) (new : End (Carried CycleTable)) → before.station.tables < before.station.cycles →
+pub goes_with_table : (table : CycleTable) (before after : Worker) (new : End (Carried CycleTable)) → before.relay.tables < before.relay.cycles →
     new ≡ with_item before.tables (Item table) → EntersTable table (record before { tables = new }) after → GoesFurther before after
 goes_with_table table before after new wants is enters = record {
   same = record {

@@ -12,56 +12,55 @@ use Rattle.cqf_lists.proofs.Members.{all_from_members, contains_cases, contains_
 use Rattle.cqf_model.specs.declared.frames.Sent.{Sent}
 use Rattle.cqf_model.specs.Domain.{leaves}
 use Rattle.cqf_model.specs.Limits.{most_cycles}
-use Rattle.cqf_bridge_turn.specs.Agenda.{IsAgendaOf, offers_listed_at}
-use Rattle.cqf_laws_bridge.specs.Courses.{Traffic}
-use Rattle.cqf_laws_links.specs.Going.{Sendings}
+use Rattle.cqf_bridge.specs.Agenda.{offers_listed_at}
 use Rattle.cqf_tape.specs.declared.tape.Mark.{Mark}
 use Rattle.cqf_tape.specs.declared.tape.Tape.{Tape}
 use Rattle.cqf_tape.proofs.Leaving.{leaving_listed}
 use Rattle.cqf_tape.specs.Tapes.{link_of_tape, links_of, mark_of_sent, starts_at}
-use Rattle.cqf_flow.specs.declared.inlet.Inlet.{Inlet}
-use Rattle.cqf_flow.specs.declared.log.Came.{Came}
-use Rattle.cqf_flow.specs.declared.outlet.Outlet.{Outlet}
-use Rattle.cqf_flow.specs.declared.wire.Wire.{Wire}
-use Rattle.cqf_flow.specs.Flows.{AreNextFlows, all_frames, batch_at, came_in, end_of_flows}
-use Rattle.cqf_flow.specs.Logs.{is_in}
-use Rattle.cqf_flow.specs.Sending.{IsTidy}
-use Rattle.cqf_flow.specs.Standing.{Come, HasGoneOnBy, IsInletOf, IsOutletOf, IsOver, IsWithin, StandsSo, is_onward, link_in, link_out, links_from, links_into, nothing_yet}
-use Rattle.cqf_flow.proofs.Handing.{all_at}
+use Rattle.cqf_relay.specs.declared.inlet.Inlet.{Inlet}
+use Rattle.cqf_relay.specs.declared.log.ArrivedFrame.{ArrivedFrame}
+use Rattle.cqf_relay.specs.declared.outlet.Outlet.{Outlet}
+use Rattle.cqf_relay.specs.declared.wire.Wire.{Wire}
+use Rattle.cqf_relay.specs.Stretches.{AreNextStretches, Sendings, all_frames, batch_at, came_in, end_of_stretches}
+use Rattle.cqf_relay.specs.Logs.{is_in}
+use Rattle.cqf_relay.specs.Sending.{IsTidy}
+use Rattle.cqf_relay.specs.Standing.{Come, HasGoneOnBy, IsInletOf, IsOutletOf, IsOver, IsWithin, StandsSo, is_onward, link_in, link_out, links_from, links_into, nothing_yet}
+use Rattle.cqf_relay.proofs.Handing.{all_at}
 use Rattle.cqf_worker_loops.specs.declared.worker.Worker.{Worker}
 use Rattle.cqf_worker_loops.specs.Rows.{wires_of}
-use Rattle.cqf_worker_loops.specs.Stepping.{EndsSo, GoesFurther, HasHandedOn, HasPutFlows, IsUnderWay, KeepsReel, SomeUnderWay}
+use Rattle.cqf_worker_loops.specs.Stepping.{EndsSo, GoesFurther, HasHandedOn, HasPutStretches, IsUnderWay, KeepsReel, SomeUnderWay}
 use Rattle.cqf_worker_loops.specs.Stops.{AreItems}
-use Rattle.cqf_worker_loops.specs.Workers.{AreDropsOf, FlowPort, HasGoneThrough, HasPut, HasSentAll, IsUnused, IsWorkerOf, MayHaveComeTo, MayWork, Works, come_to}
-use Rattle.cqf_worker_loops.specs.Workers.{flows_at, flows_in, items_in, link_of, rows_in}
-use Rattle.cqf_worker_loops.proofs.HandedFlows.{nothing_put, outlet_of_port, some_further}
-use Rattle.cqf_worker_loops.proofs.Ports.{IsPartner, ascend_by, flows_at_port, into_ascends, none_at, partner}
+use Rattle.cqf_worker_loops.specs.Workers.{AreDropsOf, HasGoneThrough, HasItsOffers, HasPut, HasSentAll, IsUnused, IsWorkerOf, StretchPort}
+use Rattle.cqf_worker_loops.specs.Workers.{MayHaveComeTo, MayWork, Offering, Works}
+use Rattle.cqf_worker_loops.specs.Workers.{come_to, items_in, link_of, rows_in, stretches_at, stretches_in}
+use Rattle.cqf_worker_loops.proofs.HandedStretches.{nothing_put, outlet_of_port, some_further}
+use Rattle.cqf_worker_loops.proofs.Ports.{IsPartner, ascend_by, into_ascends, none_at, partner, stretches_at_port}
 use Rattle.cqf_worker_loops.proofs.Stopping.{CarriesItems}
 use Rattle.cqf_worker_loops.proofs.UnderWay.{come_same, may_same}
 
 -- ---- at first
 
-module _ (t : Traffic) (number : ℕ) (w : Worker) (few : w.station.cycles ≤ most_cycles) (new : IsWorkerOf t number w) where
+module _ (t : Offering) (number : ℕ) (w : Worker) (few : w.relay.cycles ≤ most_cycles) (new : IsWorkerOf t number w) where
   -- nothing has come
   nothing_came : come_to w ≡ nothing_yet
   nothing_came = λ i. record {
     tables = map rows_in (items_in (new.no_tables i));
     offers = each_below (λ cycle. offers_listed_at w.agenda cycle ∷ []) (length (items_in (new.no_tables i)));
-    upto = λ m. end_of_flows 0 (none_at w.ins.items m new.none_taken i);
+    upto = λ m. end_of_stretches 0 (none_at w.ins.items m new.none_taken i);
     brought = λ m. all_frames (none_at w.ins.items m new.none_taken i);
   }
 
   -- no table was taken
-  no_table_yet : w.station.tables ≡ 0
+  no_table_yet : w.relay.tables ≡ 0
   no_table_yet = new.stands.tables_taken
 
   -- and no link has sent
-  link_at_first : (o : Outlet) → Contains w.station.outlets.items o → IsOutletOf t.domain w.station.number nothing_yet [] o
+  link_at_first : (o : Outlet) → Contains w.relay.outlets.items o → IsOutletOf t.domain w.relay.number nothing_yet [] o
   link_at_first o held =
-      All-contains (λ (it : Outlet). IsOutletOf t.domain w.station.number nothing_yet [] it) w.station.outlets.items o new.stands.outlets held
+      All-contains (λ (it : Outlet). IsOutletOf t.domain w.relay.number nothing_yet [] it) w.relay.outlets.items o new.stands.outlets held
 
   -- or handed on
-  none_told : (o : Outlet) → Contains w.station.outlets.items o → o.told ≡ 0
+  none_told : (o : Outlet) → Contains w.relay.outlets.items o → o.told ≡ 0
   none_told o held = let at = link_at_first o held in omega (arith, at.handed, at.as_far)
 
   -- so it is under way
@@ -80,18 +79,18 @@ module _ (t : Traffic) (number : ℕ) (w : Worker) (few : w.station.cycles ≤ m
     ins = All-weaker IsUnused CarriesItems (λ port unused. ([], unused)) w.ins.items new.none_taken;
     links_out = new.links_out;
     outlets = new.stands.from ∙ ap (links_from t.domain) new.number_is;
-    wires = all_from_members (λ (o : Outlet). o.wire.onward ≡ is_onward t.domain o.tape.link) w.station.outlets.items (λ o held.
+    wires = all_from_members (λ (o : Outlet). o.wire.onward ≡ is_onward t.domain o.tape.link) w.relay.outlets.items (λ o held.
         ap (λ (wire : Wire). wire.onward) (link_at_first o held).wire);
     tidy = new.tidy;
-    within = all_from_members (IsWithin w.station.cycles) w.station.outlets.items (λ o held. omega (arith, (link_at_first o held).as_far));
+    within = all_from_members (IsWithin w.relay.cycles) w.relay.outlets.items (λ o held. omega (arith, (link_at_first o held).as_far));
     outs = λ port o here there same. unused_port port o (All-contains IsUnused w.outs.items port new.none_put here) (none_told o there);
     come = λ may. record {
       sends = λ l. [];
-      stands = subst (λ (come : Come). StandsSo t.domain come (λ l. []) w.station) (sym nothing_came) new.stands;
-      handed = all_from_members (HasHandedOn t w (λ l. [])) w.station.outlets.items (λ o held. record {
+      stands = subst (λ (come : Come). StandsSo t.domain come (λ l. []) w.relay) (sym nothing_came) new.stands;
+      handed = all_from_members (HasHandedOn t w (λ l. [])) w.relay.outlets.items (λ o held. record {
         each = λ cycle goes.
-            let made : List Came = map (came_in t.domain o.tape.link cycle) (batch_at [] cycle) in
-            ap (λ flows. filter (is_in cycle) (all_frames flows)) (none_at w.outs.items o.tape.link new.none_put)
+            let made : List ArrivedFrame = map (came_in t.domain o.tape.link cycle) (batch_at [] cycle) in
+            ap (λ stretches. filter (is_in cycle) (all_frames stretches)) (none_at w.outs.items o.tape.link new.none_put)
             ∙ sym (cond-false (nat_lt cycle o.told) made [] (le-ltb cycle o.told (omega (arith, none_told o held))));
       });
       drops = record {
@@ -104,16 +103,16 @@ module _ (t : Traffic) (number : ℕ) (w : Worker) (few : w.station.cycles ≤ m
   }
     where
       -- through an unused port nothing was put
-      unused_port : (port : FlowPort) (o : Outlet) → port.pipe.items ≡ [] → o.told ≡ 0 → HasPut o.told port
+      unused_port : (port : StretchPort) (o : Outlet) → port.pipe.items ≡ [] → o.told ≡ 0 → HasPut o.told port
       unused_port port o unused untold = record {
         items = ([], unused);
-        next = subst (λ carried. AreNextFlows 0 (items_in carried)) (sym unused) tt;
-        ends = ap (λ carried. end_of_flows 0 (items_in carried)) unused ∙ sym untold;
+        next = subst (λ carried. AreNextStretches 0 (items_in carried)) (sym unused) tt;
+        ends = ap (λ carried. end_of_stretches 0 (items_in carried)) unused ∙ sym untold;
         few = omega (arith, ap length unused);
       }
 
 -- a worker that may work is under way
-pub some_begins : (cycles : ℕ) (w : Worker) → w.station.cycles ≤ most_cycles → MayWork cycles w → SomeUnderWay w
+pub some_begins : (cycles : ℕ) (w : Worker) → w.relay.cycles ≤ most_cycles → MayWork cycles w → SomeUnderWay w
 some_begins cycles w few may = record { traffic = may.traffic; number = may.number; is = begins_under_way may.traffic may.number w few may.is }
 
 -- ---- in the end
@@ -135,37 +134,37 @@ marks_of_link marks (o ∷ outlets) l all held = elim (cases_eq o.tape.link l) [
       ])
 ]
 
-module _ (t : Traffic) (number : ℕ) (w done : Worker) (way : IsUnderWay t number w) (over : IsOver w.station) (keeps : KeepsReel w done)
+module _ (t : Offering) (number : ℕ) (w done : Worker) (way : IsUnderWay t number w) (over : IsOver w.relay) (keeps : KeepsReel w done)
     (outs : done.outs.items ≡ w.outs.items) where
   -- it took each table
-  all_tables : w.station.tables ≡ w.station.cycles
+  all_tables : w.relay.tables ≡ w.relay.cycles
   all_tables = omega (arith, way.early, over.tables)
 
   -- each link has sent all cycles
-  all_sent : (o : Outlet) → Contains w.station.outlets.items o → o.sent ≡ w.station.cycles
+  all_sent : (o : Outlet) → Contains w.relay.outlets.items o → o.sent ≡ w.relay.cycles
   all_sent o held =
       omega (
         arith,
-        All-contains (IsWithin w.station.cycles) w.station.outlets.items o way.within held,
-        All-contains (λ (it : Outlet). w.station.cycles ≤ it.sent) w.station.outlets.items o over.sent held,
+        All-contains (IsWithin w.relay.cycles) w.relay.outlets.items o way.within held,
+        All-contains (λ (it : Outlet). w.relay.cycles ≤ it.sent) w.relay.outlets.items o over.sent held,
       )
 
   -- and each that ends in another bridge has handed them on
-  all_told : (o : Outlet) → Contains w.station.outlets.items o → is_onward t.domain o.tape.link ≡ true → o.told ≡ w.station.cycles
+  all_told : (o : Outlet) → Contains w.relay.outlets.items o → is_onward t.domain o.tape.link ≡ true → o.told ≡ w.relay.cycles
   all_told o held goes =
       let onward : o.wire.onward ≡ true =
-      All-contains (λ (it : Outlet). it.wire.onward ≡ is_onward t.domain it.tape.link) w.station.outlets.items o way.wires held ∙ goes in
+      All-contains (λ (it : Outlet). it.wire.onward ≡ is_onward t.domain it.tape.link) w.relay.outlets.items o way.wires held ∙ goes in
       omega (
         arith,
         all_sent o held,
-        (All-contains IsTidy w.station.outlets.items o way.tidy held).handed,
-        All-contains (λ (it : Outlet). it.wire.onward ≡ true → w.station.cycles ≤ it.told) w.station.outlets.items o over.told held onward,
+        (All-contains IsTidy w.relay.outlets.items o way.tidy held).handed,
+        All-contains (λ (it : Outlet). it.wire.onward ≡ true → w.relay.cycles ≤ it.told) w.relay.outlets.items o over.told held onward,
       )
 
   -- the link of a number that leaves the bridge
-  link_there : (l : ℕ) → leaves t.domain l number ≡ true → (o : Outlet) × Contains w.station.outlets.items o × (link_out o ≡ l)
+  link_there : (l : ℕ) → leaves t.domain l number ≡ true → (o : Outlet) × Contains w.relay.outlets.items o × (link_out o ≡ l)
   link_there l own =
-      contains_from_map link_out w.station.outlets.items l
+      contains_from_map link_out w.relay.outlets.items l
       (subst (λ (links : List ℕ). Contains links l) (sym way.outlets) (leaving_listed t.domain number l own))
 
   -- what has come is still the same
@@ -173,12 +172,12 @@ module _ (t : Traffic) (number : ℕ) (w done : Worker) (way : IsUnderWay t numb
   came_still = come_same w done keeps.agenda (ap (λ end. end.items) keeps.tables) (ap (λ ports. ports.items) keeps.ins)
 
   -- of each cycle what a link sent was put at its port
-  all_put : (sends : Sendings) (o : Outlet) → Contains w.station.outlets.items o → (cycle : ℕ) → is_onward t.domain o.tape.link ≡ true →
-      length (sends o.tape.link) ≡ w.station.cycles → HasHandedOn t w sends o →
-      filter (is_in cycle) (all_frames (flows_at done.outs.items o.tape.link)) ≡ map (came_in t.domain o.tape.link cycle) (batch_at (sends o.tape.link) cycle)
+  all_put : (sends : Sendings) (o : Outlet) → Contains w.relay.outlets.items o → (cycle : ℕ) → is_onward t.domain o.tape.link ≡ true →
+      length (sends o.tape.link) ≡ w.relay.cycles → HasHandedOn t w sends o →
+      filter (is_in cycle) (all_frames (stretches_at done.outs.items o.tape.link)) ≡ map (came_in t.domain o.tape.link cycle) (batch_at (sends o.tape.link) cycle)
   all_put sends o held cycle goes long handed =
-      let made : List Came = map (came_in t.domain o.tape.link cycle) (batch_at (sends o.tape.link) cycle) in
-      let told : o.told ≡ w.station.cycles = all_told o held goes in
+      let made : List ArrivedFrame = map (came_in t.domain o.tape.link cycle) (batch_at (sends o.tape.link) cycle) in
+      let told : o.told ≡ w.relay.cycles = all_told o held goes in
       let last : (if nat_lt cycle o.told then made else []) ≡ made = elim (cases_lt cycle o.told) [
         | inl early ↦ cond-true (nat_lt cycle o.told) made [] (lt-ltb cycle o.told early)
         | inr late ↦
@@ -186,28 +185,28 @@ module _ (t : Traffic) (number : ℕ) (w done : Worker) (way : IsUnderWay t numb
             ap (map (came_in t.domain o.tape.link cycle)) (get_or_past (sends o.tape.link) cycle [] (omega (arith, late, told, long))) in
             cond-false (nat_lt cycle o.told) made [] (le-ltb cycle o.told late) ∙ sym none
       ] in
-      ap (λ (ports : List FlowPort). filter (is_in cycle) (all_frames (flows_at ports o.tape.link))) outs ∙ handed.each cycle goes ∙ last
+      ap (λ (ports : List StretchPort). filter (is_in cycle) (all_frames (stretches_at ports o.tape.link))) outs ∙ handed.each cycle goes ∙ last
 
-  -- through each port that ends in the bridge came flows up to the last cycle
-  all_came : (least : ℕ) → All (IsInletOf (come_to w) least) w.station.inlets.items → (port : FlowPort) → Contains w.ins.items port →
-      w.station.cycles ≤ end_of_flows 0 (flows_in port)
+  -- through each port that ends in the bridge came stretches up to the last cycle
+  all_came : (least : ℕ) → All (IsInletOf (come_to w) least) w.relay.inlets.items → (port : StretchPort) → Contains w.ins.items port →
+      w.relay.cycles ≤ end_of_stretches 0 (stretches_in port)
   all_came least inlets port held =
       let at = place_of_member w.ins.items port held in
-      let p : IsPartner link_of link_in w.station.inlets.items at.0 port =
-      partner link_of link_in w.ins.items w.station.inlets.items at.0 port (way.links_in ∙ sym way.inlets) at.1 in
-      let upto : p.other.upto ≡ end_of_flows 0 (flows_in port) =
-      (all_at (IsInletOf (come_to w) least) w.station.inlets.items at.0 p.other inlets p.there).upto
-      ∙ ap (λ (l : ℕ). end_of_flows 0 (flows_at w.ins.items l)) p.alike
-      ∙ ap (end_of_flows 0)
-      (flows_at_port w.ins.items port (ascend_by link_of w.ins.items (links_into t.domain number) way.links_in (into_ascends t.domain number)) held) in
-      omega (arith, upto, all_at (λ (it : Inlet). w.station.cycles ≤ it.upto) w.station.inlets.items at.0 p.other over.come p.there)
+      let p : IsPartner link_of link_in w.relay.inlets.items at.0 port =
+      partner link_of link_in w.ins.items w.relay.inlets.items at.0 port (way.links_in ∙ sym way.inlets) at.1 in
+      let upto : p.other.upto ≡ end_of_stretches 0 (stretches_in port) =
+      (all_at (IsInletOf (come_to w) least) w.relay.inlets.items at.0 p.other inlets p.there).upto
+      ∙ ap (λ (l : ℕ). end_of_stretches 0 (stretches_at w.ins.items l)) p.alike
+      ∙ ap (end_of_stretches 0)
+      (stretches_at_port w.ins.items port (ascend_by link_of w.ins.items (links_into t.domain number) way.links_in (into_ascends t.domain number)) held) in
+      omega (arith, upto, all_at (λ (it : Inlet). w.relay.cycles ≤ it.upto) w.relay.inlets.items at.0 p.other over.come p.there)
 
   -- so its links have sent all
-  sent_all : MayHaveComeTo t done → HasSentAll t number w.station.cycles done
+  sent_all : MayHaveComeTo t done → HasSentAll t number w.relay.cycles done
   sent_all may =
       let so = way.come (may_same w done keeps.agenda (ap (λ end. end.items) keeps.tables) (ap (λ ports. ports.items) keeps.ins) t may) in
-      let of : (o : Outlet) → Contains w.station.outlets.items o → IsOutletOf t.domain w.station.number (come_to w) (so.sends o.tape.link) o =
-      λ o held. All-contains (λ (it : Outlet). IsOutletOf t.domain w.station.number (come_to w) (so.sends it.tape.link) it) w.station.outlets.items o
+      let of : (o : Outlet) → Contains w.relay.outlets.items o → IsOutletOf t.domain w.relay.number (come_to w) (so.sends o.tape.link) o =
+      λ o held. All-contains (λ (it : Outlet). IsOutletOf t.domain w.relay.number (come_to w) (so.sends it.tape.link) it) w.relay.outlets.items o
       so.stands.outlets held in
       record {
         sends = so.sends;
@@ -215,56 +214,56 @@ module _ (t : Traffic) (number : ℕ) (w done : Worker) (way : IsUnderWay t numb
             let at = link_there l own in
             subst (λ (come : Come). HasGoneOnBy t.domain number come l (so.sends l)) (sym came_still)
             (subst (λ (n : ℕ). HasGoneOnBy t.domain n (come_to w) l (so.sends l)) way.number_is
-            (subst (λ (m : ℕ). HasGoneOnBy t.domain w.station.number (come_to w) m (so.sends m)) at.2 (of at.0 at.1).gone));
+            (subst (λ (m : ℕ). HasGoneOnBy t.domain w.relay.number (come_to w) m (so.sends m)) at.2 (of at.0 at.1).gone));
         all = λ l own.
             let at = link_there l own in
-            subst (λ (m : ℕ). length (so.sends m) ≡ w.station.cycles) at.2 (sym (of at.0 at.1).as_far ∙ all_sent at.0 at.1);
+            subst (λ (m : ℕ). length (so.sends m) ≡ w.relay.cycles) at.2 (sym (of at.0 at.1).as_far ∙ all_sent at.0 at.1);
         put = λ l cycle own goes.
             let at = link_there l own in
             subst
-            (λ (m : ℕ). filter (is_in cycle) (all_frames (flows_at done.outs.items m)) ≡ map (came_in t.domain m cycle) (batch_at (so.sends m) cycle))
+            (λ (m : ℕ). filter (is_in cycle) (all_frames (stretches_at done.outs.items m)) ≡ map (came_in t.domain m cycle) (batch_at (so.sends m) cycle))
             at.2
             (all_put so.sends at.0 at.1 cycle (ap (is_onward t.domain) at.2 ∙ goes) (sym (of at.0 at.1).as_far ∙ all_sent at.0 at.1)
-            (All-contains (HasHandedOn t w so.sends) w.station.outlets.items at.0 so.handed at.1));
+            (All-contains (HasHandedOn t w so.sends) w.relay.outlets.items at.0 so.handed at.1));
         starts = λ l own.
             ap (λ (tapes : List Tape). starts_at tapes l) keeps.tapes
-            ∙ marks_of_link (λ m. map mark_of_sent (flat_map (λ (batch : List Sent). batch) (so.sends m))) w.station.outlets.items l
+            ∙ marks_of_link (λ m. map mark_of_sent (flat_map (λ (batch : List Sent). batch) (so.sends m))) w.relay.outlets.items l
             (all_from_members
-            (λ (o : Outlet). o.tape.starts.items ≡ map mark_of_sent (flat_map (λ (batch : List Sent). batch) (so.sends o.tape.link))) w.station.outlets.items
+            (λ (o : Outlet). o.tape.starts.items ≡ map mark_of_sent (flat_map (λ (batch : List Sent). batch) (so.sends o.tape.link))) w.relay.outlets.items
             (λ o held. (of o held).marked))
             (subst (λ (links : List ℕ). Contains links l) (sym way.outlets) (leaving_listed t.domain number l own));
         no_background = subst (All (λ (tape : Tape). tape.background.items ≡ [])) (sym keeps.tapes)
-            (All-map (λ (tape : Tape). tape.background.items ≡ []) (λ (o : Outlet). o.tape) w.station.outlets.items
-            (all_from_members (λ (o : Outlet). o.tape.background.items ≡ []) w.station.outlets.items (λ o held. (of o held).no_background)));
-        came = subst (λ ports. All (λ (port : FlowPort). w.station.cycles ≤ end_of_flows 0 (flows_in port)) ports.items) (sym keeps.ins)
-            (all_from_members (λ (port : FlowPort). w.station.cycles ≤ end_of_flows 0 (flows_in port)) w.ins.items (λ port held.
+            (All-map (λ (tape : Tape). tape.background.items ≡ []) (λ (o : Outlet). o.tape) w.relay.outlets.items
+            (all_from_members (λ (o : Outlet). o.tape.background.items ≡ []) w.relay.outlets.items (λ o held. (of o held).no_background)));
+        came = subst (λ ports. All (λ (port : StretchPort). w.relay.cycles ≤ end_of_stretches 0 (stretches_in port)) ports.items) (sym keeps.ins)
+            (all_from_members (λ (port : StretchPort). w.relay.cycles ≤ end_of_stretches 0 (stretches_in port)) w.ins.items (λ port held.
             all_came so.stands.least so.stands.inlets port held));
-        drops = subst (λ (come : Come). AreDropsOf t.domain number come w.station.cycles done.reel.drops.items) (sym came_still)
+        drops = subst (λ (come : Come). AreDropsOf t.domain number come w.relay.cycles done.reel.drops.items) (sym came_still)
             (subst (λ (n : ℕ). AreDropsOf t.domain number (come_to w) n done.reel.drops.items) all_tables
-            (subst (λ list. AreDropsOf t.domain number (come_to w) w.station.tables list.items) (sym keeps.drops) so.drops));
+            (subst (λ list. AreDropsOf t.domain number (come_to w) w.relay.tables list.items) (sym keeps.drops) so.drops));
       }
 
   -- and it has gone through all cycles
-  pub through_all : HasGoneThrough t number w.station.cycles done
+  pub through_all : HasGoneThrough t number w.relay.cycles done
   through_all = record {
-    is_agenda = subst (IsAgendaOf t.domain t.offers t.background number) (sym keeps.agenda) way.is_agenda;
+    is_agenda = subst (HasItsOffers t number) (sym keeps.agenda) way.is_agenda;
     tables = subst (λ end. AreItems end.items) (sym keeps.tables) way.tables;
     had_tables = ap (λ end. length (items_in end.items)) keeps.tables ∙ sym way.tables_taken ∙ all_tables;
     ins = subst (λ ports. All CarriesItems ports.items) (sym keeps.ins) way.ins;
-    outs = subst (All (HasPut w.station.cycles)) (sym outs) (all_from_members (HasPut w.station.cycles) w.outs.items (λ port held.
+    outs = subst (All (HasPut w.relay.cycles)) (sym outs) (all_from_members (HasPut w.relay.cycles) w.outs.items (λ port held.
         let from = outlet_of_port t number w port way held in
         subst (λ (n : ℕ). HasPut n port) (all_told from.outlet from.there (ap (is_onward t.domain) (sym from.link) ∙ from.onward))
         (way.outs port from.outlet held from.there from.link)));
-    links = ap links_of keeps.tapes ∙ map-map link_of_tape (λ (o : Outlet). o.tape) w.station.outlets.items ∙ way.outlets;
+    links = ap links_of keeps.tapes ∙ map-map link_of_tape (λ (o : Outlet). o.tape) w.relay.outlets.items ∙ way.outlets;
     sent = sent_all;
   }
 
 -- a worker whose bridge is over ends with what it keeps
-pub ends_so : (before w done : Worker) → SomeUnderWay before → GoesFurther before w → IsOver w.station → KeepsReel w done → done.outs ≡ w.outs →
+pub ends_so : (before w done : Worker) → SomeUnderWay before → GoesFurther before w → IsOver w.relay → KeepsReel w done → done.outs ≡ w.outs →
     EndsSo before done
 ends_so before w done some goes over keeps outs =
     let same : done.outs.items ≡ w.outs.items = ap (λ ports. ports.items) outs in
-    let put : HasPutFlows w done = nothing_put w done (some_further before w some goes) same in
+    let put : HasPutStretches w done = nothing_put w done (some_further before w some goes) same in
     record {
       tables = ap (λ end. end.pipe) keeps.tables ∙ goes.same.tables;
       ins = ap (λ ports. wires_of ports.items) keeps.ins ∙ goes.same.ins;
@@ -276,7 +275,7 @@ ends_so before w done some goes over keeps outs =
     }
 
 -- so it does what a worker promises
-pub ends_work : (w done : Worker) → w.station.cycles ≤ most_cycles → EndsSo w done → Works w.station.cycles w done
+pub ends_work : (w done : Worker) → w.relay.cycles ≤ most_cycles → EndsSo w done → Works w.relay.cycles w done
 ends_work w done few ends = record {
   tables = ends.tables;
   ins = ends.ins;

@@ -6,21 +6,18 @@ use Rattle.std.proofs.lemmas.Bool.{cases_lt, cond-false, le-ltb}
 use Rattle.std.proofs.lemmas.List.Elements.{All-contains}
 use Rattle.cqf_lists.proofs.Members.{all_from_members, contains_at, place_of_member}
 use Rattle.cqf_model.specs.declared.frames.Sent.{Sent}
-use Rattle.cqf_bridge_turn.specs.Agenda.{IsAgendaOf}
-use Rattle.cqf_laws_bridge.specs.Courses.{Traffic}
-use Rattle.cqf_laws_links.specs.Going.{Sendings}
-use Rattle.cqf_flow.specs.declared.log.Came.{Came}
-use Rattle.cqf_flow.specs.declared.outlet.Outlet.{Outlet}
-use Rattle.cqf_flow.specs.declared.station.Station.{Station}
-use Rattle.cqf_flow.specs.declared.wire.Wire.{Wire}
-use Rattle.cqf_flow.specs.Flows.{AreNextFlows, all_frames, batch_at, came_in}
-use Rattle.cqf_flow.specs.Logs.{is_in}
-use Rattle.cqf_flow.specs.Standing.{Come, IsWithin, MayBeTables, StaysAs}
-use Rattle.cqf_flow.specs.Standing.{is_onward, link_out, told_by, wire_out}
+use Rattle.cqf_relay.specs.declared.log.ArrivedFrame.{ArrivedFrame}
+use Rattle.cqf_relay.specs.declared.outlet.Outlet.{Outlet}
+use Rattle.cqf_relay.specs.declared.relay.Relay.{Relay}
+use Rattle.cqf_relay.specs.declared.wire.Wire.{Wire}
+use Rattle.cqf_relay.specs.Stretches.{AreNextStretches, Sendings, all_frames, batch_at, came_in}
+use Rattle.cqf_relay.specs.Logs.{is_in}
+use Rattle.cqf_relay.specs.Standing.{Come, IsWithin, MayBeTables, StaysAs}
+use Rattle.cqf_relay.specs.Standing.{is_onward, link_out, told_by, wire_out}
 use Rattle.cqf_worker_loops.specs.declared.worker.Worker.{Worker}
 use Rattle.cqf_worker_loops.specs.Stepping.{HasComeSoFar, HasHandedOn, IsUnderWay}
 use Rattle.cqf_worker_loops.specs.Stops.{AreItems}
-use Rattle.cqf_worker_loops.specs.Workers.{FlowPort, HasPut, MayHaveComeTo, come_by, come_to, flows_at, items_in, link_of}
+use Rattle.cqf_worker_loops.specs.Workers.{HasItsOffers, HasPut, MayHaveComeTo, Offering, StretchPort, come_by, come_to, items_in, link_of, stretches_at}
 use Rattle.cqf_worker_loops.proofs.Ports.{alike_at}
 use Rattle.cqf_worker_loops.proofs.Ports.{partner}
 use Rattle.cqf_worker_loops.proofs.Stopping.{CarriesItems}
@@ -35,7 +32,7 @@ pub record WasOutlet (before : List Outlet) (outlet : Outlet) : Type 0 where
   pub told : outlet.told ≡ was.told
   pub wire : outlet.wire ≡ was.wire
 
-module _ (before after : Station) (same : StaysAs before after) (told : told_by after ≡ told_by before) where
+module _ (before after : Relay) (same : StaysAs before after) (told : told_by after ≡ told_by before) where
   -- each link was one that has handed on as much
   pub was_outlet : (outlet : Outlet) → Contains after.outlets.items outlet → WasOutlet before.outlets.items outlet
   was_outlet outlet held =
@@ -50,15 +47,15 @@ module _ (before after : Station) (same : StaysAs before after) (told : told_by 
       }
 
 -- what went through the port of a link: what it sent in the cycles that it has handed on
-abbrev pub IsHandedAt : Traffic → List FlowPort → Sendings → ℕ → ℕ → Type 0
+abbrev pub IsHandedAt : Offering → List StretchPort → Sendings → ℕ → ℕ → Type 0
 IsHandedAt t outs sends l told = (cycle : ℕ) → is_onward t.domain l ≡ true →
-    filter (is_in cycle) (all_frames (flows_at outs l)) ≡ (if nat_lt cycle told then map (came_in t.domain l cycle) (batch_at (sends l) cycle) else [])
+    filter (is_in cycle) (all_frames (stretches_at outs l)) ≡ (if nat_lt cycle told then map (came_in t.domain l cycle) (batch_at (sends l) cycle) else [])
 
 -- it is so where the link has sent the same in these cycles
-same_handed : (t : Traffic) (outs : List FlowPort) (sends more : Sendings) (l told : ℕ) →
+same_handed : (t : Offering) (outs : List StretchPort) (sends more : Sendings) (l told : ℕ) →
     ((cycle : ℕ) → cycle < told → batch_at (more l) cycle ≡ batch_at (sends l) cycle) → IsHandedAt t outs sends l told → IsHandedAt t outs more l told
 same_handed t outs sends more l told same handed cycle onward =
-    let made : List Sent → List Came = λ batch. map (came_in t.domain l cycle) batch in
+    let made : List Sent → List ArrivedFrame = λ batch. map (came_in t.domain l cycle) batch in
     handed cycle onward ∙ (elim (cases_lt cycle told) as (λ _.
     (if nat_lt cycle told then made (batch_at (sends l) cycle) else []) ≡ (if nat_lt cycle told then made (batch_at (more l) cycle) else [])) [
       | inl early ↦ ap (λ (batch : List Sent). if nat_lt cycle told then made batch else []) (sym (same cycle early))
@@ -67,60 +64,60 @@ same_handed t outs sends more l told same handed cycle onward =
           ∙ sym (cond-false (nat_lt cycle told) (made (batch_at (more l) cycle)) [] (le-ltb cycle told late))
     ])
 
-module _ (t : Traffic) (before after : Worker) (same : StaysAs before.station after.station) (told : told_by after.station ≡ told_by before.station)
+module _ (t : Offering) (before after : Worker) (same : StaysAs before.relay after.relay) (told : told_by after.relay ≡ told_by before.relay)
     (outs : after.outs.items ≡ before.outs.items) where
   -- where no link hands on more, what was put is what they have handed on still
   pub handed_still : (sends more : Sendings) →
-      ((outlet : Outlet) → Contains before.station.outlets.items outlet → (cycle : ℕ) → cycle < outlet.told →
+      ((outlet : Outlet) → Contains before.relay.outlets.items outlet → (cycle : ℕ) → cycle < outlet.told →
       batch_at (more outlet.tape.link) cycle ≡ batch_at (sends outlet.tape.link) cycle) →
-      All (HasHandedOn t before sends) before.station.outlets.items → All (HasHandedOn t after more) after.station.outlets.items
-  handed_still sends more as_sent handed = all_from_members (HasHandedOn t after more) after.station.outlets.items (λ outlet held.
-      let was = was_outlet before.station after.station same told outlet held in
-      let old = All-contains (HasHandedOn t before sends) before.station.outlets.items was.was handed was.there in
+      All (HasHandedOn t before sends) before.relay.outlets.items → All (HasHandedOn t after more) after.relay.outlets.items
+  handed_still sends more as_sent handed = all_from_members (HasHandedOn t after more) after.relay.outlets.items (λ outlet held.
+      let was = was_outlet before.relay after.relay same told outlet held in
+      let old = All-contains (HasHandedOn t before sends) before.relay.outlets.items was.was handed was.there in
       let at_was : IsHandedAt t before.outs.items more was.was.tape.link was.was.told =
       same_handed t before.outs.items sends more was.was.tape.link was.was.told (as_sent was.was was.there) old.each in
       let at_link : IsHandedAt t before.outs.items more outlet.tape.link outlet.told =
       subst (λ (l : ℕ). IsHandedAt t before.outs.items more l outlet.told) (sym was.link)
       (subst (λ (n : ℕ). IsHandedAt t before.outs.items more was.was.tape.link n) (sym was.told) at_was) in
-      record { each = subst (λ (ports : List FlowPort). IsHandedAt t ports more outlet.tape.link outlet.told) (sym outs) at_link })
+      record { each = subst (λ (ports : List StretchPort). IsHandedAt t ports more outlet.tape.link outlet.told) (sym outs) at_link })
 
   -- and each port has what its link has handed on
-  pub put_still : ((port : FlowPort) (outlet : Outlet) → Contains before.outs.items port → Contains before.station.outlets.items outlet →
-      port.link ≡ outlet.tape.link → HasPut outlet.told port) → (port : FlowPort) (outlet : Outlet) → Contains after.outs.items port →
-      Contains after.station.outlets.items outlet → port.link ≡ outlet.tape.link → HasPut outlet.told port
+  pub put_still : ((port : StretchPort) (outlet : Outlet) → Contains before.outs.items port → Contains before.relay.outlets.items outlet →
+      port.link ≡ outlet.tape.link → HasPut outlet.told port) → (port : StretchPort) (outlet : Outlet) → Contains after.outs.items port →
+      Contains after.relay.outlets.items outlet → port.link ≡ outlet.tape.link → HasPut outlet.told port
   put_still put port outlet held there link =
-      let was = was_outlet before.station after.station same told outlet there in
+      let was = was_outlet before.relay after.relay same told outlet there in
       subst (λ (n : ℕ). HasPut n port) (sym was.told)
-      (put port was.was (subst (λ (ports : List FlowPort). Contains ports port) outs held) was.there (link ∙ was.link))
+      (put port was.was (subst (λ (ports : List StretchPort). Contains ports port) outs held) was.there (link ∙ was.link))
 
   -- each wire says whether its link ends in a bridge
-  pub wires_still : All (λ (outlet : Outlet). outlet.wire.onward ≡ is_onward t.domain outlet.tape.link) before.station.outlets.items →
-      All (λ (outlet : Outlet). outlet.wire.onward ≡ is_onward t.domain outlet.tape.link) after.station.outlets.items
+  pub wires_still : All (λ (outlet : Outlet). outlet.wire.onward ≡ is_onward t.domain outlet.tape.link) before.relay.outlets.items →
+      All (λ (outlet : Outlet). outlet.wire.onward ≡ is_onward t.domain outlet.tape.link) after.relay.outlets.items
   wires_still wires =
-      all_from_members (λ (outlet : Outlet). outlet.wire.onward ≡ is_onward t.domain outlet.tape.link) after.station.outlets.items (λ outlet held.
-      let was = was_outlet before.station after.station same told outlet held in
+      all_from_members (λ (outlet : Outlet). outlet.wire.onward ≡ is_onward t.domain outlet.tape.link) after.relay.outlets.items (λ outlet held.
+      let was = was_outlet before.relay after.relay same told outlet held in
       ap (λ (wire : Wire). wire.onward) was.wire
-      ∙ All-contains (λ (it : Outlet). it.wire.onward ≡ is_onward t.domain it.tape.link) before.station.outlets.items was.was wires was.there
+      ∙ All-contains (λ (it : Outlet). it.wire.onward ≡ is_onward t.domain it.tape.link) before.relay.outlets.items was.was wires was.there
       ∙ ap (is_onward t.domain) (sym was.link))
 
 -- what a worker takes where no link hands on more
 pub record TakesOnly (before after : Worker) : Type 0 where
-  pub stays : StaysAs before.station after.station
-  pub told : told_by after.station ≡ told_by before.station
+  pub stays : StaysAs before.relay after.relay
+  pub told : told_by after.relay ≡ told_by before.relay
   pub outs : after.outs.items ≡ before.outs.items
   pub agenda : after.agenda ≡ before.agenda
   pub links_in : map link_of after.ins.items ≡ map link_of before.ins.items
   pub tables : AreItems before.tables.items → AreItems after.tables.items
-  pub taken : before.station.tables ≡ length (items_in before.tables.items) → after.station.tables ≡ length (items_in after.tables.items)
-  pub early : after.station.tables ≤ before.station.cycles
+  pub taken : before.relay.tables ≡ length (items_in before.tables.items) → after.relay.tables ≡ length (items_in after.tables.items)
+  pub early : after.relay.tables ≤ before.relay.cycles
   pub ins : All CarriesItems before.ins.items → All CarriesItems after.ins.items
 
 -- it stays under way, where its bridge stands by what has come
-pub takes_under_way : (t : Traffic) (number : ℕ) (before after : Worker) → TakesOnly before after → IsUnderWay t number before →
+pub takes_under_way : (t : Offering) (number : ℕ) (before after : Worker) → TakesOnly before after → IsUnderWay t number before →
     (MayHaveComeTo t after → HasComeSoFar t number after) → IsUnderWay t number after
 takes_under_way t number before after only way come = record {
   good_offers = way.good_offers;
-  is_agenda = subst (IsAgendaOf t.domain t.offers t.background number) (sym only.agenda) way.is_agenda;
+  is_agenda = subst (HasItsOffers t number) (sym only.agenda) way.is_agenda;
   of_domain = only.stays.domain ∙ way.of_domain;
   number_is = only.stays.number ∙ way.number_is;
   few = omega (arith, only.stays.cycles, way.few);
@@ -134,7 +131,7 @@ takes_under_way t number before after only way come = record {
   outlets = only.stays.links_out ∙ way.outlets;
   wires = wires_still t before after only.stays only.told only.outs way.wires;
   tidy = only.stays.tidy way.tidy;
-  within = subst (λ (cycles : ℕ). All (IsWithin cycles) after.station.outlets.items) (sym only.stays.cycles) (only.stays.within way.within);
+  within = subst (λ (cycles : ℕ). All (IsWithin cycles) after.relay.outlets.items) (sym only.stays.cycles) (only.stays.within way.within);
   outs = put_still t before after only.stays only.told only.outs way.outs;
   come = come;
 }
@@ -148,8 +145,8 @@ module _ (before after : Worker) (agenda : after.agenda ≡ before.agenda) (tabl
   come_same = λ i. come_by (items_in (tables i)) (agenda i) (ins i)
 
   -- and may come
-  pub may_same : (t : Traffic) → MayHaveComeTo t after → MayHaveComeTo t before
+  pub may_same : (t : Offering) → MayHaveComeTo t after → MayHaveComeTo t before
   may_same t may = record {
-    flows = subst (λ (ports : List FlowPort). (l : ℕ) → AreNextFlows 0 (flows_at ports l)) ins may.flows;
+    stretches = subst (λ (ports : List StretchPort). (l : ℕ) → AreNextStretches 0 (stretches_at ports l)) ins may.stretches;
     tables = subst (λ (come : Come). MayBeTables t.domain come.tables) come_same may.tables;
   }

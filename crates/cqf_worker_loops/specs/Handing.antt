@@ -6,7 +6,7 @@ use Rattle.cqf_admission.specs.declared.entries.SealFault.{SealFault}
 use Rattle.cqf_admission.specs.declared.entries.SealFault.TheVariants as seal
 use Rattle.cqf_admission.specs.Tables.{CycleTable}
 use Rattle.cqf_desk.specs.Desk.{Sitting}
-use Rattle.cqf_worker_pipe.specs.PipeEnds.{End, PipeId}
+use Rattle.cqf_worker_loops.specs.PipeEnds.{End, PipeId}
 use Rattle.cqf_worker_loops.specs.declared.carried.Carried.{Carried}
 use Rattle.cqf_worker_loops.specs.declared.carried.Carried.TheVariants.{Item}
 use Rattle.cqf_worker_loops.specs.declared.sealing.Block.{Block}

@@ -1,3 +1,5 @@
+pub mod PipeRule
+pub mod PipeEnds
 pub mod Rows
 pub mod Workers
 pub mod Stops

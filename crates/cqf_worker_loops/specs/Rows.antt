@@ -1,7 +1,7 @@
 -- Items that are put at several ports, or taken there, one at each (profile).
 use Rattle.std.specs.Prelude.{ℕ, ◌≡◌, ◌⊎◌, List, [], ◌∷◌, ◌++◌, map}
 use Rattle.cqf_worker_loops.specs.declared.link_ends.LinkEnd.{LinkEnd}
-use Rattle.cqf_worker_pipe.specs.PipeEnds.{End, PipeId}
+use Rattle.cqf_worker_loops.specs.PipeEnds.{End, PipeId}
 
 module _ {T : Type 0} where
   -- a port's link and pipe, which stay whatever is put or taken

@@ -3,68 +3,66 @@ use Rattle.std.specs.Prelude.{ℕ, ◌≡◌, ◌+◌, ◌≤◌, ◌<◌, [], t
 use Rattle.cqf_model.specs.Limits.{most_cycles}
 use Rattle.cqf_model.specs.Run.{AreOffers}
 use Rattle.cqf_admission.specs.Tables.{CycleTable}
-use Rattle.cqf_bridge_turn.specs.Agenda.{IsAgendaOf}
-use Rattle.cqf_laws_bridge.specs.Courses.{Traffic}
-use Rattle.cqf_laws_links.specs.Going.{Sendings}
-use Rattle.cqf_flow.specs.declared.outlet.Outlet.{Outlet}
-use Rattle.cqf_flow.specs.Flows.{all_frames, batch_at, came_in}
-use Rattle.cqf_flow.specs.Logs.{is_in}
-use Rattle.cqf_flow.specs.Sending.{IsTidy}
-use Rattle.cqf_flow.specs.Standing.{IsWithin, StandsSo, is_onward, link_in, link_out, links_from, links_into}
+use Rattle.cqf_relay.specs.declared.outlet.Outlet.{Outlet}
+use Rattle.cqf_relay.specs.Stretches.{Sendings, all_frames, batch_at, came_in}
+use Rattle.cqf_relay.specs.Logs.{is_in}
+use Rattle.cqf_relay.specs.Sending.{IsTidy}
+use Rattle.cqf_relay.specs.Standing.{IsWithin, StandsSo, is_onward, link_in, link_out, links_from, links_into}
 use Rattle.cqf_worker_loops.specs.declared.carried.Carried.TheVariants.{Item}
 use Rattle.cqf_worker_loops.specs.declared.worker.Worker.{Worker}
 use Rattle.cqf_worker_loops.specs.Rows.{with_item, wires_of}
 use Rattle.cqf_worker_loops.specs.Stops.{AreItems}
-use Rattle.cqf_worker_loops.specs.Workers.{AreDropsOf, FlowPort, HasGoneThrough, HasPut, MayHaveComeTo, come_to, flows_at, items_in, link_of, links_onward}
-use Rattle.cqf_worker_pipe.specs.PipeRule.{most_items}
+use Rattle.cqf_worker_loops.specs.Workers.{AreDropsOf, HasGoneThrough, HasItsOffers, HasPut, MayHaveComeTo, Offering, StretchPort}
+use Rattle.cqf_worker_loops.specs.Workers.{come_to, items_in, link_of, links_onward, stretches_at}
+use Rattle.cqf_worker_loops.specs.PipeRule.{most_items}
 
 -- the frames that a link has put of a cycle: those that it sent, where it has handed the cycle on
-pub record HasHandedOn (t : Traffic) (w : Worker) (sends : Sendings) (outlet : Outlet) : Type 0 where
+pub record HasHandedOn (t : Offering) (w : Worker) (sends : Sendings) (outlet : Outlet) : Type 0 where
   pub each : (cycle : ℕ) → is_onward t.domain outlet.tape.link ≡ true →
-      filter (is_in cycle) (all_frames (flows_at w.outs.items outlet.tape.link))
+      filter (is_in cycle) (all_frames (stretches_at w.outs.items outlet.tape.link))
       ≡ (if nat_lt cycle outlet.told then map (came_in t.domain outlet.tape.link cycle) (batch_at (sends outlet.tape.link) cycle) else [])
 
 -- a worker's bridge stands by what has come to it: its links have sent, and handed on what they tell, and it has dropped the offers that weren't
 -- covered
-pub record HasComeSoFar (t : Traffic) (number : ℕ) (w : Worker) : Type 0 where
+pub record HasComeSoFar (t : Offering) (number : ℕ) (w : Worker) : Type 0 where
   pub sends : Sendings
-  pub stands : StandsSo t.domain (come_to w) sends w.station
-  pub handed : All (HasHandedOn t w sends) w.station.outlets.items
-  pub drops : AreDropsOf t.domain number (come_to w) w.station.tables w.station.edge.drops.items
+  pub stands : StandsSo t.domain (come_to w) sends w.relay
+  pub handed : All (HasHandedOn t w sends) w.relay.outlets.items
+  pub drops : AreDropsOf t.domain number (come_to w) w.relay.tables w.relay.edge.drops.items
 
--- a worker under way: whatever comes, its tables and flows are items, its links are tidy and have sent no more than its cycles, and through each
+-- a worker under way: whatever comes, its tables and stretches are items, its links are tidy and have sent no more than its cycles, and through each
 -- port went what its link has handed on; and where what came may come, its bridge stands by it
-pub record IsUnderWay (t : Traffic) (number : ℕ) (w : Worker) : Type 0 where
+pub record IsUnderWay (t : Offering) (number : ℕ) (w : Worker) : Type 0 where
   pub good_offers : AreOffers t.domain t.offers
-  pub is_agenda : IsAgendaOf t.domain t.offers t.background number w.agenda
-  pub of_domain : w.station.domain ≡ t.domain
-  pub number_is : w.station.number ≡ number
-  pub few : w.station.cycles ≤ most_cycles
+  pub is_agenda : HasItsOffers t number w.agenda
+  pub of_domain : w.relay.domain ≡ t.domain
+  pub number_is : w.relay.number ≡ number
+  pub few : w.relay.cycles ≤ most_cycles
   pub tables : AreItems w.tables.items
-  pub tables_taken : w.station.tables ≡ length (items_in w.tables.items)
-  pub early : w.station.tables ≤ w.station.cycles
+  pub tables_taken : w.relay.tables ≡ length (items_in w.tables.items)
+  pub early : w.relay.tables ≤ w.relay.cycles
   pub links_in : map link_of w.ins.items ≡ links_into t.domain number
-  pub inlets : map link_in w.station.inlets.items ≡ links_into t.domain number
-  pub ins : All (λ (port : FlowPort). AreItems port.pipe.items) w.ins.items
+  pub inlets : map link_in w.relay.inlets.items ≡ links_into t.domain number
+  pub ins : All (λ (port : StretchPort). AreItems port.pipe.items) w.ins.items
   pub links_out : map link_of w.outs.items ≡ links_onward t.domain number
-  pub outlets : map link_out w.station.outlets.items ≡ links_from t.domain number
-  pub wires : All (λ (outlet : Outlet). outlet.wire.onward ≡ is_onward t.domain outlet.tape.link) w.station.outlets.items
-  pub tidy : All IsTidy w.station.outlets.items
-  pub within : All (IsWithin w.station.cycles) w.station.outlets.items
-  pub outs : (port : FlowPort) (outlet : Outlet) → Contains w.outs.items port → Contains w.station.outlets.items outlet →
+  pub outlets : map link_out w.relay.outlets.items ≡ links_from t.domain number
+  pub wires : All (λ (outlet : Outlet). outlet.wire.onward ≡ is_onward t.domain outlet.tape.link) w.relay.outlets.items
+  pub tidy : All IsTidy w.relay.outlets.items
+  pub within : All (IsWithin w.relay.cycles) w.relay.outlets.items
+  pub outs : (port : StretchPort) (outlet : Outlet) → Contains w.outs.items port → Contains w.relay.outlets.items outlet →
       port.link ≡ outlet.tape.link → HasPut outlet.told port
   pub come : MayHaveComeTo t w → HasComeSoFar t number w
 
 -- a worker of some traffic under way
 pub record SomeUnderWay (w : Worker) : Type 0 where
-  pub traffic : Traffic
+  pub traffic : Offering
   pub number : ℕ
   pub is : IsUnderWay traffic number w
 
 -- what stays of it whatever it does
 pub record IsSameWorker (before after : Worker) : Type 0 where
-  pub number : after.station.number ≡ before.station.number
-  pub cycles : after.station.cycles ≡ before.station.cycles
+  pub number : after.relay.number ≡ before.relay.number
+  pub cycles : after.relay.cycles ≡ before.relay.cycles
   pub agenda : after.agenda ≡ before.agenda
   pub tables : after.tables.pipe ≡ before.tables.pipe
   pub ins : wires_of after.ins.items ≡ wires_of before.ins.items
@@ -73,36 +71,36 @@ pub record IsSameWorker (before after : Worker) : Type 0 where
 -- it goes on: of whatever traffic it was under way, it is so still
 pub record GoesFurther (before after : Worker) : Type 0 where
   pub same : IsSameWorker before after
-  pub way : (t : Traffic) (number : ℕ) → IsUnderWay t number before → IsUnderWay t number after
+  pub way : (t : Offering) (number : ℕ) → IsUnderWay t number before → IsUnderWay t number after
 
--- and where it gives up, it has put flows alone, and there is room for a Stop
-pub record HasPutFlows (before after : Worker) : Type 0 where
+-- and where it gives up, it has put stretches alone, and there is room for a Stop
+pub record HasPutStretches (before after : Worker) : Type 0 where
   pub outs : wires_of after.outs.items ≡ wires_of before.outs.items
-  pub items : All (λ (port : FlowPort). AreItems port.pipe.items) after.outs.items
-  pub room : All (λ (port : FlowPort). length port.pipe.items < most_items) after.outs.items
+  pub items : All (λ (port : StretchPort). AreItems port.pipe.items) after.outs.items
+  pub room : All (λ (port : StretchPort). length port.pipe.items < most_items) after.outs.items
 
 -- a worker that has taken a table which its bridge hasn't
 pub record HasTable (table : CycleTable) (w : Worker) : Type 0 where
   pub before : Worker
   pub was : SomeUnderWay before
-  pub wants : before.station.tables < before.station.cycles
+  pub wants : before.relay.tables < before.relay.cycles
   pub is : w ≡ record before { tables = with_item before.tables (Item table) }
 
 -- its bridge has taken the table: of whatever traffic it was under way before it took it from the pipe, it is so now
 pub record EntersTable (table : CycleTable) (before after : Worker) : Type 0 where
   pub same : IsSameWorker before after
   pub tables : after.tables ≡ before.tables
-  pub taken : after.station.tables ≡ before.station.tables + 1
-  pub way : (t : Traffic) (number : ℕ) (older : Worker) → IsUnderWay t number older → older.station.tables < older.station.cycles →
+  pub taken : after.relay.tables ≡ before.relay.tables + 1
+  pub way : (t : Offering) (number : ℕ) (older : Worker) → IsUnderWay t number older → older.relay.tables < older.relay.cycles →
       before ≡ record older { tables = with_item older.tables (Item table) } → IsUnderWay t number after
 
 -- the link at a place has something to hand on, by the port at another
 pub record HandsOnAt (place port : ℕ) (w : Worker) : Type 0 where
   pub outlet : Outlet
-  pub there : slice_get w.station.outlets.items place ≡ Some outlet
+  pub there : slice_get w.relay.outlets.items place ≡ Some outlet
   pub onward : outlet.wire.onward ≡ true
   pub more : outlet.told < outlet.sent
-  pub at : FlowPort
+  pub at : StretchPort
   pub its_port : slice_get w.outs.items port ≡ Some at
   pub same_link : at.link ≡ outlet.tape.link
 
@@ -111,14 +109,14 @@ pub record KeepsReel (before after : Worker) : Type 0 where
   pub agenda : after.agenda ≡ before.agenda
   pub tables : after.tables ≡ before.tables
   pub ins : after.ins ≡ before.ins
-  pub tapes : after.reel.tapes.items ≡ map (λ (outlet : Outlet). outlet.tape) before.station.outlets.items
-  pub drops : after.reel.drops ≡ before.station.edge.drops
+  pub tapes : after.reel.tapes.items ≡ map (λ (outlet : Outlet). outlet.tape) before.relay.outlets.items
+  pub drops : after.reel.drops ≡ before.relay.edge.drops
 
 -- a worker has gone through all cycles
 pub record EndsSo (before after : Worker) : Type 0 where
   pub tables : after.tables.pipe ≡ before.tables.pipe
   pub ins : wires_of after.ins.items ≡ wires_of before.ins.items
   pub outs : wires_of after.outs.items ≡ wires_of before.outs.items
-  pub items : All (λ (port : FlowPort). AreItems port.pipe.items) after.outs.items
-  pub room : All (λ (port : FlowPort). length port.pipe.items < most_items) after.outs.items
-  pub part : (t : Traffic) (number : ℕ) → IsUnderWay t number before → HasGoneThrough t number before.station.cycles after
+  pub items : All (λ (port : StretchPort). AreItems port.pipe.items) after.outs.items
+  pub room : All (λ (port : StretchPort). length port.pipe.items < most_items) after.outs.items
+  pub part : (t : Offering) (number : ℕ) → IsUnderWay t number before → HasGoneThrough t number before.relay.cycles after

@@ -3,7 +3,7 @@ use Rattle.std.specs.Prelude.{ℕ, ◌≡◌, ◌<◌, ◌⊎◌, ◌++◌, List
 use Rattle.cqf_worker_loops.specs.declared.carried.Carried.{Carried}
 use Rattle.cqf_worker_loops.specs.declared.carried.Carried.TheVariants.{Item, Stop}
 use Rattle.cqf_worker_loops.specs.declared.link_ends.LinkEnd.{LinkEnd}
-use Rattle.cqf_worker_pipe.specs.PipeEnds.{End}
+use Rattle.cqf_worker_loops.specs.PipeEnds.{End}
 use Rattle.cqf_worker_loops.specs.Rows.{MayHaveGot}
 
 module _ {T : Type 0} where

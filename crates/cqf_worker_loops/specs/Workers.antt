@@ -4,28 +4,28 @@ use Rattle.std.specs.List.{flat_map}
 use Rattle.std.specs.List.Sorted.{IsNonDecreasingBy, IsPermutation}
 use Rattle.cqf_lists.specs.Lists.{each_below}
 use Rattle.cqf_model.specs.declared.frames.Dropped.{Dropped}
+use Rattle.cqf_model.specs.declared.frames.Offer.{Offer}
 use Rattle.cqf_model.specs.declared.frames.Sent.{Sent}
 use Rattle.cqf_model.specs.declared.topology.Row.{Row}
 use Rattle.cqf_model.specs.Domain.{Domain, leaves}
 use Rattle.cqf_model.specs.Run.{AreOffers}
 use Rattle.cqf_model.specs.Table.{table_of}
+use Rattle.cqf_laws_cycle.specs.Gathered.{offered_for}
 use Rattle.cqf_admission.specs.Tables.{CycleTable}
-use Rattle.cqf_bridge_turn.specs.Agenda.{AgendaOf, IsAgendaOf, offers_listed_at}
-use Rattle.cqf_laws_bridge.specs.Courses.{Traffic}
-use Rattle.cqf_laws_links.specs.Going.{Sendings}
+use Rattle.cqf_bridge.specs.Agenda.{AgendaOf, offers_listed_at}
 use Rattle.cqf_tape.specs.declared.tape.Tape.{Tape}
 use Rattle.cqf_tape.specs.Tapes.{links_of, mark_of_sent, starts_at}
-use Rattle.cqf_flow.specs.declared.moving.Flow.{Flow}
-use Rattle.cqf_flow.specs.Flows.{AreNextFlows, all_frames, batch_at, came_in, end_of_flows}
-use Rattle.cqf_flow.specs.Logs.{is_in}
-use Rattle.cqf_flow.specs.Offering.{dropped_behind}
-use Rattle.cqf_flow.specs.Standing.{Come, HasGoneOnBy, MayBeTables, StandsSo, is_onward, links_from, links_into, nothing_yet, offers_in}
-use Rattle.cqf_flow.specs.Sending.{IsTidy}
+use Rattle.cqf_relay.specs.declared.moving.Stretch.{Stretch}
+use Rattle.cqf_relay.specs.Stretches.{AreNextStretches, Sendings, all_frames, batch_at, came_in, end_of_stretches}
+use Rattle.cqf_relay.specs.Logs.{is_in}
+use Rattle.cqf_relay.specs.Offering.{dropped_behind}
+use Rattle.cqf_relay.specs.Standing.{Come, HasGoneOnBy, MayBeTables, StandsSo, is_onward, links_from, links_into, nothing_yet, offers_in}
+use Rattle.cqf_relay.specs.Sending.{IsTidy}
 use Rattle.cqf_worker_loops.specs.declared.carried.Carried.{Carried}
 use Rattle.cqf_worker_loops.specs.declared.carried.Carried.TheVariants.{Item, Stop}
 use Rattle.cqf_worker_loops.specs.declared.link_ends.LinkEnd.{LinkEnd}
 use Rattle.cqf_worker_loops.specs.declared.worker.Worker.{Worker}
-use Rattle.cqf_worker_pipe.specs.PipeEnds.{End}
+use Rattle.cqf_worker_loops.specs.PipeEnds.{End}
 use Rattle.cqf_worker_loops.specs.Rows.{wires_of}
 use Rattle.cqf_worker_loops.specs.Stops.{AreItems}
 
@@ -41,38 +41,47 @@ item_in Stop = []
 abbrev pub items_in : {T : Type 0} → List (Carried T) → List T
 items_in carried = flat_map item_in carried
 
--- an end of a pipe of flows, with the number of its link
-abbrev pub FlowPort : Type 0
-FlowPort = LinkEnd (End (Carried Flow))
+-- an end of a pipe of stretches, with the number of its link
+abbrev pub StretchPort : Type 0
+StretchPort = LinkEnd (End (Carried Stretch))
 
--- the flows that went through a port, and through that of a link
-abbrev pub flows_in : FlowPort → List Flow
-flows_in port = items_in port.pipe.items
+-- the stretches that went through a port, and through that of a link
+abbrev pub stretches_in : StretchPort → List Stretch
+stretches_in port = items_in port.pipe.items
 
-abbrev pub flows_at : List FlowPort → ℕ → List Flow
-flows_at [] l = []
-flows_at (port ∷ ports) l = if port.link == l then flows_in port else flows_at ports l
+abbrev pub stretches_at : List StretchPort → ℕ → List Stretch
+stretches_at [] l = []
+stretches_at (port ∷ ports) l = if port.link == l then stretches_in port else stretches_at ports l
 
 -- the rows of a table
 abbrev pub rows_in : CycleTable → List Row
 rows_in table = table.rows
 
 -- what came by tables, with an agenda's offers of their cycles, and through ports
-abbrev pub come_by : List CycleTable → AgendaOf → List FlowPort → Come
+abbrev pub come_by : List CycleTable → AgendaOf → List StretchPort → Come
 come_by tables agenda ins = record {
   tables = map rows_in tables;
   offers = each_below (λ cycle. offers_listed_at agenda cycle ∷ []) (length tables);
-  upto = λ m. end_of_flows 0 (flows_at ins m);
-  brought = λ m. all_frames (flows_at ins m);
+  upto = λ m. end_of_stretches 0 (stretches_at ins m);
+  brought = λ m. all_frames (stretches_at ins m);
 }
+
+-- a domain, and what is offered at its bridges
+pub record Offering : Type 0 where
+  pub domain : Domain
+  pub offers : List Offer
+
+-- an agenda has, cycle by cycle, what a bridge is offered
+abbrev pub HasItsOffers : Offering → ℕ → AgendaOf → Type 0
+HasItsOffers t number agenda = (cycle : ℕ) → offers_listed_at agenda cycle ≡ offered_for t.domain t.offers number cycle
 
 -- and so what has come to a worker
 abbrev pub come_to : Worker → Come
 come_to w = come_by (items_in w.tables.items) w.agenda w.ins.items
 
--- what may come to it: flows one behind the other by each link, and tables of a history
-pub record MayHaveComeTo (t : Traffic) (w : Worker) : Type 0 where
-  pub flows : (l : ℕ) → AreNextFlows 0 (flows_at w.ins.items l)
+-- what may come to it: stretches one behind the other by each link, and tables of a history
+pub record MayHaveComeTo (t : Offering) (w : Worker) : Type 0 where
+  pub stretches : (l : ℕ) → AreNextStretches 0 (stretches_at w.ins.items l)
   pub tables : MayBeTables t.domain (come_to w).tables
 
 -- the links of ports, and ports at which nothing was put or taken
@@ -84,13 +93,13 @@ IsUnused port = port.pipe.items ≡ []
 
 -- a worker of this traffic's bridge that has done nothing: it has the bridge, what the bridge is offered, and the ports of the links that
 -- end in the bridge, and of those that leave it and end in another
-pub record IsWorkerOf (t : Traffic) (number : ℕ) (w : Worker) : Type 0 where
+pub record IsWorkerOf (t : Offering) (number : ℕ) (w : Worker) : Type 0 where
   pub good_offers : AreOffers t.domain t.offers
-  pub stands : StandsSo t.domain nothing_yet (λ l. []) w.station
-  pub tidy : All IsTidy w.station.outlets.items
-  pub number_is : w.station.number ≡ number
-  pub no_drops : w.station.edge.drops.items ≡ []
-  pub is_agenda : IsAgendaOf t.domain t.offers t.background number w.agenda
+  pub stands : StandsSo t.domain nothing_yet (λ l. []) w.relay
+  pub tidy : All IsTidy w.relay.outlets.items
+  pub number_is : w.relay.number ≡ number
+  pub no_drops : w.relay.edge.drops.items ≡ []
+  pub is_agenda : HasItsOffers t number w.agenda
   pub no_tables : w.tables.items ≡ []
   pub links_in : map link_of w.ins.items ≡ links_into t.domain number
   pub none_taken : All IsUnused w.ins.items
@@ -99,16 +108,16 @@ pub record IsWorkerOf (t : Traffic) (number : ℕ) (w : Worker) : Type 0 where
 
 -- a worker of some bridge that has done nothing, and is to go through so many cycles
 pub record MayWork (cycles : ℕ) (w : Worker) : Type 0 where
-  pub traffic : Traffic
+  pub traffic : Offering
   pub number : ℕ
   pub is : IsWorkerOf traffic number w
-  pub has_cycles : w.station.cycles ≡ cycles
+  pub has_cycles : w.relay.cycles ≡ cycles
 
--- through a port flows were put one behind the other, up to a cycle, and nothing else
-pub record HasPut (upto : ℕ) (port : FlowPort) : Type 0 where
+-- through a port stretches were put one behind the other, up to a cycle, and nothing else
+pub record HasPut (upto : ℕ) (port : StretchPort) : Type 0 where
   pub items : AreItems port.pipe.items
-  pub next : AreNextFlows 0 (flows_in port)
-  pub ends : end_of_flows 0 (flows_in port) ≡ upto
+  pub next : AreNextStretches 0 (stretches_in port)
+  pub ends : end_of_stretches 0 (stretches_in port) ≡ upto
   pub few : length port.pipe.items ≤ upto
 
 -- so many cycles' drops, cycle by cycle those of the offers that weren't covered, by frame
@@ -121,25 +130,25 @@ pub record AreDropsOf (d : Domain) (number : ℕ) (come : Come) (cycles : ℕ) (
 
 -- what a bridge's links have sent in so many cycles of what came to it: by each link it goes on by what came, it is what was put through the
 -- link's port, and it stands on the reel, with the drops
-pub record HasSentAll (t : Traffic) (number cycles : ℕ) (done : Worker) : Type 0 where
+pub record HasSentAll (t : Offering) (number cycles : ℕ) (done : Worker) : Type 0 where
   pub sends : Sendings
   pub gone : (l : ℕ) → leaves t.domain l number ≡ true → HasGoneOnBy t.domain number (come_to done) l (sends l)
   pub all : (l : ℕ) → leaves t.domain l number ≡ true → length (sends l) ≡ cycles
   pub put : (l cycle : ℕ) → leaves t.domain l number ≡ true → is_onward t.domain l ≡ true →
-      filter (is_in cycle) (all_frames (flows_at done.outs.items l)) ≡ map (came_in t.domain l cycle) (batch_at (sends l) cycle)
+      filter (is_in cycle) (all_frames (stretches_at done.outs.items l)) ≡ map (came_in t.domain l cycle) (batch_at (sends l) cycle)
   pub starts : (l : ℕ) → leaves t.domain l number ≡ true →
       starts_at done.reel.tapes.items l ≡ map mark_of_sent (flat_map (λ (batch : List Sent). batch) (sends l))
   pub no_background : All (λ (tape : Tape). tape.background.items ≡ []) done.reel.tapes.items
-  pub came : All (λ (port : FlowPort). cycles ≤ end_of_flows 0 (flows_in port)) done.ins.items
+  pub came : All (λ (port : StretchPort). cycles ≤ end_of_stretches 0 (stretches_in port)) done.ins.items
   pub drops : AreDropsOf t.domain number (come_to done) cycles done.reel.drops.items
 
--- the bridge did its part: it took so many tables, its links put flows up to as many cycles, and on its reel are tapes of its links; where what
+-- the bridge did its part: it took so many tables, its links put stretches up to as many cycles, and on its reel are tapes of its links; where what
 -- came may come, they have sent all
-pub record HasGoneThrough (t : Traffic) (number cycles : ℕ) (done : Worker) : Type 0 where
-  pub is_agenda : IsAgendaOf t.domain t.offers t.background number done.agenda
+pub record HasGoneThrough (t : Offering) (number cycles : ℕ) (done : Worker) : Type 0 where
+  pub is_agenda : HasItsOffers t number done.agenda
   pub tables : AreItems done.tables.items
   pub had_tables : length (items_in done.tables.items) ≡ cycles
-  pub ins : All (λ (port : FlowPort). AreItems port.pipe.items) done.ins.items
+  pub ins : All (λ (port : StretchPort). AreItems port.pipe.items) done.ins.items
   pub outs : All (HasPut cycles) done.outs.items
   pub links : links_of done.reel.tapes.items ≡ links_from t.domain number
   pub sent : MayHaveComeTo t done → HasSentAll t number cycles done
@@ -149,4 +158,4 @@ pub record Works (cycles : ℕ) (worker done : Worker) : Type 0 where
   pub tables : done.tables.pipe ≡ worker.tables.pipe
   pub ins : wires_of done.ins.items ≡ wires_of worker.ins.items
   pub outs : wires_of done.outs.items ≡ wires_of worker.outs.items
-  pub part : (t : Traffic) (number : ℕ) → IsWorkerOf t number worker → HasGoneThrough t number cycles done
+  pub part : (t : Offering) (number : ℕ) → IsWorkerOf t number worker → HasGoneThrough t number cycles done

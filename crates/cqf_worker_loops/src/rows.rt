@@ -1,11 +1,11 @@
 //! One item at each of several ports.
 ghost use Rattle.std.specs.Prelude.{◌≡◌, ◌<◌, All, length};
 ghost use Rattle.cqf_worker_loops.specs.Stops.{AreStopped};
-ghost use Rattle.cqf_worker_pipe.specs.PipeRule.{most_items};
+ghost use Rattle.cqf_worker_loops.specs.PipeRule.{most_items};
 
+use crate::PipeIn;
 use crate::carried::Carried;
 use crate::link_ends::LinkEnd;
-use cqf_worker_pipe::PipeIn;
 use std::sync::Wait;
 
 /// Puts at each of the ports, once, that no item comes any more. A port whose pipe's other end is gone is passed over. At each fewer

@@ -22,13 +22,13 @@ ghost use Rattle.cqf_worker_loops.specs.Rows.{with_items};
 ghost use Rattle.cqf_worker_loops.specs.Stops.{AreItemsThenStop};
 ghost use Rattle.cqf_worker_loops.specs.declared.carried.Carried.TheVariants.{Item, Stop};
 ghost use Rattle.cqf_model.specs.Limits.{most_cycles};
-ghost use Rattle.cqf_worker_pipe.specs.PipeRule.{most_items};
+ghost use Rattle.cqf_worker_loops.specs.PipeRule.{most_items};
 
+use crate::PipeIn;
 use crate::carried::Carried;
 use cqf_admission::{SealFault, Table};
 use cqf_desk::{Desk, Seat};
 use cqf_units::Memory;
-use cqf_worker_pipe::PipeIn;
 use std::alloc::{AllocFailed, Global};
 use std::collections::VecDeque;
 use std::sync::Wait;

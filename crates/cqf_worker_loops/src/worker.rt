@@ -1,40 +1,40 @@
 //! A bridge on a thread of its own.
-ghost use Rattle.std.specs.Prelude.{◌≡◌, ◌<◌, ◌≤◌, ℕ, All, IfErr, IfOk, OnOk, length};
-ghost use Rattle.cqf_worker_loops.specs.GivingUp.{GivesUpFor, HasGivenUp};
+ghost use Rattle.std.specs.Prelude.{◌≡◌, ◌<◌, ◌≤◌, All, IfErr, IfOk, length};
+ghost use Rattle.cqf_worker_loops.specs.GivingUp.{HasGivenUp};
 ghost use Rattle.cqf_worker_loops.specs.Rows.{wires_of};
 ghost use Rattle.cqf_worker_loops.specs.Stops.{AreItems, AreItemsThenStop, AreStopped};
 ghost use Rattle.cqf_worker_loops.specs.Workers.{MayWork, Works};
 ghost use Rattle.cqf_model.specs.Limits.{most_cycles};
-ghost use Rattle.cqf_worker_pipe.specs.PipeRule.{most_items};
+ghost use Rattle.cqf_worker_loops.specs.PipeRule.{most_items};
 
 use crate::carried::Carried;
-use crate::flows::work_flows;
 use crate::link_ends::LinkEnd;
 use crate::pace::Pace;
+use crate::rounds::work_rounds;
 use crate::rows::stop_each;
+use crate::{Bell, PipeIn, PipeOut};
 use cqf_admission::Table;
-use cqf_bridge_turn::Agenda;
-use cqf_flow::{Flow, Station};
+use cqf_bridge::Agenda;
+use cqf_relay::{Relay, Stretch};
 use cqf_tape::Reel;
 use cqf_units::Memory;
-use cqf_worker_pipe::{Bell, PipeIn, PipeOut};
 use std::alloc::Global;
 use std::sync::Wait;
 
 /// A bridge with all that it needs on a thread of its own.
 #[derive(Drop)]
 pub struct Worker {
-    pub station: Station,
-    /// Where it waits: it is rung for each table and each flow that comes, and for room in a pipe that was full.
+    pub relay: Relay,
+    /// Where it waits: it is rung for each table and each stretch that comes, and for room in a pipe that was full.
     pub bell: Bell,
-    /// What the bridge is offered, and its background frames.
+    /// What the bridge is offered.
     pub agenda: Agenda,
     /// Where the table of each cycle comes.
     pub tables: PipeOut<Carried<Table>>,
     /// The ends of the pipes on the links that end in the bridge, by number.
-    pub ins: Vec<LinkEnd<PipeOut<Carried<Flow>>>>,
+    pub ins: Vec<LinkEnd<PipeOut<Carried<Stretch>>>>,
     /// The ends of the pipes on the links that leave the bridge and end in another, by number.
-    pub outs: Vec<LinkEnd<PipeIn<Carried<Flow>>>>,
+    pub outs: Vec<LinkEnd<PipeIn<Carried<Stretch>>>>,
     /// What the bridge has sent and dropped.
     pub reel: Reel,
 }
@@ -60,17 +60,17 @@ impl From<Memory> for WorkerFault {
 }
 
 /// What comes back of a worker that gives up: the number of its bridge, from 0, why, and the ends at which it put. What it put there is
-/// flows, and then at most one Stop.
+/// stretches, and then at most one Stop.
 #[derive(Drop)]
 pub struct GaveUp {
     pub bridge: u16,
     pub fault: WorkerFault,
-    pub outs: Vec<LinkEnd<PipeIn<Carried<Flow>>>>,
+    pub outs: Vec<LinkEnd<PipeIn<Carried<Stretch>>>>,
 }
 
 /// Lets go of a worker: first of the ends at which it takes, so that who puts there, or waits for room, waits no more; then those who take
-/// from it are told that nothing comes any more. Gives the ends at which that was put, behind flows alone.
-fn let_go<R: Wait>(rt: &R, worker: Worker) -> Vec<LinkEnd<PipeIn<Carried<Flow>>>>
+/// from it are told that nothing comes any more. Gives the ends at which that was put, behind stretches alone.
+fn let_go<R: Wait>(rt: &R, worker: Worker) -> Vec<LinkEnd<PipeIn<Carried<Stretch>>>>
     requires room { All (λ port. length port.pipe.items < most_items) worker.outs.items }
     requires batches { All (λ port. AreItems port.pipe.items) worker.outs.items }
     ensures count { length result.items ≡ length worker.outs.items }
@@ -82,7 +82,7 @@ fn let_go<R: Wait>(rt: &R, worker: Worker) -> Vec<LinkEnd<PipeIn<Carried<Flow>>>
         tables,
         ins,
         mut outs,
-        station: _station,
+        relay: _relay,
         bell: _bell,
         agenda: _agenda,
         reel: _reel,
@@ -105,13 +105,13 @@ pub fn work<R: Wait, P: Pace>(
     pace: &P,
     mut worker: Worker,
 ) -> Result<Worker, GaveUp>
-    requires few { worker.station.cycles ≤ most_cycles }
-    requires new { MayWork worker.station.cycles worker }
-    ensures ok { IfOk result (λ done. Works worker.station.cycles worker done) }
-    ensures err { IfErr result (HasGivenUp worker.station.cycles worker) }
+    requires few { worker.relay.cycles ≤ most_cycles }
+    requires new { MayWork worker.relay.cycles worker }
+    ensures ok { IfOk result (λ done. Works worker.relay.cycles worker done) }
+    ensures err { IfErr result (HasGivenUp worker.relay.cycles worker) }
 {
-    let bridge = worker.station.number();
-    match work_flows(rt, alloc, pace, &mut worker) {
+    let bridge = worker.relay.number();
+    match work_rounds(rt, alloc, pace, &mut worker) {
         Ok(()) => Ok(worker),
         Err(fault) => {
             let outs = let_go(rt, worker);

@@ -18,7 +18,7 @@ use Rattle.cqf_admission.specs.declared.entries.Command.TheVariants.{Admit, Admi
 use Rattle.cqf_admission.specs.Admission.{Administration, Answers, is_entered, reply_of}
 use Rattle.cqf_admission.specs.Tables.{CycleTable}
 use Rattle.cqf_world.specs.declared.parts.Line.{Line}
-use Rattle.cqf_world.specs.declared.parts.Driven.{Driven}
+use Rattle.cqf_world.specs.declared.parts.WorldBridge.{WorldBridge}
 use Rattle.cqf_admission.specs.Commands.{act_of_command}
 use Rattle.cqf_world.specs.Parts.{IsDriven, IsWorld, links_taken}
 use Rattle.cqf_world.specs.World.{WorldState, cycle_of_bridge, sealed_run}
@@ -30,7 +30,7 @@ no_seal (Admit request) = refl
 no_seal (AdmitPaced request) = refl
 no_seal (Withdraw name) = refl
 
-module _ (v : WorldState) (tables : List CycleTable) (driven : List Driven) (lines : List Line) (entries : List Recorded)
+module _ (v : WorldState) (tables : List CycleTable) (driven : List WorldBridge) (lines : List Line) (entries : List Recorded)
     (world : IsWorld v tables driven lines)
     (legal : IsLegalHistory v.domain entries) (counted : seals entries ≡ seals v.entries)
     (stay : (cycle : ℕ) → cycle < seals v.entries → table_at v.domain entries cycle ≡ table_at v.domain v.entries cycle) where
@@ -73,7 +73,7 @@ module _ (v : WorldState) (tables : List CycleTable) (driven : List Driven) (lin
   }
 
 -- what an answered call leaves
-pub called_world : (v : WorldState) (tables : List CycleTable) (driven : List Driven) (lines : List Line) (old new : Administration) (seat : ℕ) (act : Act)
+pub called_world : (v : WorldState) (tables : List CycleTable) (driven : List WorldBridge) (lines : List Line) (old new : Administration) (seat : ℕ) (act : Act)
     (result : Result Receipt Refused) → SealsAreCounted → ClosedTablesStay → IsWorld v tables driven lines → v.domain ≡ old.domain → v.entries ≡ old.entries →
     is_seal act ≡ false → Answers old new seat act result → IsLegalHistory new.domain new.entries →
     IsWorld (record v { domain = new.domain; entries = new.entries }) tables driven lines

@@ -6,7 +6,7 @@ use Rattle.cqf_model.specs.Domain.{bridge_of}
 use Rattle.cqf_model.specs.History.{seals}
 use Rattle.cqf_admission.specs.Tables.{CycleTable}
 use Rattle.cqf_world.specs.declared.parts.Line.{Line}
-use Rattle.cqf_world.specs.declared.parts.Driven.{Driven}
+use Rattle.cqf_world.specs.declared.parts.WorldBridge.{WorldBridge}
 use Rattle.cqf_world.specs.Events.{MayBeGiven}
 use Rattle.cqf_world.specs.Parts.{IsLine, IsRunningWorld, IsDriven, IsWorld, given_of, links_taken, sent_of_driven}
 use Rattle.cqf_world.specs.World.{WorldState, cycle_of_bridge, sealed_run}
@@ -14,7 +14,7 @@ use Rattle.cqf_world.proofs.Keeping.{given_counts}
 use Rattle.cqf_world.proofs.Standing.{count_kept, each_with, given_at, driven_at}
 
 -- a driven bridge with one more table
-abbrev pub with_table : Driven → Driven
+abbrev pub with_table : WorldBridge → WorldBridge
 with_table s = record {
   bridge = s.bridge;
   agenda = s.agenda;
@@ -27,7 +27,7 @@ with_table s = record {
 }
 
 -- a world with such a driven bridge
-abbrev pub world_given : WorldState → List Driven → ℕ → Driven → WorldState
+abbrev pub world_given : WorldState → List WorldBridge → ℕ → WorldBridge → WorldState
 world_given w driven bridge s = record {
   domain = w.domain;
   offers = w.offers;
@@ -41,9 +41,9 @@ world_given w driven bridge s = record {
   stopped = w.stopped;
 }
 
-module _ (w : WorldState) (tables : List CycleTable) (driven : List Driven) (lines : List Line) (is : IsRunningWorld w tables driven lines) where
+module _ (w : WorldState) (tables : List CycleTable) (driven : List WorldBridge) (lines : List Line) (is : IsRunningWorld w tables driven lines) where
   -- a bridge may be given a table where its counts say so
-  pub may_be_given : (bridge : ℕ) (s : Driven) → bridge < length driven → s ≡ get_or driven bridge s → s.given ≡ s.posted → s.posted < w.cycles →
+  pub may_be_given : (bridge : ℕ) (s : WorldBridge) → bridge < length driven → s ≡ get_or driven bridge s → s.given ≡ s.posted → s.posted < w.cycles →
       s.posted < length tables → MayBeGiven w bridge
   may_be_given bridge s inside there lacks of_run closed =
       let st = driven_at w tables driven lines is bridge s inside there in
@@ -55,7 +55,7 @@ module _ (w : WorldState) (tables : List CycleTable) (driven : List Driven) (lin
       }
 
   -- and its counts say so where it may be
-  pub counts_given : (bridge : ℕ) (s : Driven) → bridge < length driven → s ≡ get_or driven bridge s → MayBeGiven w bridge →
+  pub counts_given : (bridge : ℕ) (s : WorldBridge) → bridge < length driven → s ≡ get_or driven bridge s → MayBeGiven w bridge →
       (s.given ≡ s.posted) × (s.posted < w.cycles) × (s.posted < length tables)
   counts_given bridge s inside there may =
       let st = driven_at w tables driven lines is bridge s inside there in (
@@ -65,12 +65,12 @@ module _ (w : WorldState) (tables : List CycleTable) (driven : List Driven) (lin
       )
 
   -- nothing else changes
-  pub sent_stays : (bridge : ℕ) (s : Driven) → s ≡ get_or driven bridge s → map sent_of_driven (set driven bridge (with_table s)) ≡ w.sent
+  pub sent_stays : (bridge : ℕ) (s : WorldBridge) → s ≡ get_or driven bridge s → map sent_of_driven (set driven bridge (with_table s)) ≡ w.sent
   sent_stays bridge s there =
       count_kept sent_of_driven driven bridge s (with_table s) there refl ∙ sym is.sent_are
 
   -- the world goes on so
-  pub goes_on_given : (bridge : ℕ) (s : Driven) → bridge < length driven → s ≡ get_or driven bridge s → MayBeGiven w bridge →
+  pub goes_on_given : (bridge : ℕ) (s : WorldBridge) → bridge < length driven → s ≡ get_or driven bridge s → MayBeGiven w bridge →
       IsRunningWorld (world_given w driven bridge s) tables (set driven bridge (with_table s)) lines
   goes_on_given bridge s inside there may =
       let same = sent_stays bridge s there in
@@ -109,7 +109,8 @@ module _ (w : WorldState) (tables : List CycleTable) (driven : List Driven) (lin
             (get_or sent (bridge_of w.domain link) 0) (get_or lines link x)) (sym same) (is.line link to x ends);
       }
 
-module _ (w : WorldState) (tables : List CycleTable) (driven : List Driven) (lines : List Line) (bridge place : ℕ) (s : Driven) (old : WorldState)
+module _ (w : WorldState) (tables : List CycleTable) (driven : List WorldBridge) (lines : List Line) (bridge place : ℕ) (s : WorldBridge)
+    (old : WorldState)
     (same : w ≡ old) (world : IsWorld w tables driven lines) (old_goes_on : old.stopped ≡ false) (old_may : MayBeGiven old bridge)
     (at : place ≡ bridge) (there : s ≡ get_or driven place s) where
   goes_on : w.stopped ≡ false

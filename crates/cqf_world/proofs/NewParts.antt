@@ -6,7 +6,7 @@ use Rattle.cqf_model.specs.declared.frames.Background.{Background}
 use Rattle.cqf_model.specs.declared.frames.Offer.{Offer}
 use Rattle.cqf_model.specs.Domain.{Domain}
 use Rattle.cqf_world.specs.declared.parts.Line.{Line}
-use Rattle.cqf_world.specs.declared.parts.Driven.{Driven}
+use Rattle.cqf_world.specs.declared.parts.WorldBridge.{WorldBridge}
 use Rattle.cqf_world.specs.Beginning.{AreNewLines, AreNewDriven, IsNewDriven}
 
 -- each element of a list with one more is what it is to be at its place
@@ -25,7 +25,7 @@ one_longer : {X : Type 0} (xs : List X) (x : X) (n : ℕ) → length xs ≡ n �
 one_longer xs x n many = length-append xs (x ∷ []) ∙ ap (λ (k : ℕ). k + 1) many
 
 -- a bridge more
-pub one_driven : (d : Domain) (offers : List Offer) (background : List Background) (count : ℕ) (driven after : List Driven) (s : Driven) →
+pub one_driven : (d : Domain) (offers : List Offer) (background : List Background) (count : ℕ) (driven after : List WorldBridge) (s : WorldBridge) →
     AreNewDriven d offers background count driven → IsNewDriven d offers background count s → after ≡ driven ++ s ∷ [] →
     AreNewDriven d offers background (count + 1) after
 one_driven d offers background count driven after s so_far is more = subst (AreNewDriven d offers background (count + 1)) (sym more) (record {

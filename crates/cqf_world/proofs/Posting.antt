@@ -28,13 +28,13 @@ use Rattle.cqf_bridge.specs.declared.faults.BridgeFault.TheVariants.{Memory}
 use Rattle.cqf_bridge.specs.Batch.{LinkBatch}
 use Rattle.cqf_bridge.specs.BridgeState.{BridgeState}
 use Rattle.cqf_bridge.specs.Receiving.{Handed, IsReceiveFault, IsRunOfBridge, ReceivesCycle, links_into}
-use Rattle.cqf_laws_bridge.specs.Cycles.{GivesTheDrops, OffersAreOfTheBridge, PageFollows, ReceivingFollows, drops_of_cycle}
-use Rattle.cqf_laws_bridge.specs.Follows.{HasSentOfTheNetwork, batch_of, batches_into, handed_in}
-use Rattle.cqf_laws_bridge.specs.NoFaults.{ReceivesButForMemory, RunOfHistoryLosesNothing}
-use Rattle.cqf_laws_bridge.proofs.LinkNumbers.{link_ending, link_into, link_listed}
+use Rattle.cqf_bridge.specs.Cycles.{GivesTheDrops, OffersAreOfTheBridge, PageFollows, ReceivingFollows, drops_of_cycle}
+use Rattle.cqf_bridge.specs.Follows.{HasSentOfTheNetwork, batch_of, batches_into, handed_in}
+use Rattle.cqf_bridge.specs.NoFaults.{ReceivesButForMemory, RunOfHistoryLosesNothing}
+use Rattle.cqf_bridge.proofs.LinkNumbers.{link_ending, link_into, link_listed}
 use Rattle.cqf_world.specs.declared.parts.Line.{Line}
-use Rattle.cqf_world.specs.declared.parts.Driven.{Driven}
-use Rattle.cqf_bridge_turn.specs.Agenda.{offers_listed_at}
+use Rattle.cqf_world.specs.declared.parts.WorldBridge.{WorldBridge}
+use Rattle.cqf_bridge.specs.Agenda.{offers_listed_at}
 use Rattle.cqf_world.specs.Events.{MayPost, Posts}
 use Rattle.cqf_world.specs.Parts.{IsLine, IsNextToPost, IsPageOf, IsRunAt, IsRunningWorld, IsDriven, IsWorld}
 use Rattle.cqf_world.specs.Parts.{MayReceiveItsCycle, PostsOut, ReceivesItsCycle, given_of, handed_to, links_taken}
@@ -70,7 +70,7 @@ all_kept p (k ∷ ns) each =
     ∙ ap (λ (ms : List ℕ). k ∷ ms) (all_kept p ns (λ m h. each m (contains_later k ns m h)))
 
 -- a bridge that may receive its cycle, and is handed what it has taken and is offered
-module _ (s : Driven) (t : CycleTable) (batches : List LinkBatch) (offers : List Offered) (after : BridgeState) (may : MayReceiveItsCycle s t)
+module _ (s : WorldBridge) (t : CycleTable) (batches : List LinkBatch) (offers : List Offered) (after : BridgeState) (may : MayReceiveItsCycle s t)
     (are_batches : batches ≡ s.taken.items) (are_offers : offers ≡ offers_listed_at s.agenda s.posted) where
   -- what is so of each run that has these offers is so of each that the cycle is a part of
   handed_so : (run : Run) → IsRunAt s t run → IsRunOfBridge s.bridge.domain s.bridge.number s.posted t.rows offers run
@@ -97,15 +97,15 @@ module _ (s : Driven) (t : CycleTable) (batches : List LinkBatch) (offers : List
       record { receives = receives; number = ap (λ (b : BridgeState). b.number) (receives may.run may.of_run).bridge; same = refl }
 
 -- the page of a bridge that has received its cycle is the next
-pub next_page : (s between : Driven) (t : CycleTable) (dropped drops : List Dropped) (page : Page) (pages : Posted) → IsNextToPost pages s →
+pub next_page : (s between : WorldBridge) (t : CycleTable) (dropped drops : List Dropped) (page : Page) (pages : Posted) → IsNextToPost pages s →
     ReceivesItsCycle s between t dropped → IsPageOf between page drops → IsNextPage pages page
 next_page s between t dropped drops page pages next receives is_page =
     let bridge : page.bridge ≡ s.bridge.number = is_page.of_bridge ∙ receives.number in
-    let cycle : page.cycle.0 ≡ s.posted = is_page.of_cycle ∙ ap (λ (k : Driven). k.posted) receives.same in
+    let cycle : page.cycle.0 ≡ s.posted = is_page.of_cycle ∙ ap (λ (k : WorldBridge). k.posted) receives.same in
     (omega (arith, next.inside, bridge), omega (arith, next.of_cycles, cycle), cycle ∙ next.next ∙ ap (page_count pages) (sym bridge))
 
-module _ (v : WorldState) (tables : List CycleTable) (driven : List Driven) (lines : List Line) (is : IsRunningWorld v tables driven lines) (bridge : ℕ)
-    (s : Driven) (inside : bridge < length driven) (here : s ≡ get_or driven bridge s) where
+module _ (v : WorldState) (tables : List CycleTable) (driven : List WorldBridge) (lines : List Line) (is : IsRunningWorld v tables driven lines) (bridge : ℕ)
+    (s : WorldBridge) (inside : bridge < length driven) (here : s ≡ get_or driven bridge s) where
   st : IsDriven (sealed_run v) (seals v.entries) is.net bridge (cycle_of_bridge v bridge) (links_taken v bridge) s
   st = driven_at v tables driven lines is bridge s inside here
 
@@ -201,7 +201,8 @@ module _ (v : WorldState) (tables : List CycleTable) (driven : List Driven) (lin
               (subst (λ (k : Handed). IsReceiveFault (sealed_run v) s.bridge after s.posted k fault) handed (h (sealed_run v) (of_run offers t at_cycle)));
         }
 
-    module _ (t : CycleTable) (at_cycle : t ≡ get_or tables s.posted t) (z : Driven) (pages_after : Posted) (out : PostsOut s z t v.pages pages_after)
+    module _ (t : CycleTable) (at_cycle : t ≡ get_or tables s.posted t) (z : WorldBridge) (pages_after : Posted)
+        (out : PostsOut s z t v.pages pages_after)
         (offers : OffersAreOfTheBridge) (receiving : ReceivingFollows) where
       abbrev page : Page
       page = out.page
@@ -210,7 +211,7 @@ module _ (v : WorldState) (tables : List CycleTable) (driven : List Driven) (lin
       u = out.between.bridge
 
       z_is : z ≡ record s { bridge = u; posted = s.posted + 1; starts = z.starts; taken = z.taken }
-      z_is = out.same ∙ ap (λ (k : Driven). record k { posted = k.posted + 1; starts = z.starts; taken = z.taken }) out.receives.same
+      z_is = out.same ∙ ap (λ (k : WorldBridge). record k { posted = k.posted + 1; starts = z.starts; taken = z.taken }) out.receives.same
 
       g : GivesTheDrops (sealed_run v) s.posted is.net s.bridge u out.drops
       g = receiving (sealed_run v) (seals v.entries) s.posted is.net s.bridge u out.drops (record {
@@ -225,13 +226,13 @@ module _ (v : WorldState) (tables : List CycleTable) (driven : List Driven) (lin
       of_bridge = out.is_page.of_bridge ∙ out.receives.number ∙ st.number
 
       of_cycle : page.cycle.0 ≡ cycle_of_bridge v bridge
-      of_cycle = out.is_page.of_cycle ∙ ap (λ (k : Driven). k.posted) out.receives.same ∙ st.in_cycle
+      of_cycle = out.is_page.of_cycle ∙ ap (λ (k : WorldBridge). k.posted) out.receives.same ∙ st.in_cycle
 
       -- the page is the book's
       page_is : PageFollows → (book : Contents) → IsBook (sealed_run v) (compiled_lists v.domain) (seals v.entries) book →
           contents_posted page ≡ page_of v.domain bridge s.posted book
       page_is page_follows book is_book =
-          let starts : page.starts.items ≡ s.starts.items = out.is_page.starts ∙ ap (λ (k : Driven). k.starts.items) out.receives.same in
+          let starts : page.starts.items ≡ s.starts.items = out.is_page.starts ∙ ap (λ (k : WorldBridge). k.starts.items) out.receives.same in
           let others : page.background.items ≡ on_links_of v.domain bridge (background_in v.domain is.net.backed s.posted) =
           out.is_page.background ∙ g.background ∙ half.background
           ∙ (λ i. on_links_of v.domain (st.number i) (background_in v.domain is.net.backed (st.received i))) in
@@ -365,8 +366,8 @@ module _ (v : WorldState) (tables : List CycleTable) (driven : List Driven) (lin
         ];
       }
 
-module _ (v : WorldState) (tables : List CycleTable) (driven : List Driven) (lines : List Line) (old : WorldState) (old_same : v ≡ old)
-    (world : IsWorld v tables driven lines) (old_on : old.stopped ≡ false) (bridge place : ℕ) (s : Driven) (at : place ≡ bridge)
+module _ (v : WorldState) (tables : List CycleTable) (driven : List WorldBridge) (lines : List Line) (old : WorldState) (old_same : v ≡ old)
+    (world : IsWorld v tables driven lines) (old_on : old.stopped ≡ false) (bridge place : ℕ) (s : WorldBridge) (at : place ≡ bridge)
     (at_place : s ≡ get_or driven place s) where
   on : v.stopped ≡ false
   on = subst (λ (w : WorldState). w.stopped ≡ false) (sym old_same) old_on
@@ -430,7 +431,7 @@ module _ (v : WorldState) (tables : List CycleTable) (driven : List Driven) (lin
       may_receive_so offers but_for_memory loses =
           may_receive v tables driven lines run bridge s in_driven here_v world may_v offers but_for_memory loses t at_cycle
 
-      module _ (z : Driven) (pages_after : Posted) (out : PostsOut s z t v.pages pages_after) (offers : OffersAreOfTheBridge)
+      module _ (z : WorldBridge) (pages_after : Posted) (out : PostsOut s z t v.pages pages_after) (offers : OffersAreOfTheBridge)
           (receiving : ReceivingFollows) where
         abbrev now_posted : Posted
         now_posted = with_page v.pages out.page
@@ -501,7 +502,7 @@ module _ (v : WorldState) (tables : List CycleTable) (driven : List Driven) (lin
             })
 
   -- where none is posted, no count changes
-  pub unposted_alone : (z : Driven) (pages_after : Posted) → z.given ≡ s.given → z.sent ≡ s.sent → pages_after ≡ v.pages →
+  pub unposted_alone : (z : WorldBridge) (pages_after : Posted) → z.given ≡ s.given → z.sent ≡ s.sent → pages_after ≡ v.pages →
       record v { pages = pages_after; given = map given_of (set driven bridge z); sent = map sent_of_driven (set driven bridge z); stopped = true }
       ≡ record old { stopped = true }
   unposted_alone z pages_after given sent pages =

@@ -31,12 +31,12 @@ use Rattle.cqf_book.specs.Pages.{pages_of}
 use Rattle.cqf_bridge.specs.Batch.{LinkBatch}
 use Rattle.cqf_bridge.specs.BridgeState.{links_from}
 use Rattle.cqf_bridge.specs.Receiving.{links_into}
-use Rattle.cqf_laws_bridge.specs.Cycles.{starts_of_batch}
-use Rattle.cqf_laws_bridge.specs.Follows.{batch_of}
-use Rattle.cqf_laws_bridge.specs.LongerRuns.{IsLonger, LongerRunIsFollowed, LongerRunIsFollowedHalfway}
-use Rattle.cqf_laws_bridge.proofs.LinkNumbers.{link_ending, link_into}
+use Rattle.cqf_bridge.specs.Cycles.{starts_of_batch}
+use Rattle.cqf_bridge.specs.Follows.{batch_of}
+use Rattle.cqf_bridge.specs.LongerRuns.{IsLonger, LongerRunIsFollowed, LongerRunIsFollowedHalfway}
+use Rattle.cqf_bridge.proofs.LinkNumbers.{link_ending, link_into}
 use Rattle.cqf_world.specs.declared.parts.Line.{Line}
-use Rattle.cqf_world.specs.declared.parts.Driven.{Driven}
+use Rattle.cqf_world.specs.declared.parts.WorldBridge.{WorldBridge}
 use Rattle.cqf_world.specs.Parts.{ClosesInWorld, IsRunningWorld, IsDriven, IsWorld, links_taken, sent_of_driven, taken_of}
 use Rattle.cqf_world.specs.World.{ArePagesOfTheBook, WorldState, cycle_of_bridge, sealed_run, sent_by_driven, taken_from}
 use Rattle.cqf_world.proofs.Keeping.{given_entries}
@@ -56,7 +56,7 @@ page_before d bridge cycle cycles book within =
     (omega (arith, within, eqb-true x.cycle.0 cycle (and_parts (x.bridge == bridge) (x.cycle.0 == cycle) passes).1)))) in
     λ i. record { starts = starts book.starts i; background = starts book.background i; drops = drops i }
 
-module _ (v : WorldState) (tables : List CycleTable) (driven : List Driven) (lines : List Line) (accepted : IsWorld v tables driven lines)
+module _ (v : WorldState) (tables : List CycleTable) (driven : List WorldBridge) (lines : List Line) (accepted : IsWorld v tables driven lines)
     (is : IsRunningWorld v tables driven lines) where
   -- no bridge has sent a cycle that isn't sealed
   pub sent_sealed : (bridge : ℕ) → bridge < length driven → sent_by_driven v bridge ≤ seals v.entries
@@ -80,7 +80,7 @@ module _ (v : WorldState) (tables : List CycleTable) (driven : List Driven) (lin
         | inr x ↦ absurd (omega (arith, x.0, inside))
       ]
 
-module _ (v : WorldState) (tables : List CycleTable) (driven : List Driven) (lines : List Line) (entries : List Recorded) (table : CycleTable)
+module _ (v : WorldState) (tables : List CycleTable) (driven : List WorldBridge) (lines : List Line) (entries : List Recorded) (table : CycleTable)
     (world : IsWorld v tables driven lines) (goes_on : v.stopped ≡ false) (legal : IsLegalHistory v.domain entries)
     (counted : seals entries ≡ seals v.entries + 1)
     (stay : (cycle : ℕ) → cycle < seals v.entries → table_at v.domain entries cycle ≡ table_at v.domain v.entries cycle)
@@ -138,7 +138,7 @@ module _ (v : WorldState) (tables : List CycleTable) (driven : List Driven) (lin
       λ i. record { link = l; cycle = cycle; frames = sym (kept.sends l cycle within) i }
 
   -- a driven bridge follows it
-  driven_still : (bridge : ℕ) (s : Driven) → bridge < length driven →
+  driven_still : (bridge : ℕ) (s : WorldBridge) → bridge < length driven →
       IsDriven (sealed_run more) (seals entries) some.0 bridge (cycle_of_bridge v bridge) (links_taken v bridge) (get_or driven bridge s)
   driven_still bridge s inside =
       let st = is.bridge_driven bridge s inside in
@@ -219,7 +219,7 @@ module _ (v : WorldState) (tables : List CycleTable) (driven : List Driven) (lin
   }
 
 -- what a closed cycle leaves
-pub closed_world : (v : WorldState) (tables after : List CycleTable) (driven : List Driven) (lines : List Line) (old new : Administration)
+pub closed_world : (v : WorldState) (tables after : List CycleTable) (driven : List WorldBridge) (lines : List Line) (old new : Administration)
     (seat : ℕ) (was : WorldState) →
     IsWorld v tables driven lines → v ≡ was → was.stopped ≡ false → seals was.entries < was.cycles → v.domain ≡ old.domain → v.entries ≡ old.entries →
     ClosesInWorld old new seat tables after → IsLegalHistory new.domain new.entries → SealsAreCounted → ClosedTablesStay → ThereAreSoManyTables →

@@ -5,7 +5,7 @@ use Rattle.std.proofs.lemmas.List.{get_or-map, get_or-set_other, get_or-set_same
 use Rattle.cqf_model.specs.History.{seals}
 use Rattle.cqf_admission.specs.Tables.{CycleTable}
 use Rattle.cqf_world.specs.declared.parts.Line.{Line}
-use Rattle.cqf_world.specs.declared.parts.Driven.{Driven}
+use Rattle.cqf_world.specs.declared.parts.WorldBridge.{WorldBridge}
 use Rattle.cqf_world.specs.Parts.{IsRunningWorld, IsDriven, given_of, links_taken, sent_of_driven}
 use Rattle.cqf_world.specs.World.{WorldState, cycle_of_bridge, given_to, sealed_run, sent_by_driven}
 
@@ -36,8 +36,8 @@ each_with {X} P xs k y inside new others other d within = elim (cases_eq other k
 ]
 
 -- a driven bridge at its place, and its counts
-module _ (v : WorldState) (tables : List CycleTable) (driven : List Driven) (lines : List Line) (is : IsRunningWorld v tables driven lines) (bridge : ℕ)
-    (s : Driven) (inside : bridge < length driven) (here : s ≡ get_or driven bridge s) where
+module _ (v : WorldState) (tables : List CycleTable) (driven : List WorldBridge) (lines : List Line) (is : IsRunningWorld v tables driven lines) (bridge : ℕ)
+    (s : WorldBridge) (inside : bridge < length driven) (here : s ≡ get_or driven bridge s) where
   pub driven_at : IsDriven (sealed_run v) (seals v.entries) is.net bridge (cycle_of_bridge v bridge) (links_taken v bridge) s
   driven_at =
       subst (IsDriven (sealed_run v) (seals v.entries) is.net bridge (cycle_of_bridge v bridge) (links_taken v bridge)) (sym here)

@@ -20,11 +20,11 @@ use Rattle.cqf_admission.specs.Tables.{CycleTable}
 use Rattle.cqf_book.specs.Pages.{ArePosted, Posted, page_count, pages_of}
 use Rattle.cqf_bridge.specs.BridgeState.{BridgeState}
 use Rattle.cqf_bridge.specs.Receiving.{links_into}
-use Rattle.cqf_laws_bridge.specs.Cycles.{NewBridgeFollows}
-use Rattle.cqf_laws_bridge.specs.Follows.{FollowsTheNetwork, batch_of}
-use Rattle.cqf_laws_bridge.proofs.LinkNumbers.{link_ending}
+use Rattle.cqf_bridge.specs.Cycles.{NewBridgeFollows}
+use Rattle.cqf_bridge.specs.Follows.{FollowsTheNetwork, batch_of}
+use Rattle.cqf_bridge.proofs.LinkNumbers.{link_ending}
 use Rattle.cqf_world.specs.declared.parts.Line.{Line}
-use Rattle.cqf_world.specs.declared.parts.Driven.{Driven}
+use Rattle.cqf_world.specs.declared.parts.WorldBridge.{WorldBridge}
 use Rattle.cqf_world.specs.Beginning.{AreNewLines, AreNewDriven, IsNewDriven, new_world, no_pages}
 use Rattle.cqf_world.specs.Parts.{IsLine, IsRunningWorld, IsDriven, IsWorld, given_of, links_taken, sent_of_driven, taken_of, under_way}
 use Rattle.cqf_world.specs.World.{WorldState, cycle_of_bridge, sealed_run, sent_by_driven, taken_from}
@@ -69,7 +69,7 @@ none_posted bridges cycles few_bridges few_cycles = record {
   ));
 }
 
-module _ (w : WorldState) (driven : List Driven) (lines : List Line) (accepted : IsAccepted w.domain) (no_seal : seals w.entries ≡ 0)
+module _ (w : WorldState) (driven : List WorldBridge) (lines : List Line) (accepted : IsAccepted w.domain) (no_seal : seals w.entries ≡ 0)
     (pages : w.pages ≡ no_pages (length w.domain.bridges) w.cycles)
     (given : w.given ≡ map given_of driven) (sent : w.sent ≡ map sent_of_driven driven) (taken : w.taken ≡ map taken_of lines)
     (new : AreNewDriven w.domain w.offers w.background (length w.domain.bridges) driven) (new_lines : AreNewLines (length w.domain.links) lines) where
@@ -99,7 +99,7 @@ module _ (w : WorldState) (driven : List Driven) (lines : List Line) (accepted :
       (λ l held. le-ltb (cycle_of_bridge w bridge) (taken_from w l) (omega (arith, taken_none l)))
 
   -- each bridge follows the network
-  driven_begins : (net : Network) → NewBridgeFollows → (bridge : ℕ) (s : Driven) → bridge < length w.domain.bridges →
+  driven_begins : (net : Network) → NewBridgeFollows → (bridge : ℕ) (s : WorldBridge) → bridge < length w.domain.bridges →
       IsNewDriven w.domain w.offers w.background bridge s → IsDriven (sealed_run w) (seals w.entries) net bridge (cycle_of_bridge w bridge)
       (links_taken w bridge) s
   driven_begins net follows bridge s inside is = record {
@@ -180,7 +180,7 @@ module _ (w : WorldState) (driven : List Driven) (lines : List Line) (accepted :
 
 -- the world of an admission without Seals, which is for the plan's domain
 module _ (a : Administration) (plan at : Domain) (offers : List Offer) (background : List Background) (cycles bridges : ℕ) (pages : Posted)
-    (driven : List Driven) (lines : List Line) (same : a.domain ≡ plan) (value : at ≡ plan) (accepted : IsAccepted plan) (no_seal : seals a.entries ≡ 0)
+    (driven : List WorldBridge) (lines : List Line) (same : a.domain ≡ plan) (value : at ≡ plan) (accepted : IsAccepted plan) (no_seal : seals a.entries ≡ 0)
     (many : bridges ≡ length at.bridges) (posted : pages ≡ no_pages bridges cycles)
     (new : AreNewDriven plan offers background (length plan.bridges) driven) (new_lines : AreNewLines (length at.links) lines) where
   abbrev made : WorldState

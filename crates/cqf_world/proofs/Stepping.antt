@@ -20,12 +20,12 @@ use Rattle.cqf_laws_cycle.specs.Gathered.{backed_for}
 use Rattle.cqf_admission.specs.Tables.{CycleTable}
 use Rattle.cqf_bridge.specs.Batch.{LinkBatch}
 use Rattle.cqf_bridge.specs.BridgeState.{AreBackedOf, IsNextToSend, SendsCycle, links_from}
-use Rattle.cqf_laws_bridge.specs.Cycles.{BackgroundIsOfTheBridge, GivesTheBatches, SendingFollows, starts_of_batch}
-use Rattle.cqf_laws_bridge.specs.Follows.{batch_of, batches_from}
-use Rattle.cqf_laws_bridge.proofs.LinkNumbers.{link_ending}
+use Rattle.cqf_bridge.specs.Cycles.{BackgroundIsOfTheBridge, GivesTheBatches, SendingFollows, starts_of_batch}
+use Rattle.cqf_bridge.specs.Follows.{batch_of, batches_from}
+use Rattle.cqf_bridge.proofs.LinkNumbers.{link_ending}
 use Rattle.cqf_world.specs.declared.parts.Line.{Line}
-use Rattle.cqf_world.specs.declared.parts.Driven.{Driven}
-use Rattle.cqf_bridge_turn.specs.Agenda.{background_at}
+use Rattle.cqf_world.specs.declared.parts.WorldBridge.{WorldBridge}
+use Rattle.cqf_bridge.specs.Agenda.{background_at}
 use Rattle.cqf_world.specs.Events.{MayStep}
 use Rattle.cqf_world.specs.Parts.{AreComing, IsLine, IsRunningWorld, IsDriven, IsWorld, SendsItsCycle, SendsOut}
 use Rattle.cqf_world.specs.Parts.{given_of, links_taken, sent_of_driven, taken_of, under_way}
@@ -66,8 +66,8 @@ one_longer d net link from upto le =
     let n : suc (upto - from) ≡ upto + 1 - from = omega (arith, le) in
     ap (λ (c : ℕ). under_way d net link from (upto - from) ++ batch_of d net.carried c link ∷ []) (sym e) ∙ ap (under_way d net link from) n
 
-module _ (v : WorldState) (tables : List CycleTable) (driven : List Driven) (lines : List Line) (is : IsRunningWorld v tables driven lines) (bridge : ℕ)
-    (s : Driven) (inside : bridge < length driven) (here : s ≡ get_or driven bridge s) where
+module _ (v : WorldState) (tables : List CycleTable) (driven : List WorldBridge) (lines : List Line) (is : IsRunningWorld v tables driven lines) (bridge : ℕ)
+    (s : WorldBridge) (inside : bridge < length driven) (here : s ≡ get_or driven bridge s) where
   st : IsDriven (sealed_run v) (seals v.entries) is.net bridge (cycle_of_bridge v bridge) (links_taken v bridge) s
   st = driven_at v tables driven lines is bridge s inside here
 
@@ -103,8 +103,8 @@ module _ (v : WorldState) (tables : List CycleTable) (driven : List Driven) (lin
     frames_are : background_at s.agenda s.posted ≡ backed_for v.domain v.background s.bridge.number s.posted
     frames_are = st.agenda.background_are s.posted ∙ ap (λ (b : ℕ). backed_for v.domain v.background b s.posted) (sym st.number)
 
-    module _ (z : Driven) (w : List Line) (out : SendsOut v.domain s z lines w) (sending : SendingFollows) where
-      abbrev u : Driven
+    module _ (z : WorldBridge) (w : List Line) (out : SendsOut v.domain s z lines w) (sending : SendingFollows) where
+      abbrev u : WorldBridge
       u = out.between
 
       abbrev batches : List LinkBatch
@@ -117,7 +117,7 @@ module _ (v : WorldState) (tables : List CycleTable) (driven : List Driven) (lin
       coming = out.coming
 
       z_is : z ≡ record s { bridge = u.bridge; starts = u.starts; sent = s.posted + 1 }
-      z_is = out.counted ∙ ap (λ (k : Driven). record k { sent = s.posted + 1 }) out.sends.same
+      z_is = out.counted ∙ ap (λ (k : WorldBridge). record k { sent = s.posted + 1 }) out.sends.same
 
       g : GivesTheBatches (sealed_run v) s.posted is.net s.bridge u.bridge [] batches
       g = sending (sealed_run v) (seals v.entries) s.posted is.net s.bridge u.bridge [] batches (record {
@@ -131,7 +131,7 @@ module _ (v : WorldState) (tables : List CycleTable) (driven : List Driven) (lin
       batches_are : batches ≡ batches_from v.domain is.net.carried bridge s.posted
       batches_are = g.batches ∙ ap (λ (b : ℕ). batches_from v.domain is.net.carried b s.posted) st.number
 
-      abbrev driven_after : List Driven
+      abbrev driven_after : List WorldBridge
       driven_after = set driven bridge z
 
       abbrev after : WorldState
@@ -239,8 +239,8 @@ module _ (v : WorldState) (tables : List CycleTable) (driven : List Driven) (lin
         line = line_coming;
       }
 
-module _ (v : WorldState) (tables : List CycleTable) (driven : List Driven) (lines : List Line) (old : WorldState) (old_same : v ≡ old)
-    (world : IsWorld v tables driven lines) (old_on : old.stopped ≡ false) (bridge place : ℕ) (s : Driven) (old_may : MayStep old bridge) (at : place ≡ bridge)
+module _ (v : WorldState) (tables : List CycleTable) (driven : List WorldBridge) (lines : List Line) (old : WorldState) (old_same : v ≡ old)
+    (world : IsWorld v tables driven lines) (old_on : old.stopped ≡ false) (bridge place : ℕ) (s : WorldBridge) (old_may : MayStep old bridge) (at : place ≡ bridge)
     (at_place : s ≡ get_or driven place s) where
   on : v.stopped ≡ false
   on = subst (λ (w : WorldState). w.stopped ≡ false) (sym old_same) old_on
@@ -274,7 +274,7 @@ module _ (v : WorldState) (tables : List CycleTable) (driven : List Driven) (lin
       subst (AreBackedOf s.bridge.domain s.bridge.number s.posted) (sym (frames_are v tables driven lines run bridge s inside_v here_v may_v))
       (of_bridge s.bridge.domain (sealed_run v) s.bridge.number s.posted (x.follows c.1).of_run.domain world.given.background)
 
-  module _ (z : Driven) (w : List Line) (out : SendsOut v.domain s z lines w) (sending : SendingFollows) where
+  module _ (z : WorldBridge) (w : List Line) (out : SendsOut v.domain s z lines w) (sending : SendingFollows) where
     abbrev world_sent : WorldState
     world_sent = record v {
       given = map given_of (set driven bridge z);
@@ -310,7 +310,7 @@ module _ (v : WorldState) (tables : List CycleTable) (driven : List Driven) (lin
         (sym is_after ∙ (λ i. record v { sent = now_sent i }))
 
   -- where it isn't, no count changes
-  pub unsent_alone : (z : Driven) (w : List Line) → z.given ≡ s.given → z.sent ≡ s.sent → map taken_of w ≡ map taken_of lines →
+  pub unsent_alone : (z : WorldBridge) (w : List Line) → z.given ≡ s.given → z.sent ≡ s.sent → map taken_of w ≡ map taken_of lines →
       record v { given = map given_of (set driven bridge z); sent = map sent_of_driven (set driven bridge z); taken = map taken_of w; stopped = true }
       ≡ record old { stopped = true }
   unsent_alone z w given sent counts =

@@ -17,10 +17,10 @@ use Rattle.cqf_model.specs.History.{seals}
 use Rattle.cqf_admission.specs.Tables.{CycleTable}
 use Rattle.cqf_bridge.specs.Batch.{LinkBatch}
 use Rattle.cqf_bridge.specs.Receiving.{links_into}
-use Rattle.cqf_laws_bridge.specs.Follows.{batch_of}
-use Rattle.cqf_laws_bridge.proofs.LinkNumbers.{link_ending, link_into, link_listed, links_ascend}
+use Rattle.cqf_bridge.specs.Follows.{batch_of}
+use Rattle.cqf_bridge.proofs.LinkNumbers.{link_ending, link_into, link_listed, links_ascend}
 use Rattle.cqf_world.specs.declared.parts.Line.{Line}
-use Rattle.cqf_world.specs.declared.parts.Driven.{Driven}
+use Rattle.cqf_world.specs.declared.parts.WorldBridge.{WorldBridge}
 use Rattle.cqf_world.specs.Events.{MayTake}
 use Rattle.cqf_world.specs.Parts.{IsLine, IsRunningWorld, IsDriven, IsWorld, Moves, given_of, links_taken, sent_of_driven, taken_of, under_way}
 use Rattle.cqf_world.specs.World.{WorldState, cycle_of_bridge, sealed_run, sent_by_driven, taken_from}
@@ -44,8 +44,8 @@ one_end d l a b p q = elim (slice_get_cases d.links l).1 [
       absurd (cc (none, p))
 ]
 
-module _ (v : WorldState) (tables : List CycleTable) (driven : List Driven) (lines : List Line) (is : IsRunningWorld v tables driven lines) (link bridge : ℕ)
-    (s : Driven) (x : Line) (ends : enters v.domain link bridge ≡ true) (inside : bridge < length driven) (here : s ≡ get_or driven bridge s)
+module _ (v : WorldState) (tables : List CycleTable) (driven : List WorldBridge) (lines : List Line) (is : IsRunningWorld v tables driven lines) (link bridge : ℕ)
+    (s : WorldBridge) (x : Line) (ends : enters v.domain link bridge ≡ true) (inside : bridge < length driven) (here : s ≡ get_or driven bridge s)
     (there : x ≡ get_or lines link x) where
   in_lines : link < length lines
   in_lines = omega (arith, link_ending v.domain bridge link ends, is.all_lines)
@@ -86,7 +86,7 @@ module _ (v : WorldState) (tables : List CycleTable) (driven : List Driven) (lin
       let not_taken = subst (λ (b : ℕ). taken_from v link ≡ cycle_of_bridge v b) e may.not_taken in
       (omega (arith, sent_is, has_sent, st.in_cycle), omega (arith, taken_is, not_taken, st.in_cycle), omega (arith, may.under_way, taken_is, waiting_is))
 
-  module _ (may : MayTake v link) (y : Line) (z : Driven) (batch : LinkBatch) (popped : x.waiting.items ≡ batch ∷ y.waiting.items)
+  module _ (may : MayTake v link) (y : Line) (z : WorldBridge) (batch : LinkBatch) (popped : x.waiting.items ≡ batch ∷ y.waiting.items)
       (counted : y.taken ≡ x.taken + 1)
       (same : z ≡ record s { taken = z.taken }) (put : z.taken.items
       ≡ insert s.taken.items (length (filter (λ (b : LinkBatch). nat_lt b.link batch.link) s.taken.items)) batch) where
@@ -167,7 +167,7 @@ module _ (v : WorldState) (tables : List CycleTable) (driven : List Driven) (lin
         ∙ sym (insert_map f kept (before link kept) link)
         ∙ ap (map f) (sym one_more)
 
-    abbrev driven_after : List Driven
+    abbrev driven_after : List WorldBridge
     driven_after = set driven bridge z
 
     -- the bridge that took it
@@ -237,8 +237,8 @@ module _ (v : WorldState) (tables : List CycleTable) (driven : List Driven) (lin
       ];
     }
 
-module _ (v : WorldState) (tables : List CycleTable) (driven : List Driven) (lines : List Line) (old : WorldState) (old_same : v ≡ old)
-    (world : IsWorld v tables driven lines) (old_on : old.stopped ≡ false) (link bridge place lplace : ℕ) (s : Driven) (x : Line)
+module _ (v : WorldState) (tables : List CycleTable) (driven : List WorldBridge) (lines : List Line) (old : WorldState) (old_same : v ≡ old)
+    (world : IsWorld v tables driven lines) (old_on : old.stopped ≡ false) (link bridge place lplace : ℕ) (s : WorldBridge) (x : Line)
     (d : Domain) (of_domain : d ≡ v.domain) (ends_d : enters d link bridge ≡ true) (at : place ≡ bridge) (lat : lplace ≡ link)
     (at_place : s ≡ get_or driven place s)
     (at_lplace : x ≡ get_or lines lplace x) where
@@ -277,7 +277,7 @@ module _ (v : WorldState) (tables : List CycleTable) (driven : List Driven) (lin
       let st = driven_at v tables driven lines run bridge s in_driven here_v in
       omega (arith, c.0, c.1, st.with_table, st.closed, run.within_run, world.given.few_cycles)
 
-  module _ (may : MayTake old link) (y : Line) (z : Driven) (moves : Moves x y s z) where
+  module _ (may : MayTake old link) (y : Line) (z : WorldBridge) (moves : Moves x y s z) where
     may_v : MayTake v link
     may_v = subst (λ (w : WorldState). MayTake w link) (sym old_same) may
 
@@ -318,7 +318,7 @@ module _ (v : WorldState) (tables : List CycleTable) (driven : List Driven) (lin
         (sym is_after ∙ (λ i. record v { taken = now_taken i }))
 
   -- where it can't be moved, no count changes
-  pub refused_alone : (y : Line) (z : Driven) → y.taken ≡ x.taken → z ≡ record s { taken = z.taken } →
+  pub refused_alone : (y : Line) (z : WorldBridge) → y.taken ≡ x.taken → z ≡ record s { taken = z.taken } →
       record v {
         given = map given_of (set driven bridge z);
         sent = map sent_of_driven (set driven bridge z);

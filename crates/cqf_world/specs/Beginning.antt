@@ -5,11 +5,11 @@ use Rattle.cqf_model.specs.declared.frames.Offer.{Offer}
 use Rattle.cqf_model.specs.Domain.{Domain}
 use Rattle.cqf_admission.specs.Admission.{Administration}
 use Rattle.cqf_book.specs.Pages.{Posted}
-use Rattle.cqf_bridge_turn.specs.Agenda.{IsAgendaOf}
+use Rattle.cqf_bridge.specs.Agenda.{IsAgendaOf}
 use Rattle.cqf_bridge.specs.BridgeState.{new_bridge}
 use Rattle.cqf_bridge.specs.Receiving.{links_into}
 use Rattle.cqf_world.specs.declared.parts.Line.{Line}
-use Rattle.cqf_world.specs.declared.parts.Driven.{Driven}
+use Rattle.cqf_world.specs.declared.parts.WorldBridge.{WorldBridge}
 use Rattle.cqf_world.specs.World.{WorldState}
 
 -- no page of so many bridges and cycles
@@ -33,7 +33,7 @@ new_world admission offers background cycles = let d = admission.domain in recor
 }
 
 -- a bridge that has done nothing, with its agenda
-pub record IsNewDriven (d : Domain) (offers : List Offer) (background : List Background) (bridge : ℕ) (s : Driven) : Type 0 where
+pub record IsNewDriven (d : Domain) (offers : List Offer) (background : List Background) (bridge : ℕ) (s : WorldBridge) : Type 0 where
   pub new : s.bridge ≡ new_bridge d bridge
   pub own : IsAgendaOf d offers background bridge s.agenda
   pub links : s.incoming ≡ length (links_into d bridge)
@@ -43,9 +43,9 @@ pub record IsNewDriven (d : Domain) (offers : List Offer) (background : List Bac
   pub none_taken : s.taken.items ≡ []
 
 -- the first bridges of a domain
-pub record AreNewDriven (d : Domain) (offers : List Offer) (background : List Background) (count : ℕ) (driven : List Driven) : Type 0 where
+pub record AreNewDriven (d : Domain) (offers : List Offer) (background : List Background) (count : ℕ) (driven : List WorldBridge) : Type 0 where
   pub one_each : length driven ≡ count
-  pub each : (bridge : ℕ) (s : Driven) → bridge < count → IsNewDriven d offers background bridge (slice_index_or driven bridge s)
+  pub each : (bridge : ℕ) (s : WorldBridge) → bridge < count → IsNewDriven d offers background bridge (slice_index_or driven bridge s)
 
 -- so many links on which no batch is under way, and from which none was taken
 pub record AreNewLines (count : ℕ) (lines : List Line) : Type 0 where

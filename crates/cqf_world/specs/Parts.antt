@@ -20,11 +20,11 @@ use Rattle.cqf_bridge.specs.declared.faults.BridgeFault.TheVariants.{Memory}
 use Rattle.cqf_bridge.specs.Batch.{LinkBatch}
 use Rattle.cqf_bridge.specs.BridgeState.{BridgeState, SendsCycle}
 use Rattle.cqf_bridge.specs.Receiving.{Handed, IsReceiveFault, IsRunOfBridge, ReceivesCycle, links_into}
-use Rattle.cqf_laws_bridge.specs.Cycles.{starts_of_batch}
-use Rattle.cqf_laws_bridge.specs.Follows.{FollowsTheNetwork, HasSentOfTheNetwork, batch_of, batches_from}
+use Rattle.cqf_bridge.specs.Cycles.{starts_of_batch}
+use Rattle.cqf_bridge.specs.Follows.{FollowsTheNetwork, HasSentOfTheNetwork, batch_of, batches_from}
 use Rattle.cqf_world.specs.declared.parts.Line.{Line}
-use Rattle.cqf_world.specs.declared.parts.Driven.{Driven}
-use Rattle.cqf_bridge_turn.specs.Agenda.{IsAgendaOf, background_at, offers_listed_at}
+use Rattle.cqf_world.specs.declared.parts.WorldBridge.{WorldBridge}
+use Rattle.cqf_bridge.specs.Agenda.{IsAgendaOf, background_at, offers_listed_at}
 use Rattle.cqf_world.specs.World.{ArePagesOfTheBook, WorldState, cycle_of_bridge, sealed_run, sent_by_driven, taken_from}
 use Rattle.cqf_model.specs.Limits.{most_cycles}
 
@@ -45,7 +45,7 @@ links_taken w bridge = filter (λ l. nat_lt (cycle_of_bridge w bridge) (taken_fr
 
 -- a bridge with what it was given, in one of its cycles: it may have the cycle's table, and may have sent the cycle with the table. It
 -- follows the network, and halfway has sent as it does, and keeps what it sent for its page; and it has taken the network's batches
-pub record IsDriven (run : Run) (sealed : ℕ) (net : Network) (bridge cycle : ℕ) (links : List ℕ) (s : Driven) : Type 0 where
+pub record IsDriven (run : Run) (sealed : ℕ) (net : Network) (bridge cycle : ℕ) (links : List ℕ) (s : WorldBridge) : Type 0 where
   pub in_cycle : s.posted ≡ cycle
   pub not_behind : s.posted ≤ s.sent
   pub with_table : s.sent ≤ s.given
@@ -73,17 +73,17 @@ pub record IsLine (d : Domain) (net : Network) (link cycle sent sent_from : ℕ)
   pub waiting : x.waiting.items ≡ under_way d net link x.taken (sent_from - x.taken)
 
 -- the counts of a driven bridge and of a line
-abbrev pub given_of : Driven → ℕ
+abbrev pub given_of : WorldBridge → ℕ
 given_of s = s.given
 
-abbrev pub sent_of_driven : Driven → ℕ
+abbrev pub sent_of_driven : WorldBridge → ℕ
 sent_of_driven s = s.sent
 
 abbrev pub taken_of : Line → ℕ
 taken_of x = x.taken
 
 -- a world that goes on
-pub record IsRunningWorld (w : WorldState) (tables : List CycleTable) (driven : List Driven) (lines : List Line) : Type 0 where
+pub record IsRunningWorld (w : WorldState) (tables : List CycleTable) (driven : List WorldBridge) (lines : List Line) : Type 0 where
   pub net : Network
   pub compiled : IsCompiledNetwork (sealed_run w) (seals w.entries) net
   pub within_run : seals w.entries ≤ w.cycles
@@ -93,7 +93,7 @@ pub record IsRunningWorld (w : WorldState) (tables : List CycleTable) (driven : 
   pub all_driven : length driven ≡ length w.domain.bridges
   pub given_are : w.given ≡ map given_of driven
   pub sent_are : w.sent ≡ map sent_of_driven driven
-  pub bridge_driven : (bridge : ℕ) (s : Driven) → bridge < length driven →
+  pub bridge_driven : (bridge : ℕ) (s : WorldBridge) → bridge < length driven →
       IsDriven (sealed_run w) (seals w.entries) net bridge (cycle_of_bridge w bridge) (links_taken w bridge) (slice_index_or driven bridge s)
   pub all_lines : length lines ≡ length w.domain.links
   pub taken_are : w.taken ≡ map taken_of lines
@@ -101,7 +101,7 @@ pub record IsRunningWorld (w : WorldState) (tables : List CycleTable) (driven : 
       IsLine w.domain net link (cycle_of_bridge w bridge) (sent_by_driven w bridge) (sent_by_driven w (bridge_of w.domain link)) (slice_index_or lines link x)
 
 -- what a world keeps: its pages are those of the book, and, as long as no growth was refused, what it holds follows the network
-pub record IsWorld (w : WorldState) (tables : List CycleTable) (driven : List Driven) (lines : List Line) : Type 0 where
+pub record IsWorld (w : WorldState) (tables : List CycleTable) (driven : List WorldBridge) (lines : List Line) : Type 0 where
   pub given : IsGivenWorld w
   pub pages : ArePagesOfTheBook w
   pub sealed : (bridge : ℕ) → cycle_of_bridge w bridge ≤ seals w.entries
@@ -117,7 +117,7 @@ pub record ClosesInWorld (old new : Administration) (seat : ℕ) (before after :
   pub behind : after ≡ before ++ table ∷ []
 
 -- the oldest batch under way on a link goes to the bridge, where it stands by number of link
-pub record Moves (line line_after : Line) (bridge_driven driven_after : Driven) : Type 0 where
+pub record Moves (line line_after : Line) (bridge_driven driven_after : WorldBridge) : Type 0 where
   pub batch : LinkBatch
   pub popped : line.waiting.items ≡ batch ∷ line_after.waiting.items
   pub counted : line_after.taken ≡ line.taken + 1
@@ -126,7 +126,7 @@ pub record Moves (line line_after : Line) (bridge_driven driven_after : Driven) 
       ≡ insert bridge_driven.taken.items (length (filter (λ (b : LinkBatch). nat_lt b.link batch.link) bridge_driven.taken.items)) batch
 
 -- a bridge sends its cycle, with its background frames of the cycle, and keeps the starts of its batches' frames
-pub record SendsItsCycle (before after : Driven) (batches : List LinkBatch) : Type 0 where
+pub record SendsItsCycle (before after : WorldBridge) (batches : List LinkBatch) : Type 0 where
   pub sends : SendsCycle before.bridge after.bridge before.posted (background_at before.agenda before.posted) [] batches
   pub starts : after.starts.items ≡ flat_map starts_of_batch batches
   pub same : after ≡ record before { bridge = after.bridge; starts = after.starts }
@@ -140,36 +140,36 @@ pub record AreComing (d : Domain) (batches : List LinkBatch) (before after : Lis
       ≡ (slice_index_or before link x).waiting.items ++ filter (λ (b : LinkBatch). b.link == link) batches
 
 -- a bridge sends its cycle, and its batches come onto the links
-pub record SendsOut (d : Domain) (before after : Driven) (lines lines_after : List Line) : Type 0 where
-  pub between : Driven
+pub record SendsOut (d : Domain) (before after : WorldBridge) (lines lines_after : List Line) : Type 0 where
+  pub between : WorldBridge
   pub batches : List LinkBatch
   pub sends : SendsItsCycle before between batches
   pub coming : AreComing d batches lines lines_after
   pub counted : after ≡ record between { sent = before.posted + 1 }
 
 -- what a bridge is handed to receive its cycle: a table, and the batches that it has taken
-abbrev pub handed_to : Driven → CycleTable → Handed
+abbrev pub handed_to : WorldBridge → CycleTable → Handed
 handed_to s table = record { table_cycle = table.cycle; rows = table.rows; batches = s.taken.items }
 
 -- a run of which a bridge's cycle is a part, with the table, and with what the bridge is offered in the cycle
-abbrev pub IsRunAt : Driven → CycleTable → Run → Type 0
+abbrev pub IsRunAt : WorldBridge → CycleTable → Run → Type 0
 IsRunAt s table run = IsRunOfBridge s.bridge.domain s.bridge.number s.posted table.rows (offers_listed_at s.agenda s.posted) run
 
 -- a bridge may receive its cycle with the table: there is such a run, and for no cause but want of memory does it refuse to
-pub record MayReceiveItsCycle (s : Driven) (table : CycleTable) : Type 0 where
+pub record MayReceiveItsCycle (s : WorldBridge) (table : CycleTable) : Type 0 where
   pub run : Run
   pub of_run : IsRunAt s table run
   pub memory_alone : (after : BridgeState) (fault : BridgeFault) →
       ((r : Run) → IsRunAt s table r → IsReceiveFault r s.bridge after s.posted (handed_to s table) fault) → fault ≡ Memory
 
 -- a bridge receives its cycle, with the table, with what it is offered in the cycle, and with the batches that it has taken
-pub record ReceivesItsCycle (before after : Driven) (table : CycleTable) (drops : List Dropped) : Type 0 where
+pub record ReceivesItsCycle (before after : WorldBridge) (table : CycleTable) (drops : List Dropped) : Type 0 where
   pub receives : (run : Run) → IsRunAt before table run → ReceivesCycle run before.bridge after.bridge before.posted before.taken.items drops
   pub number : after.bridge.number ≡ before.bridge.number
   pub same : after ≡ record before { bridge = after.bridge }
 
 -- the page of a bridge that has received its cycle, with what was dropped
-pub record IsPageOf (s : Driven) (page : Page) (drops : List Dropped) : Type 0 where
+pub record IsPageOf (s : WorldBridge) (page : Page) (drops : List Dropped) : Type 0 where
   pub of_bridge : page.bridge ≡ s.bridge.number
   pub of_cycle : page.cycle.0 ≡ s.posted
   pub starts : page.starts.items ≡ s.starts.items
@@ -177,14 +177,14 @@ pub record IsPageOf (s : Driven) (page : Page) (drops : List Dropped) : Type 0 w
   pub dropped : page.drops.items ≡ drops
 
 -- the page of a bridge's cycle is the next of the bridge
-pub record IsNextToPost (pages : Posted) (s : Driven) : Type 0 where
+pub record IsNextToPost (pages : Posted) (s : WorldBridge) : Type 0 where
   pub inside : s.bridge.number < pages.bridges
   pub of_cycles : s.posted < pages.cycles
   pub next : s.posted ≡ page_count pages s.bridge.number
 
 -- a bridge receives its cycle, and posts its page; of the next cycle it has taken nothing
-pub record PostsOut (before after : Driven) (table : CycleTable) (pages pages_after : Posted) : Type 0 where
-  pub between : Driven
+pub record PostsOut (before after : WorldBridge) (table : CycleTable) (pages pages_after : Posted) : Type 0 where
+  pub between : WorldBridge
   pub drops : List Dropped
   pub page : Page
   pub receives : ReceivesItsCycle before between table drops

@@ -6,7 +6,7 @@ ghost use Rattle.cqf_bridge.specs.Batch.{LinkBatch};
 ghost use Rattle.cqf_world.specs.Parts.{Moves};
 ghost use Rattle.cqf_model.specs.Limits.{most_cycles};
 
-use crate::parts::{Driven, Line};
+use crate::parts::{Line, WorldBridge};
 use cqf_bridge::Batch;
 use cqf_model::Node;
 use cqf_topology::Domain;
@@ -60,7 +60,7 @@ pub(crate) fn is_quiet(line: &Line) -> bool
 }
 
 /// Moves the oldest batch under way on a link to the bridge in which it ends. There is one.
-pub(crate) fn move_batch(line: &mut Line, bridge_driven: &mut Driven) -> Result<(), Memory>
+pub(crate) fn move_batch(line: &mut Line, bridge_driven: &mut WorldBridge) -> Result<(), Memory>
     requires some { 0 < length line.old.waiting.items }
     requires few { line.old.taken < most_cycles }
     ensures ok { OnOk result (Moves line.old line.new bridge_driven.old bridge_driven.new) }

@@ -1,10 +1,9 @@
 //! What a world holds at its beginning.
-ghost use Rattle.std.specs.Prelude.{◌≡◌, ◌^◌, ◌<◌, IfOk, length};
+ghost use Rattle.std.specs.Prelude.{◌^◌, ◌<◌, IfOk, length};
 ghost use Rattle.cqf_world.specs.Beginning.{AreNewLines, AreNewDriven, IsNewDriven};
 
-use crate::parts::{Driven, Line};
-use cqf_bridge::{Bridge, incoming_links};
-use cqf_bridge_turn::Agenda;
+use crate::parts::{Line, WorldBridge};
+use cqf_bridge::{Agenda, Bridge, incoming_links};
 use cqf_compile::Plan;
 use cqf_model::{Background, Offer};
 use cqf_topology::Domain;
@@ -19,14 +18,14 @@ fn new_driven(
     offers: &[Offer],
     background: &[Background],
     bridge: u16,
-) -> Result<Driven, Memory>
+) -> Result<WorldBridge, Memory>
     requires inside { bridge < length plan.now.bridges }
     requires few_offers { length offers.now < 2 ^ 32 }
     requires few_background { length background.now < 2 ^ 32 }
     ensures { IfOk result (IsNewDriven plan.now offers.now background.now bridge) }
 {
     let domain = plan.domain();
-    Ok(Driven {
+    Ok(WorldBridge {
         bridge: Bridge::new(alloc, plan, bridge)?,
         agenda: Agenda::new(alloc, domain, offers, background, bridge)?,
         incoming: incoming_links(domain, bridge).len(),
@@ -44,7 +43,7 @@ pub(crate) fn new_driven_bridges(
     plan: &Plan,
     offers: &[Offer],
     background: &[Background],
-) -> Result<Vec<Driven>, Memory>
+) -> Result<Vec<WorldBridge>, Memory>
     requires few_offers { length offers.now < 2 ^ 32 }
     requires few_background { length background.now < 2 ^ 32 }
     ensures { IfOk result (λ driven.

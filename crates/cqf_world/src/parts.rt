@@ -1,13 +1,12 @@
 //! What a world holds for its bridges and its links.
 
-use cqf_bridge::{Batch, Bridge};
-use cqf_bridge_turn::Agenda;
+use cqf_bridge::{Agenda, Batch, Bridge};
 use cqf_model::Started;
 use std::collections::VecDeque;
 
 /// A bridge, with what it was given and has taken.
 #[derive(Debug, Drop)]
-pub(crate) struct Driven {
+pub(crate) struct WorldBridge {
     pub(crate) bridge: Bridge,
     pub(crate) agenda: Agenda,
     /// How many links end in it.

@@ -1,14 +1,13 @@
 //! A bridge receives its cycle, and its page is posted.
-ghost use Rattle.std.specs.Prelude.{◌≡◌, ◌<◌, IfOk, OnErr, OnOk, false};
+ghost use Rattle.std.specs.Prelude.{◌≡◌, ◌<◌, IfOk, OnErr, OnOk};
 ghost use Rattle.cqf_book.specs.Pages.{IsNextPage, with_page};
 ghost use Rattle.cqf_world.specs.Parts.{IsNextToPost, IsPageOf, MayReceiveItsCycle, PostsOut, ReceivesItsCycle};
 ghost use Rattle.cqf_model.specs.Limits.{most_cycles};
 
-use crate::parts::Driven;
+use crate::parts::WorldBridge;
 use cqf_admission::Table;
 use cqf_book::{PageFault, Pages};
-use cqf_bridge::BridgeFault;
-use cqf_bridge_turn::page_with;
+use cqf_bridge::{BridgeFault, page_with};
 use cqf_model::{Dropped, Page};
 use cqf_units::{Cycle, Memory};
 use std::alloc::{AllocError, Global};
@@ -18,7 +17,7 @@ use std::mem::replace;
 /// that are dropped at it.
 fn receive_cycle(
     alloc: Global,
-    bridge_driven: &mut Driven,
+    bridge_driven: &mut WorldBridge,
     table: &Table,
 ) -> Result<Vec<Dropped>, Memory>
     requires may { MayReceiveItsCycle bridge_driven.old table.now }
@@ -44,7 +43,11 @@ fn receive_cycle(
 }
 
 /// The page of the cycle that a bridge has received: the starts that it has kept, its background frames, and what was dropped.
-fn make_page(alloc: Global, bridge_driven: &mut Driven, drops: Vec<Dropped>) -> Result<Page, Memory>
+fn make_page(
+    alloc: Global,
+    bridge_driven: &mut WorldBridge,
+    drops: Vec<Dropped>,
+) -> Result<Page, Memory>
     ensures ok { IfOk result (λ page. IsPageOf bridge_driven.old page drops.items) }
     ensures same { bridge_driven.new ≡ record bridge_driven.old { starts = bridge_driven.new.starts } }
 {
@@ -76,7 +79,7 @@ fn put_page(pages: &mut Pages, page: Page) -> Result<(), Memory>
 /// Receives the cycle of a bridge, and posts its page. The bridge is then in its next cycle, of which it has taken no batch yet.
 pub(crate) fn post_page(
     alloc: Global,
-    bridge_driven: &mut Driven,
+    bridge_driven: &mut WorldBridge,
     table: &Table,
     pages: &mut Pages,
 ) -> Result<(), Memory>

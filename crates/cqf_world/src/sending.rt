@@ -1,20 +1,22 @@
 //! A bridge sends its cycle, and its batches come onto the links.
 ghost use Rattle.std.specs.Prelude.{◌≡◌, ◌<◌, IfOk, OnErr, OnOk, false, length, map};
 ghost use Rattle.cqf_bridge.specs.BridgeState.{AreBackedOf, IsNextToSend};
-ghost use Rattle.cqf_bridge_turn.specs.Agenda.{background_at};
+ghost use Rattle.cqf_bridge.specs.Agenda.{background_at};
 ghost use Rattle.cqf_world.specs.Parts.{AreComing, SendsItsCycle, SendsOut, taken_of};
 ghost use Rattle.cqf_model.specs.Limits.{most_cycles};
 
 use crate::inbox::bridge_at_end;
-use crate::parts::{Driven, Line};
-use cqf_bridge::{Batch, BridgeFault};
-use cqf_bridge_turn::starts_of;
+use crate::parts::{Line, WorldBridge};
+use cqf_bridge::{Batch, BridgeFault, starts_of};
 use cqf_topology::Domain;
 use cqf_units::{Cycle, Memory};
 use std::alloc::{AllocError, Global};
 
 /// Sends the cycle of a bridge, which keeps what its links send of streams' frames for its page. The batches are what it sends.
-pub(crate) fn send_cycle(alloc: Global, bridge_driven: &mut Driven) -> Result<Vec<Batch>, Memory>
+pub(crate) fn send_cycle(
+    alloc: Global,
+    bridge_driven: &mut WorldBridge,
+) -> Result<Vec<Batch>, Memory>
     requires early { bridge_driven.old.posted < most_cycles }
     requires next { IsNextToSend bridge_driven.old.bridge bridge_driven.old.posted }
     requires goes_on { bridge_driven.old.bridge.spent ≡ false }
@@ -63,7 +65,7 @@ pub(crate) fn put_all(
 pub(crate) fn send_all(
     alloc: Global,
     domain: &Domain,
-    bridge_driven: &mut Driven,
+    bridge_driven: &mut WorldBridge,
     lines: &mut Vec<Line>,
 ) -> Result<(), Memory>
     requires as_many { length lines.old.items ≡ length domain.now.links }

@@ -12,16 +12,16 @@ use crate::calling::{ask, close_cycle};
 use crate::events::{Applied, Event};
 use crate::inbox::{bridge_at_end, is_quiet, move_batch};
 use crate::making::{new_driven_bridges, new_lines};
-use crate::parts::{Driven, Line};
+use crate::parts::{Line, WorldBridge};
 use crate::receiving::post_page;
 use crate::sending::send_all;
 use cqf_admission::{Admission, Command, MOST_CALLS, Table};
 use cqf_book::Pages;
-use cqf_compile::Plan;
-use cqf_laws_bridge::{
+use cqf_bridge::{
     history_loses_nothing, longer_run_is_followed, new_bridge_follows, no_other_fault,
     page_follows, receiving_follows, sending_follows,
 };
+use cqf_compile::Plan;
 use cqf_laws_cycle::longer_run_keeps_its_cycles;
 use cqf_laws_history::{closed_tables_stay, state_follows_history, tables_are_orderly};
 use cqf_laws_network::{legal_network_exists, shorter_book_is_the_beginning};
@@ -42,7 +42,7 @@ pub struct World<'a> {
     /// By cycle.
     tables: Vec<Table>,
     /// By number of bridge.
-    driven: Vec<Driven>,
+    driven: Vec<WorldBridge>,
     /// By number of link.
     lines: Vec<Line>,
     pages: Pages,
@@ -107,8 +107,7 @@ impl<'a> World<'a> {
     {
         new_bridge_follows();
         legal_network_exists();
-        // its history is legal: a fact
-        let _legal = admission.history();
+        admission.know();
         let domain = plan.domain();
         Ok(World {
             alloc,
@@ -178,8 +177,7 @@ impl World<'_> {
         state_follows_history();
         closed_tables_stay();
         let answer = ask(&mut self.admission, seat, command);
-        // its history is legal: a fact
-        let _legal = self.admission.history();
+        self.admission.know();
         match answer {
             Err(Refused::HistoryFull) => unreachable!(),
             Err(Refused::Memory) => {
@@ -205,8 +203,7 @@ impl World<'_> {
         longer_run_keeps_its_cycles();
         longer_run_is_followed();
         let closed = close_cycle(&mut self.admission, &mut self.tables, seat);
-        // its history is legal: a fact
-        let _legal = self.admission.history();
+        self.admission.know();
         if closed.is_err() {
             self.stopped = true;
         }
@@ -383,7 +380,7 @@ impl World<'_> {
     ///
     /// What a page that one bridge posts means for another is a law: each bridge stands where its own lists say, whatever turns the
     /// others take, and once it has its table and its batches it receives its cycle, but for want of memory
-    /// (`halfway` and `receives` of [`cqf_laws_bridge::bridges_go_on`]).
+    /// (`halfway` and `receives` of [`cqf_bridge::bridges_go_on`]).
     pub fn apply(&mut self, event: Event) -> Result<Applied, Memory>
         ensures { AnswersEvent self.old self.new event result }
     {

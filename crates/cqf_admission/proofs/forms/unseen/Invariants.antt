@@ -1,6 +1,6 @@
 -- So many are unseen.
 use Rattle.std.proofs.Common.{ℕ, ◌≡◌, ◌<◌, length, get_or}
-use Rattle.cqf_admission.specs.declared.forms.Form.TheVariants.{Unseen}
+use Rattle.cqf_admission.specs.declared.forms.RequestForm.TheVariants.{Unseen}
 use Rattle.cqf_admission.proofs.forms.unseen.Given as goal
 
 abbrev pub invariant-loop : goal.invariant-loop

@@ -2,7 +2,7 @@ use Rattle.std.proofs.Common.{◌≡◌, ◌<◌, ◌^◌, subst, sym}
 use Rattle.cqf_model.specs.History.{Asked}
 use Rattle.cqf_admission.specs.Asking.{asked_paced, asked_with}
 use Rattle.cqf_admission.specs.Judging.{Judges}
-use Rattle.cqf_admission_trees.specs.Branches.{branches_of, places_of}
+use Rattle.cqf_admission.specs.Branches.{branches_of, places_of}
 use Rattle.cqf_admission.proofs.judged.judge_paced.Goals as goal
 
 pub judge_parts-requires : goal.judge_parts-requires

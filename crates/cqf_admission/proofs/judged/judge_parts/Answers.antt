@@ -1,9 +1,8 @@
 use Rattle.std.proofs.Common.{◌≡◌, ◌∙◌, ap, sym, true, refl}
 use Rattle.std.proofs.lemmas.Result.{err_from_is_err_and}
 use Rattle.cqf_units.specs.Name.{is_name}
-use Rattle.cqf_model.specs.History.{tree_of}
 use Rattle.cqf_admission.specs.Asking.{asked_with}
-use Rattle.cqf_admission_trees.specs.Branches.{branches_of, tree_refusal}
+use Rattle.cqf_admission.specs.Branches.{branches_of}
 use Rattle.cqf_admission.proofs.GrantLemmas.{form_by_tree}
 use Rattle.cqf_admission.proofs.judged.judge_parts.Goals as goal
 

@@ -4,4 +4,4 @@ use Rattle.cqf_book.proofs.closing.check_shares.Goals as goal
 -- the pages that were posted stand in order, so those of the shares do
 pub returns-clause-once : goal.returns-clause-once
 returns-clause-once c =
-    shares_posted c.args.opening.now c.args.posted.now c.args.shares.now c.cycles-before.ensures.facts c.cycles-in_order.ensures.facts c.in_default.ensures.none
+    shares_posted c.args.opening.now c.args.posted.now c.args.shares.now c.know.ensures.facts c.know-2.ensures.facts c.in_default.ensures.none

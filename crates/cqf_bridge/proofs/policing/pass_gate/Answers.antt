@@ -3,9 +3,9 @@ use Rattle.std.proofs.lemmas.Bool.{cond-false, cond-true}
 use Rattle.cqf_model.specs.StreamGate.{gate_class}
 use Rattle.cqf_model.specs.Traffic.{came_by}
 use Rattle.cqf_gates.specs.StreamGate.{Gate, lets_pass, verdict_on}
-use Rattle.cqf_bridge_gates.specs.Gates.{gate_in, kept_after, with_gate}
+use Rattle.cqf_bridge.specs.Gates.{gate_in, kept_after, with_gate}
 use Rattle.cqf_bridge.specs.Taking.{class_in, passes_by, received_as}
-use Rattle.cqf_bridge.proofs.Verdicts.{went_by_gate, word_class, word_over}
+use Rattle.cqf_bridge.proofs.PolicedVerdicts.{went_by_gate, word_class, word_over}
 use Rattle.cqf_bridge.proofs.policing.pass_gate.Goals as goal
 
 pub returns-in-Class-clause-passes : goal.returns-in-Class-clause-passes

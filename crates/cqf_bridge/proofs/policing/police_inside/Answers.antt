@@ -1,9 +1,9 @@
 use Rattle.std.proofs.Common.{◌∙◌, Bool, None, Some, ap, refl, sym}
 use Rattle.std.specs.Prelude.{option_copied}
 use Rattle.cqf_model.specs.Traffic.{is_queued_of}
-use Rattle.cqf_bridge.specs.declared.policing.Outcome.TheVariants.{ExceedsGate, GoesOn, LacksRow}
+use Rattle.cqf_bridge.specs.declared.policing.FrameVerdict.TheVariants.{ExceedsGate, GoesOn, LacksRow}
 use Rattle.cqf_bridge.specs.Taking.{PassesGate, class_in, passes_by, received_as, verdict_if}
-use Rattle.cqf_bridge.proofs.Verdicts.{class_given, none_given, polices_none, polices_row, verdict_inside, verdict_lacking, verdict_not_leading}
+use Rattle.cqf_bridge.proofs.PolicedVerdicts.{class_given, none_given, polices_none, polices_row, verdict_inside, verdict_lacking, verdict_not_leading}
 use Rattle.cqf_bridge.proofs.policing.police_inside.Goals as goal
 
 pub returns-in_default-clause-polices : goal.returns-in_default-clause-polices

@@ -2,9 +2,9 @@ use Rattle.std.proofs.Common.{◌∙◌, Bool, None, Some, ap, not, refl, sym}
 use Rattle.std.specs.Prelude.{if◌then◌else◌, option_copied}
 use Rattle.cqf_model.specs.declared.frames.Reason.TheVariants.{Octets, Unknown}
 use Rattle.cqf_model.specs.Traffic.{DroppedFor, Queued, is_queued_of}
-use Rattle.cqf_bridge.specs.declared.policing.Outcome.TheVariants.{Dropped, GoesOn}
+use Rattle.cqf_bridge.specs.declared.policing.FrameVerdict.TheVariants.{Dropped, GoesOn}
 use Rattle.cqf_bridge.specs.Taking.{PassesGate, class_in, passes_by, received_as, verdict_if, verdict_unless}
-use Rattle.cqf_bridge.proofs.Verdicts.{class_given, none_given, polices_none, polices_row, verdict_at_edge}
+use Rattle.cqf_bridge.proofs.PolicedVerdicts.{class_given, none_given, polices_none, polices_row, verdict_at_edge}
 use Rattle.cqf_bridge.proofs.policing.police_offer.Goals as goal
 
 pub returns-in_default-clause-polices : goal.returns-in_default-clause-polices

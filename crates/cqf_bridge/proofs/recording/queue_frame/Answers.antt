@@ -4,7 +4,7 @@ use Rattle.std.specs.Prelude.{◌==◌, true}
 use Rattle.std.specs.List.{list_any}
 use Rattle.cqf_model.specs.Table.{goes_to}
 use Rattle.cqf_bridge.specs.Taking.{received_as}
-use Rattle.cqf_bridge.proofs.Verdicts.{may_record, queued_as}
+use Rattle.cqf_bridge.proofs.PolicedVerdicts.{may_record, queued_as}
 use Rattle.cqf_bridge.proofs.recording.queue_frame.Goals as goal
 
 pub queue_all-requires-clause-taken : goal.queue_all-requires-clause-taken

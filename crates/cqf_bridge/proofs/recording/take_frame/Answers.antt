@@ -1,6 +1,6 @@
 use Rattle.std.proofs.Common.{ap, refl}
 use Rattle.cqf_bridge.specs.Taking.{received_as, verdict_as}
-use Rattle.cqf_bridge.proofs.Verdicts.{takes_dropped}
+use Rattle.cqf_bridge.proofs.PolicedVerdicts.{takes_dropped}
 use Rattle.cqf_bridge.proofs.recording.take_frame.Goals as goal
 
 pub returns-in_ok-drop_offer-in-Dropped-clause-takes : goal.returns-in_ok-drop_offer-in-Dropped-clause-takes

@@ -1,25 +1,26 @@
--- One more link is written.
-use Rattle.std.proofs.Common.{List, map, subst, sym}
-use Rattle.std.specs.Arc.{arc_value}
-use Rattle.std.specs.Prelude.{Contains}
-use Rattle.cqf_lists.proofs.Members.{contains_map}
+use Rattle.std.proofs.Common.{◌∙◌, List, ap, rules}
+use Rattle.std.specs.List.{flat_map}
 use Rattle.cqf_model.specs.declared.topology.Row.{Row}
-use Rattle.cqf_compile.specs.ConfigText.{text_of_link}
-use Rattle.cqf_compile.proofs.Pieces.{flat_map_found}
+use Rattle.cqf_model.specs.Domain.{Domain}
+use Rattle.cqf_compile.specs.ConfigText.{config_text, text_of_link, text_of_row}
+use Rattle.cqf_press.proofs.PressLemmas.{Puts-as, Puts-then, text-pressed}
 use Rattle.cqf_compile.proofs.config.write_config.Goals as goal
 
-pub loop-link-preserved : goal.loop-link-preserved
-loop-link-preserved c =
-    let d = c.args.plan.now in
-    let more = flat_map_found (text_of_link d) d.links c.loop-link.link c.in_ok-port.port.items c.in_ok-port.ensures in
-    cc (more, c.in_ok-extend_from_slice.ensures.items, c.loop-link.invariant, c.as_slice.ensures.value)
+pub put_shared-requires-clause-along : goal.put_shared-requires-clause-along
+put_shared-requires-clause-along c = rw c.rows.ensures.rows c.requires.along
 
--- a row of the table has a good pace
-pub row_text-requires-clause-paced : goal.row_text-requires-clause-paced
-row_text-requires-clause-paced c =
-    let member = contains_map (λ row. arc_value row) c.rows-rows.result.now c.row-item.result
-    (c.loop-row.row-index, c.loop-row-test.true, sym c.row-item.is) in
-    let row = c.deref.result.now in
-    c.requires.paced row
-    (subst (λ (rows : List Row). Contains rows row) c.rows-rows.ensures.rows
-    (subst (λ (r : Row). Contains (map (λ row. arc_value row) c.rows-rows.result.now) r) (sym c.deref.ensures) member))
+pub put_shared-requires-clause-paced : goal.put_shared-requires-clause-paced
+put_shared-requires-clause-paced c = rw c.rows.ensures.rows c.requires.paced
+
+pub returns : goal.returns
+returns c =
+    let plan = c.args.plan.now in
+    let links = Puts-as _ (flat_map (text_of_link plan) plan.links)
+    (ap (λ (d : Domain). flat_map (text_of_link d) d.links) c.domain-domain.ensures.value) c.put_ports.ensures in
+    let rows = Puts-as _ (flat_map (text_of_row plan) c.args.table.now.rows)
+    (ap (λ (rows : List Row). flat_map (text_of_row plan) rows) c.rows.ensures.rows) c.put_shared.ensures in
+    let puts = Puts-then (flat_map (text_of_link plan) plan.links) (flat_map (text_of_row plan) c.args.table.now.rows) links rows in
+    let names = c.close-told.ensures.same ∙ puts.same ∙ c.new-press.ensures.same in
+    text-pressed c.close-told.result.now (config_text plan c.args.table.now.rows) c.told_text.result
+    (ap (λ list. list.items) c.new-told.ensures.writer ∙ c.new.ensures.items)
+    c.new-press.ensures.opens puts c.close-told.ensures.closes c.told_text.ensures.ok (search rules) (search rules)

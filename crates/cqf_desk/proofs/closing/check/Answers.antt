@@ -13,7 +13,7 @@ returns-then-not-are_known c =
 
 pub returns : goal.returns
 returns c =
-    are_of_seats c.args.opening.now c.args.held.now c.args.count c.in-Some.rest.now c.args.seats.now c.in-Some.ensures c.history-legal.ensures.legal
+    are_of_seats c.args.opening.now c.args.held.now c.args.count c.in-Some.rest.now c.args.seats.now c.in-Some.ensures c.know.ensures.legal
     (subst (λ (o : Option ℕ). ComesToLeast c.args.opening.now.domain (c.args.opening.now.entries ++ map recorded_of c.in-Some.rest.now)
     (length c.args.opening.now.entries) c.args.seats.now o) (is_none c.in_ok-seat.field-0 c.in_default-2.not-Some) c.in_ok-seat.ensures)
     (c.are_known.ensures.0 c.if-not-are_known.false)

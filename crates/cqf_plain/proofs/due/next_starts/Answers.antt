@@ -1,6 +1,6 @@
 use Rattle.std.proofs.Common.{List, arith, subst}
 use Rattle.std.proofs.lemmas.List.{take_all}
-use Rattle.cqf_plain.specs.declared.driven.Driven.{Driven}
+use Rattle.cqf_plain.specs.declared.driven.RunBridge.{RunBridge}
 use Rattle.cqf_plain.specs.Due.{AreNextStarts, ports_of}
 use Rattle.cqf_plain.proofs.Noted.{bridge_noted, nothing_due}
 use Rattle.cqf_plain.proofs.due.next_starts.Goals as goal
@@ -15,6 +15,6 @@ loop-place-preserved c =
 
 pub returns : goal.returns
 returns c =
-    subst (λ (xs : List Driven). AreNextStarts c.loop-place.due.entries (ports_of xs))
+    subst (λ (xs : List RunBridge). AreNextStarts c.loop-place.due.entries (ports_of xs))
     (take_all c.loop-place.place c.args.bridges.now (omega (arith, c.loop-place-test.false)))
     c.loop-place.invariant

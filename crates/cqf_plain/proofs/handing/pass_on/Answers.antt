@@ -2,8 +2,8 @@ use Rattle.std.proofs.Common.{◌++◌, ◌∙◌, List, ap, flat_map, refl, sub
 use Rattle.cqf_model.specs.declared.frames.Started.{Started}
 use Rattle.cqf_model.specs.Book.{contents_of}
 use Rattle.cqf_model.specs.Domain.{Domain}
-use Rattle.cqf_laws_bridge.specs.Cycles.{starts_of_batch}
-use Rattle.cqf_plain.specs.declared.driven.Driven.{Driven}
+use Rattle.cqf_bridge.specs.Cycles.{starts_of_batch}
+use Rattle.cqf_plain.specs.declared.driven.RunBridge.{RunBridge}
 use Rattle.cqf_plain.specs.Driven.{AreHandedOut, ListsBackground}
 use Rattle.cqf_plain.proofs.HandedOut.{all_handed, cycle_listed}
 use Rattle.cqf_plain.proofs.handing.pass_on.Goals as goal
@@ -22,6 +22,6 @@ returns-clause-listed c = λ run net cycle same of all.
     (c.in_ok-extend_from_slice.ensures.items
     ∙ ap (λ (xs : List Started). c.args.book.now.starts.items ++ xs)
     (c.as_slice-2.ensures.value ∙ c.in_ok-starts.ensures ∙ ap (flat_map starts_of_batch) c.as_slice.ensures.value))
-    (subst (λ (bs : List Driven). ListsBackground bs c.args.book.now.background.items c.list_background.new.background.items) c.as_slice-3.ensures.value
+    (subst (λ (bs : List RunBridge). ListsBackground bs c.args.book.now.background.items c.list_background.new.background.items) c.as_slice-3.ensures.value
     c.in_ok-list_background.ensures)
     refl

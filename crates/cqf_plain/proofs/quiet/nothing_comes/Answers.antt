@@ -1,7 +1,7 @@
 use Rattle.std.proofs.Common.{List, arith, refl, subst}
 use Rattle.std.proofs.lemmas.List.{take_all}
 use Rattle.cqf_lists.proofs.Members.{contains_none}
-use Rattle.cqf_plain.specs.declared.driven.Driven.{Driven}
+use Rattle.cqf_plain.specs.declared.driven.RunBridge.{RunBridge}
 use Rattle.cqf_plain.specs.Due.{NothingComes}
 use Rattle.cqf_plain.proofs.Noted.{nothing_more}
 use Rattle.cqf_plain.proofs.quiet.nothing_comes.Goals as goal
@@ -16,5 +16,5 @@ loop-place-preserved c =
 
 pub returns : goal.returns
 returns c = λ yes.
-    subst (λ (xs : List Driven). NothingComes c.args.cycle.0 xs) (take_all c.loop-place.place c.args.bridges.now (omega (arith, c.loop-place-test.false)))
+    subst (λ (xs : List RunBridge). NothingComes c.args.cycle.0 xs) (take_all c.loop-place.place c.args.bridges.now (omega (arith, c.loop-place-test.false)))
     c.loop-place.invariant

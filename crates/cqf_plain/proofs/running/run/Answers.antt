@@ -12,7 +12,7 @@ returns-in-Err-clause-fault c =
 -- and with the tables of a history
 pub returns-in-Err-clause-memory_alone : goal.returns-in-Err-clause-memory_alone
 returns-in-Err-clause-memory_alone c =
-    memory_alone c.args.plan.now c.args.tables.now c.args.offers.now c.args.background.now c.domain-accepted.ensures.accepted c.requires.offers
+    memory_alone c.args.plan.now c.args.tables.now c.args.offers.now c.args.background.now c.know.ensures.accepted c.requires.offers
     c.requires.background c.gates_mean_the_shift.ensures c.tables_are_orderly.ensures.orderly c.args.cycles c.in-Err.fault
     (fault_of_stop (run_of c.args.plan.now c.args.tables.now c.args.offers.now c.args.background.now) c.args.cycles c.args.tables.now c.in-Err.fault
     (c.if-not-are_numbered.ensures.yes refl) c.in-Err.ensures.stops)
@@ -20,5 +20,5 @@ returns-in-Err-clause-memory_alone c =
 -- with them the book keeps the promise
 pub returns-in-Ok-clause-promise : goal.returns-in-Ok-clause-promise
 returns-in-Ok-clause-promise c =
-    keeps_promise c.args.plan.now c.args.tables.now c.args.offers.now c.args.background.now c.domain-accepted.ensures.accepted c.requires.offers
+    keeps_promise c.args.plan.now c.args.tables.now c.args.offers.now c.args.background.now c.know.ensures.accepted c.requires.offers
     c.requires.background c.book_says_the_shift.ensures c.tables_are_orderly.ensures.orderly _ c.in-Ok.ensures.book

@@ -11,7 +11,7 @@ go_all-requires-clause-part c =
     let d = c.args.plan.now in
     let run = run_of d c.args.tables.now c.args.offers.now c.args.background.now in
     let net = c.legal_network_exists.ensures run (compiled_lists d) (length run.tables) in
-    let over = over_so d c.args.tables.now c.args.offers.now c.args.background.now c.domain-accepted.ensures.accepted c.requires.offers c.requires.background
+    let over = over_so d c.args.tables.now c.args.offers.now c.args.background.now c.know.ensures.accepted c.requires.offers c.requires.background
     c.domain.result.now net.0 c.domain.ensures.value net.1 in
     let at = begins_at c.new_bridge_follows.ensures.follows d c.args.tables.now c.args.offers.now c.args.background.now net.0
     c.in_ok-so_far.so_far c.in_ok-so_far.ensures in
@@ -23,7 +23,7 @@ returns-in-Err-clause-stops c =
     let d = c.args.plan.now in
     let run = run_of d c.args.tables.now c.args.offers.now c.args.background.now in
     let net = c.legal_network_exists.ensures run (compiled_lists d) (length run.tables) in
-    let over = over_so d c.args.tables.now c.args.offers.now c.args.background.now c.domain-accepted.ensures.accepted c.requires.offers c.requires.background
+    let over = over_so d c.args.tables.now c.args.offers.now c.args.background.now c.know.ensures.accepted c.requires.offers c.requires.background
     c.domain.result.now net.0 c.domain.ensures.value net.1 in
     let at = begins_at c.new_bridge_follows.ensures.follows d c.args.tables.now c.args.offers.now c.args.background.now net.0
     c.in_ok-so_far.so_far c.in_ok-so_far.ensures in
@@ -35,7 +35,7 @@ returns-in-Ok-clause-book c =
     let d = c.args.plan.now in
     let run = run_of d c.args.tables.now c.args.offers.now c.args.background.now in
     let net = c.legal_network_exists.ensures run (compiled_lists d) (length run.tables) in
-    let over = over_so d c.args.tables.now c.args.offers.now c.args.background.now c.domain-accepted.ensures.accepted c.requires.offers c.requires.background
+    let over = over_so d c.args.tables.now c.args.offers.now c.args.background.now c.know.ensures.accepted c.requires.offers c.requires.background
     c.domain.result.now net.0 c.domain.ensures.value net.1 in
     let at = begins_at c.new_bridge_follows.ensures.follows d c.args.tables.now c.args.offers.now c.args.background.now net.0
     c.in_ok-so_far.so_far c.in_ok-so_far.ensures in

@@ -1,8 +1,8 @@
 use Rattle.std.proofs.Common.{refl, subst, sym}
 use Rattle.cqf_program_engine.specs.Prepared.{HasText}
 use Rattle.cqf_program_engine.specs.Run.{IsOutput}
-use Rattle.cqf_program_engine.specs.declared.prepared.Prepared.TheVariants as prepared
-use Rattle.cqf_program_plans.specs.TcOutput.{text_of_tc}
+use Rattle.cqf_program_engine.specs.declared.prepared.PreparedOutput.TheVariants as prepared
+use Rattle.cqf_program_tc.specs.Output.{text_of_tc}
 use Rattle.cqf_program_words.specs.declared.words.Format.{Format}
 use Rattle.cqf_program_words.specs.declared.words.Job.TheVariants.{Compile}
 use Rattle.cqf_program_engine.proofs.runs.prepare_compiled.Goals as goal

@@ -1,5 +1,5 @@
 use Rattle.std.proofs.Common.{◌∙◌, ◌++◌, ◌∷◌, [], ap}
-use Rattle.cqf_traffic_offers.specs.declared.senders.Sender.{Sender}
+use Rattle.cqf_traffic.specs.declared.senders.TalkerStream.{TalkerStream}
 use Rattle.cqf_program_offers.proofs.Judged.{one_judged, one_refused, one_seen}
 use Rattle.cqf_program_offers.proofs.sending.senders_of.Goals as goal
 
@@ -10,7 +10,7 @@ loop-flow-preserved c = (
       c.in_ok-put_stream.ensures.rows,
   one_seen c.args.domain.now c.args.flows.now c.loop-flow.flow-index c.flow-item.result c.loop-flow-test.true c.flow-item.is c.loop-flow.senders.items
       c.put_stream.new.senders.items c.loop-flow.invariant.1
-      (c.in_ok-put_stream.ensures.senders ∙ ap (λ (s : Sender). c.loop-flow.senders.items ++ s ∷ []) c.sender_of-sender.ensures),
+      (c.in_ok-put_stream.ensures.senders ∙ ap (λ (s : TalkerStream). c.loop-flow.senders.items ++ s ∷ []) c.sender_of-sender.ensures),
 )
 
 pub returns-in-Err-clause-err : goal.returns-in-Err-clause-err

@@ -1,5 +1,5 @@
 use Rattle.std.proofs.Common.{◌≡◌, [], drop, map, take}
-use Rattle.cqf_program_plans.specs.LoadOutput.{listed_from}
+use Rattle.cqf_program_plans.specs.Load.Output.{listed_from}
 use Rattle.cqf_traffic.specs.FlowsText.{flow_text}
 use Rattle.cqf_program_offers.specs.OffersOutput.{asked_in, sender_of}
 use Rattle.cqf_program_offers.proofs.sending.senders_of.Given as goal

@@ -1,6 +1,6 @@
 use Rattle.std.proofs.Common.{◌∙◌, ◌∷◌, [], get_or, refl, string_bytes}
 use Rattle.cqf_program_plans.specs.EndNames.{name_of_end}
-use Rattle.cqf_report.specs.Books.{name_of_bridge}
+use Rattle.cqf_topology.specs.NodeNames.{name_of_bridge}
 use Rattle.cqf_program_placing.proofs.RouteLemmas.{made_more}
 use Rattle.cqf_program_placing.proofs.branches.branch_along.Goals as goal
 

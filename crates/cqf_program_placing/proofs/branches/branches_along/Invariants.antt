@@ -1,6 +1,6 @@
 -- The branches of the ways so far.
 use Rattle.std.proofs.Common.{◌≡◌, map, take}
-use Rattle.cqf_admission_trees.specs.Branches.{branches_of}
+use Rattle.cqf_admission.specs.Branches.{branches_of}
 use Rattle.cqf_program_placing.specs.Placing.{names_along}
 use Rattle.cqf_program_placing.proofs.branches.branches_along.Given as goal
 

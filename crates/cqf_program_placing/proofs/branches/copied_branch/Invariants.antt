@@ -1,5 +1,5 @@
 use Rattle.std.proofs.Common.{◌≡◌, take}
-use Rattle.cqf_admission_trees.specs.Branches.{branch_of}
+use Rattle.cqf_admission.specs.Branches.{branch_of}
 use Rattle.cqf_program_placing.proofs.branches.copied_branch.Given as goal
 
 abbrev pub invariant-loop-name : goal.invariant-loop-name

@@ -1,5 +1,5 @@
 use Rattle.std.proofs.Common.{◌∙◌, [], ap}
-use Rattle.cqf_admission_trees.specs.Branches.{branch_of}
+use Rattle.cqf_admission.specs.Branches.{branch_of}
 use Rattle.cqf_program_placing.proofs.RouteLemmas.{made_more}
 use Rattle.cqf_program_placing.proofs.branches.copied_branches.Goals as goal
 

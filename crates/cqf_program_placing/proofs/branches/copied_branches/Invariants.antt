@@ -1,5 +1,5 @@
 use Rattle.std.proofs.Common.{◌≡◌, take}
-use Rattle.cqf_admission_trees.specs.Branches.{branches_of}
+use Rattle.cqf_admission.specs.Branches.{branches_of}
 use Rattle.cqf_program_placing.proofs.branches.copied_branches.Given as goal
 
 abbrev pub invariant-loop-path : goal.invariant-loop-path

@@ -1,6 +1,6 @@
 use Rattle.std.proofs.Common.{◌∙◌, [], ap, sym}
 use Rattle.std.proofs.lemmas.Option.{get_or_from_slice_get}
-use Rattle.cqf_report.specs.Books.{name_of_bridge}
+use Rattle.cqf_topology.specs.NodeNames.{name_of_bridge}
 use Rattle.cqf_program_placing.proofs.RouteLemmas.{bridge_of_link, from_node}
 use Rattle.cqf_program_placing.proofs.branches.start_of_link.Goals as goal
 

@@ -1,5 +1,5 @@
 use Rattle.std.proofs.Common.{◌∙◌, ◌<◌, All, List, length, subst, sym}
-use Rattle.cqf_admission_trees.specs.Branches.{branches_of}
+use Rattle.cqf_admission.specs.Branches.{branches_of}
 use Rattle.cqf_model.specs.declared.topology.Hop.{Hop}
 use Rattle.cqf_model.proofs.Hops.{hops_inside}
 use Rattle.cqf_program_placing.proofs.phases.chosen_along.Goals as goal

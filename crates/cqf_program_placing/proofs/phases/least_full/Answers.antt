@@ -2,7 +2,7 @@ use Rattle.std.proofs.Common.{ℕ, ◌∙◌, ◌≡◌, ◌≤◌, arith, subst
 use Rattle.cqf_model.specs.declared.topology.Hop.{Hop}
 use Rattle.cqf_model.specs.declared.topology.Pace.{Pace}
 use Rattle.cqf_model.specs.History.{held_in, seals}
-use Rattle.cqf_program_placing.specs.declared.phases.Share.{Share}
+use Rattle.cqf_program_placing.specs.declared.phases.BudgetShare.{BudgetShare}
 use Rattle.cqf_program_placing.specs.Turns.{IsFullest, share_at, shares_with}
 use Rattle.cqf_program_placing.proofs.Fullest.{least_all, least_first, least_less, least_no_less}
 use Rattle.cqf_program_placing.proofs.phases.least_full.Goals as goal
@@ -13,7 +13,7 @@ loop-phase-init c =
     let d = c.args.domain.now in
     let entries = c.args.admission.now.entries in
     let rows = held_in d entries (seals entries) in
-    let shares : ℕ → Hop → Share = shares_with d rows c.args.cost c.args.every in
+    let shares : ℕ → Hop → BudgetShare = shares_with d rows c.args.cost c.args.every in
     let held : (phase : ℕ) (hop : Hop) → 1 ≤ (shares phase hop).held = λ phase hop. omega (arith, c.requires.some) in
     least_first shares held c.args.tree.now c.fullest-least.result
     (subst (λ (pace : Pace). IsFullest (share_at d rows c.args.cost pace) c.args.tree.now c.fullest-least.result) c.pace_by.ensures c.fullest-least.ensures)
@@ -24,7 +24,7 @@ loop-phase-preserved c =
     let d = c.args.domain.now in
     let entries = c.args.admission.now.entries in
     let rows = held_in d entries (seals entries) in
-    let shares : ℕ → Hop → Share = shares_with d rows c.args.cost c.args.every in
+    let shares : ℕ → Hop → BudgetShare = shares_with d rows c.args.cost c.args.every in
     let held : (phase : ℕ) (hop : Hop) → 1 ≤ (shares phase hop).held = λ phase hop. omega (arith, c.requires.some) in
     let is : IsFullest (shares c.loop-phase.phase) c.args.tree.now c.fullest-share.result =
     subst (λ (pace : Pace). IsFullest (share_at d rows c.args.cost pace) c.args.tree.now c.fullest-share.result) c.pace_by-in-loop-phase.ensures
@@ -43,7 +43,7 @@ returns c =
     let d = c.args.domain.now in
     let entries = c.args.admission.now.entries in
     let rows = held_in d entries (seals entries) in
-    let shares : ℕ → Hop → Share = shares_with d rows c.args.cost c.args.every in
+    let shares : ℕ → Hop → BudgetShare = shares_with d rows c.args.cost c.args.every in
     let held : (phase : ℕ) (hop : Hop) → 1 ≤ (shares phase hop).held = λ phase hop. omega (arith, c.requires.some) in
     let all : c.loop-phase.phase ≡ c.args.every = omega (arith, c.loop-phase.auto.phase-end, c.loop-phase-test.false, c.requires.good.some) in
     least_all shares held c.args.tree.now c.loop-phase.phase c.args.every c.loop-phase.first c.loop-phase.least all c.loop-phase.invariant

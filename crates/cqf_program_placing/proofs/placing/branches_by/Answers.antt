@@ -1,6 +1,6 @@
 use Rattle.std.proofs.Common.{◌∙◌, List, ℕ, ap, length, subst, sym}
 use Rattle.cqf_model.specs.History.{held_in, seals}
-use Rattle.cqf_program_placing.specs.declared.settled.Way.{Way}
+use Rattle.cqf_program_placing.specs.declared.settled.StreamWay.{StreamWay}
 use Rattle.cqf_program_placing.specs.Routes.{AreReached}
 use Rattle.cqf_program_placing.specs.Settled.{IsOnWay, way_value}
 use Rattle.cqf_program_placing.proofs.RouteLemmas.{all_reached, lefts_many}
@@ -15,6 +15,6 @@ branches_between-requires-clause-left c =
 pub branches_between-requires-clause-reached : goal.branches_between-requires-clause-reached
 branches_between-requires-clause-reached c =
     let d = c.args.domain.now in
-    let on_way = subst (λ (w : Way). IsOnWay d (way_value w)) c.in-Between.is c.requires.on_way in
+    let on_way = subst (λ (w : StreamWay). IsOnWay d (way_value w)) c.in-Between.is c.requires.on_way in
     subst (λ (stations : List ℕ). AreReached d c.in-Between.bridge stations) (sym c.as_slice-in-Between-2.ensures.value)
     (all_reached d c.in-Between.bridge c.in-Between.stations.items on_way)

@@ -1,5 +1,5 @@
 use Rattle.std.proofs.Common.{◌≡◌, ◌∙◌, Ok, ap, List, ℕ, string_bytes, subst, subst₂, sym}
-use Rattle.cqf_admission_trees.specs.Branches.{branches_of}
+use Rattle.cqf_admission.specs.Branches.{branches_of}
 use Rattle.cqf_model.specs.History.{Branch, held_in, seals}
 use Rattle.cqf_program_placing.specs.Placing.{IsRouted, outcome_value}
 use Rattle.cqf_program_placing.specs.Routes.{IsUnrouted}

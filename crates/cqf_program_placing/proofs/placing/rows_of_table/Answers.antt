@@ -1,6 +1,6 @@
 use Rattle.std.proofs.Common.{arith, subst, sym}
 use Rattle.std.specs.Arc.{arc_value}
-use Rattle.cqf_admission_trees.specs.Turns.{AreOfGoodPaces}
+use Rattle.cqf_admission.specs.Turns.{AreOfGoodPaces}
 use Rattle.cqf_program_placing.proofs.PlaceLemmas.{all_made}
 use Rattle.cqf_program_placing.proofs.placing.rows_of_table.Goals as goal
 

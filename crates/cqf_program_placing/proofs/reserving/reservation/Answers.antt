@@ -6,4 +6,4 @@ pub reserved_for-requires : goal.reserved_for-requires
 reserved_for-requires c =
     let cycle_time = c.cycle_time.result.0 in
     let short : cycle_time ≤ 10000000 = omega (arith, c.cycle_time.ensures.value, c.cycle_time.ensures.accepted.cycle_most) in
-    subst (λ (n : ℕ). n < 2 ^ 64) (sym c.needed-needed.ensures) (needed_few cycle_time c.in-Some.traffic short c.interval-interval.ensures.range)
+    subst (λ (n : ℕ). n < 2 ^ 64) (sym c.needed-needed.ensures) (needed_few cycle_time c.in-Some.traffic short c.know.ensures.range)

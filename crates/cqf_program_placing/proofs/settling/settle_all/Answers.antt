@@ -1,8 +1,8 @@
 use Rattle.std.proofs.Common.{◌≡◌, ◌∙◌, ◌∷◌, [], List, ap, arith, false, length, length-append, map, ℕ, subst, sym}
 use Rattle.std.proofs.lemmas.List.{map-append}
 use Rattle.std.specs.Vec.Iter.{into_iter_items}
-use Rattle.cqf_sketch_streams.specs.StreamsText.{stream_text}
-use Rattle.cqf_sketch_streams.specs.declared.streams.Stream.{Stream}
+use Rattle.cqf_sketch.specs.StreamsText.{stream_text}
+use Rattle.cqf_sketch.specs.declared.streams.Stream.{Stream}
 use Rattle.cqf_topology.specs.DomainText.{is_among, with_front}
 use Rattle.cqf_program_placing.specs.Settled.{settled_behind, settled_value}
 use Rattle.cqf_program_placing.proofs.SettledLemmas.{next_stands, settled_more}

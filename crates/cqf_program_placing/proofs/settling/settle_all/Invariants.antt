@@ -2,7 +2,7 @@
 use Rattle.std.proofs.Common.{◌≡◌, ◌≤◌, [], length, map}
 use Rattle.std.specs.Vec.Iter.{into_iter_items}
 use Rattle.cqf_model.specs.Limits.{most_streams}
-use Rattle.cqf_sketch_streams.specs.StreamsText.{stream_text}
+use Rattle.cqf_sketch.specs.StreamsText.{stream_text}
 use Rattle.cqf_topology.specs.DomainText.{with_front}
 use Rattle.cqf_program_placing.specs.Settled.{settled_behind, settled_value}
 use Rattle.cqf_program_placing.proofs.settling.settle_all.Given as goal

@@ -1,6 +1,6 @@
 -- The orders so far are carried out, and there is room for the rest.
 use Rattle.std.proofs.Common.{◌≡◌, drop, map}
-use Rattle.cqf_admission_requests.specs.Orders.{ordered_in}
+use Rattle.cqf_admission.specs.Orders.{ordered_in}
 use Rattle.cqf_program_scenario.specs.Calls.{HasRoom, with_calls}
 use Rattle.cqf_program_scenario.proofs.administering.carry_out_all.Given as goal
 

@@ -1,6 +1,6 @@
 -- The calls so far are made, and there is room for the rest.
 use Rattle.std.proofs.Common.{◌≡◌, drop, map}
-use Rattle.cqf_admission_script.specs.Script.{called_of}
+use Rattle.cqf_admission.specs.Script.{called_of}
 use Rattle.cqf_program_scenario.specs.Calls.{HasRoom, with_calls}
 use Rattle.cqf_program_scenario.proofs.calls.apply_all.Given as goal
 

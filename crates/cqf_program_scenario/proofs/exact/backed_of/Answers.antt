@@ -6,8 +6,8 @@ use Rattle.cqf_model.specs.declared.frames.Background.{Background}
 use Rattle.cqf_model.specs.declared.frames.Offer.{Offer}
 use Rattle.cqf_model.specs.declared.frames.Started.{Started}
 use Rattle.cqf_model.specs.Run.{AreBackground, AreOffers}
-use Rattle.cqf_instants_drops.specs.Parts.{AreBackgroundOfHistory, AreStartsOfHistory}
-use Rattle.cqf_instants_layout.specs.History.{IsLaidOutHistoryOf}
+use Rattle.cqf_instants_run.specs.Parts.{AreBackgroundOfHistory, AreStartsOfHistory}
+use Rattle.cqf_instants_run.specs.HistoryStarts.{IsLaidOutHistoryOf}
 use Rattle.cqf_program_scenario.proofs.ExactParts.{IsHistoryOf-as, none_backed}
 use Rattle.cqf_program_scenario.proofs.exact.backed_of.Goals as goal
 
@@ -27,11 +27,11 @@ background_of_history-requires-clause-starts c =
     let d = given.domain in
     let some = c.requires.history in
     let rows = c.args.rows.now in
-    let judgements = c.args.judgements.now in
+    let edge_verdicts = c.args.edge_verdicts.now in
     let offers = c.as_slice-offers.result.now in
     let background = c.as_slice-background.result.now in
-    let history : IsLaidOutHistoryOf d c.args.cycles rows offers judgements some.entries =
-    IsHistoryOf-as d c.args.cycles rows rows given.offers.items offers judgements judgements some.entries refl c.as_slice-offers.ensures.value refl some.is in
+    let history : IsLaidOutHistoryOf d c.args.cycles rows offers edge_verdicts some.entries =
+    IsHistoryOf-as d c.args.cycles rows rows given.offers.items offers edge_verdicts edge_verdicts some.entries refl c.as_slice-offers.ensures.value refl some.is in
     let starts : AreStartsOfHistory d some.entries offers background c.args.cycles c.in_ok-starts.starts.items =
     λ net run. c.in_ok-starts.ensures some.entries background net history run in
     record {
@@ -50,13 +50,13 @@ returns c =
     let given = c.args.given.now in
     let d = given.domain in
     let rows = c.args.rows.now in
-    let judgements = c.args.judgements.now in
+    let edge_verdicts = c.args.edge_verdicts.now in
     let offers = c.as_slice-offers.result.now in
     let background = c.as_slice-background.result.now in
     IfOk-weaker c.background_of_history.result _ _
     (λ backed all entries is.
-    let history : IsLaidOutHistoryOf d c.args.cycles rows offers judgements entries =
-    IsHistoryOf-as d c.args.cycles rows rows given.offers.items offers judgements judgements entries refl c.as_slice-offers.ensures.value refl is in
+    let history : IsLaidOutHistoryOf d c.args.cycles rows offers edge_verdicts entries =
+    IsHistoryOf-as d c.args.cycles rows rows given.offers.items offers edge_verdicts edge_verdicts entries refl c.as_slice-offers.ensures.value refl is in
     let starts : AreStartsOfHistory d entries offers background c.args.cycles c.as_slice-starting.result.now =
     subst (λ (ss : List Started). AreStartsOfHistory d entries offers background c.args.cycles ss) (sym c.as_slice-starting.ensures.value)
     (λ net run. c.in_ok-starts.ensures entries background net history run) in

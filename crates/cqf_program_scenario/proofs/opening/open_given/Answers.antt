@@ -1,7 +1,7 @@
 use Rattle.std.proofs.Common.{◌≡◌, ◌∙◌, [], List, map, ap, subst, sym}
 use Rattle.cqf_admission.specs.Asking.{asked_paced}
-use Rattle.cqf_admission_requests.specs.Orders.{ordered_in}
-use Rattle.cqf_admission_script.specs.Script.{Called, called_of}
+use Rattle.cqf_admission.specs.Orders.{ordered_in}
+use Rattle.cqf_admission.specs.Script.{Called, called_of}
 use Rattle.cqf_program_scenario.specs.Calls.{HasRoom}
 use Rattle.cqf_program_scenario.specs.Closing.{scenario_given}
 use Rattle.cqf_program_scenario.specs.Parting.{opening_calls}

@@ -2,7 +2,7 @@ use Rattle.std.proofs.Common.{◌∙◌, ◌++◌, ◌∷◌, [], List, map, ap,
 use Rattle.std.proofs.lemmas.List.{map-append}
 use Rattle.cqf_model.specs.History.{Act, is_seal}
 use Rattle.cqf_admission.specs.Admission.{act_of}
-use Rattle.cqf_admission_script.specs.Script.{Called, called_of}
+use Rattle.cqf_admission.specs.Script.{Called, called_of}
 use Rattle.cqf_admission.specs.Commands.{act_of_command}
 use Rattle.cqf_program_scenario.specs.Parted.{acts_of_each}
 use Rattle.cqf_program_scenario.specs.Parting.{AddsCommand, AreCommandsBy}

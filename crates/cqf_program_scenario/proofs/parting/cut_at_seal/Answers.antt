@@ -1,6 +1,6 @@
 use Rattle.std.proofs.Common.{◌≡◌, ◌∙◌, ℕ, List, None, Option, Some, map, ap, position, sym}
 use Rattle.cqf_admission.specs.declared.entries.Call.{Call}
-use Rattle.cqf_admission_script.specs.Script.{called_of}
+use Rattle.cqf_admission.specs.Script.{called_of}
 use Rattle.cqf_program_scenario.specs.Parting.{closes}
 use Rattle.cqf_program_scenario.proofs.Commands.{behind-cut, behind-none, opening-all, opening-cut}
 use Rattle.cqf_program_scenario.proofs.parting.cut_at_seal.Goals as goal

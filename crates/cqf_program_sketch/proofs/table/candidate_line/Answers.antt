@@ -1,7 +1,7 @@
 use Rattle.std.proofs.Common.{◌∙◌, ◌++◌, ◌∷◌, []}
 use Rattle.std.specs.Prelude.{decimal}
 use Rattle.std.specs.Option.{option_map_or}
-use Rattle.cqf_program_plans.specs.LoadText.{percentage_text}
+use Rattle.cqf_program_plans.specs.Load.Text.{percentage_text}
 use Rattle.cqf_program_sketch.specs.Choosing.{candidate_fault_text}
 use Rattle.cqf_program_sketch.specs.TableText.{slack_text, stream_of_slack}
 use Rattle.cqf_program_sketch.proofs.TextLemmas.{eight_fields}

@@ -1,6 +1,6 @@
 use Rattle.std.proofs.Common.{◌+◌, ℕ, ap₂, length, refl, subst, subst₂}
 use Rattle.cqf_model.specs.Domain.{Domain, IsAccepted}
-use Rattle.cqf_program_press.proofs.PressLemmas.{Puts-as, Puts-nothing, Puts-then}
+use Rattle.cqf_press.proofs.PressLemmas.{Puts-as, Puts-nothing, Puts-then}
 use Rattle.cqf_report.specs.Books.{lines_of_drops}
 use Rattle.cqf_tape.specs.declared.tapes.Tapes.{Tapes}
 use Rattle.cqf_tape.specs.Tapes.{drops_at_bridges, drops_in_cycles}

@@ -1,5 +1,5 @@
 use Rattle.std.proofs.Common.{◌+◌, ℕ, List, ap, arith, length, refl, set, subst, sym}
-use Rattle.cqf_program_press.proofs.PressLemmas.{Puts-as, Puts-nothing, Puts-then}
+use Rattle.cqf_press.proofs.PressLemmas.{Puts-as, Puts-nothing, Puts-then}
 use Rattle.cqf_report.specs.Books.{lines_of_starts}
 use Rattle.cqf_tape.specs.declared.tape.Mark.{Mark}
 use Rattle.cqf_tape.specs.Tapes.{IsEndBefore, marks_at, told_on, told_on_links}

@@ -1,4 +1,4 @@
-use Rattle.cqf_program_press.specs.Press.{Puts}
+use Rattle.cqf_press.specs.Press.{Puts}
 use Rattle.cqf_report.specs.Books.{lines_of_starts}
 use Rattle.cqf_tape.specs.Tapes.{told_on_links}
 use Rattle.cqf_program_threads.proofs.Places.{AreBehindLinks}

@@ -1,6 +1,6 @@
 use Rattle.std.proofs.Common.{◌+◌, ◌∙◌, ℕ, List, ap, arith, filter, length, refl, set, subst, sym}
 use Rattle.cqf_model.specs.declared.frames.Dropped.{Dropped}
-use Rattle.cqf_program_press.proofs.PressLemmas.{Puts-as, Puts-nothing, Puts-then}
+use Rattle.cqf_press.proofs.PressLemmas.{Puts-as, Puts-nothing, Puts-then}
 use Rattle.cqf_report.specs.Books.{lines_of_drops}
 use Rattle.cqf_tape.specs.Tapes.{IsDropsEndBefore, drops_at, drops_at_bridges, is_drop_in}
 use Rattle.cqf_program_threads.proofs.PageLines.{drops_more}

@@ -1,5 +1,5 @@
 use Rattle.std.proofs.Common.{List, [], ◌∷◌, ◌+◌, ◌-◌, ◌∙◌, ap, drop, map, take, take_all}
-use Rattle.cqf_program_press.proofs.PressLemmas.{Puts-as, Puts-then}
+use Rattle.cqf_press.proofs.PressLemmas.{Puts-as, Puts-then}
 use Rattle.cqf_report.specs.Books.{lines_of_starts}
 use Rattle.cqf_tape.specs.declared.tape.Mark.{Mark}
 use Rattle.cqf_tape.specs.Tapes.{started_in, told_on}

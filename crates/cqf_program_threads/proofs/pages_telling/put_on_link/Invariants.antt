@@ -1,5 +1,5 @@
 use Rattle.std.proofs.Common.{map, take}
-use Rattle.cqf_program_press.specs.Press.{Puts}
+use Rattle.cqf_press.specs.Press.{Puts}
 use Rattle.cqf_report.specs.Books.{lines_of_starts}
 use Rattle.cqf_tape.specs.Tapes.{started_in}
 use Rattle.cqf_program_threads.proofs.pages_telling.put_on_link.Given as goal

@@ -1,6 +1,6 @@
 use Rattle.std.proofs.Common.{◌+◌, ℕ, ap₂, length, refl, subst, subst₂}
 use Rattle.cqf_model.specs.Domain.{Domain, IsAccepted}
-use Rattle.cqf_program_press.proofs.PressLemmas.{Puts-as, Puts-nothing, Puts-then}
+use Rattle.cqf_press.proofs.PressLemmas.{Puts-as, Puts-nothing, Puts-then}
 use Rattle.cqf_report.specs.Books.{lines_of_starts}
 use Rattle.cqf_tape.specs.declared.tapes.Tapes.{Tapes}
 use Rattle.cqf_tape.specs.Tapes.{told_in_cycles, told_on_links}

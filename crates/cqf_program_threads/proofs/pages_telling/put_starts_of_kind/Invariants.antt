@@ -1,4 +1,4 @@
-use Rattle.cqf_program_press.specs.Press.{Puts}
+use Rattle.cqf_press.specs.Press.{Puts}
 use Rattle.cqf_report.specs.Books.{lines_of_starts}
 use Rattle.cqf_tape.specs.Tapes.{told_in_cycles}
 use Rattle.cqf_tape.specs.Telling.{ArePlaces}

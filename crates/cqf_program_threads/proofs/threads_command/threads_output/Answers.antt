@@ -1,6 +1,6 @@
 use Rattle.std.proofs.Common.{ap}
 use Rattle.cqf_program_threads.specs.PagedBooks.{ByTapes, contents_told}
-use Rattle.cqf_program_runs.specs.RunOutput.{run_text}
+use Rattle.cqf_program_runs.specs.Run.Output.{run_text}
 use Rattle.cqf_worker.specs.Account.{entries_of}
 use Rattle.cqf_program_threads.proofs.Accounts.{EndsThreads-memory, IsThreadsOutput-written, may_be_told}
 use Rattle.cqf_program_threads.proofs.threads_command.threads_output.Goals as goal

@@ -1,16 +1,18 @@
-use Rattle.std.proofs.Common.{◌≡◌, ◌∙◌, ap, ap₂}
-use Rattle.std.proofs.lemmas.Result.{IfOk-weaker}
-use Rattle.clap.specs.Words.{App, app_of, with_subcommand}
-use Rattle.cqf_program_words.specs.Words.{app_of_scenarios, offers_app}
+use Rattle.std.proofs.Common.{◌∙◌, ap, get_or, sym}
+use Rattle.std.proofs.lemmas.List.Sums.{fold_more}
+use Rattle.clap.specs.Words.{App}
+use Rattle.cqf_program_words.specs.declared.commands.Subcommand.{Subcommand}
+use Rattle.cqf_program_words.specs.declared.commands.Subcommand.TheVariants.{Port}
+use Rattle.cqf_program_words.specs.Commands.{all_commands, named_app, with_command}
 use Rattle.cqf_program_words.proofs.commands.commands.Goals as goal
 
--- and the two that make input of other commands: what is offered, and a plant
-pub returns-clause-app : goal.returns-clause-app
-returns-clause-app c =
-    let with_offers : app_of c.in_ok-subcommand.field-0 ≡ with_subcommand (app_of_scenarios c.args.is_large) offers_app.top =
-    c.in_ok-subcommand.ensures.shape c.in_ok-offers.ensures.local
-    ∙ ap₂ with_subcommand c.in_ok-commands_of_scenarios.ensures.app (ap (λ (a : App). a.top) c.in_ok-offers.ensures.app) in
-    IfOk-weaker c.subcommand-2.result _ _
-    (λ command added. added.shape c.in_ok-plan.ensures.local
-    ∙ ap₂ with_subcommand with_offers (ap (λ (a : App). a.top) c.in_ok-plan.ensures.app))
-    c.subcommand-2.ensures
+-- the next command is one more
+pub loop-subcommand-preserved : goal.loop-subcommand-preserved
+loop-subcommand-preserved c =
+    let index = c.loop-subcommand.subcommand-index in
+    let subcommand : Subcommand = get_or all_commands index Port in (
+      c.in_ok-program-2.ensures.app
+          ∙ ap (λ (app : App). with_command c.args.is_large app subcommand) c.loop-subcommand.invariant.0
+          ∙ sym (fold_more (with_command c.args.is_large) named_app all_commands index Port c.loop-subcommand-test.true),
+      c.in_ok-program-2.ensures.local,
+    )

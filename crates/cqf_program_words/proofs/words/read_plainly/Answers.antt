@@ -3,7 +3,7 @@ use Rattle.clap.specs.Words.{app_of}
 use Rattle.cqf_program_words.proofs.Ranges.{at_none, at_some}
 use Rattle.cqf_program_words.proofs.WordLemmas.{EndsWords-by_error, EndsWords-by_matches, Mean-by_matches}
 use Rattle.cqf_program_words.proofs.WordLemmas.{TellsNoCandidates-by_error, TellsNoCandidates-by_matches}
-use Rattle.cqf_program_words.specs.Words.{cqf_app}
+use Rattle.cqf_program_words.specs.Commands.{cqf_app}
 use Rattle.cqf_program_words.proofs.words.read_plainly.Goals as goal
 
 pub returns-in-Ok-Some-clause-ok : goal.returns-in-Ok-Some-clause-ok

@@ -1,6 +1,6 @@
 use Rattle.std.proofs.Common.{◌∙◌, refl, sym}
 use Rattle.toml.specs.View.{items_view}
-use Rattle.cqf_topology_fields.specs.declared.faults.TomlFault.TheVariants.{Memory}
+use Rattle.cqf_topology.specs.declared.toml_faults.TomlFault.TheVariants.{Memory}
 use Rattle.cqf_topology.proofs.Fronts.{read-all, read-fault, read-more}
 use Rattle.cqf_topology.proofs.Refusals.{Gives-residual}
 use Rattle.cqf_sketch.specs.SketchText.{cycles_from}

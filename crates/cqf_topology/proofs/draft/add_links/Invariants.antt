@@ -1,7 +1,7 @@
 use Rattle.std.proofs.Common.{◌≡◌, drop}
 use Rattle.toml.specs.View.{items_view}
-use Rattle.cqf_topology_fields.specs.declared.keys.Key.TheVariants.{Links}
-use Rattle.cqf_topology_fields.specs.Fields.{tables_from}
+use Rattle.cqf_topology.specs.declared.keys.Key.TheVariants.{Links}
+use Rattle.cqf_topology.specs.Fields.{tables_from}
 use Rattle.cqf_topology.specs.DomainText.{link_read, with_front}
 use Rattle.cqf_topology.proofs.draft.add_links.Given as goal
 

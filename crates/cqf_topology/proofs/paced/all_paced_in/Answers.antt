@@ -1,8 +1,8 @@
 use Rattle.std.proofs.Common.{◌∙◌, ◌∷◌, [], map, ap, refl, sym}
 use Rattle.toml.specs.View.{items_view}
-use Rattle.cqf_topology_fields.specs.declared.keys.Key.TheVariants.{Streams}
-use Rattle.cqf_topology_fields.specs.declared.faults.TomlFault.TheVariants.{Memory}
-use Rattle.cqf_topology_fields.specs.Fields.{tables_from}
+use Rattle.cqf_topology.specs.declared.keys.Key.TheVariants.{Streams}
+use Rattle.cqf_topology.specs.declared.toml_faults.TomlFault.TheVariants.{Memory}
+use Rattle.cqf_topology.specs.Fields.{tables_from}
 use Rattle.cqf_topology.specs.PacedText.{paced_from, paced_text}
 use Rattle.cqf_topology.proofs.Fronts.{read-more, read-fault, read-all}
 use Rattle.cqf_topology.proofs.Refusals.{Gives-residual}

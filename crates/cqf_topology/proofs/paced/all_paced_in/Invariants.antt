@@ -1,7 +1,7 @@
 use Rattle.std.proofs.Common.{◌≡◌, drop, map}
 use Rattle.toml.specs.View.{items_view}
-use Rattle.cqf_topology_fields.specs.declared.keys.Key.TheVariants.{Streams}
-use Rattle.cqf_topology_fields.specs.Fields.{tables_from}
+use Rattle.cqf_topology.specs.declared.keys.Key.TheVariants.{Streams}
+use Rattle.cqf_topology.specs.Fields.{tables_from}
 use Rattle.cqf_topology.specs.DomainText.{with_front}
 use Rattle.cqf_topology.specs.PacedText.{paced_from, paced_text}
 use Rattle.cqf_topology.proofs.paced.all_paced_in.Given as goal

@@ -1,6 +1,6 @@
 use Rattle.std.proofs.Common.{◌∙◌, ◌∷◌, [], map, ap, refl, sym}
 use Rattle.toml.specs.View.{items_view}
-use Rattle.cqf_topology_fields.specs.declared.faults.TomlFault.TheVariants.{Memory}
+use Rattle.cqf_topology.specs.declared.toml_faults.TomlFault.TheVariants.{Memory}
 use Rattle.cqf_traffic.specs.declared.faults.FlowsFault.TheVariants.{Streams}
 use Rattle.cqf_topology.proofs.Fronts.{read-more, read-fault, read-all}
 use Rattle.cqf_topology.proofs.Refusals.{Gives-residual}

@@ -9,9 +9,9 @@ pub book_of-requires-clause-tapes : goal.book_of-requires-clause-tapes
 book_of-requires-clause-tapes g c =
     let paged = c.in_ok-history.field-0 in
     let is = c.in_ok-history.ensures.ok in
-    (c.tapes_tell_the_book.ensures c.args.domain.now c.args.cycles paged.pages is.book c.know.ensures.accepted is.some is.its_pages).may
+    (c.tapes_tell_the_book.ensures c.args.domain.now c.args.cycles paged.tapes is.book c.know.ensures.accepted is.some is.its_tapes).may
 
--- the book that its pages tell is that of the run
+-- the book that its tapes tell is that of the run
 pub returns-clause-ok : goal.returns-clause-ok
 returns-clause-ok g c =
     let paged = c.in_ok-history.field-0 in

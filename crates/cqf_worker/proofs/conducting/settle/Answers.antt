@@ -12,9 +12,9 @@ gather-requires c = subst (AreReelsOf c.args.domain.now) (sym c.in_ok-reels.ensu
 pub returns-clause-ok : goal.returns-clause-ok
 returns-clause-ok c =
     settled_so c.args.domain.now c.args.desk c.args.ended c.push.new.self.items c.in_ok-reels.reels.items
-    (record { history = c.in_ok-history.history; pages = c.in_ok-pages.pages })
+    (record { history = c.in_ok-history.history; tapes = c.in_ok-tapes.tapes })
     c.in_ok-reels.ensures.ok.fed c.in_ok-reels.ensures.ok.given c.in_ok-push.ensures.items c.in_ok-reels.ensures.ok.own
-    c.in_ok-history.ensures.ok c.in_ok-pages.ensures
+    c.in_ok-history.ensures.ok c.in_ok-tapes.ensures
 
 -- or its pipes aren't
 pub returns-in_err-reels-clause-err : goal.returns-in_err-reels-clause-err

@@ -1,5 +1,5 @@
 use Rattle.std.proofs.Common.{◌+◌, ap}
-use Rattle.cqf_world.specs.declared.parts.Driven.{Driven}
+use Rattle.cqf_world.specs.declared.parts.WorldBridge.{WorldBridge}
 use Rattle.cqf_world.proofs.Posting.{next_page}
 use Rattle.cqf_world.proofs.receiving.post_page.Goals as goal
 
@@ -18,5 +18,5 @@ returns-clause-ok c = record {
   is_page = c.in_ok-page.ensures.ok;
   posted = c.in_ok-put_page.ensures.ok;
   none_taken = c.clear.ensures.items;
-  same = ap (λ (k : Driven). record k { posted = k.posted + 1; taken = c.clear.new.self }) c.make_page.ensures.same;
+  same = ap (λ (k : WorldBridge). record k { posted = k.posted + 1; taken = c.clear.new.self }) c.make_page.ensures.same;
 }

@@ -1,8 +1,8 @@
 -- A request is judged by itself, and asked for.
-use Rattle.std.proofs.Common.{◌≡◌, ap, arith, refl, subst}
+use Rattle.std.proofs.Common.{ap, arith, refl, subst}
 use Rattle.cqf_model.specs.History.{Act, Admits}
 use Rattle.cqf_admission.specs.declared.entries.Call.TheVariants.{Admit}
-use Rattle.cqf_admission.specs.Admission.{Administration, Answers, act_of}
+use Rattle.cqf_admission.specs.Admission.{Administration, Answers}
 use Rattle.cqf_admission.specs.Asking.{asked_by, asked_of}
 use Rattle.cqf_admission.specs.Calling.{IsJudgedCall}
 use Rattle.cqf_topology.specs.PacedText.{in_each_cycle}

@@ -1,7 +1,6 @@
 -- A judged request is answered by its form and the state, and its entry is the next one.
 use Rattle.std.proofs.Common.{◌≡◌, ◌∙◌, ◌-◌, ◌<◌, ℕ, List, Option, None, Some, Result, Ok, Err, ap, arith, length, map, refl, subst, subst₂, sym}
 use Rattle.std.specs.Prelude.{is_ok}
-use Rattle.std.proofs.lemmas.List.{length-map}
 use Rattle.cqf_model.specs.declared.history.Receipt.{Receipt}
 use Rattle.cqf_model.specs.declared.history.Refused.{Refused}
 use Rattle.cqf_model.specs.declared.history.Reply.{Reply}

@@ -1,5 +1,5 @@
 -- A request is judged by itself, and asked for.
-use Rattle.std.proofs.Common.{◌≡◌, ap, arith, subst}
+use Rattle.std.proofs.Common.{ap, arith, subst}
 use Rattle.std.specs.Arc.{arc_value}
 use Rattle.cqf_model.specs.History.{Act, Admits}
 use Rattle.cqf_topology.specs.declared.paced.PacedRequest.{PacedRequest}

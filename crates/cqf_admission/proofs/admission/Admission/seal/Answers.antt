@@ -10,7 +10,7 @@ use Rattle.cqf_admission.proofs.TableLemmas.{trees_go_along_links}
 use Rattle.cqf_admission.specs.declared.entries.Call.TheVariants.{Seal}
 use Rattle.cqf_admission.specs.Admission.{Administration, Closes, LetsGo, recorded_of}
 use Rattle.cqf_admission.specs.State.{IsStateOf, LeavesSealed, of_entries}
-use Rattle.cqf_admission_trees.specs.Turns.{AreOfGoodPaces}
+use Rattle.cqf_admission.specs.Turns.{AreOfGoodPaces}
 use Rattle.cqf_admission.specs.Tables.{AreTrees}
 use Rattle.cqf_admission.specs.Tabling.{AreTablesOf}
 use Rattle.cqf_admission.proofs.Entered.{entered_behind}

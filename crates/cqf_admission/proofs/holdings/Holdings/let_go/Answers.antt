@@ -11,7 +11,7 @@ use Rattle.cqf_model.specs.declared.topology.Pace.{Pace}
 use Rattle.cqf_model.specs.declared.topology.Row.{Row}
 use Rattle.cqf_model.specs.Limits.{most_every, most_reserved}
 use Rattle.cqf_model.specs.Table.{links_in}
-use Rattle.cqf_admission_trees.specs.Turns.{AreLessIn, HasIn, Turned}
+use Rattle.cqf_admission.specs.Turns.{AreLessIn, HasIn, Turned}
 use Rattle.cqf_admission.specs.Rows.{IsSummable}
 use Rattle.cqf_admission.specs.Holdings.{HaveFigures, IsHeldAt, Standing, Stands, held_under, released, standing_of}
 use Rattle.cqf_admission.specs.declared.holdings.Stand.{Stand}

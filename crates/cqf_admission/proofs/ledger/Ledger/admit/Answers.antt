@@ -10,11 +10,11 @@ use Rattle.cqf_model.specs.History.{Admits, Asked, Recorded}
 use Rattle.cqf_model.specs.Limits.{most_calls}
 use Rattle.cqf_laws_history.specs.StateLaws.{with_entry}
 use Rattle.cqf_topology.specs.declared.paced.PacedRequest.{PacedRequest}
-use Rattle.cqf_admission_requests.specs.Orders.{request_at}
-use Rattle.cqf_admission_requests.specs.declared.orders.What.TheVariants.{Admit}
+use Rattle.cqf_admission.specs.Orders.{request_at}
+use Rattle.cqf_admission.specs.declared.orders.What.TheVariants.{Admit}
 use Rattle.cqf_admission.specs.Admission.{Answers, HoldsOneMore, calls}
 use Rattle.cqf_admission.specs.Asking.{asked_paced}
-use Rattle.cqf_admission.specs.declared.forms.Form.{Form}
+use Rattle.cqf_admission.specs.declared.forms.RequestForm.{RequestForm}
 use Rattle.cqf_admission.specs.declared.ledger.Ledger.TheInside.{Inside}
 use Rattle.cqf_admission.specs.declared.logs.Logged.{Logged}
 use Rattle.cqf_admission.specs.Forms.{IsFormOf}
@@ -28,7 +28,7 @@ use Rattle.cqf_admission.proofs.ledger.Ledger.admit.Goals as goal
 use Rattle.cqf_admission.proofs.ledger.Ledger.admit.Goals.{in-Bad, in-Good+in_ok-answer-in-Good}
 
 -- the request at the place, whose form is among those that are known
-module _ (d : Domain) (rs : List PacedRequest) (forms : List Form) (place : ℕ) (read : PacedRequest) (there : place < length (map asked_paced rs))
+module _ (d : Domain) (rs : List PacedRequest) (forms : List RequestForm) (place : ℕ) (read : PacedRequest) (there : place < length (map asked_paced rs))
     (known : AreForms d rs forms) where
   low : place < length rs
   low = omega (arith, there, length-map rs asked_paced)
@@ -42,14 +42,14 @@ module _ (d : Domain) (rs : List PacedRequest) (forms : List Form) (place : ℕ)
   is_asked : request_at (map asked_paced rs) place ≡ asked_paced request
   is_asked = asked_at rs place request low is_there
 
-  found : (form : Form) → form ≡ get_or forms place form → IsFormOf d (asked_paced request) form
+  found : (form : RequestForm) → form ≡ get_or forms place form → IsFormOf d (asked_paced request) form
   found form at = form_at d rs forms place request form known low is_there at
 
   -- and with its form seen these are known
-  seen : (form : Form) → IsFormOf d (asked_paced request) form → AreForms d rs (set forms place form)
+  seen : (form : RequestForm) → IsFormOf d (asked_paced request) form → AreForms d rs (set forms place form)
   seen form of = forms_set d rs forms place request form known low is_there of
 
-  again : (form found : Form) → IsFormOf d (asked_paced request) form → found ≡ get_or (set forms place form) place found → IsFormOf d (asked_paced request) found
+  again : (form found : RequestForm) → IsFormOf d (asked_paced request) form → found ≡ get_or (set forms place form) place found → IsFormOf d (asked_paced request) found
   again form found of at =
       subst (IsFormOf d (asked_paced request)) (sym (put_there forms place form found (omega (arith, low, known.as_many)) at)) of
 
@@ -122,7 +122,7 @@ record Beside : Type 0 where
   domain : Domain
   requests : List PacedRequest
   script : List ℕ
-  forms : List Form
+  forms : List RequestForm
 
 abbrev beside : Inside → Beside
 beside i = record { domain = i.domain.now; requests = i.requests.now; script = i.script.now; forms = i.forms.items }
@@ -144,7 +144,7 @@ module _ (c : goal.After-enter) where
   abbrev asked : Asked
   asked = asked_paced (get_or c.self.inside.requests.now c.args.place c.index-self-place.result)
 
-  abbrev forms_then : List Form
+  abbrev forms_then : List RequestForm
   forms_then = set c.self.inside.forms.items c.args.place c.see.new.form
 
   there : c.args.place < length requests

@@ -1,11 +1,11 @@
 use Rattle.std.proofs.Common.{◌≡◌, ◌<◌, arith, get_or, length, map, subst, sym}
 use Rattle.std.proofs.lemmas.List.{get_or_default, length-map}
 use Rattle.cqf_model.specs.History.{Asked}
-use Rattle.cqf_admission_requests.specs.Orders.{request_at}
+use Rattle.cqf_admission.specs.Orders.{request_at}
 use Rattle.cqf_admission.specs.Asking.{asked_paced}
 use Rattle.cqf_admission.specs.Forms.{IsRowOfGoodForm}
 use Rattle.cqf_admission.specs.Ledger.{Kept}
-use Rattle.cqf_admission.specs.declared.forms.Form.TheVariants.{Good}
+use Rattle.cqf_admission.specs.declared.forms.RequestForm.TheVariants.{Good}
 use Rattle.cqf_admission.proofs.Logging.{asked_at, forms_set, some_request}
 use Rattle.cqf_admission.proofs.ledger.Ledger.learn.Goals as goal
 

@@ -1,7 +1,7 @@
 use Rattle.std.proofs.Common.{List, map, subst, sym}
 use Rattle.cqf_model.specs.declared.history.Reply.TheVariants.{Sealed}
 use Rattle.cqf_model.specs.History.{Recorded}
-use Rattle.cqf_admission_requests.specs.declared.orders.What.TheVariants.{Seal}
+use Rattle.cqf_admission.specs.declared.orders.What.TheVariants.{Seal}
 use Rattle.cqf_admission.specs.Asking.{asked_paced}
 use Rattle.cqf_admission.specs.declared.logs.Logged.{Logged}
 use Rattle.cqf_admission.specs.Ledger.{recorded_in}

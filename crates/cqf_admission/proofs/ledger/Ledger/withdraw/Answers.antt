@@ -2,8 +2,8 @@ use Rattle.std.proofs.Common.{◌≡◌, ◌∙◌, ◌-◌, ◌<◌, ℕ, List,
 use Rattle.std.proofs.lemmas.List.{length-map}
 use Rattle.cqf_model.specs.History.{Withdraws}
 use Rattle.cqf_laws_history.specs.StateLaws.{with_entry}
-use Rattle.cqf_admission_requests.specs.Orders.{StandsIn, word_at}
-use Rattle.cqf_admission_requests.specs.declared.orders.What.TheVariants.{Withdraw}
+use Rattle.cqf_admission.specs.Orders.{StandsIn, word_at}
+use Rattle.cqf_admission.specs.declared.orders.What.TheVariants.{Withdraw}
 use Rattle.cqf_admission.specs.Admission.{Answers}
 use Rattle.cqf_admission.specs.Asking.{asked_paced}
 use Rattle.cqf_admission.specs.declared.logs.Logged.{Logged}

@@ -1,6 +1,6 @@
-use Rattle.std.proofs.Common.{◌≡◌, ◌-◌, ◌∙◌, ℕ, List, ap, subst, sym}
-use Rattle.cqf_model.specs.Domain.{Domain, budget}
-use Rattle.cqf_admission.specs.Holdings.{Standing, held_most_at}
+use Rattle.std.proofs.Common.{◌-◌, ◌∙◌, ℕ, List, ap, subst, sym}
+use Rattle.cqf_model.specs.Domain.{budget}
+use Rattle.cqf_admission.specs.Holdings.{Standing}
 use Rattle.cqf_admission.specs.State.{Figures, SomeHistory}
 use Rattle.cqf_admission.specs.Weighing.{left_at}
 use Rattle.cqf_admission.proofs.Told.{costs_in_turns}

@@ -2,22 +2,12 @@ use Rattle.std.proofs.Common.{◌≡◌, ◌+◌, ◌<◌, false, length, subst,
 use Rattle.cqf_model.specs.declared.frames.Started.{Started}
 use Rattle.cqf_bridge.specs.BridgeState.{AreBackedOf, BridgeState, IsNextToSend, SendsCycle}
 use Rattle.cqf_bridge.specs.Sending.{FirstSend}
-use Rattle.cqf_bridge.proofs.Bridges.{bridge_behind, cycle_sent, ready_to_send}
+use Rattle.cqf_bridge.proofs.Bridges.{bridge_behind, cycle_sent, ready_to_send, state_kept}
 use Rattle.cqf_bridge.proofs.bridge.Bridge.send.Goals as goal
 
 pub send_ports-sent-requires-clause-in_step : goal.send_ports-sent-requires-clause-in_step
 send_ports-sent-requires-clause-in_step c =
-    let i = c.self.inside in
-    let b : BridgeState = record {
-      domain = i.domain;
-      number = i.number;
-      sent = i.sent;
-      received = i.received;
-      spent = i.spent;
-      ports =
-          i.ports.items;
-      background = i.background.items;
-    } in
+    let b = state_kept c.self.invariant in
     let frames : AreBackedOf b.domain b.number c.args.cycle.0 c.args.background.now =
     subst (λ (x : BridgeState). AreBackedOf x.domain x.number c.args.cycle.0 c.args.background.now) (sym c.self.view_is) c.requires.frames in
     let next : IsNextToSend b c.args.cycle.0 = (c.if-cycle-self.false, c.if-self-2.false) in
@@ -25,17 +15,7 @@ send_ports-sent-requires-clause-in_step c =
 
 pub invariant_of-self : goal.invariant_of-self
 invariant_of-self c =
-    let i = c.self.inside in
-    let b : BridgeState = record {
-      domain = i.domain;
-      number = i.number;
-      sent = i.sent;
-      received = i.received;
-      spent = i.spent;
-      ports =
-          i.ports.items;
-      background = i.background.items;
-    } in
+    let b = state_kept c.self.invariant in
     let frames : AreBackedOf b.domain b.number c.args.cycle.0 c.args.background.now =
     subst (λ (x : BridgeState). AreBackedOf x.domain x.number c.args.cycle.0 c.args.background.now) (sym c.self.view_is) c.requires.frames in
     let next : IsNextToSend b c.args.cycle.0 = (c.if-cycle-self.false, c.if-self-2.false) in
@@ -55,17 +35,7 @@ invariant_of-self c =
 
 pub returns-in-Ok-clause-sends : goal.returns-in-Ok-clause-sends
 returns-in-Ok-clause-sends c =
-    let i = c.self.inside in
-    let b : BridgeState = record {
-      domain = i.domain;
-      number = i.number;
-      sent = i.sent;
-      received = i.received;
-      spent = i.spent;
-      ports =
-          i.ports.items;
-      background = i.background.items;
-    } in
+    let b = state_kept c.self.invariant in
     let frames : AreBackedOf b.domain b.number c.args.cycle.0 c.args.background.now =
     subst (λ (x : BridgeState). AreBackedOf x.domain x.number c.args.cycle.0 c.args.background.now) (sym c.self.view_is) c.requires.frames in
     let next : IsNextToSend b c.args.cycle.0 = (c.if-cycle-self.false, c.if-self-2.false) in
@@ -80,16 +50,6 @@ returns-in-Ok-clause-sends c =
 
 pub send_ports-sent-requires-clause-early : goal.send_ports-sent-requires-clause-early
 send_ports-sent-requires-clause-early c =
-    let i = c.self.inside in
-    let next : IsNextToSend (record {
-      domain = i.domain;
-      number = i.number;
-      sent = i.sent;
-      received = i.received;
-      spent = i.spent;
-      ports =
-          i.ports.items;
-      background = i.background.items;
-    }) c.args.cycle.0 = (c.if-cycle-self.false, c.if-self-2.false) in
+    let next : IsNextToSend (state_kept c.self.invariant) c.args.cycle.0 = (c.if-cycle-self.false, c.if-self-2.false) in
     subst (λ (x : BridgeState). x.spent ≡ false → IsNextToSend x c.args.cycle.0 → c.args.cycle.0 < 100000) (sym c.self.view_is)
     c.requires.early c.if-self.false next

@@ -1,6 +1,6 @@
 use Rattle.std.proofs.Common.{◌+◌, ◌∙◌, ℕ, List, ap, map, subst, sym}
 use Rattle.cqf_model.specs.Book.{contents_of}
-use Rattle.cqf_plain.specs.declared.driven.Driven.{Driven}
+use Rattle.cqf_plain.specs.declared.driven.RunBridge.{RunBridge}
 use Rattle.cqf_plain.specs.SoFar.{SoFarState, IsAt, IsQuietCycle}
 use Rattle.cqf_bridge.specs.Quiet.{MayPass}
 use Rattle.cqf_plain.specs.Due.{driven_past}
@@ -27,7 +27,7 @@ returns c = λ run net may.
     let cycle = c.args.table.now.cycle in
     let at : IsAt run net cycle now = subst (IsAt run net cycle) (sym c.self.view_is) may.at in
     let quiet : IsQuietCycle c.args.domain.now cycle now = subst (IsQuietCycle c.args.domain.now cycle) (sym c.self.view_is) c.requires.quiet in
-    subst (λ (xs : List Driven). IsAt run net (cycle + 1) (record { bridges = xs; due = i.due.entries; book = contents_of i.book }))
+    subst (λ (xs : List RunBridge). IsAt run net (cycle + 1) (record { bridges = xs; due = i.due.entries; book = contents_of i.book }))
     (sym (c.in_ok-pass_all.ensures ∙ ap (λ (n : ℕ). map (driven_past n) i.bridges.items) c.cycle.ensures))
     (passed_at run net cycle may.of_run now at c.args.domain.now may.domain quiet c.legal_part_is_legal.ensures.part c.sending_follows.ensures
     c.frames_are_taken_in_order.ensures.taken c.receiving_follows.ensures c.verdicts_are_the_runs.ensures.verdicts c.run_is_its_cycles.ensures.losses)

@@ -2,9 +2,9 @@ use Rattle.std.proofs.Common.{◌∙◌, List, ap, arith, map}
 use Rattle.cqf_admission.specs.Admission.{recorded_of}
 use Rattle.cqf_admission.specs.declared.entries.Entry.{Entry}
 use Rattle.cqf_program_threads.specs.PagedBooks.{contents_told}
-use Rattle.cqf_program_press.specs.Edge.{HasTold, writing}
-use Rattle.cqf_program_press.proofs.PressLemmas.{HasTold-pressed, Puts-as}
-use Rattle.cqf_program_runs.specs.RunOutput.{run_text}
+use Rattle.cqf_press.specs.Edge.{HasTold, writing}
+use Rattle.cqf_press.proofs.PressLemmas.{HasTold-pressed, Puts-as}
+use Rattle.cqf_program_runs.specs.Run.Output.{run_text}
 use Rattle.cqf_program_threads.specs.AccountTold.{text_of_account}
 use Rattle.cqf_program_threads.proofs.threads_outputs.ThreadsOutput.tell.Goals as goal
 

@@ -3,7 +3,7 @@ use Rattle.cqf_topology.specs.declared.faults.DomainFault.TheVariants.{Memory, N
 use Rattle.cqf_topology.specs.DomainText.{first_taken}
 use Rattle.cqf_topology.proofs.Accepted.{taken-at}
 use Rattle.cqf_topology.proofs.Refusals.{Gives-residual}
-use Rattle.cqf_topology_fields.specs.Fields.{Gives}
+use Rattle.cqf_topology.specs.Fields.{Gives}
 use Rattle.cqf_sketch.specs.declared.faults.SketchFault.TheVariants.{Domain}
 use Rattle.cqf_sketch.specs.SketchDomain.{with_names}
 use Rattle.cqf_sketch.proofs.CheckedLemmas.{kept, names_passed, numbered_names_are, passed, refused}

@@ -1,5 +1,5 @@
 use Rattle.std.proofs.Common.{◌≡◌, ◌∙◌, ap, get_or, sym}
-use Rattle.cqf_tape.specs.declared.tapes.Kind.{Kind}
+use Rattle.cqf_tape.specs.declared.tapes.TransmissionKind.{TransmissionKind}
 use Rattle.cqf_tape.specs.Tapes.{marks_at}
 use Rattle.cqf_tape.proofs.Held.{background_there, starts_there}
 use Rattle.cqf_tape.proofs.tapes.Tapes.marks.Goals as goal
@@ -11,7 +11,7 @@ returns-in-Stream c =
     c.index-as_slice-from.is ∙ λ i. get_or (c.as_slice.ensures.value i) (c.from.ensures i) tape in
     c.as_slice-in-Stream.ensures.value
     ∙ starts_there c.args.self.now.links.items c.args.link tape c.requires.by_number c.requires.inside stands
-    ∙ sym (ap (λ (kind : Kind). marks_at kind c.args.self.now c.args.link) c.in-Stream.is)
+    ∙ sym (ap (λ (kind : TransmissionKind). marks_at kind c.args.self.now c.args.link) c.in-Stream.is)
 
 pub returns-in-Background : goal.returns-in-Background
 returns-in-Background c =
@@ -20,4 +20,4 @@ returns-in-Background c =
     c.index-as_slice-from.is ∙ λ i. get_or (c.as_slice.ensures.value i) (c.from.ensures i) tape in
     c.as_slice-in-Background.ensures.value
     ∙ background_there c.args.self.now.links.items c.args.link tape c.requires.by_number c.requires.inside stands
-    ∙ sym (ap (λ (kind : Kind). marks_at kind c.args.self.now c.args.link) c.in-Background.is)
+    ∙ sym (ap (λ (kind : TransmissionKind). marks_at kind c.args.self.now c.args.link) c.in-Background.is)

@@ -8,7 +8,7 @@ invariant_of-result c =
     c.in_ok-new.field-0
     c.in_ok-new_driven_bridges.field-0.items c.in_ok-new_lines.field-0.items c.requires.domain c.domain-domain.ensures.value
     c.domain-domain.ensures.accepted c.requires.no_seal
-    c.bridges.ensures c.in_ok-new.ensures c.in_ok-new_driven_bridges.ensures c.in_ok-new_lines.ensures c.history-legal.ensures.legal
+    c.bridges.ensures c.in_ok-new.ensures c.in_ok-new_driven_bridges.ensures c.in_ok-new_lines.ensures c.know.ensures.legal
     c.requires.offers c.requires.background
     c.requires.few_cycles c.legal_network_exists.ensures c.new_bridge_follows.ensures.follows c.new.result.items c.new.ensures.items
 

@@ -1,0 +1,74 @@
+-- What an order calls for, found among the requests.
+use Rattle.std.proofs.Common.{◌≡◌, ℕ, Bool, true, false, cond, List, [], ◌∷◌, map, Option, Some, None, Ok, Err, find}
+use Rattle.std.proofs.Common.{length, refl, sym, ap, ◌∙◌, ◌≤◌, ◌<◌, arith}
+use Rattle.std.proofs.lemmas.Bool.Decides.{nat_tests}
+use Rattle.std.proofs.lemmas.Option.{slice_get-get_or, slice_get-map}
+use Rattle.std.proofs.lemmas.List.{get_or-map}
+use Rattle.std.proofs.lemmas.Grind.{common_steps}
+use Rattle.std.specs.Prelude.{nat_le, option_map, slice_get, slice_index_or}
+use Rattle.std.specs.declared.alloc.Global.{Global}
+use Rattle.std.specs.declared.sync.Arc.{Arc}
+use Rattle.cqf_topology.specs.declared.paced.PacedRequest.{PacedRequest}
+use Rattle.cqf_admission.specs.Asking.{asked_paced, asked_shared}
+use Rattle.cqf_admission.specs.declared.faults.ScriptFault.TheVariants.{UnknownStream, TooMany}
+use Rattle.cqf_admission.specs.declared.lines.Wish.TheVariants.{Admit}
+use Rattle.cqf_admission.specs.Lines.{Written}
+use Rattle.cqf_model.specs.History.{Act, Admits, Asked}
+use Rattle.cqf_admission.specs.Names.{has_name, place_named}
+use Rattle.cqf_admission.specs.Orders.{request_at}
+use Rattle.cqf_lists.proofs.Firsts.{found_nowhere, found_there}
+use Rattle.cqf_model.specs.Limits.{most_calls}
+use Rattle.cqf_admission.specs.Script.{act_for, call_of_order, request_named}
+
+-- what the first request asks for is what is asked for first
+named_first : (requests : List PacedRequest) (name : List ℕ) → option_map asked_paced (find (has_name name) requests) ≡ request_named (map asked_paced requests) name
+named_first [] name = refl
+named_first (request ∷ requests) name =
+    pick (has_name name request) request (find (has_name name) requests)
+    ∙ ap (cond (has_name name request) (Some (asked_paced request))) (named_first requests name)
+  where
+    pick : (b : Bool) (request : PacedRequest) (later : Option PacedRequest) →
+        option_map asked_paced (cond b (Some request) later) ≡ cond b (Some (asked_paced request)) (option_map asked_paced later)
+    pick true request later = refl
+    pick false request later = refl
+
+-- where the first request of a name stands, that is what its name calls for
+pub admits : (requests : List PacedRequest) (name : List ℕ) (place : ℕ) → place_named requests name ≡ Some place →
+    act_for (map asked_paced requests) Admit name ≡ Some (Admits (request_at (map asked_paced requests) place))
+admits requests name place is =
+    let there : slice_get requests place ≡ find (has_name name) requests = found_there (has_name name) requests place is in
+    let asked : slice_get (map asked_paced requests) place ≡ request_named (map asked_paced requests) name =
+    slice_get-map asked_paced requests place ∙ ap (option_map asked_paced) there ∙ named_first requests name in
+    let inside : place < length (map asked_paced requests) = grind (arith, common_steps) in
+    ap (option_map (λ (asked : Asked). Admits asked)) (sym asked ∙ slice_get-get_or (map asked_paced requests) place nobody inside)
+  where
+    nobody : Asked
+    nobody = record { name = []; octets = 0; every = 1; phase = 0; paths = [] }
+
+-- the request at a place, as calls share it there
+pub shared_read : (requests : List (Arc PacedRequest Global)) (place : ℕ) (request : Arc PacedRequest Global) → place < length requests →
+    request ≡ slice_index_or requests place request → request_at (map asked_shared requests) place ≡ asked_shared request
+shared_read requests place request inside is =
+    get_or-map asked_shared requests place request (record { name = []; octets = 0; every = 1; phase = 0; paths = [] }) inside ∙ ap asked_shared (sym is)
+
+-- no request has the name
+pub unknown_stream : (requests : List PacedRequest) (number called : ℕ) (order : Written) → place_named requests order.name ≡ None → order.wish ≡ Admit →
+    call_of_order (map asked_paced requests) number called order ≡ Err (UnknownStream number)
+unknown_stream requests number called order none wish =
+    let asked : request_named (map asked_paced requests) order.name ≡ None =
+    sym (named_first requests order.name) ∙ ap (option_map asked_paced) (sym (found_nowhere (has_name order.name) requests none)) in
+    rw (wish, asked) refl
+
+-- there are as many calls as there may be
+pub too_many : (requests : List Asked) (number called : ℕ) (order : Written) (act : Act) → act_for requests order.wish order.name ≡ Some act →
+    most_calls ≤ called → call_of_order requests number called order ≡ Err (TooMany number)
+too_many requests number called order act is many =
+    let full : nat_le most_calls called ≡ true = grind (arith, nat_tests) in
+    rw (is, full) refl
+
+-- or fewer
+pub called_for : (requests : List Asked) (number called : ℕ) (order : Written) (act : Act) → act_for requests order.wish order.name ≡ Some act →
+    called < most_calls → call_of_order requests number called order ≡ Ok (order.seat, act)
+called_for requests number called order act is few =
+    let room : nat_le most_calls called ≡ false = grind (arith, nat_tests) in
+    rw (is, room) refl

@@ -1,0 +1,666 @@
+-- A stream's turns among 80 cycles, and the sums of a link in these.
+use Rattle.std.proofs.Common.{◌≡◌, ◌≢◌, ℕ, ◌+◌, ◌-◌, ◌*◌, ◌%◌, ◌<◌, ◌≤◌, ◌^◌, ◌∙◌, ◌==◌, ◌||◌, ◌&&◌, Bool, true, false, zero, suc, List, [], ◌∷◌, ◌++◌, length, get_or, set, take, drop, fold, map, max, replicate}
+use Rattle.std.proofs.Common.{ap, ap₂, arith, refl, subst, sym, inl, inr, eq-eqb, eqb-true, mod-lt, append-nil, add-zero}
+use Rattle.std.specs.Prelude.{All, AllPairs, Contains, nat_lt, if◌then◌else◌, slice_index_or}
+use Rattle.std.proofs.Math.Nat.{add-mod_right, mod-add-mod, mod-eq-sub-mod, mod-eq_of_lt, mod-mod, mod-mod_of_dvd, mod-one}
+use Rattle.std.proofs.lemmas.Bool.{cases_Bool, cases_eq, cases_lt, cases_order, cond-true, cond-false, and_from, and_left, and_parts, and_right, ltb-true, ne_eqb}
+use Rattle.std.proofs.lemmas.List.{get_or-append_right, get_or_append_left, length-append, length-drop, get_or-drop, get_or-set_other, get_or-set_same, get_or-take, get_or_default, get_or_past, get_or-map, length-map, length-set, length-take-le, take_all, take_more}
+use Rattle.std.proofs.lemmas.List.Folds.{list_any_at, list_any_more, list_any_none}
+use Rattle.std.proofs.lemmas.List.Sums.{fold-append, fold_push}
+use Rattle.std.proofs.lemmas.Nat.Gcd.{dvd_of_mod-eq-zero}
+use Rattle.cqf_lists.specs.Lists.{each_below}
+use Rattle.cqf_lists.proofs.EachBelow.{below_plus, first_below, none_below, same_below}
+use Rattle.cqf_model.specs.declared.topology.Hop.{Hop}
+use Rattle.cqf_model.specs.declared.topology.Pace.{Pace}
+use Rattle.cqf_model.specs.History.{Asked, is_pace, pace_of}
+use Rattle.cqf_model.specs.Limits.{most_every}
+use Rattle.cqf_model.specs.Paces.{is_turn}
+use Rattle.cqf_model.specs.Table.{links_in, uses}
+use Rattle.cqf_admission.specs.Turns.{AreKept, AreLessWhere, AreMoreWhere, HasIn, HasRoomFor, IsGoodPace, Turned, most_at, most_of, most_where, part_in, sum_on, turns_at}
+
+-- that of a request that isn't refused repeats so
+pub asked_is_good : (asked : Asked) → is_pace asked.every asked.phase ≡ true → IsGoodPace (pace_of asked)
+asked_is_good asked t =
+    let parts = and_parts (most_every % asked.every == 0) (nat_lt asked.phase asked.every) t in
+    let below : asked.phase < asked.every = ltb-true asked.phase asked.every parts.1 in
+    let same : asked.every - 1 + 1 ≡ asked.every = omega (arith, below) in
+    record {
+      divides = ap (λ z. most_every % z) same ∙ eqb-true (most_every % asked.every) 0 parts.0;
+      within = omega (arith, below);
+    }
+
+module _ (first every : ℕ) (low : first < every) where
+  -- one turn follows another by so many
+  next_on : (turn : ℕ) → turn % every ≡ first → (turn + every) % every ≡ first
+  next_on turn on = add-mod_right turn every ∙ on
+
+  -- and none is between them
+  between : (turn j : ℕ) → turn % every ≡ first → 0 < j → j < every → first ≢ (turn + j) % every
+  between turn j on some below same =
+      let e : (turn + j) % every ≡ (first + j) % every = sym (mod-add-mod turn every j) ∙ ap (λ z. (z + j) % every) on in
+      elim (cases_lt (first + j) every) [
+        | inl l ↦ absurd (omega (arith, same, e, mod-eq_of_lt l, some))
+        | inr g ↦
+            let over : first + j - every < every = omega (arith, low, below) in
+            absurd (omega (arith, same, e, mod-eq-sub-mod g, mod-eq_of_lt over, g, below))
+      ]
+
+  -- none is before the first
+  before_first : (k : ℕ) → k < first → first ≢ k % every
+  before_first k less same = let short : k < every = omega (arith, less, low) in absurd (omega (arith, same, mod-eq_of_lt short, less))
+
+-- sums of which those in turns below one were changed by a number, and the others not
+pub record AreSoFar (op : ℕ → ℕ → ℕ) (first every turn : ℕ) (before : List ℕ) (number : ℕ) (now : List ℕ) : Type 0 where
+  pub on : turn % every ≡ first
+  pub as_many : length now ≡ length before
+  pub done : (k : ℕ) → k < turn → k < length before → get_or now k 0 ≡ op (get_or before k 0) (if first == k % every then number else 0)
+  pub rest : (k : ℕ) → turn ≤ k → get_or now k 0 ≡ get_or before k 0
+
+module _ (op : ℕ → ℕ → ℕ) (nothing : (x : ℕ) → op x 0 ≡ x) (first every : ℕ) (low : first < every) (before : List ℕ) (number : ℕ) where
+  -- by nothing where it isn't a turn
+  unchanged : (k : ℕ) → first ≢ k % every → get_or before k 0 ≡ op (get_or before k 0) (if first == k % every then number else 0)
+  unchanged k other =
+      sym (nothing (get_or before k 0)) ∙ ap (op (get_or before k 0)) (sym (cond-false (first == k % every) number 0 (ne_eqb first (k % every) other)))
+
+  -- none so far
+  pub none_so_far : AreSoFar op first every first before number before
+  none_so_far = record {
+    on = mod-eq_of_lt low;
+    as_many = refl;
+    done = λ k less within. unchanged k (before_first first every low k less);
+    rest = λ k more. refl;
+  }
+
+  -- one turn more
+  pub one_more : (turn : ℕ) (now : List ℕ) → turn < length before → AreSoFar op first every turn before number now →
+      AreSoFar op first every (turn + every) before number (set now turn (op (get_or now turn 0) number))
+  one_more turn now inside so_far = record {
+    on = next_on first every low turn so_far.on;
+    as_many = length-set now turn (op here number) ∙ so_far.as_many;
+    done = λ k less within. elim (cases_order k turn) [
+      | inl same ↦ subst (λ p. get_or (set now turn (op here number)) p 0 ≡ op (get_or before p 0) (if first == p % every then number else 0)) (sym same) at_turn
+      | inr o ↦ elim o [
+        | inl earlier ↦
+            let off : k ≢ turn = omega (arith, earlier) in
+            get_or-set_other now turn k (op here number) 0 off ∙ so_far.done k earlier within
+        | inr later ↦
+            let off : k ≢ turn = omega (arith, later) in
+            let from : turn + (k - turn) ≡ k = omega (arith, later) in
+            let no_turn : first ≢ k % every =
+            subst (λ p. first ≢ p % every) from (between first every low turn (k - turn) so_far.on (omega (arith, later)) (omega (arith, less, later))) in
+            get_or-set_other now turn k (op here number) 0 off ∙ so_far.rest k (omega (arith, later)) ∙ unchanged k no_turn
+      ]
+    ];
+    rest = λ k more.
+        let off : k ≢ turn = omega (arith, more, low) in
+        get_or-set_other now turn k (op here number) 0 off ∙ so_far.rest k (omega (arith, more));
+  } where
+    here : ℕ
+    here = get_or now turn 0
+
+    -- in this turn
+    at_turn : get_or (set now turn (op here number)) turn 0 ≡ op (get_or before turn 0) (if first == turn % every then number else 0)
+    at_turn =
+        let within : turn < length now = omega (arith, inside, so_far.as_many) in
+        let value : here ≡ get_or before turn 0 = so_far.rest turn (omega arith) in
+        get_or-set_same now turn (op here number) 0 within
+        ∙ ap (λ x. op x number) value
+        ∙ ap (op (get_or before turn 0)) (sym (cond-true (first == turn % every) number 0 (eq-eqb first (turn % every) (sym so_far.on))))
+
+-- all turns of a list
+pub all_more : (first every turn : ℕ) (before : List ℕ) (number : ℕ) (now : List ℕ) → length before ≤ turn →
+    AreSoFar (λ x y. x + y) first every turn before number now → AreMoreWhere (λ k. first == k % every) before number now
+all_more first every turn before number now end so_far = record {
+  as_many = so_far.as_many;
+  each = λ k within. so_far.done k (omega (arith, within, end)) within;
+}
+
+pub all_less : (first every turn : ℕ) (before : List ℕ) (number : ℕ) (now : List ℕ) → length before ≤ turn →
+    AreSoFar (λ x y. x - y) first every turn before number now → AreLessWhere (λ k. first == k % every) before number now
+all_less first every turn before number now end so_far = record {
+  as_many = so_far.as_many;
+  each = λ k within. so_far.done k (omega (arith, within, end)) within;
+}
+
+-- lists end to end of which only the first of so many holds anything
+jump : (f : ℕ → List ℕ) (turn n : ℕ) → ((j : ℕ) → 0 < j → j < suc n → f (turn + j) ≡ []) → each_below f (turn + suc n) ≡ each_below f turn ++ f turn
+jump f turn n none =
+    below_plus f turn (suc n)
+    ∙ ap (λ z. each_below f turn ++ z)
+    (first_below (λ k. f (turn + k)) n
+    ∙ ap₂ (λ a b. a ++ b) (ap f (add-zero turn)) (none_below (λ k. f (turn + (k + 1))) n (λ k l. none (k + 1) (omega arith) (omega (arith, l))))
+    ∙ append-nil (f turn))
+
+-- what changes nothing in each of some lists changes nothing end to end
+idle_below : (f : ℕ → List ℕ) (n most : ℕ) → ((k m : ℕ) → fold max m (f k) ≡ m) → fold max most (each_below f n) ≡ most
+idle_below f zero most idle = refl
+idle_below f (suc n) most idle = fold-append max most (each_below f n) (f n) ∙ ap (λ z. fold max z (f n)) (idle_below f n most idle) ∙ idle n most
+
+-- what stands in a turn, and nothing elsewhere
+abbrev pub kept_in : ℕ → ℕ → List ℕ → ℕ → List ℕ
+kept_in first every turns k = if first == k % every then get_or turns k 0 ∷ [] else []
+
+-- the greatest of the turns below one
+pub record IsMostSoFar (first every turn : ℕ) (turns : List ℕ) (most : ℕ) : Type 0 where
+  pub on : turn % every ≡ first
+  pub greatest : most ≡ fold max 0 (each_below (kept_in first every turns) turn)
+
+module _ (first every : ℕ) (low : first < every) (turns : List ℕ) where
+  abbrev in_turn : ℕ → List ℕ
+  in_turn = kept_in first every turns
+
+  nothing_at : (k : ℕ) → first ≢ k % every → in_turn k ≡ []
+  nothing_at k other = cond-false (first == k % every) (get_or turns k 0 ∷ []) [] (ne_eqb first (k % every) other)
+
+  -- none before the first
+  pub most_none : IsMostSoFar first every first turns 0
+  most_none = record {
+    on = mod-eq_of_lt low;
+    greatest = ap (fold max 0) (sym (none_below in_turn first (λ k less. nothing_at k (before_first first every low k less))));
+  }
+
+  -- the next turn
+  pub most_next : (turn most : ℕ) → IsMostSoFar first every turn turns most → IsMostSoFar first every (turn + every) turns (max most (get_or turns turn 0))
+  most_next turn most so_far = record {
+    on = next_on first every low turn so_far.on;
+    greatest =
+        ap (λ m. max m (get_or turns turn 0)) so_far.greatest
+        ∙ sym (fold_push max 0 (each_below in_turn turn) (get_or turns turn 0))
+        ∙ ap (λ z. fold max 0 (each_below in_turn turn ++ z)) (sym (cond-true (first == turn % every) (get_or turns turn 0 ∷ []) [] (eq-eqb first (turn % every) (sym so_far.on))))
+        ∙ ap (fold max 0) (sym (jump in_turn turn (every - 1) (λ j some below. nothing_at (turn + j) (between first every low turn j so_far.on some (omega (arith, below, low))))))
+        ∙ ap (λ n. fold max 0 (each_below in_turn (turn + n))) whole;
+  } where
+    -- the next of one less
+    whole : suc (every - 1) ≡ every
+    whole = omega (arith, low)
+
+  -- beyond the last sum there is nothing
+  beyond : (k m : ℕ) → length turns ≤ k → fold max m (in_turn k) ≡ m
+  beyond k m past = elim (cases_Bool (first == k % every)) [
+    | inl t ↦
+        ap (fold max m) (cond-true (first == k % every) (get_or turns k 0 ∷ []) [] t) ∙ ap (max m) (get_or_past turns k 0 past) ∙ no_less m
+    | inr f ↦ ap (fold max m) (cond-false (first == k % every) (get_or turns k 0 ∷ []) [] f)
+  ] where
+    -- nothing is no more
+    no_less : (n : ℕ) → max n 0 ≡ n
+    no_less n = omega arith
+
+  -- all turns
+  pub most_end : (turn most : ℕ) → length turns ≡ most_every → length turns ≤ turn → IsMostSoFar first every turn turns most →
+      most ≡ most_where (λ k. first == k % every) turns
+  most_end turn most long end so_far =
+      let from : most_every + (turn - most_every) ≡ turn = omega (arith, long, end) in
+      so_far.greatest
+      ∙ ap (λ n. fold max 0 (each_below in_turn n)) (sym from)
+      ∙ ap (fold max 0) (below_plus in_turn most_every (turn - most_every))
+      ∙ fold-append max 0 (each_below in_turn most_every) (each_below (λ k. in_turn (most_every + k)) (turn - most_every))
+      ∙ idle_below (λ k. in_turn (most_every + k)) (turn - most_every) (fold max 0 (each_below in_turn most_every))
+      (λ k m. beyond (most_every + k) m (omega (arith, long)))
+
+-- each cycle is a turn of a stream without pauses
+pub always_turn : (pace : Pace) (depth cycle : ℕ) → pace.pause ≡ 0 → is_turn pace depth cycle ≡ true
+always_turn pace depth cycle none =
+    eq-eqb ((pace.phase + depth) % (pace.pause + 1)) (cycle % (pace.pause + 1))
+    (ap (λ z. (pace.phase + depth) % (z + 1)) none ∙ mod-one (pace.phase + depth) ∙ sym (ap (λ z. cycle % (z + 1)) none ∙ mod-one cycle))
+
+-- a turn is one again as many cycles later as all paces repeat in
+pub turn_again : (pace : Pace) (depth cycle : ℕ) → most_every % (pace.pause + 1) ≡ 0 → is_turn pace depth (cycle % most_every) ≡ is_turn pace depth cycle
+turn_again pace depth cycle good =
+    ap (λ z. (pace.phase + depth) % (pace.pause + 1) == z) (mod-mod_of_dvd (pace.pause + 1) cycle (dvd_of_mod-eq-zero (pace.pause + 1) good))
+
+-- the links of a tree's hops stand at their places
+link_at : (tree : List Hop) (k : ℕ) (none : Hop) → k < length tree → (k < length (links_in tree)) × ((get_or tree k none).link ≡ get_or (links_in tree) k 0)
+link_at tree k none inside =
+    (omega (arith, inside, length-map tree (λ (hop : Hop). hop.link)), sym (get_or-map (λ (hop : Hop). hop.link) tree k none 0 inside))
+
+-- a test that comes last, and fails
+or_none : (b : Bool) → (b || false) ≡ b
+or_none true = refl
+or_none false = refl
+
+module _ (tree : List Hop) (i : ℕ) (none : Hop) (inside : i < length tree) (apart : AllPairs (λ (a b : ℕ). a ≢ b) (links_in tree)) (pace : Pace) where
+  abbrev hop : Hop
+  hop = get_or tree i none
+
+  abbrev passes : ℕ → ℕ → Hop → Bool
+  passes l cycle h = (h.link == l) && is_turn pace h.depth cycle
+
+  -- no other hop is by its link
+  off_link : (k : ℕ) (d : Hop) → k < length tree → k ≢ i → (get_or tree k d).link ≢ hop.link
+  off_link k d within other same =
+      let one = link_at tree k d within in
+      let two = link_at tree i none inside in
+      elim (cases_order k i) [
+        | inl e ↦ other e
+        | inr o ↦ elim o [
+          | inl less ↦ apart k i 0 less two.0 (sym one.1 ∙ same ∙ two.1)
+          | inr more ↦ apart i k 0 more one.0 (sym two.1 ∙ sym same ∙ one.1)
+        ]
+      ]
+
+  -- the hops before it don't use its link
+  not_before : (cycle : ℕ) → uses (take i tree) pace hop.link cycle ≡ false
+  not_before cycle =
+      let long : length (take i tree) ≡ i = length-take-le i tree (omega (arith, inside)) in
+      list_any_none (passes hop.link cycle) (take i tree) (λ k d within.
+      let before : k < i = omega (arith, within, long) in
+      let other : k ≢ i = omega (arith, before) in
+      and_left ((get_or (take i tree) k d).link == hop.link) (is_turn pace (get_or (take i tree) k d).depth cycle)
+      (ap (λ (h : Hop). h.link == hop.link) (get_or-take i tree k d before)
+      ∙ ne_eqb (get_or tree k d).link hop.link (off_link k d (omega (arith, before, inside)) other)))
+
+  next_uses : (l cycle : ℕ) → uses (take (i + 1) tree) pace l cycle ≡ (uses (take i tree) pace l cycle || passes l cycle hop)
+  next_uses l cycle = list_any_more (passes l cycle) tree i none inside
+
+  -- with it they do where it is its turn
+  pub here_uses : (cycle : ℕ) → uses (take (i + 1) tree) pace hop.link cycle ≡ is_turn pace hop.depth cycle
+  here_uses cycle =
+      next_uses hop.link cycle
+      ∙ ap₂ (λ (a b : Bool). a || (b && is_turn pace hop.depth cycle)) (not_before cycle) (eq-eqb hop.link hop.link refl)
+
+  -- and other links as before
+  pub there_uses : (l cycle : ℕ) → hop.link ≢ l → uses (take (i + 1) tree) pace l cycle ≡ uses (take i tree) pace l cycle
+  there_uses l cycle other =
+      next_uses l cycle
+      ∙ ap (λ (b : Bool). uses (take i tree) pace l cycle || (b && is_turn pace hop.depth cycle)) (ne_eqb hop.link l other)
+      ∙ or_none (uses (take i tree) pace l cycle)
+
+  -- so does the whole tree
+  pub whole_uses : (cycle : ℕ) → uses tree pace hop.link cycle ≡ is_turn pace hop.depth cycle
+  whole_uses cycle = elim (cases_Bool (is_turn pace hop.depth cycle)) [
+    | inl t ↦
+        list_any_at (passes hop.link cycle) tree i none inside
+        (and_from (hop.link == hop.link) (is_turn pace hop.depth cycle) (eq-eqb hop.link hop.link refl) t)
+        ∙ sym t
+    | inr f ↦
+        list_any_none (passes hop.link cycle) tree (λ k d within. elim (cases_eq k i) [
+          | inl same ↦
+              let it : get_or tree k d ≡ hop = ap (λ j. get_or tree j d) same ∙ get_or_default tree i d none inside in
+              and_right ((get_or tree k d).link == hop.link) (is_turn pace (get_or tree k d).depth cycle)
+              (ap (λ (h : Hop). is_turn pace h.depth cycle) it ∙ f)
+          | inr other ↦
+              and_left ((get_or tree k d).link == hop.link) (is_turn pace (get_or tree k d).depth cycle)
+              (ne_eqb (get_or tree k d).link hop.link (off_link k d within other))
+        ])
+        ∙ sym f
+  ]
+
+-- in a tree no two hops of which are by the same link, the link of a hop is used where it is the hop's turn
+pub uses_of_hop : (tree : List Hop) (pace : Pace) (hop : Hop) (cycle : ℕ) → AllPairs (λ (a b : ℕ). a ≢ b) (links_in tree) → Contains tree hop →
+    uses tree pace hop.link cycle ≡ is_turn pace hop.depth cycle
+uses_of_hop tree pace hop cycle apart there =
+    subst (λ (h : Hop). uses tree pace h.link cycle ≡ is_turn pace h.depth cycle) there.2 (whole_uses tree there.0 hop there.1 apart pace cycle)
+
+-- a sum in a cycle is that in one of the first 80
+pub sum_again : (turned : Turned) (l cycle : ℕ) → sum_on turned l (cycle % most_every) ≡ sum_on turned l cycle
+sum_again turned l cycle = ap (λ z. slice_index_or turned.sums (l * most_every + z) 0) (mod-mod cycle most_every)
+
+-- the greatest sum of a hop's link in the cycles of a pace is the greatest in cycles in which a stream of it uses the link
+pub most_of_uses : (turned : Turned) (tree : List Hop) (pace : Pace) (hop : Hop) (costs : ℕ → ℕ) → AllPairs (λ (a b : ℕ). a ≢ b) (links_in tree) →
+    Contains tree hop → ((cycle : ℕ) → cycle < most_every → sum_on turned hop.link cycle ≡ costs cycle) →
+    most_at turned hop.link pace hop.depth ≡ fold max 0 (each_below (λ cycle. if uses tree pace hop.link cycle then costs cycle ∷ [] else []) most_every)
+most_of_uses turned tree pace hop costs apart there each =
+    ap (fold max 0) (same_below (λ cycle. if is_turn pace hop.depth cycle then sum_on turned hop.link cycle ∷ [] else [])
+    (λ cycle. if uses tree pace hop.link cycle then costs cycle ∷ [] else []) most_every
+    (λ cycle below. ap₂ (λ (b : Bool) (n : ℕ). if b then n ∷ [] else []) (sym (uses_of_hop tree pace hop cycle apart there)) (each cycle below)))
+
+-- and the greatest sum of a link in all cycles
+pub most_of_costs : (turned : Turned) (l : ℕ) (costs : ℕ → ℕ) → ((cycle : ℕ) → cycle < most_every → sum_on turned l cycle ≡ costs cycle) →
+    most_of turned l ≡ fold max 0 (each_below (λ cycle. costs cycle ∷ []) most_every)
+most_of_costs turned l costs each =
+    ap (fold max 0) (same_below (λ cycle. sum_on turned l cycle ∷ []) (λ cycle. costs cycle ∷ []) most_every
+    (λ cycle below. ap (λ (n : ℕ). n ∷ []) (each cycle below)))
+
+-- a stretch of a list that was written to: what stands in it, before it and behind it
+module _ (sums ys : List ℕ) (a n : ℕ) (fits : a + n ≤ length sums) (long : length ys ≡ n) where
+  abbrev pub written : List ℕ
+  written = take a sums ++ (ys ++ drop n (drop a sums))
+
+  pub written_length : length written ≡ length sums
+  written_length =
+      let e : a + (n + (length sums - a - n)) ≡ length sums = omega (arith, fits) in
+      length-append (take a sums) (ys ++ drop n (drop a sums))
+      ∙ ap₂ (λ (x y : ℕ). x + y) (length-take-le a sums (omega (arith, fits)))
+      (length-append ys (drop n (drop a sums)) ∙ ap₂ (λ (x y : ℕ). x + y) long (length-drop n (drop a sums) ∙ ap (λ x. x - n) (length-drop a sums)))
+      ∙ e
+
+  front_length : length (take a sums) ≡ a
+  front_length = length-take-le a sums (omega (arith, fits))
+
+  inside_written : (c : ℕ) → c < n → get_or written (a + c) 0 ≡ get_or ys c 0
+  inside_written c below =
+      let back : a + c - a ≡ c = omega arith in
+      get_or-append_right (take a sums) (ys ++ drop n (drop a sums)) a (a + c) 0 front_length (omega arith)
+      ∙ ap (λ k. get_or (ys ++ drop n (drop a sums)) k 0) back
+      ∙ get_or_append_left ys (drop n (drop a sums)) 0 c (omega (arith, below, long))
+
+  before_written : (k : ℕ) → k < a → get_or written k 0 ≡ get_or sums k 0
+  before_written k less =
+      get_or_append_left (take a sums) (ys ++ drop n (drop a sums)) 0 k (omega (arith, less, front_length)) ∙ get_or-take a sums k 0 less
+
+  behind_written : (k : ℕ) → a + n ≤ k → get_or written k 0 ≡ get_or sums k 0
+  behind_written k more =
+      let back : a + (n + (k - a - n)) ≡ k = omega (arith, more) in
+      get_or-append_right (take a sums) (ys ++ drop n (drop a sums)) a k 0 front_length (omega (arith, more))
+      ∙ get_or-append_right ys (drop n (drop a sums)) n (k - a) 0 long (omega (arith, more))
+      ∙ get_or-drop n (drop a sums) (k - a - n) 0
+      ∙ get_or-drop a sums (n + (k - a - n)) 0
+      ∙ ap (λ j. get_or sums j 0) back
+
+-- the same stretch as a write has it
+pub written_part : (sums given ys : List ℕ) (place l : ℕ) → place ≡ l → given ≡ sums →
+    take (place * 80) given ++ (ys ++ drop (place * 80 + 80 - place * 80) (drop (place * 80) given))
+    ≡ take (l * most_every) sums ++ (ys ++ drop most_every (drop (l * most_every) sums))
+written_part sums given ys place l here same =
+    let e : place * 80 + 80 - place * 80 ≡ 80 = omega arith in
+    ap (λ n. take (place * 80) given ++ (ys ++ drop n (drop (place * 80) given))) e
+    ∙ ap₂ (λ (p : ℕ) (xs : List ℕ). take (p * 80) xs ++ (ys ++ drop 80 (drop (p * 80) xs))) here same
+
+-- it leaves as many as there were
+pub wrote_long : (given ys : List ℕ) (place : ℕ) → place * 80 + 80 ≤ length given → length ys ≡ 80 →
+    length (take (place * 80) given ++ (ys ++ drop (place * 80 + 80 - place * 80) (drop (place * 80) given))) ≡ length given
+wrote_long given ys place fits long =
+    let e : place * 80 + 80 - place * 80 ≡ 80 = omega arith in
+    ap (λ n. length (take (place * 80) given ++ (ys ++ drop n (drop (place * 80) given)))) e ∙ written_length given ys (place * 80) 80 fits long
+
+-- and what is read of it
+pub read_part : (turned : Turned) (given : List ℕ) (place l : ℕ) → place ≡ l → given ≡ turned.sums →
+    take (place * 80 + 80 - place * 80) (drop (place * 80) given) ≡ turns_at turned l
+read_part turned given place l here same =
+    let e : place * 80 + 80 - place * 80 ≡ 80 = omega arith in
+    ap (λ n. take n (drop (place * 80) given)) e ∙ ap₂ (λ (p : ℕ) (xs : List ℕ). take 80 (drop (p * 80) xs)) here same
+
+-- it has a sum for each of 80 cycles
+pub turns_long : (turned : Turned) (l : ℕ) → l < turned.links → length turned.sums ≡ turned.links * most_every → length (turns_at turned l) ≡ most_every
+turns_long turned l low whole =
+    length-take-le most_every (drop (l * most_every) turned.sums) (omega (arith, low, whole, length-drop (l * most_every) turned.sums))
+
+-- the link of a hop is one of those for which there are sums
+pub low_at : (tree : List Hop) (i : ℕ) (none : Hop) (n : ℕ) → i < length tree → All (λ (l : ℕ). l < n) (links_in tree) → (get_or tree i none).link < n
+low_at tree i none n inside all =
+    let at = link_at tree i none inside in
+    subst (λ (l : ℕ). l < n) (sym at.1) (all i 0 at.0)
+
+-- the sums of a link by cycle
+turn_of_link : (turned : Turned) (l c : ℕ) → c < most_every → get_or (turns_at turned l) c 0 ≡ sum_on turned l c
+turn_of_link turned l c below =
+    get_or-take most_every (drop (l * most_every) turned.sums) c 0 below
+    ∙ get_or-drop (l * most_every) turned.sums c 0
+    ∙ ap (λ z. get_or turned.sums (l * most_every + z) 0) (sym (mod-eq_of_lt below))
+
+-- the numbers of a list, one by one
+each_number : (xs : List ℕ) (n : ℕ) → n ≤ length xs → each_below (λ k. get_or xs k 0 ∷ []) n ≡ take n xs
+each_number xs zero few = refl
+each_number xs (suc n) few =
+    ap (λ (ys : List ℕ). ys ++ get_or xs n 0 ∷ []) (each_number xs n (omega (arith, few))) ∙ sym (take_more xs n 0 (omega (arith, few)))
+    ∙ ap (λ (k : ℕ). take k xs) next
+  where
+    -- one more is the next
+    next : n + 1 ≡ suc n
+    next = omega arith
+
+-- the greatest of all sums of a link
+pub most_of_link : (turned : Turned) (l : ℕ) → length (turns_at turned l) ≡ most_every → fold max 0 (turns_at turned l) ≡ most_of turned l
+most_of_link turned l long =
+    ap (fold max 0)
+    (sym (take_all most_every (turns_at turned l) (omega (arith, long)))
+    ∙ sym (each_number (turns_at turned l) most_every (omega (arith, long)))
+    ∙ same_below (λ k. get_or (turns_at turned l) k 0 ∷ []) (λ cycle. sum_on turned l cycle ∷ []) most_every
+    (λ c below. ap (λ (n : ℕ). n ∷ []) (turn_of_link turned l c below)))
+
+-- the sums of one link were written
+module _ (now : Turned) (here : ℕ) (low : here < now.links) (whole : length now.sums ≡ now.links * most_every) (ys : List ℕ) (long : length ys ≡ most_every) where
+  abbrev from : ℕ
+  from = here * most_every
+
+  -- they stand among the others
+  fits : from + most_every ≤ length now.sums
+  fits = omega (arith, low, whole)
+
+  abbrev pub wrote : List ℕ
+  wrote = take from now.sums ++ (ys ++ drop most_every (drop from now.sums))
+
+  abbrev pub rewritten : Turned
+  rewritten = record { links = now.links; sums = wrote }
+
+  pub wrote_length : length wrote ≡ now.links * most_every
+  wrote_length = written_length now.sums ys from most_every fits long ∙ whole
+
+  -- they are what was written
+  pub sum_here : (c : ℕ) → c < most_every → sum_on rewritten here c ≡ get_or ys c 0
+  sum_here c below = ap (λ z. get_or wrote (from + z) 0) (mod-eq_of_lt below) ∙ inside_written now.sums ys from most_every fits long c below
+
+  -- and those of another as they were
+  pub sum_there : (l cycle : ℕ) → here ≢ l → sum_on rewritten l cycle ≡ sum_on now l cycle
+  sum_there l cycle other =
+      let c = cycle % most_every in
+      let below : c < most_every = mod-lt cycle (omega arith) in
+      elim (cases_lt l here) [
+        | inl less ↦ before_written now.sums ys from most_every fits long (l * most_every + c) (omega (arith, less, below))
+        | inr more ↦ behind_written now.sums ys from most_every fits long (l * most_every + c) (omega (arith, more, other, below))
+      ]
+
+  -- so is the greatest
+  pub kept_on : (greatest : List ℕ) (most : ℕ) → AreKept now greatest → most ≡ fold max 0 ys → AreKept rewritten (set greatest here most)
+  kept_on greatest most kept is = record {
+    whole = wrote_length;
+    as_many = length-set greatest here most ∙ kept.as_many;
+    each = λ l within. elim (cases_eq here l) [
+      | inl same ↦ subst (λ k. get_or (set greatest here most) k 0 ≡ most_of rewritten k) same of_here
+      | inr other ↦
+          let off : l ≢ here = omega (arith, other) in
+          get_or-set_other greatest here l most 0 off ∙ kept.each l within
+          ∙ ap (fold max 0) (same_below (λ cycle. sum_on now l cycle ∷ []) (λ cycle. sum_on rewritten l cycle ∷ []) most_every
+          (λ cycle below. ap (λ (n : ℕ). n ∷ []) (sym (sum_there l cycle other))))
+    ];
+  } where
+    of_here : get_or (set greatest here most) here 0 ≡ most_of rewritten here
+    of_here =
+        get_or-set_same greatest here most 0 (omega (arith, low, kept.as_many))
+        ∙ is
+        ∙ ap (fold max 0) (sym (take_all most_every ys (omega (arith, long)))
+        ∙ sym (each_number ys most_every (omega (arith, long)))
+        ∙ same_below (λ k. get_or ys k 0 ∷ []) (λ cycle. sum_on rewritten here cycle ∷ []) most_every
+        (λ c below. ap (λ (n : ℕ). n ∷ []) (sym (sum_here c below))))
+
+-- what is kept as the greatest of a link's sums is that
+pub greatest_is : (turned : Turned) (greatest : List ℕ) → AreKept turned greatest → (place l default : ℕ) → l < turned.links → place ≡ l →
+    get_or greatest place default ≡ most_of turned l
+greatest_is turned greatest kept place l default low is =
+    ap (λ k. get_or greatest k default) is ∙ get_or_default greatest l default 0 (omega (arith, low, kept.as_many)) ∙ kept.each l low
+
+pub most_kept : (turned : Turned) (greatest : List ℕ) → AreKept turned greatest → (place l default : ℕ) → l < turned.links → place ≡ l →
+    get_or greatest place default ≡ fold max 0 (turns_at turned l)
+most_kept turned greatest kept place l default low is =
+    greatest_is turned greatest kept place l default low is ∙ sym (most_of_link turned l (turns_long turned l low kept.whole))
+
+-- nothing stands anywhere in so many nothings
+pub none_of_each : (n : ℕ) (xs : List ℕ) → xs ≡ replicate {A = ℕ} n 0 → (k : ℕ) → get_or xs k 0 ≡ 0
+none_of_each n xs are k = ap (λ (ys : List ℕ). get_or ys k 0) are ∙ nothing n k
+  where
+    nothing : (m k : ℕ) → get_or (replicate {A = ℕ} m 0) k 0 ≡ 0
+    nothing zero k = refl
+    nothing (suc m) zero = refl
+    nothing (suc m) (suc k) = nothing m k
+
+-- of sums of nothing the greatest are nothing
+pub kept_none : (turned : Turned) (greatest : List ℕ) → length turned.sums ≡ turned.links * most_every → length greatest ≡ turned.links →
+    ((k : ℕ) → get_or turned.sums k 0 ≡ 0) → ((k : ℕ) → get_or greatest k 0 ≡ 0) → AreKept turned greatest
+kept_none turned greatest whole as_many none no_greatest = record {
+  whole = whole;
+  as_many = as_many;
+  each = λ l within. no_greatest l ∙ sym (idle_below (λ cycle. sum_on turned l cycle ∷ []) most_every 0 (λ k m. idle m (sum_on turned l k) (none (l * most_every + k % most_every))));
+} where
+  -- nothing is no more
+  idle : (m n : ℕ) → n ≡ 0 → max m n ≡ m
+  idle m n e = omega (arith, e)
+
+-- the greatest of so many is one of them, and moves with them
+module _ (n : ℕ) where
+  pub most_more : (xs : List ℕ) (most : ℕ) → fold max (most + n) (map (λ x. x + n) xs) ≡ fold max most xs + n
+  most_more [] most = refl
+  most_more (x ∷ xs) most = ap (λ m. fold max m (map (λ y. y + n) xs)) (step most x) ∙ most_more xs (max most x)
+    where
+      step : (a b : ℕ) → max (a + n) (b + n) ≡ max a b + n
+      step a b = omega arith
+
+  pub most_less : (xs : List ℕ) (most : ℕ) → fold max (most - n) (map (λ x. x - n) xs) ≡ fold max most xs - n
+  most_less [] most = refl
+  most_less (x ∷ xs) most = ap (λ m. fold max m (map (λ y. y - n) xs)) (step most x) ∙ most_less xs (max most x)
+    where
+      step : (a b : ℕ) → max (a - n) (b - n) ≡ max a b - n
+      step a b = omega arith
+
+  -- from nothing on, where there are some
+  pub more_of_all : (xs : List ℕ) → 0 < length xs → fold max 0 (map (λ x. x + n) xs) ≡ fold max 0 xs + n
+  more_of_all [] some = absurd (omega (arith, some))
+  more_of_all (x ∷ xs) some = ap (λ m. fold max m (map (λ y. y + n) xs)) (first (x + n)) ∙ most_more xs x ∙ ap (λ m. fold max m xs + n) (sym (first x))
+    where
+      first : (a : ℕ) → max 0 a ≡ a
+      first a = omega arith
+
+  pub less_of_all : (xs : List ℕ) → fold max 0 (map (λ x. x - n) xs) ≡ fold max 0 xs - n
+  less_of_all xs = ap (λ m. fold max m (map (λ y. y - n) xs)) nothing ∙ most_less xs 0
+    where
+      nothing : 0 ≡ 0 - n
+      nothing = omega arith
+
+  -- it is no more than any that is above each
+  pub most_within : (xs : List ℕ) (most : ℕ) → most + n < 2 ^ 64 → ((k : ℕ) → k < length xs → get_or xs k 0 + n < 2 ^ 64) → fold max most xs + n < 2 ^ 64
+  most_within [] most low each = low
+  most_within (x ∷ xs) most low each =
+      let here : x + n < 2 ^ 64 = each 0 (omega arith) in
+      most_within xs (max most x) (omega (arith, low, here)) (λ k below. each (suc k) (omega (arith, below)))
+
+  -- and no less than each
+  pub most_holds : (xs : List ℕ) (most : ℕ) → n ≤ most → n ≤ fold max most xs
+  most_holds [] most e = e
+  most_holds (x ∷ xs) most e = most_holds xs (max most x) (omega (arith, e))
+
+  pub most_of_some_holds : (xs : List ℕ) → 0 < length xs → ((k : ℕ) → k < length xs → n ≤ get_or xs k 0) → n ≤ fold max 0 xs
+  most_of_some_holds [] some each = absurd (omega (arith, some))
+  most_of_some_holds (x ∷ xs) some each = let here : n ≤ x = each 0 (omega arith) in most_holds xs (max 0 x) (omega (arith, here))
+
+-- sums to which a number came from hops, or from which it went
+pub record AreFor (op : ℕ → ℕ → ℕ) (before : Turned) (hops : List Hop) (pace : Pace) (number : ℕ) (after : Turned) : Type 0 where
+  pub links : after.links ≡ before.links
+  pub each : (l cycle : ℕ) → l < before.links → sum_on after l cycle ≡ op (sum_on before l cycle) (part_in hops pace number l cycle)
+
+-- from no hops
+pub for_none : (op : ℕ → ℕ → ℕ) → ((x : ℕ) → op x 0 ≡ x) → (before : Turned) (tree : List Hop) (pace : Pace) (number : ℕ) →
+    AreFor op before (take 0 tree) pace number before
+for_none op nothing before tree pace number = record {
+  links = refl;
+  each = λ l cycle within. sym (nothing (sum_on before l cycle));
+}
+
+module _ (op : ℕ → ℕ → ℕ) (nothing : (x : ℕ) → op x 0 ≡ x) (tree : List Hop) (i : ℕ) (none : Hop) (inside : i < length tree)
+    (apart : AllPairs (λ (a b : ℕ). a ≢ b) (links_in tree)) (pace : Pace) (good : most_every % (pace.pause + 1) ≡ 0) (number : ℕ) (before now : Turned)
+    (low : (get_or tree i none).link < before.links) (whole : length now.sums ≡ now.links * most_every)
+    (so_far : AreFor op before (take i tree) pace number now) where
+  abbrev this : Hop
+  this = get_or tree i none
+
+  -- the sums of its link are as they were
+  as_before : (c : ℕ) → sum_on now this.link c ≡ sum_on before this.link c
+  as_before c =
+      so_far.each this.link c low
+      ∙ ap (λ (b : Bool). op (sum_on before this.link c) (if b then number else 0)) (not_before tree i none inside apart pace c)
+      ∙ nothing (sum_on before this.link c)
+
+  within : this.link < now.links
+  within = omega (arith, low, so_far.links)
+
+  -- one hop more
+  for_next : (ys : List ℕ) (long : length ys ≡ most_every) →
+      ((c : ℕ) → c < most_every → get_or ys c 0 ≡ op (get_or (turns_at now this.link) c 0) (if is_turn pace this.depth c then number else 0)) →
+      AreFor op before (take (i + 1) tree) pace number (rewritten now this.link within whole ys long)
+  for_next ys long done = record {
+    links = so_far.links;
+    each = λ l cycle low_l. elim (cases_eq this.link l) [
+      | inl same ↦ subst (λ k. sum_on after k cycle ≡ op (sum_on before k cycle) (part_in (take (i + 1) tree) pace number k cycle)) same (at_link cycle)
+      | inr other ↦
+          sum_there now this.link within whole ys long l cycle other
+          ∙ so_far.each l cycle low_l
+          ∙ ap (λ (b : Bool). op (sum_on before l cycle) (if b then number else 0)) (sym (there_uses tree i none inside apart pace l cycle other))
+    ];
+  } where
+    after : Turned
+    after = rewritten now this.link within whole ys long
+
+    -- the sums of its link
+    at_link : (cycle : ℕ) → sum_on after this.link cycle ≡ op (sum_on before this.link cycle) (part_in (take (i + 1) tree) pace number this.link cycle)
+    at_link cycle =
+        let c = cycle % most_every in
+        let below : c < most_every = mod-lt cycle (omega arith) in
+        sym (sum_again after this.link cycle)
+        ∙ sum_here now this.link within whole ys long c below
+        ∙ done c below
+        ∙ ap₂ (λ (x : ℕ) (b : Bool). op x (if b then number else 0))
+        (turn_of_link now this.link c below ∙ sum_again now this.link cycle ∙ as_before cycle)
+        (turn_again pace this.depth cycle good ∙ sym (here_uses tree i none inside apart pace cycle))
+
+  -- as a loop has it, with the greatest sum
+  pub hop_done : (ys : List ℕ) (place : ℕ) (given later greatest : List ℕ) (most : ℕ) → place ≡ this.link → given ≡ now.sums →
+      later ≡ take (place * 80) given ++ (ys ++ drop (place * 80 + 80 - place * 80) (drop (place * 80) given)) → length ys ≡ most_every →
+      ((c : ℕ) → c < most_every → get_or ys c 0 ≡ op (get_or (turns_at now this.link) c 0) (if is_turn pace this.depth c then number else 0)) →
+      AreKept now greatest → most ≡ fold max 0 ys →
+      AreKept (record { links = now.links; sums = later }) (set greatest this.link most)
+      × AreFor op before (take (i + 1) tree) pace number (record { links = now.links; sums = later })
+  hop_done ys place given later greatest most here same is long done kept greatest_is =
+      let there : later ≡ wrote now this.link within whole ys long = is ∙ written_part now.sums given ys place this.link here same in (
+        subst (λ (xs : List ℕ). AreKept (record { links = now.links; sums = xs }) (set greatest this.link most)) (sym there)
+            (kept_on now this.link within whole ys long greatest most kept greatest_is),
+        subst (λ (xs : List ℕ). AreFor op before (take (i + 1) tree) pace number (record { links = now.links; sums = xs })) (sym there) (for_next ys long done),
+      )
+
+-- there is room at the next hop yet, as there was
+pub room_at : (tree : List Hop) (i : ℕ) (none : Hop) → i < length tree → AllPairs (λ (a b : ℕ). a ≢ b) (links_in tree) → (pace : Pace) (number : ℕ)
+    (before now : Turned) → (get_or tree i none).link < before.links → HasRoomFor before tree pace number →
+    AreFor (λ x y. x + y) before (take i tree) pace number now →
+    (turn : ℕ) → turn < most_every → is_turn pace (get_or tree i none).depth turn ≡ true → get_or (turns_at now (get_or tree i none).link) turn 0 + number < 2 ^ 64
+room_at tree i none inside apart pace number before now low room so_far turn below t =
+    let l = (get_or tree i none).link in
+    let here : get_or (turns_at now l) turn 0 ≡ sum_on before l turn + 0 =
+    turn_of_link now l turn below
+    ∙ so_far.each l turn low
+    ∙ ap (λ (b : Bool). sum_on before l turn + (if b then number else 0)) (not_before tree i none inside apart pace turn) in
+    let part : part_in tree pace number l turn ≡ number = ap (λ (b : Bool). if b then number else 0) (whole_uses tree i none inside apart pace turn ∙ t) in
+    omega (arith, here, part, room l turn low)
+
+-- and it is there yet, as it was
+pub held_at : (tree : List Hop) (i : ℕ) (none : Hop) → i < length tree → AllPairs (λ (a b : ℕ). a ≢ b) (links_in tree) → (pace : Pace) (number : ℕ)
+    (before now : Turned) → (get_or tree i none).link < before.links → HasIn before tree pace number →
+    AreFor (λ x y. x - y) before (take i tree) pace number now →
+    (turn : ℕ) → turn < most_every → is_turn pace (get_or tree i none).depth turn ≡ true → number ≤ get_or (turns_at now (get_or tree i none).link) turn 0
+held_at tree i none inside apart pace number before now low held so_far turn below t =
+    let l = (get_or tree i none).link in
+    let here : get_or (turns_at now l) turn 0 ≡ sum_on before l turn - 0 =
+    turn_of_link now l turn below
+    ∙ so_far.each l turn low
+    ∙ ap (λ (b : Bool). sum_on before l turn - (if b then number else 0)) (not_before tree i none inside apart pace turn) in
+    let part : part_in tree pace number l turn ≡ number = ap (λ (b : Bool). if b then number else 0) (whole_uses tree i none inside apart pace turn ∙ t) in
+    omega (arith, here, part, held l turn low)
+
+-- the greatest sum of a link in the cycles of a pace, of its sums by cycle
+pub most_of_turns : (turned : Turned) (l : ℕ) (pace : Pace) (depth : ℕ) →
+    most_where (λ turn. is_turn pace depth turn) (turns_at turned l) ≡ most_at turned l pace depth
+most_of_turns turned l pace depth =
+    ap (fold max 0) (same_below (λ turn. if is_turn pace depth turn then get_or (turns_at turned l) turn 0 ∷ [] else [])
+    (λ cycle. if is_turn pace depth cycle then sum_on turned l cycle ∷ [] else []) most_every
+    (λ c below. ap (λ (n : ℕ). if is_turn pace depth c then n ∷ [] else []) (turn_of_link turned l c below)))
+
+-- which is that in the cycles of a stream without pauses
+pub most_of_each : (turned : Turned) (l : ℕ) (pace : Pace) (depth : ℕ) → pace.pause ≡ 0 → most_of turned l ≡ most_at turned l pace depth
+most_of_each turned l pace depth none =
+    ap (fold max 0) (same_below (λ cycle. sum_on turned l cycle ∷ []) (λ cycle. if is_turn pace depth cycle then sum_on turned l cycle ∷ [] else []) most_every
+    (λ c below. ap (λ (b : Bool). if b then sum_on turned l c ∷ [] else []) (sym (always_turn pace depth c none))))
+
+-- the greatest in the turns of a pace, from its parts
+pub most_in_turns : (pace : Pace) (depth p d q : ℕ) (xs ys : List ℕ) → p ≡ pace.phase → d ≡ depth → q ≡ pace.pause → xs ≡ ys →
+    most_where (λ turn. (p + d) % (q + 1) == turn % (q + 1)) xs ≡ most_where (λ turn. is_turn pace depth turn) ys
+most_in_turns pace depth p d q xs ys e f g h =
+    ap (λ z. most_where (λ turn. (z + d) % (q + 1) == turn % (q + 1)) xs) e
+    ∙ ap (λ z. most_where (λ turn. (pace.phase + z) % (q + 1) == turn % (q + 1)) xs) f
+    ∙ ap (λ z. most_where (λ turn. (pace.phase + depth) % (z + 1) == turn % (z + 1)) xs) g
+    ∙ ap (λ (zs : List ℕ). most_where (λ turn. is_turn pace depth turn) zs) h

@@ -1,0 +1,15 @@
+-- The script's orders are those that have been read and those of the lines that are left.
+use Rattle.std.proofs.Common.{length, map}
+use Rattle.cqf_admission.specs.Asking.{asked_paced}
+use Rattle.cqf_admission.specs.Orders.{ordered_in}
+use Rattle.cqf_admission.proofs.ReadLines.{AreOrdersSoFar, IsReadSoFar}
+use Rattle.cqf_admission.proofs.calls.read_orders.Given as goal
+
+abbrev pub invariant-loop-line : goal.invariant-loop-line
+invariant-loop-line l =
+    IsReadSoFar (map asked_paced l.names) l.seat l.cycles l.text (map (ordered_in (map asked_paced l.names) l.text) l.orders.items)
+    l.place.line l.place.sealed l.place.called l.left
+    × AreOrdersSoFar (map asked_paced l.names) l.text l.orders.items l.left
+
+abbrev pub decreases-loop-line : goal.decreases-loop-line
+decreases-loop-line l = length l.left

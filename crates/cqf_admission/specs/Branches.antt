@@ -1,0 +1,69 @@
+-- What looking the branches of a request over gives.
+use Rattle.std.specs.Prelude.{ℕ, ◌≡◌, ◌+◌, List, [], ◌∷◌, ◌++◌, if◌then◌else◌, Option, Some, None, Result, Ok, Err, Vec, String, ◌<◌, ◌⊎◌, ◌==◌}
+use Rattle.std.specs.Prelude.{get_or, is_none, length, map, nat_lt, option_map, position, string_bytes}
+use Rattle.std.specs.List.{flat_map, list_any}
+use Rattle.std.specs.declared.alloc.Global.{Global}
+use Rattle.arrayvec.specs.ArrayVec.{ArrayVec}
+use Rattle.cqf_lists.specs.Lists.{least, or_else}
+use Rattle.cqf_model.specs.declared.history.Refused.{Refused}
+use Rattle.cqf_model.specs.declared.history.Refused.TheVariants.{UnknownNode, BrokenPath, LoopingPath, NotATree, TooManyHops}
+use Rattle.cqf_model.specs.declared.topology.Hop.{Hop}
+use Rattle.cqf_model.specs.declared.topology.Node.{Node}
+use Rattle.cqf_model.specs.Domain.{Domain, node_named}
+use Rattle.cqf_model.specs.History.{Branch, broken_place, first_place, is_broken_at, is_loop_at, is_stray, node_at, refused_at, refused_if, tree_of}
+use Rattle.cqf_model.specs.Limits.{hops_within, most_hops}
+use Rattle.cqf_admission.specs.declared.branches.Check.{Check}
+use Rattle.cqf_admission.specs.declared.branches.Check.TheVariants.{Known, Whole, Simple}
+
+-- a branch as the definitions have it
+abbrev pub branch_of : List (String Global) → Branch
+branch_of names = map string_bytes names
+
+-- and some branches
+abbrev pub branches_of : List (Vec (String Global) Global) → List Branch
+branches_of paths = map (λ (branch : Vec (String Global) Global). branch_of branch.items) paths
+
+-- of a list of names the nodes of the first so many are these
+abbrev pub AreNodes : Domain → List (List ℕ) → List (Option Node) → Type 0
+AreNodes d names nodes = (k : ℕ) → k < length nodes → k < length names → get_or nodes k None ≡ node_at d names k
+
+-- the node of a name more, where there is room among 256
+abbrev pub with_node : Domain → List (Option Node) → List ℕ → List (Option Node)
+with_node d nodes name = if nat_lt (length nodes) 256 then nodes ++ node_named d name ∷ [] else nodes
+
+-- the first place at which a branch fails a check
+abbrev pub fault_in : Domain → Check → Branch → Option ℕ
+fault_in d Known branch = position (λ name. is_none (node_named d name)) branch
+fault_in d Whole branch = least (is_broken_at d branch) (length branch + 1)
+fault_in d Simple branch = least (is_loop_at d branch) (length branch + 1)
+
+-- and the first of all branches, where places count through them as one list
+abbrev pub first_fault : Domain → Check → List Branch → Option ℕ
+first_fault d check [] = None
+first_fault d check (branch ∷ paths) = or_else (fault_in d check branch) (option_map (λ place. length branch + place) (first_fault d check paths))
+
+-- how many places the branches have
+abbrev pub places_of : List Branch → ℕ
+places_of paths = length (flat_map (λ branch. branch) paths)
+
+-- the first reason why some branches are no tree
+abbrev pub tree_refusal : Domain → List Branch → Option Refused
+tree_refusal d paths =
+    or_else (refused_at (λ place. UnknownNode place) (position (λ name. is_none (node_named d name)) (flat_map (λ branch. branch) paths)))
+    (or_else (refused_at (λ place. BrokenPath place) (broken_place d paths))
+    (or_else (refused_at (λ place. LoopingPath place) (first_place (is_loop_at d) paths))
+    (or_else (refused_at (λ branch. NotATree branch) (least (is_stray paths) (length paths)))
+    (refused_if (nat_lt (hops_within d.limits) (length (tree_of d paths))) TooManyHops))))
+
+-- a look at branches gives their tree, or the first reason against them
+abbrev pub FindsTree : Domain → List Branch → Result (ArrayVec Hop) Refused → Type 0
+FindsTree d paths (Ok tree) = (tree_refusal d paths ≡ None) × (tree.items ≡ tree_of d paths)
+FindsTree d paths (Err refused) = tree_refusal d paths ≡ Some refused
+
+-- a hop more, where no hop by its link is there
+abbrev pub keep_link : List Hop → Hop → List Hop
+keep_link tree hop = if list_any (λ (kept : Hop). kept.link == hop.link) tree then tree else tree ++ hop ∷ []
+
+-- hops that were added one by one, as far as there is room: all of them; or more than a tree may have, as all of them are
+abbrev pub AreAsFarAsRoom : List Hop → List Hop → Type 0
+AreAsFarAsRoom tree whole = (tree ≡ whole) ⊎ ((most_hops < length tree) × (most_hops < length whole))

@@ -1,0 +1,11 @@
+-- The texts of a script's faults (profile): a fault's name, and then its line's number, after a space.
+use Rattle.std.specs.Prelude.{ℕ, ◌++◌, List, codes, decimal}
+use Rattle.cqf_admission.specs.declared.faults.ScriptFault.{ScriptFault}
+use Rattle.cqf_admission.specs.declared.faults.ScriptFault.TheVariants as script_fault
+
+-- why a script is refused
+abbrev pub script_fault_text : ScriptFault → List ℕ
+script_fault_text (script_fault.BadLine line) = codes "BadLine " ++ decimal line
+script_fault_text (script_fault.UnknownStream line) = codes "UnknownStream " ++ decimal line
+script_fault_text (script_fault.TooMany line) = codes "TooMany " ++ decimal line
+script_fault_text script_fault.Memory = codes "Memory"

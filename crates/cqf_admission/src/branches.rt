@@ -1,0 +1,327 @@
+//! The nodes of a request's branches, and whether they are a tree.
+ghost use Rattle.std.specs.Prelude.{◌≡◌, ◌<◌, ◌≤◌, ◌+◌, ◌^◌, drop, fold, length, min, position, is_none, string_bytes, not, MatchOption, None};
+ghost use Rattle.std.specs.List.{flat_map, list_any};
+ghost use Rattle.cqf_model.specs.Domain.{is_text, node_named};
+ghost use Rattle.cqf_lists.specs.Lists.{least};
+ghost use Rattle.cqf_model.specs.History.{node_at, link_at, link_from, are_apart, is_bridge, is_broken_at, is_loop_at, is_stray, make_a_tree, part};
+ghost use Rattle.cqf_admission.specs.Branches.{AreNodes, branch_of, branches_of, fault_in, first_fault, places_of, with_node};
+
+use arrayvec::ArrayVec;
+use cqf_model::Node;
+use cqf_topology::Domain;
+
+/// What is asked of each branch, one after the other.
+#[derive(Clone, Copy, Debug)]
+pub(crate) enum Check {
+    /// The domain has each node.
+    Known,
+    /// A link goes from each node to the next, from a bridge on to a station.
+    Whole,
+    /// No node stands twice.
+    Simple,
+}
+
+/// How many places the branches have, one for each of their names. `None` where no `usize` can count them.
+pub fn count_places(paths: &[Vec<String>]) -> Option<usize>
+    ensures { MatchOption result (2 ^ 64 ≤ places_of (branches_of paths.now)) (λ count. count ≡ places_of (branches_of paths.now)) }
+{
+    let mut count = 0usize;
+    for branch in paths {
+        count = count.checked_add(branch.len())?;
+    }
+    Some(count)
+}
+
+/// The nodes of the names of a branch behind those of others, as far as there is room.
+fn add_nodes(domain: &Domain, nodes: &mut ArrayVec<Option<Node>, 256>, branch: &[String])
+    ensures { nodes.new.items ≡ fold (with_node domain.now) nodes.old.items (branch_of branch.now) }
+{
+    for name in branch {
+        add_node(domain, nodes, name);
+    }
+}
+
+/// The node of a name behind those of others, where there is room.
+fn add_node(domain: &Domain, nodes: &mut ArrayVec<Option<Node>, 256>, name: &String)
+    ensures { nodes.new.items ≡ with_node domain.now nodes.old.items (string_bytes name.now) }
+{
+    if nodes.len() < 256 {
+        nodes.push(domain.find(name.as_str()));
+    }
+}
+
+/// The nodes of the first 256 names of some branches, each looked up once.
+pub(crate) fn nodes_of(domain: &Domain, paths: &[Vec<String>]) -> ArrayVec<Option<Node>, 256>
+    ensures { AreNodes domain.now (flat_map (λ branch. branch) (branches_of paths.now)) result.items }
+{
+    let mut nodes = ArrayVec::new();
+    for branch in paths {
+        add_nodes(domain, &mut nodes, branch.as_slice());
+    }
+    nodes
+}
+
+/// The nodes behind those of a branch of so many names.
+pub(crate) fn nodes_behind(nodes: &[Option<Node>], count: usize) -> &[Option<Node>]
+    ensures { result.now ≡ drop (min count (length nodes.now)) nodes.now }
+{
+    nodes.split_at(count.min(nodes.len())).1
+}
+
+/// The node at a place of a branch, where there is one. Those of its first names are known.
+fn node_of(domain: &Domain, nodes: &[Option<Node>], branch: &[String], place: usize) -> Option<Node>
+    requires { AreNodes domain.now (branch_of branch.now) nodes.now }
+    ensures { result ≡ node_at domain.now (branch_of branch.now) place }
+{
+    if place >= branch.len() {
+        return None;
+    }
+    if place < nodes.len() {
+        return nodes[place];
+    }
+    domain.find(branch[place].as_str())
+}
+
+/// The first place of a branch whose node the domain lacks.
+fn unknown_place(domain: &Domain, nodes: &[Option<Node>], branch: &[String]) -> Option<usize>
+    requires { AreNodes domain.now (branch_of branch.now) nodes.now }
+    ensures { result ≡ position (λ name. is_none (node_named domain.now name)) (branch_of branch.now) }
+{
+    for place in 0..branch.len() {
+        if node_of(domain, nodes, branch, place).is_none() {
+            return Some(place);
+        }
+    }
+    None
+}
+
+/// The link between two nodes, where both are there and it is.
+fn link_of(domain: &Domain, from: Option<Node>, to: Option<Node>) -> Option<u16>
+    ensures { result ≡ link_from domain.now from to }
+{
+    match from {
+        Some(Node::Bridge(bridge)) => match to {
+            Some(node) => domain.find_link(bridge, node),
+            None => None,
+        },
+        Some(Node::Station(_)) => None,
+        None => None,
+    }
+}
+
+/// The link from the node at a place of a branch to the next one, where both are there and it is.
+pub(crate) fn link_behind(
+    domain: &Domain,
+    nodes: &[Option<Node>],
+    branch: &[String],
+    place: usize,
+) -> Option<u16>
+    requires inside { place < length branch.now }
+    requires nodes { AreNodes domain.now (branch_of branch.now) nodes.now }
+    ensures { result ≡ link_at domain.now (branch_of branch.now) place }
+{
+    link_of(
+        domain,
+        node_of(domain, nodes, branch, place),
+        node_of(domain, nodes, branch, place + 1),
+    )
+}
+
+/// Whether a node is there and a bridge.
+fn is_bridge_node(node: Option<Node>) -> bool
+    ensures { result ≡ is_bridge node }
+{
+    matches!(node, Some(Node::Bridge(_)))
+}
+
+/// Whether a branch is broken at a place: it is empty or begins with no bridge; no link goes from the node before to this
+/// one; its last node is a bridge; or as many nodes stand before this place as a branch may have (profile).
+fn is_branch_broken_at(
+    domain: &Domain,
+    nodes: &[Option<Node>],
+    branch: &[String],
+    place: usize,
+) -> bool
+    requires inside { place ≤ length branch.now }
+    requires nodes { AreNodes domain.now (branch_of branch.now) nodes.now }
+    ensures { result ≡ is_broken_at domain.now (branch_of branch.now) place }
+{
+    let count = branch.len();
+    let begins_ill = place == 0 && !is_bridge_node(node_of(domain, nodes, branch, 0));
+    let unlinked = 1 <= place
+        && place < count
+        && link_behind(domain, nodes, branch, place - 1).is_none();
+    let ends_in_bridge = place + 1 == count
+        && is_bridge_node(node_of(domain, nodes, branch, place));
+    let too_long = place == domain.limits().nodes_within() && place < count;
+    begins_ill || unlinked || ends_in_bridge || too_long
+}
+
+/// The first place at which a branch is broken.
+fn broken_place(domain: &Domain, nodes: &[Option<Node>], branch: &[String]) -> Option<usize>
+    requires { AreNodes domain.now (branch_of branch.now) nodes.now }
+    ensures { result ≡ least (is_broken_at domain.now (branch_of branch.now)) (length branch.now + 1) }
+{
+    for place in 0..branch.len() + 1 {
+        if is_branch_broken_at(domain, nodes, branch, place) {
+            return Some(place);
+        }
+    }
+    None
+}
+
+/// Whether the node at a place of a branch stood earlier. A node has one name, so the names before it tell.
+fn is_branch_looping_at(
+    domain: &Domain,
+    nodes: &[Option<Node>],
+    branch: &[String],
+    place: usize,
+) -> bool
+    requires inside { place ≤ length branch.now }
+    requires nodes { AreNodes domain.now (branch_of branch.now) nodes.now }
+    ensures { result ≡ is_loop_at domain.now (branch_of branch.now) place }
+{
+    if place >= branch.len() {
+        return false;
+    }
+    if node_of(domain, nodes, branch, place).is_none() {
+        return false;
+    }
+    let name = &branch[place];
+    has_name(&branch[..place], name)
+}
+
+/// The first place of a branch whose node stood earlier.
+fn looping_place(domain: &Domain, nodes: &[Option<Node>], branch: &[String]) -> Option<usize>
+    requires { AreNodes domain.now (branch_of branch.now) nodes.now }
+    ensures { result ≡ least (is_loop_at domain.now (branch_of branch.now)) (length branch.now + 1) }
+{
+    for place in 0..branch.len() + 1 {
+        if is_branch_looping_at(domain, nodes, branch, place) {
+            return Some(place);
+        }
+    }
+    None
+}
+
+/// The first place at which a branch fails a check.
+fn fault_of(
+    domain: &Domain,
+    check: Check,
+    nodes: &[Option<Node>],
+    branch: &[String],
+) -> Option<usize>
+    requires { AreNodes domain.now (branch_of branch.now) nodes.now }
+    ensures { result ≡ fault_in domain.now check (branch_of branch.now) }
+{
+    match check {
+        Check::Known => unknown_place(domain, nodes, branch),
+        Check::Whole => broken_place(domain, nodes, branch),
+        Check::Simple => looping_place(domain, nodes, branch),
+    }
+}
+
+/// The first place at which one of the branches fails a check, where places count through them as one list.
+pub(crate) fn first_fault_of(
+    domain: &Domain,
+    check: Check,
+    nodes: &[Option<Node>],
+    paths: &[Vec<String>],
+) -> Option<usize>
+    requires few { places_of (branches_of paths.now) < 2 ^ 64 }
+    requires nodes { AreNodes domain.now (flat_map (λ branch. branch) (branches_of paths.now)) nodes.now }
+    ensures { result ≡ first_fault domain.now check (branches_of paths.now) }
+{
+    let mut before = 0;
+    let mut rest = nodes;
+    for branch in paths {
+        if let Some(place) = fault_of(domain, check, rest, branch.as_slice()) {
+            return Some(before + place);
+        }
+        before += branch.len();
+        rest = nodes_behind(rest, branch.len());
+    }
+    None
+}
+
+/// Whether two names are the same.
+fn is_same_name(name: &String, other: &String) -> bool
+    ensures { result ≡ is_text (string_bytes name.now) (string_bytes other.now) }
+{
+    name.as_str() == other.as_str()
+}
+
+/// Whether a name is one of some.
+fn has_name(names: &[String], name: &String) -> bool
+    ensures { result ≡ list_any (λ other. is_text (string_bytes name.now) (string_bytes other)) names.now }
+{
+    names.iter().any(|other| is_same_name(name, other))
+}
+
+/// Whether one of some names is one of some others.
+fn have_common(names: &[String], others: &[String]) -> bool
+    ensures { result ≡ list_any (λ name. list_any (λ other. is_text (string_bytes name) (string_bytes other)) others.now) names.now }
+{
+    names.iter().any(|name| has_name(others, name))
+}
+
+/// Whether no node of one part of a branch is in a part of another.
+fn are_parts_apart(names: &[String], others: &[String]) -> bool
+    ensures { result ≡ are_apart (branch_of names.now) (branch_of others.now) }
+{
+    !have_common(names, others)
+}
+
+/// Whether two branches part for good: behind the beginning that they have in common both go on, and no node is in both.
+fn do_part(names: &[String], others: &[String]) -> bool
+    ensures { result ≡ part (branch_of names.now) (branch_of others.now) }
+{
+    let mut place = 0;
+    while place < names.len() && place < others.len() {
+        if !is_same_name(&names[place], &others[place]) {
+            return are_parts_apart(&names[place..], &others[place..]);
+        }
+        place += 1;
+    }
+    false
+}
+
+/// Whether two branches make one tree: they begin at one bridge, and part for good (profile).
+fn do_make_a_tree(names: &[String], others: &[String]) -> bool
+    ensures { result ≡ make_a_tree (branch_of names.now) (branch_of others.now) }
+{
+    if names.len() == 0 || others.len() == 0 {
+        return false;
+    }
+    is_same_name(&names[0], &others[0]) && do_part(names, others)
+}
+
+/// Whether a branch makes no tree with one of those before it.
+fn is_stray_behind(before: &[Vec<String>], branch: &[String]) -> bool
+    ensures { result ≡ list_any (λ other. not (make_a_tree (branch_of other.items) (branch_of branch.now))) before.now }
+{
+    before
+        .iter()
+        .any(|other| !do_make_a_tree(other.as_slice(), branch))
+}
+
+/// Whether the branch of a number makes no tree with one before it.
+fn is_branch_stray(paths: &[Vec<String>], number: usize) -> bool
+    requires { number < length paths.now }
+    ensures { result ≡ is_stray (branches_of paths.now) number }
+{
+    let branch = &paths[number];
+    is_stray_behind(&paths[..number], branch.as_slice())
+}
+
+/// The number of the first branch that makes no tree with one before it.
+pub(crate) fn stray_branch(paths: &[Vec<String>]) -> Option<usize>
+    ensures { result ≡ least (is_stray (branches_of paths.now)) (length paths.now) }
+{
+    for number in 0..paths.len() {
+        if is_branch_stray(paths, number) {
+            return Some(number);
+        }
+    }
+    None
+}

@@ -1,0 +1,332 @@
+//! The calls of a script.
+ghost use Rattle.std.specs.Arc.{arc_value};
+ghost use Rattle.std.specs.Prelude.{ℕ, ◌≡◌, ◌+◌, ◌<◌, ◌≤◌, ◌^◌, All, IfOk, List, length, map};
+ghost use Rattle.cqf_text.specs.Lines.{lines_of};
+ghost use Rattle.cqf_topology.specs.Fields.{Gives};
+ghost use Rattle.cqf_admission.specs.Asking.{asked_of, asked_paced, asked_shared};
+ghost use Rattle.cqf_admission.specs.declared.orders.Ordered.{Ordered as AnOrdered};
+ghost use Rattle.cqf_model.specs.History.{Admits, Asked};
+ghost use Rattle.cqf_admission.specs.Admission.{act_of};
+ghost use Rattle.cqf_admission.specs.Orders.{StandsIn, ordered_in};
+ghost use Rattle.cqf_admission.specs.Lines.{order_of_line};
+ghost use Rattle.cqf_admission.specs.Placed.{LineEnds, NameEnds};
+ghost use Rattle.cqf_admission.specs.Written.{written};
+ghost use Rattle.cqf_admission.specs.Script.{AreFew, administrators, call_of_line, call_of_order, call_of_seal};
+ghost use Rattle.cqf_admission.specs.Script.{called_behind, called_of, script_of, sealed_behind, seats_up_to};
+
+use crate::lines::{Order, Wish, is_seal_line, read_order};
+use crate::{Call, MOST_CALLS, Names, Ordered, ScriptFault, What, shared_request, word_of};
+use cqf_text::split_line;
+use cqf_topology::{PacedRequest, Request};
+use cqf_units::Memory;
+use std::alloc::Global;
+use std::sync::Arc;
+
+/// Where a line stands: its number, from 1, and how many Seals and other calls stand before it.
+#[derive(Clone, Copy)]
+struct ScriptPlace {
+    line: u64,
+    sealed: u64,
+    called: u64,
+}
+
+impl ScriptPlace {
+    /// Where the next line stands, behind this one.
+    fn behind(self, line: &[u8]) -> ScriptPlace
+        requires counted { self.sealed + self.called < self.line }
+        requires room { self.line + 1 < 2 ^ 64 }
+        ensures line { result.line ≡ self.line + 1 }
+        ensures sealed { result.sealed ≡ sealed_behind self.sealed line.now }
+        ensures called { result.called ≡ called_behind self.called line.now }
+    {
+        let number = self.line + 1;
+        if is_seal_line(line) {
+            ScriptPlace {
+                line: number,
+                sealed: self.sealed + 1,
+                called: self.called,
+            }
+        } else {
+            ScriptPlace {
+                line: number,
+                sealed: self.sealed,
+                called: self.called + 1,
+            }
+        }
+    }
+}
+
+/// One more than the number of the administrator whose order the line is; 0 where it is nobody's.
+fn seats_up_to(line: &[u8]) -> u16
+    ensures value { result ≡ seats_up_to (order_of_line line.now) }
+    ensures small { result ≤ 8 }
+{
+    match read_order(line) {
+        Some(order) => order.seat + 1,
+        None => 0,
+    }
+}
+
+/// The number of administrators of a script: one more than the greatest number whose order a line is, or 0 where there is
+/// none (profile). It is the seat of the Seals.
+pub fn administrators(text: &[u8]) -> u16
+    ensures { result ≡ administrators (lines_of text.now) }
+{
+    let mut most: u16 = 0;
+    let mut left = text;
+    while let Some((line, behind)) = split_line(left) {
+        most = most.max(seats_up_to(line));
+        left = behind;
+    }
+    most
+}
+
+/// The order on a line that ends at this place of the script's text.
+fn place_order(
+    names: &Names<'_>,
+    place: ScriptPlace,
+    end: usize,
+    order: &Order<'_>,
+) -> Result<Ordered, ScriptFault>
+    requires short { length order.now.name.now ≤ 64 }
+    requires long { length order.now.name.now ≤ end }
+    ensures value { (text : List ℕ) → NameEnds text end order.now.name.now →
+        Gives ScriptFault.Memory (ordered_in (map asked_paced names.now) text) result
+        (call_of_order (map asked_paced names.now) place.line place.called (written order.now)) }
+    ensures stands { (text : List ℕ) → NameEnds text end order.now.name.now →
+        IfOk result (λ ordered. StandsIn (map asked_paced names.now) text ordered.what) }
+{
+    let many = MOST_CALLS as u64 <= place.called;
+    let what = match order.wish {
+        Wish::Admit => {
+            let Some(request) = names.place_of(order.name) else {
+                return Err(ScriptFault::UnknownStream(place.line));
+            };
+            What::Admit(request)
+        }
+        Wish::Withdraw => What::Withdraw {
+            from: end - order.name.len(),
+            octets: order.name.len() as u8,
+        },
+    };
+    if many {
+        return Err(ScriptFault::TooMany(place.line));
+    }
+    Ok(Ordered {
+        seat: order.seat,
+        what,
+    })
+}
+
+/// The Seal of a line.
+fn place_seal(seat: u16, cycles: u32, place: ScriptPlace) -> Result<Ordered, ScriptFault>
+    ensures value { (requests : List Asked) (text : List ℕ) →
+        Gives ScriptFault.Memory (ordered_in requests text) result (call_of_seal seat cycles place.line place.sealed) }
+    ensures seal { IfOk result (λ ordered. ordered.what ≡ What.Seal) }
+{
+    if u64::from(cycles) <= place.sealed {
+        return Err(ScriptFault::TooMany(place.line));
+    }
+    Ok(Ordered {
+        seat,
+        what: What::Seal,
+    })
+}
+
+/// The order of a line that ends at this place of the script's text.
+fn place_line(
+    names: &Names<'_>,
+    seat: u16,
+    cycles: u32,
+    place: ScriptPlace,
+    end: usize,
+    line: &[u8],
+) -> Result<Ordered, ScriptFault>
+    requires long { length line.now ≤ end }
+    ensures value { (text : List ℕ) → LineEnds text end line.now →
+        Gives ScriptFault.Memory (ordered_in (map asked_paced names.now) text) result
+        (call_of_line (map asked_paced names.now) seat cycles place.line place.sealed place.called line.now) }
+    ensures stands { (text : List ℕ) → LineEnds text end line.now →
+        IfOk result (λ ordered. StandsIn (map asked_paced names.now) text ordered.what) }
+{
+    if is_seal_line(line) {
+        return place_seal(seat, cycles, place);
+    }
+    match read_order(line) {
+        Some(order) => place_order(names, place, end, &order),
+        None => Err(ScriptFault::BadLine(place.line)),
+    }
+}
+
+/// The orders of a script for so many cycles, where these streams may be admitted: the calls of [`read_script`], each by
+/// where what it names stands, among the requests or in the text, with no copy of it.
+///
+/// # Errors
+/// Those of [`read_script`].
+pub fn read_orders(
+    alloc: Global,
+    text: &[u8],
+    names: &Names<'_>,
+    cycles: u32,
+) -> Result<Vec<Ordered>, ScriptFault>
+    ensures orders { Gives ScriptFault.Memory (λ orders. map (ordered_in (map asked_paced names.now) text.now) orders.items) result
+        (script_of (map asked_paced names.now) cycles text.now) }
+    ensures stand { IfOk result (λ orders. All (λ (ordered : AnOrdered). StandsIn (map asked_paced names.now) text.now ordered.what) orders.items) }
+    ensures few { IfOk result (λ orders. AreFew cycles (map (ordered_in (map asked_paced names.now) text.now) orders.items)) }
+{
+    let seat = administrators(text);
+    let mut place = ScriptPlace {
+        line: 1,
+        sealed: 0,
+        called: 0,
+    };
+    let mut orders = Vec::new(alloc);
+    let mut left = text;
+    while let Some((line, behind)) = split_line(left) {
+        let end = text.len() - left.len() + line.len();
+        let order = match place_line(names, seat, cycles, place, end, line) {
+            Ok(order) => order,
+            Err(fault) => return Err(fault),
+        };
+        orders.push(order)?;
+        place = place.behind(line);
+        left = behind;
+    }
+    Ok(orders)
+}
+
+/// Some requests, each copied once, so that calls for its stream can share it, unless memory runs out.
+fn all_shared(alloc: Global, requests: &[PacedRequest]) -> Result<Vec<Arc<PacedRequest>>, Memory>
+    ensures { IfOk result (λ copies. map asked_shared copies.items ≡ map asked_paced requests.now) }
+{
+    let mut copies = Vec::with_capacity(alloc, requests.len())?;
+    for request in requests {
+        copies.push(shared_request(alloc, request)?)?;
+    }
+    Ok(copies)
+}
+
+/// The call that is ordered, with a share of its request or a copy of its name.
+fn call_of(
+    alloc: Global,
+    text: &[u8],
+    requests: &[Arc<PacedRequest>],
+    order: Ordered,
+) -> Result<(u16, Call), Memory>
+    requires { StandsIn (map asked_shared requests.now) text.now order.what }
+    ensures { IfOk result (λ call. called_of call ≡ ordered_in (map asked_shared requests.now) text.now order) }
+{
+    let call = match order.what {
+        What::Admit(place) => Call::AdmitPaced(Arc::try_clone(&requests[place])?),
+        What::Withdraw { from, octets } => {
+            Call::Withdraw(String::from_str(alloc, word_of(text, from, octets))?)
+        }
+        What::Seal => Call::Seal,
+    };
+    Ok((order.seat, call))
+}
+
+/// The calls that are ordered, each with its seat, and with a share of its request or a copy of its name. What the orders name stands
+/// among these requests, each of which is copied once, and in this text. The time grows with the orders and with what is copied.
+///
+/// # Errors
+/// Where a growth is refused.
+pub fn calls_of(
+    alloc: Global,
+    text: &[u8],
+    requests: &[PacedRequest],
+    orders: &[Ordered],
+) -> Result<Vec<(u16, Call)>, Memory>
+    requires { All (λ (ordered : AnOrdered). StandsIn (map asked_paced requests.now) text.now ordered.what) orders.now }
+    ensures { IfOk result (λ calls. map called_of calls.items ≡ map (ordered_in (map asked_paced requests.now) text.now) orders.now) }
+{
+    let shared = all_shared(alloc, requests)?;
+    let mut calls = Vec::new(alloc);
+    for order in orders {
+        let call = call_of(alloc, text, shared.as_slice(), *order)?;
+        calls.push(call)?;
+    }
+    Ok(calls)
+}
+
+/// Some requests, of which each is for a stream that is offered in each cycle, unless memory runs out.
+fn all_in_each_cycle(alloc: Global, requests: &[Request]) -> Result<Vec<PacedRequest>, Memory>
+    ensures { IfOk result (λ copies. map asked_paced copies.items ≡ map asked_of requests.now) }
+{
+    let mut copies = Vec::with_capacity(alloc, requests.len())?;
+    for request in requests {
+        copies.push(PacedRequest::in_each_cycle(alloc, request)?)?;
+    }
+    Ok(copies)
+}
+
+/// The calls of a script, as [`read_script`] gives them, where streams may be admitted that are offered in some cycles.
+///
+/// # Errors
+/// Those of [`read_script`].
+pub fn read_paced_script(
+    alloc: Global,
+    text: &[u8],
+    requests: &[PacedRequest],
+    cycles: u32,
+) -> Result<Vec<(u16, Call)>, ScriptFault>
+    ensures calls { Gives ScriptFault.Memory (λ calls. map called_of calls.items) result (script_of (map asked_paced requests.now) cycles text.now) }
+    ensures few { IfOk result (λ calls. AreFew cycles (map called_of calls.items)) }
+{
+    let names = Names::new(alloc, requests)?;
+    let orders = read_orders(alloc, text, &names, cycles)?;
+    let calls = calls_of(alloc, text, requests, orders.as_slice())?;
+    Ok(calls)
+}
+
+/// The same call, for a stream that is offered in each cycle by a request without a pace, unless memory runs out.
+fn plain_call(alloc: Global, call: Call) -> Result<Call, Memory>
+    ensures { IfOk result (λ plain. act_of plain ≡ act_of call) }
+{
+    match call {
+        Call::AdmitPaced(request) => {
+            if request.every != 1 || request.phase != 0 {
+                return Ok(Call::AdmitPaced(request));
+            }
+            let own = request.try_copy(alloc)?;
+            Ok(Call::Admit(own.into_request()))
+        }
+        other => Ok(other),
+    }
+}
+
+/// The same calls, so.
+fn plain_calls(alloc: Global, calls: Vec<(u16, Call)>) -> Result<Vec<(u16, Call)>, Memory>
+    ensures { IfOk result (λ plain. map called_of plain.items ≡ map called_of calls.items) }
+{
+    let mut plain = Vec::with_capacity(alloc, calls.len())?;
+    for call in calls {
+        plain.push((call.0, plain_call(alloc, call.1)?))?;
+    }
+    Ok(plain)
+}
+
+/// The calls of a script for so many cycles, with the seat of each, where these streams may be admitted.
+///
+/// Each line is `N admit NAME`, `N withdraw NAME` or `seal`, with single spaces: `N` is one digit from 0 to 7, the
+/// administrator, who is the call's seat, and `NAME` is 1 to 64 bytes from 0x21 to 0x7E. `admit` means the first request of
+/// the name. The seat of Seals is the number of administrators: one more than the greatest, or 0 where there is none. A
+/// script may have no lines (profile).
+///
+/// # Errors
+/// The fault of the first line that has one: `BadLine` where it has another form, `UnknownStream` where it admits a stream
+/// that isn't asked for, `TooMany` where it is one more Seal than cycles, or call 100,001 of the others; and `Memory` where
+/// a growth was refused.
+pub fn read_script(
+    alloc: Global,
+    text: &[u8],
+    requests: &[Request],
+    cycles: u32,
+) -> Result<Vec<(u16, Call)>, ScriptFault>
+    ensures calls { Gives ScriptFault.Memory (λ calls. map called_of calls.items) result (script_of (map asked_of requests.now) cycles text.now) }
+    ensures few { IfOk result (λ calls. AreFew cycles (map called_of calls.items)) }
+{
+    let requests = all_in_each_cycle(alloc, requests)?;
+    let calls = read_paced_script(alloc, text, requests.as_slice(), cycles)?;
+    Ok(plain_calls(alloc, calls)?)
+}

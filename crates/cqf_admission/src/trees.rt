@@ -1,0 +1,148 @@
+//! The tree of a request's branches.
+ghost use Rattle.std.specs.Prelude.{◌≡◌, ◌<◌, ◌≤◌, ◌==◌, ◌^◌, All, List, fold, is_none, length, position};
+ghost use Rattle.cqf_model.specs.declared.topology.Hop.{Hop as HopValue};
+ghost use Rattle.std.specs.List.{flat_map, list_any};
+ghost use Rattle.cqf_model.specs.Domain.{node_named};
+ghost use Rattle.cqf_model.specs.History.{broken_place, first_place, hops_along, is_loop_at, tree_of};
+ghost use Rattle.cqf_admission.specs.Branches.{AreAsFarAsRoom, AreNodes, FindsTree, branch_of, branches_of, keep_link, places_of};
+
+use crate::branches::{Check, first_fault_of, link_behind, nodes_behind, nodes_of, stray_branch};
+use arrayvec::ArrayVec;
+use cqf_model::{Hop, MOST_HOPS, Node, Refused};
+use cqf_topology::Domain;
+
+/// Whether one of some hops is by the link.
+fn has_link(tree: &[Hop], link: u16) -> bool
+    ensures { result ≡ list_any (λ hop. hop.link == link) tree.now }
+{
+    tree.iter().any(|hop| hop.link == link)
+}
+
+/// Adds a hop behind those of a tree, where none of them is by its link and there is room.
+fn add_hop(tree: &mut ArrayVec<Hop, 201>, hop: Hop)
+    ensures { (whole : List HopValue) → AreAsFarAsRoom tree.old.items whole → AreAsFarAsRoom tree.new.items (keep_link whole hop) }
+{
+    if tree.len() > MOST_HOPS {
+        return;
+    }
+    if has_link(tree.as_slice(), hop.link) {
+        return;
+    }
+    tree.push(hop);
+}
+
+/// Adds the hops of a branch of no more than 65 nodes to those of a tree, as far as there is room.
+fn add_branch(
+    domain: &Domain,
+    nodes: &[Option<Node>],
+    tree: &mut ArrayVec<Hop, 201>,
+    branch: &[String],
+)
+    requires nodes { AreNodes domain.now (branch_of branch.now) nodes.now }
+    requires few_nodes { length branch.now ≤ 65 }
+    ensures { (whole : List HopValue) → AreAsFarAsRoom tree.old.items whole →
+        AreAsFarAsRoom tree.new.items (fold keep_link whole (hops_along domain.now (branch_of branch.now))) }
+{
+    let mut before = None;
+    for place in 0..branch.len().saturating_sub(1) {
+        let link = link_behind(domain, nodes, branch, place);
+        if let Some(link) = link {
+            let hop = Hop {
+                link,
+                depth: place as u8 + 1,
+                from: before,
+            };
+            add_hop(tree, hop);
+        }
+        before = link;
+    }
+}
+
+/// The tree of some branches of no more than 65 nodes each: their hops, each link once, where it first stands,
+/// as far as there is room.
+fn tree_along(domain: &Domain, nodes: &[Option<Node>], paths: &[Vec<String>]) -> ArrayVec<Hop, 201>
+    requires few { All (λ branch. length branch ≤ 65) (branches_of paths.now) }
+    requires nodes { AreNodes domain.now (flat_map (λ branch. branch) (branches_of paths.now)) nodes.now }
+    ensures { AreAsFarAsRoom result.items (tree_of domain.now (branches_of paths.now)) }
+{
+    let mut tree = ArrayVec::new();
+    let mut rest = nodes;
+    for branch in paths {
+        add_branch(domain, rest, &mut tree, branch.as_slice());
+        rest = nodes_behind(rest, branch.len());
+    }
+    tree
+}
+
+/// The hops of a tree that has no more of them than are represented.
+fn fitted(hops: &[Hop]) -> ArrayVec<Hop, 200>
+    requires { length hops.now ≤ 200 }
+    ensures { result.items ≡ hops.now }
+{
+    let mut tree = ArrayVec::new();
+    tree.try_extend_from_slice(hops).unwrap();
+    tree
+}
+
+/// The first place of the branches whose node the domain lacks.
+fn unknown_place_of(domain: &Domain, nodes: &[Option<Node>], paths: &[Vec<String>]) -> Option<usize>
+    requires few { places_of (branches_of paths.now) < 2 ^ 64 }
+    requires nodes { AreNodes domain.now (flat_map (λ branch. branch) (branches_of paths.now)) nodes.now }
+    ensures { result ≡ position (λ name. is_none (node_named domain.now name)) (flat_map (λ branch. branch) (branches_of paths.now)) }
+{
+    first_fault_of(domain, Check::Known, nodes, paths)
+}
+
+/// The first place at which the branches are broken. Where there is no branch that is 0.
+fn broken_place_of(domain: &Domain, nodes: &[Option<Node>], paths: &[Vec<String>]) -> Option<usize>
+    requires few { places_of (branches_of paths.now) < 2 ^ 64 }
+    requires nodes { AreNodes domain.now (flat_map (λ branch. branch) (branches_of paths.now)) nodes.now }
+    ensures { result ≡ broken_place domain.now (branches_of paths.now) }
+{
+    if paths.len() == 0 {
+        return Some(0);
+    }
+    first_fault_of(domain, Check::Whole, nodes, paths)
+}
+
+/// The first place of the branches whose node stood earlier in its branch.
+fn looping_place_of(domain: &Domain, nodes: &[Option<Node>], paths: &[Vec<String>]) -> Option<usize>
+    requires few { places_of (branches_of paths.now) < 2 ^ 64 }
+    requires nodes { AreNodes domain.now (flat_map (λ branch. branch) (branches_of paths.now)) nodes.now }
+    ensures { result ≡ first_place (is_loop_at domain.now) (branches_of paths.now) }
+{
+    first_fault_of(domain, Check::Simple, nodes, paths)
+}
+
+/// The tree of some branches: their hops, each link once, where it first stands. The branches have fewer than 2^64 places,
+/// as [`count_places`](crate::count_places) tells.
+///
+/// # Errors
+/// The first reason why they are no tree, each asked of all branches before the next (profile): `UnknownNode`, at the first
+/// place whose node the domain lacks; `BrokenPath`, at the first place that no link leads to from the one before, at which a
+/// branch begins with no bridge or ends with one, or behind as many nodes as a branch may have, and 0 where there is no branch; `LoopingPath`, at
+/// the first place whose node stood earlier in its branch; `NotATree`, with the number, from 0, of the first branch that
+/// begins elsewhere than one before it or doesn't part from it for good; `TooManyHops`. Places count from 0 through all branches.
+pub fn find_tree(domain: &Domain, paths: &[Vec<String>]) -> Result<ArrayVec<Hop, 200>, Refused>
+    requires { places_of (branches_of paths.now) < 2 ^ 64 }
+    ensures { FindsTree domain.now (branches_of paths.now) result }
+{
+    let nodes = nodes_of(domain, paths);
+    if let Some(place) = unknown_place_of(domain, nodes.as_slice(), paths) {
+        return Err(Refused::UnknownNode(place));
+    }
+    if let Some(place) = broken_place_of(domain, nodes.as_slice(), paths) {
+        return Err(Refused::BrokenPath(place));
+    }
+    if let Some(place) = looping_place_of(domain, nodes.as_slice(), paths) {
+        return Err(Refused::LoopingPath(place));
+    }
+    if let Some(branch) = stray_branch(paths) {
+        return Err(Refused::NotATree(branch));
+    }
+    let tree = tree_along(domain, nodes.as_slice(), paths);
+    if tree.len() > domain.limits().hops_within() {
+        return Err(Refused::TooManyHops);
+    }
+    Ok(fitted(tree.as_slice()))
+}

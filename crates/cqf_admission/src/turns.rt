@@ -1,0 +1,265 @@
+//! Sums by link and cycle: a stream's number comes to the sum of each of its links in the cycles in which its frames go by, and goes
+//! again.
+ghost use Rattle.std.specs.Prelude.{◌≡◌, ◌≢◌, ◌<◌, ◌≤◌, ◌+◌, ◌-◌, ◌^◌, ◌%◌, ◌==◌, All, AllPairs, IfOk, fold, length, map, max};
+ghost use Rattle.cqf_admission.specs.Turns.{AreLessIn, AreMoreIn, AreNone, HasIn, HasRoomFor, most_at, most_of, turns_at};
+ghost use Rattle.cqf_admission.specs.Turns.{AreLessWhere, AreMoreWhere, HaveIn, HaveRoomIn, most_where};
+ghost use Rattle.cqf_model.specs.Limits.{most_every};
+ghost use Rattle.cqf_model.specs.Paces.{is_turn};
+ghost use Rattle.cqf_model.specs.Table.{links_in};
+
+use cqf_model::{Hop, MOST_EVERY, Pace};
+use cqf_units::Memory;
+use std::alloc::Global;
+use std::marker::Model;
+
+/// How many sums a link has.
+const TURNS: usize = MOST_EVERY as usize;
+
+/// Adds a number to each of some sums.
+fn add_to_each(turns: &mut [u64], number: u64)
+    requires room { All (λ sum. sum + number < 2 ^ 64) turns.old }
+    ensures { turns.new ≡ map (λ sum. sum + number) turns.old }
+{
+    for sum in turns.iter_mut() {
+        *sum += number;
+    }
+}
+
+/// Takes a number from each of some sums.
+fn take_from_each(turns: &mut [u64], number: u64)
+    requires held { All (λ sum. number ≤ sum) turns.old }
+    ensures { turns.new ≡ map (λ sum. sum - number) turns.old }
+{
+    for sum in turns.iter_mut() {
+        *sum -= number;
+    }
+}
+
+/// Adds a number to one of so many sums, from the first on.
+fn add_to_some(turns: &mut [u64], first: usize, every: usize, number: u64)
+    requires low { first < every }
+    requires few { every ≤ most_every }
+    requires of_link { length turns.old ≡ most_every }
+    requires room { HaveRoomIn (λ turn. first == turn % every) turns.old number }
+    ensures { AreMoreWhere (λ turn. first == turn % every) turns.old number turns.new }
+{
+    let mut turn = first;
+    while turn < turns.len() {
+        turns[turn] += number;
+        turn += every;
+    }
+}
+
+/// Takes a number from one of so many sums, from the first on.
+fn take_from_some(turns: &mut [u64], first: usize, every: usize, number: u64)
+    requires low { first < every }
+    requires few { every ≤ most_every }
+    requires of_link { length turns.old ≡ most_every }
+    requires held { HaveIn (λ turn. first == turn % every) turns.old number }
+    ensures { AreLessWhere (λ turn. first == turn % every) turns.old number turns.new }
+{
+    let mut turn = first;
+    while turn < turns.len() {
+        turns[turn] -= number;
+        turn += every;
+    }
+}
+
+/// Adds a number to those of a link's sums in whose cycles frames of this pace are so deep on their way. What was the greatest sum is given,
+/// and what then is comes back.
+fn add_to_turns(turns: &mut [u64], most: u64, pace: Pace, depth: u8, number: u64) -> u64
+    requires of_link { length turns.old ≡ most_every }
+    requires good { most_every % (pace.pause + 1) ≡ 0 }
+    requires room { HaveRoomIn (λ turn. is_turn pace depth turn) turns.old number }
+    requires most { most ≡ fold max 0 turns.old }
+    ensures turns { AreMoreWhere (λ turn. is_turn pace depth turn) turns.old number turns.new }
+    ensures most { result ≡ fold max 0 turns.new }
+{
+    if pace.pause == 0 {
+        add_to_each(turns, number);
+        return most + number;
+    }
+    let every = usize::from(pace.pause) + 1;
+    add_to_some(
+        turns,
+        (usize::from(pace.phase) + usize::from(depth)) % every,
+        every,
+        number,
+    );
+    most_of_all(turns)
+}
+
+/// Takes a number from these, likewise.
+fn take_from_turns(turns: &mut [u64], most: u64, pace: Pace, depth: u8, number: u64) -> u64
+    requires of_link { length turns.old ≡ most_every }
+    requires good { most_every % (pace.pause + 1) ≡ 0 }
+    requires held { HaveIn (λ turn. is_turn pace depth turn) turns.old number }
+    requires most { most ≡ fold max 0 turns.old }
+    ensures turns { AreLessWhere (λ turn. is_turn pace depth turn) turns.old number turns.new }
+    ensures most { result ≡ fold max 0 turns.new }
+{
+    if pace.pause == 0 {
+        take_from_each(turns, number);
+        return most - number;
+    }
+    let every = usize::from(pace.pause) + 1;
+    take_from_some(
+        turns,
+        (usize::from(pace.phase) + usize::from(depth)) % every,
+        every,
+        number,
+    );
+    most_of_all(turns)
+}
+
+/// The greatest of some sums.
+fn most_of_all(turns: &[u64]) -> u64
+    ensures { result ≡ fold max 0 turns.now }
+{
+    let mut most = 0;
+    for sum in turns {
+        most = most.max(*sum);
+    }
+    most
+}
+
+/// The greatest of one of so many sums, from the first on.
+fn most_of_some(turns: &[u64], first: usize, every: usize) -> u64
+    requires low { first < every }
+    requires few { every ≤ most_every }
+    requires of_link { length turns.now ≡ most_every }
+    ensures { result ≡ most_where (λ turn. first == turn % every) turns.now }
+{
+    let mut most = 0;
+    let mut turn = first;
+    while turn < turns.len() {
+        most = most.max(turns[turn]);
+        turn += every;
+    }
+    most
+}
+
+/// Sums by link and cycle of what streams bring. All paces repeat after 80 cycles, so a link has a sum for each of these.
+#[derive(Debug, Drop)]
+pub struct CycleSums {
+    links: usize,
+    /// Link by link, and of each by its cycle.
+    sums: Vec<u64>,
+    /// The greatest of each link's, which a stream without pauses asks for and moves with no look at the others.
+    greatest: Vec<u64>,
+}
+
+impl Model for CycleSums {
+    ghost use Rattle.cqf_admission.specs.Turns.{AreKept, Turned};
+
+    ghost Value = { Turned };
+
+    ghost view = { λ s. record { links = s.links; sums = s.sums.items } };
+
+    ghost invariant = { λ s. AreKept (record { links = s.links; sums = s.sums.items }) s.greatest.items };
+}
+
+impl CycleSums {
+    /// Sums of nothing, of so many links, unless memory runs out.
+    pub fn new(alloc: Global, links: u16) -> Result<CycleSums, Memory>
+        ensures { IfOk result (λ sums. AreNone sums links) }
+    {
+        let links = usize::from(links);
+        Ok(CycleSums {
+            links,
+            sums: vec![in alloc; 0; links * TURNS]?,
+            greatest: vec![in alloc; 0; links]?,
+        })
+    }
+
+    /// Adds the number of a stream that comes, with a tree of which no two hops are by the same link, and a pace that repeats after 80
+    /// cycles.
+    pub fn add(&mut self, tree: &[Hop], pace: Pace, number: u32)
+        requires inside { All (λ link. link < self.old.links) (links_in tree.now) }
+        requires apart { AllPairs (λ a b. a ≢ b) (links_in tree.now) }
+        requires good { most_every % (pace.pause + 1) ≡ 0 }
+        requires room { HasRoomFor self.old tree.now pace number }
+        ensures { AreMoreIn self.old tree.now pace number self.new }
+    {
+        let number = u64::from(number);
+        for hop in tree {
+            let link = usize::from(hop.link);
+            let first = link * TURNS;
+            self.greatest[link] = add_to_turns(
+                &mut self.sums[first..first + TURNS],
+                self.greatest[link],
+                pace,
+                hop.depth,
+                number,
+            );
+        }
+    }
+
+    /// Takes away the number of a stream that goes.
+    pub fn take(&mut self, tree: &[Hop], pace: Pace, number: u32)
+        requires inside { All (λ link. link < self.old.links) (links_in tree.now) }
+        requires apart { AllPairs (λ a b. a ≢ b) (links_in tree.now) }
+        requires good { most_every % (pace.pause + 1) ≡ 0 }
+        requires held { HasIn self.old tree.now pace number }
+        ensures { AreLessIn self.old tree.now pace number self.new }
+    {
+        let number = u64::from(number);
+        for hop in tree {
+            let link = usize::from(hop.link);
+            let first = link * TURNS;
+            self.greatest[link] = take_from_turns(
+                &mut self.sums[first..first + TURNS],
+                self.greatest[link],
+                pace,
+                hop.depth,
+                number,
+            );
+        }
+    }
+
+    /// The sums of a link, by cycle.
+    fn turns_of(&self, link: u16) -> &[u64]
+        requires { link < self.now.links }
+        ensures value { result.now ≡ turns_at self.now link }
+        ensures long { length (turns_at self.now link) ≡ most_every }
+    {
+        let first = usize::from(link) * TURNS;
+        &self.sums[first..first + TURNS]
+    }
+
+    /// The greatest sum of a hop's link in the cycles in which frames of this pace go by it.
+    pub fn most_at(&self, hop: &Hop, pace: Pace) -> u64
+        requires inside { hop.now.link < self.now.links }
+        requires good { most_every % (pace.pause + 1) ≡ 0 }
+        ensures { result ≡ most_at self.now hop.now.link pace hop.now.depth }
+    {
+        if pace.pause == 0 {
+            return self.most_of(hop.link);
+        }
+        let every = usize::from(pace.pause) + 1;
+        most_of_some(
+            self.turns_of(hop.link),
+            (usize::from(pace.phase) + usize::from(hop.depth)) % every,
+            every,
+        )
+    }
+
+    /// The greatest sum of a link in a cycle.
+    pub fn most_of(&self, link: u16) -> u64
+        requires { link < self.now.links }
+        ensures { result ≡ most_of self.now link }
+    {
+        self.greatest[usize::from(link)]
+    }
+
+    /// The same sums again, unless memory runs out.
+    pub fn try_copy(&self, alloc: Global) -> Result<CycleSums, Memory>
+        ensures { IfOk result (λ copy. copy ≡ self.now) }
+    {
+        Ok(CycleSums {
+            links: self.links,
+            sums: Vec::from_slice(alloc, self.sums.as_slice())?,
+            greatest: Vec::from_slice(alloc, self.greatest.as_slice())?,
+        })
+    }
+}

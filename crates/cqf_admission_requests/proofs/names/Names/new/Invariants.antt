@@ -1,7 +1,0 @@
--- What stands under each name is the place of the first of the requests so far.
-use Rattle.std.proofs.Common.{take}
-use Rattle.cqf_admission_requests.specs.Names.{LeadToFirst, place_under}
-use Rattle.cqf_admission_requests.proofs.names.Names.new.Given as goal
-
-abbrev pub invariant-loop-place : goal.invariant-loop-place
-invariant-loop-place l = LeadToFirst (place_under l.places) (take l.place l.requests)

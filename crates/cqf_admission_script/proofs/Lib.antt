@@ -1,6 +1,0 @@
-mod OrderLemmas
-mod NamePlaces
-mod ReadLines
-mod Words
-mod Few
-mod ByLine

@@ -1,6 +1,0 @@
--- An order that was read, as the definitions have it.
-use Rattle.cqf_admission_script.specs.declared.lines.Order.{Order}
-use Rattle.cqf_admission_script.specs.Lines.{Written}
-
-abbrev pub written : Order → Written
-written order = record { seat = order.seat; wish = order.wish; name = order.name.now }

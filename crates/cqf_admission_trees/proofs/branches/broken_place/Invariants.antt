@@ -1,8 +1,0 @@
--- The places so far aren't broken.
-use Rattle.std.proofs.Common.{◌≡◌, ℕ, ◌<◌, false}
-use Rattle.std.specs.Prelude.{map, string_bytes}
-use Rattle.cqf_model.specs.History.{is_broken_at}
-use Rattle.cqf_admission_trees.proofs.branches.broken_place.Given as goal
-
-abbrev pub invariant-loop-place : goal.invariant-loop-place
-invariant-loop-place l = (k : ℕ) → k < l.place → is_broken_at l.domain (map string_bytes l.branch) k ≡ false

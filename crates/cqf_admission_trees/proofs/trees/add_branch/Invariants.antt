@@ -1,7 +1,0 @@
--- The hops to the places so far have been added.
-use Rattle.cqf_admission_trees.specs.Branches.{branch_of}
-use Rattle.cqf_admission_trees.proofs.TreeLemmas.{AreAdded}
-use Rattle.cqf_admission_trees.proofs.trees.add_branch.Given as goal
-
-abbrev pub invariant-loop-place : goal.invariant-loop-place
-invariant-loop-place l = AreAdded l.domain (branch_of l.branch) l.fn.tree.items l.tree.items l.place l.before

@@ -1,2 +1,0 @@
-pub mod BookSorts
-pub mod ThreeKeys

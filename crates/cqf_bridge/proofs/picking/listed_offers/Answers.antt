@@ -1,0 +1,25 @@
+use Rattle.std.proofs.Common.{ℕ, ◌∙◌, ◌++◌, ◌∷◌, [], ap}
+use Rattle.std.proofs.lemmas.Bool.{eq-eqb, ne_eqb}
+use Rattle.cqf_model.specs.declared.frames.Offer.{Offer}
+use Rattle.cqf_model.specs.declared.frames.Offered.{Offered}
+use Rattle.cqf_bridge.specs.Picking.{is_offered_to}
+use Rattle.cqf_lists.proofs.Numbered.{one_kept, one_passed}
+use Rattle.cqf_bridge.proofs.picking.listed_offers.Goals as goal
+use Rattle.cqf_bridge.proofs.picking.listed_offers.Goals.{then-offer-bridge+in_ok-push, else-offer-bridge}
+
+-- an offer at the bridge is listed, and another one passed by
+pub loop-place-preserved : goal.loop-place-preserved
+loop-place-preserved c =
+    let named : ℕ × Offer → Offered = λ x. record { frame = x.0; offer = x.1 } in
+    elim c.if-offer-bridge.branch [
+      | then-offer-bridge+in_ok-push w ↦
+          one_kept named (is_offered_to c.args.bridge) c.args.offers.now c.loop-place.place c.index-offers-place.result
+          c.index-offers-place.result c.loop-place-test.true c.index-offers-place.is
+          c.loop-place.list.items _ (eq-eqb c.index-offers-place.result.bridge c.args.bridge w.if-offer-bridge.true) c.loop-place.invariant
+          (ap (λ v. v.items) w.list-is ∙ w.in_ok-push.ensures.items ∙ ap (λ (x : Offered). c.loop-place.list.items ++ x ∷ []) w.numbered_offer.ensures)
+      | else-offer-bridge w ↦
+          ap (λ v. v.items) w.list-is
+          ∙ one_passed named (is_offered_to c.args.bridge) c.args.offers.now c.loop-place.place c.index-offers-place.result
+          c.index-offers-place.result c.loop-place-test.true c.index-offers-place.is
+          c.loop-place.list.items (ne_eqb c.index-offers-place.result.bridge c.args.bridge w.if-offer-bridge.false) c.loop-place.invariant
+    ]

@@ -1,0 +1,79 @@
+//! What a bridge is offered, and its background frames, cut by cycle.
+ghost use Rattle.std.specs.Prelude.{◌≡◌, ◌^◌, ◌<◌, IfOk, length};
+ghost use Rattle.cqf_bridge.specs.Agenda.{IsAgendaOf, background_at, offers_listed_at};
+
+use crate::picking::{background_in_order, offers_in_order};
+use cqf_laws_cycle::{background_comes_in_order, frames_are_taken_in_order};
+use cqf_model::{Backed, Background, Offer, Offered};
+use cqf_topology::Domain;
+use cqf_units::{Cycle, Memory, Nanos};
+use std::alloc::Global;
+use std::marker::Model;
+
+/// A bridge's offers of a run and the background frames of its links, each by instant, then place.
+#[derive(Debug, Drop)]
+pub struct Agenda {
+    cycle_time: Nanos,
+    offers: Vec<Offered>,
+    background: Vec<Backed>,
+}
+
+impl Model for Agenda {
+    ghost use Rattle.cqf_bridge.specs.Agenda.{AgendaOf, ComesInCycle};
+
+    ghost Value = { AgendaOf };
+
+    ghost view = { λ a. record { cycle_time = a.cycle_time.0; offers = a.offers.items; background = a.background.items } };
+
+    ghost invariant = { λ a. ComesInCycle (record { cycle_time = a.cycle_time.0; offers = a.offers.items; background = a.background.items }) };
+}
+
+impl Agenda {
+    /// What a bridge of the domain has of a run with these offers and background frames: the offers at it, and the background
+    /// frames of the links that leave it, each with its number among all, from 1. `Memory` where a growth is refused.
+    pub fn new(
+        alloc: Global,
+        domain: &Domain,
+        offers: &[Offer],
+        background: &[Background],
+        bridge: u16,
+    ) -> Result<Agenda, Memory>
+        requires few_offers { length offers.now < 2 ^ 32 }
+        requires few_background { length background.now < 2 ^ 32 }
+        ensures { IfOk result (IsAgendaOf domain.now offers.now background.now bridge) }
+    {
+        frames_are_taken_in_order();
+        background_comes_in_order();
+        Ok(Agenda {
+            cycle_time: domain.cycle_time(),
+            offers: offers_in_order(alloc, offers, bridge)?,
+            background: background_in_order(alloc, domain, background, bridge)?,
+        })
+    }
+
+    /// The bridge's offers of a cycle, by instant, then place: what it receives the cycle with. It takes no memory.
+    pub fn offers(&self, cycle: Cycle) -> &[Offered]
+        ensures { result.now ≡ offers_listed_at self.now cycle.0 }
+    {
+        let begin = u64::from(cycle.0) * self.cycle_time.0;
+        let end = begin + self.cycle_time.0;
+        let all = self.offers.as_slice();
+        let from = all.partition_point(|x| x.offer.at.0 < begin);
+        let rest = &all[from..];
+        let count = rest.partition_point(|x| x.offer.at.0 < end);
+        &rest[..count]
+    }
+
+    /// The background frames of its links in a cycle, by instant, then place: what it sends the cycle with. It takes no memory.
+    pub fn background(&self, cycle: Cycle) -> &[Backed]
+        ensures { result.now ≡ background_at self.now cycle.0 }
+    {
+        let begin = u64::from(cycle.0) * self.cycle_time.0;
+        let end = begin + self.cycle_time.0;
+        let all = self.background.as_slice();
+        let from = all.partition_point(|x| x.background.at.0 < begin);
+        let rest = &all[from..];
+        let count = rest.partition_point(|x| x.background.at.0 < end);
+        &rest[..count]
+    }
+}

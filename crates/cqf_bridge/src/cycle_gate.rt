@@ -1,0 +1,92 @@
+//! What is kept of a stream's gate, which counts octets by the cycle.
+ghost use Rattle.std.specs.Prelude.{◌≡◌, Some, if◌then◌else◌, ◌==◌};
+ghost use Rattle.cqf_gates.specs.StreamGate.{verdict_on};
+ghost use Rattle.cqf_laws_cycle.specs.Compiled.{given_class};
+ghost use Rattle.cqf_model.specs.Traffic.{gate_behind};
+ghost use Rattle.cqf_bridge.specs.Gates.{gate_or, kept_after};
+
+use cqf_gates::Passed;
+use cqf_laws_cycle::{gate_counts_cycles, gate_gives_class};
+use cqf_model::Row;
+use cqf_topology::Domain;
+use cqf_units::{Nanos, Octets};
+
+/// The class that a gate gives in even cycles.
+const CLASS_OF_EVEN_CYCLE: u8 = 6;
+
+/// The class that it gives in odd cycles.
+const CLASS_OF_ODD_CYCLE: u8 = 7;
+
+/// What is kept of a stream's gate. The stream gate that goes by the list of the stream's row, as it is compiled for frames that
+/// came so, counts each cycle for itself, and lets pass what is reserved in the cycle: so it needs no list, but what passed of the
+/// stream in the cycle, whichever way it came (profile).
+#[derive(Clone, Copy, Debug)]
+pub(crate) struct KeptGate {
+    /// The stream's number.
+    pub(crate) number: u32,
+    /// The cycle of the last call.
+    pub(crate) cycle: u64,
+    /// What the frames that passed in that cycle took of the reservation.
+    pub(crate) taken: u32,
+}
+
+/// The class that a gate gives in a cycle.
+fn class_of(cycle: u64) -> u8
+    ensures { result ≡ given_class cycle }
+{
+    if cycle % 2 == 0 {
+        CLASS_OF_EVEN_CYCLE
+    } else {
+        CLASS_OF_ODD_CYCLE
+    }
+}
+
+/// What has been taken in a cycle, where so much was taken in the cycle of the last call.
+fn taken_in(cycle: u64, last: u64, taken: u32) -> u32
+    ensures { result ≡ (if last == cycle then taken else 0) }
+{
+    if last == cycle { taken } else { 0 }
+}
+
+impl KeptGate {
+    /// A gate of the stream of this number that has seen no frame.
+    pub(crate) fn new(number: u32) -> KeptGate
+        ensures { result ≡ record { number = number; cycle = 0; taken = 0 } }
+    {
+        KeptGate {
+            number,
+            cycle: 0,
+            taken: 0,
+        }
+    }
+
+    /// Whether a frame of a row's stream, of so many octets from the destination address to the FCS, passes at the instant, and
+    /// with which traffic class: `Class` exactly where the octets and those that passed before in the same cycle are within what
+    /// the row reserves there for frames that came by the link, or at the edge. A frame that doesn't pass takes nothing, so a
+    /// smaller one may pass behind it (profile).
+    pub(crate) fn pass(
+        &mut self,
+        domain: &Domain,
+        row: &Row,
+        way: Option<u16>,
+        at: Nanos,
+        octets: Octets,
+    ) -> Passed
+        ensures verdict { result ≡ verdict_on (gate_or domain.now.cycle_time (gate_behind domain.now row.now way) (Some self.old)) at.0 octets.0 }
+        ensures after { self.new ≡ kept_after domain.now.cycle_time self.old.number
+            (gate_or domain.now.cycle_time (gate_behind domain.now row.now way) (Some self.old)) at.0 octets.0 }
+    {
+        gate_counts_cycles();
+        gate_gives_class();
+        let cycle = at.0 / domain.cycle_time().0;
+        let taken = taken_in(cycle, self.cycle, self.taken);
+        self.cycle = cycle;
+        let sum = u64::from(taken) + u64::from(octets.0);
+        if sum > u64::from(row.reserved_behind(way, cycle)) {
+            self.taken = taken;
+            return Passed::OverOctets;
+        }
+        self.taken = sum as u32;
+        Passed::Class(class_of(cycle))
+    }
+}

@@ -1,0 +1,120 @@
+//! The gates, looked up by the numbers of their streams.
+ghost use Rattle.std.specs.Prelude.{◌≡◌, ◌==◌, ◌++◌, ◌∷◌, [], IfOk, None, OnErr, OnOk, position};
+ghost use Rattle.cqf_gates.specs.StreamGate.{verdict_on};
+ghost use Rattle.cqf_bridge.specs.Gates.{gate_in, kept_after, with_gate};
+ghost use Rattle.cqf_bridge.specs.declared.cycle_gate.KeptGate.{KeptGate as Kept};
+
+use crate::cycle_gate::KeptGate;
+use cqf_gates::Passed;
+use cqf_model::Row;
+use cqf_topology::Domain;
+use cqf_units::{Memory, Nanos, Octets};
+use indexmap::IndexSet;
+use std::alloc::Global;
+use std::marker::Model;
+
+/// So many gates are looked through one by one. Where there are no more, as in most cycles, no number is hashed.
+const FEW: usize = 16;
+
+/// The gates of the streams of which a bridge has seen frames: one for each number, looked up by it (IEEE 802.1Q, 8.6.5.1;
+/// that a gate counts octets by the cycle: profile).
+#[derive(Debug, Drop)]
+pub struct StreamGates {
+    kept: Vec<KeptGate>,
+    /// The numbers of the gates behind the first few.
+    numbers: IndexSet<u32>,
+}
+
+impl Model for StreamGates {
+    ghost use Rattle.std.specs.Prelude.{◌≡◌, List, drop, map};
+    ghost use Rattle.cqf_bridge.specs.declared.gates.TheConstants.{FEW};
+    ghost use Rattle.cqf_bridge.specs.declared.cycle_gate.KeptGate.{KeptGate as Kept};
+
+    ghost Value = { List Kept };
+
+    ghost view = { λ g. g.kept.items };
+
+    ghost invariant = { λ g. g.numbers.keys ≡ drop FEW (map (λ (k : Kept). k.number) g.kept.items) };
+}
+
+/// The place of the gate of a number among some.
+fn place_among(gates: &[KeptGate], number: u32) -> Option<usize>
+    ensures { result ≡ position (λ (k : Kept). k.number == number) gates.now }
+{
+    gates.iter().position(|kept| kept.number == number)
+}
+
+impl StreamGates {
+    /// No gates: no frame was seen. It takes no memory.
+    pub fn new(alloc: Global) -> StreamGates
+        ensures { result ≡ [] }
+    {
+        StreamGates {
+            kept: Vec::new(alloc),
+            numbers: IndexSet::new(alloc),
+        }
+    }
+
+    /// The place of the gate of a number.
+    fn place_of(&self, number: u32) -> Option<usize>
+        ensures { result ≡ position (λ (k : Kept). k.number == number) self.now }
+    {
+        if self.kept.len() <= FEW {
+            return place_among(self.kept.as_slice(), number);
+        }
+        if let Some(place) = place_among(&self.kept[..FEW], number) {
+            return Some(place);
+        }
+        match self.numbers.get_index_of(&number) {
+            Some(place) => Some(FEW + place),
+            None => None,
+        }
+    }
+
+    /// Keeps a gate of a number that has none, behind the others.
+    fn keep(&mut self, gate: KeptGate) -> Result<(), Memory>
+        requires { position (λ (k : Kept). k.number == gate.number) self.old ≡ None }
+        ensures added { OnOk result (self.new ≡ self.old ++ gate ∷ []) }
+        ensures refused { OnErr result (self.new ≡ self.old) }
+    {
+        self.kept.reserve(1)?;
+        if self.kept.len() >= FEW {
+            self.numbers.reserve(1)?;
+            self.numbers.insert(gate.number).unwrap();
+        }
+        self.kept.push(gate).unwrap();
+        Ok(())
+    }
+
+    /// Passes a frame of a row's stream, of so many octets from the destination address to the FCS, that came by the link, or at
+    /// the edge, at an instant in nanoseconds by the stream's gate, or not: by the gate that is kept for the number, else by one
+    /// that has seen no frame, which is kept from then on. `Class` exactly where the octets and those of the stream that passed
+    /// before in the same cycle are within what the row reserves in it for frames that came so: 6 in even cycles, 7 in odd ones;
+    /// else `OverOctets`, and the frame takes nothing.
+    ///
+    /// # Errors
+    /// `Memory` where there is no room to keep a gate; nothing changes then.
+    pub fn pass(
+        &mut self,
+        domain: &Domain,
+        row: &Row,
+        way: Option<u16>,
+        at: Nanos,
+        octets: Octets,
+    ) -> Result<Passed, Memory>
+        ensures verdict { IfOk result (λ passed. passed ≡ verdict_on (gate_in domain.now self.old row.now way) at.0 octets.0) }
+        ensures after { OnOk result (self.new ≡ with_gate self.old
+            (kept_after domain.now.cycle_time row.now.no (gate_in domain.now self.old row.now way) at.0 octets.0)) }
+        ensures refused { OnErr result (self.new ≡ self.old) }
+    {
+        match self.place_of(row.no) {
+            Some(place) => Ok(self.kept[place].pass(domain, row, way, at, octets)),
+            None => {
+                let mut gate = KeptGate::new(row.no);
+                let passed = gate.pass(domain, row, way, at, octets);
+                self.keep(gate)?;
+                Ok(passed)
+            }
+        }
+    }
+}

@@ -1,4 +1,0 @@
-pub mod Counting
-mod Frames
-mod GatePlaces
-mod KeptGates

@@ -1,4 +1,0 @@
-mod Cutting
-mod InCycles
-mod Paged
-mod Kept

@@ -1,4 +1,0 @@
-pub mod Agenda
-pub mod Keeping
--- what the inner functions say
-pub mod Picking

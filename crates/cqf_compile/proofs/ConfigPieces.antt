@@ -1,0 +1,35 @@
+-- The pieces of a configuration's lines, as they are put.
+use Rattle.std.proofs.Common.{◌≡◌, ◌∙◌, ◌++◌, ℕ, List, [], ◌∷◌, Some, append_assoc, ap, codes, option_map, slice_get, sym}
+use Rattle.cqf_compile.specs.BridgeGates.{gate_at}
+use Rattle.cqf_compile.specs.ConfigLines.{port_list_text, row_front}
+use Rattle.cqf_compile.specs.ConfigText.{text_at, text_of_link}
+use Rattle.cqf_gates.specs.StreamText.{text_of_stream_entries}
+use Rattle.cqf_model.specs.declared.topology.Link.{Link}
+use Rattle.cqf_model.specs.declared.topology.Row.{Row}
+use Rattle.cqf_model.specs.Domain.{Domain}
+use Rattle.cqf_topology.specs.NodeNames.{ends_of_link, name_of_bridge, name_of_node}
+
+-- a link's line and what stands behind it, piece by piece
+link_pieces : (d : Domain) (link : Link) → text_of_link d link ≡ codes "link " ++ (ends_of_link d link ++ 10 ∷ port_list_text d)
+link_pieces d link =
+    ap (λ (line : List ℕ). line ++ 10 ∷ port_list_text d)
+    (append_assoc (codes "link " ++ name_of_bridge d link.from) (codes ">") (name_of_node d link.to)
+    ∙ append_assoc (codes "link ") (name_of_bridge d link.from) (62 ∷ name_of_node d link.to))
+    ∙ append_assoc (codes "link ") (ends_of_link d link) (10 ∷ port_list_text d)
+
+-- the text of a link that is there
+pub port_pieces : (d : Domain) (l : ℕ) (link : Link) (text : List ℕ) → slice_get d.links l ≡ Some link → text ≡ port_list_text d →
+    option_map (text_of_link d) (slice_get d.links l) ≡ Some (codes "link " ++ (ends_of_link d link ++ 10 ∷ text))
+port_pieces d l link text found is =
+    ap (option_map (text_of_link d)) found ∙ ap Some (link_pieces d link)
+    ∙ ap (λ (rest : List ℕ). Some (codes "link " ++ (ends_of_link d link ++ 10 ∷ rest))) (sym is)
+
+-- a stream's line at a bridge, and its gate behind it, piece by piece
+pub row_pieces : (d : Domain) (row : Row) (bridge : ℕ) →
+    text_at d row bridge ≡ (row_front row ++ (name_of_bridge d bridge ++ 10 ∷ [])) ++ text_of_stream_entries (gate_at d row bridge)
+row_pieces d row bridge =
+    let front : List ℕ = row_front row in
+    let name : List ℕ = name_of_bridge d bridge in
+    let gate : List ℕ = text_of_stream_entries (gate_at d row bridge) in
+    append_assoc front name (10 ∷ gate)
+    ∙ sym (append_assoc front (name ++ 10 ∷ []) gate ∙ ap (λ (text : List ℕ). front ++ text) (append_assoc name (10 ∷ []) gate))

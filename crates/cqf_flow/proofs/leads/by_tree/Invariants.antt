@@ -1,7 +1,0 @@
-use Rattle.std.proofs.Common.{◌≡◌, drop}
-use Rattle.cqf_flow.specs.Leading.{by_hops}
-use Rattle.cqf_flow.proofs.leads.by_tree.Given as goal
-
--- the hops behind those that were seen say the same as all
-abbrev pub invariant-loop-hop : goal.invariant-loop-hop
-invariant-loop-hop l = by_hops l.link (drop l.hop-index l.tree) ≡ by_hops l.link l.tree

@@ -1,6 +1,0 @@
-use Rattle.cqf_flow.proofs.Sends.{HasSent}
-use Rattle.cqf_flow.proofs.outlet.Outlet.send_queue.Given as goal
-
--- the first frames are sent
-abbrev pub invariant-loop-queued : goal.invariant-loop-queued
-invariant-loop-queued l = HasSent l.cycle l.queue l.queued-index l.offset l.fn.self l.self

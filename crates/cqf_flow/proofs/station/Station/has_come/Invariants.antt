@@ -1,6 +1,0 @@
-use Rattle.std.proofs.Common.{take}
-use Rattle.cqf_flow.proofs.Going.{HasComeSoFar}
-use Rattle.cqf_flow.proofs.station.Station.has_come.Given as goal
-
-abbrev pub invariant-loop-inlet : goal.invariant-loop-inlet
-invariant-loop-inlet l = HasComeSoFar l.place l.have l.self (take l.inlet-index l.inlet-items)

@@ -1,5 +1,0 @@
-use Rattle.cqf_flow.proofs.New.{NewInletsBelow}
-use Rattle.cqf_flow.proofs.station.new_inlets.Given as goal
-
-abbrev pub invariant-loop-link : goal.invariant-loop-link
-invariant-loop-link l = NewInletsBelow l.domain l.number l.link l.inlets.items

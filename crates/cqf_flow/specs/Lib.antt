@@ -1,7 +1,0 @@
-pub mod Flows
-pub mod Logs
-pub mod Leading
-pub mod Queues
-pub mod Offering
-pub mod Sending
-pub mod Standing

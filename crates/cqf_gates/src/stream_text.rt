@@ -1,0 +1,80 @@
+//! The lists of stream gates as texts (profile).
+ghost use Rattle.std.specs.Prelude.{◌≡◌, ◌++◌, IfOk, codes, decimal};
+ghost use Rattle.cqf_gates.specs.StreamText.{is_shut, line_of_open, line_of_stream_entry, octet_max_text, text_of_stream_entries};
+ghost use Rattle.cqf_press.specs.Press.{Puts};
+
+use crate::{StreamEntry, StreamList};
+use cqf_press::{Press, Sheet, Sink, Told, told_text};
+use cqf_units::Memory;
+use std::alloc::Global;
+
+/// Whether no frame of an octet or more is within the octet maximum, so that the entry is written as closed.
+pub fn is_shut(octet_max: Option<u32>) -> bool
+    ensures { result ≡ is_shut octet_max }
+{
+    octet_max == Some(0)
+}
+
+/// Puts an octet maximum, `-` where there is none.
+fn put_maximum<W: Sink>(press: &mut Press<'_, W>, octet_max: Option<u32>)
+    ensures { Puts W.contents press.old press.new (octet_max_text octet_max) }
+{
+    match octet_max {
+        Some(most) => press.put_number(most),
+        None => press.put(b"-"),
+    }
+}
+
+/// Puts what is told of an entry in which frames may pass.
+fn put_open<W: Sink>(press: &mut Press<'_, W>, entry: StreamEntry)
+    ensures { Puts W.contents press.old press.new (line_of_open entry) }
+{
+    press.put(b"open ");
+    press.put_number(entry.ipv);
+    press.put(b" ");
+    press.put_number(entry.interval);
+    press.put(b" ");
+    put_maximum(press, entry.octet_max);
+}
+
+/// Puts what is told of one in which none passes.
+fn put_closed<W: Sink>(press: &mut Press<'_, W>, interval: u32)
+    ensures { Puts W.contents press.old press.new (codes "closed " ++ decimal interval) }
+{
+    press.put(b"closed ");
+    press.put_number(interval);
+}
+
+/// Puts what is told of an entry of a stream's gate.
+fn put_entry<W: Sink>(press: &mut Press<'_, W>, entry: StreamEntry)
+    ensures { Puts W.contents press.old press.new (line_of_stream_entry entry) }
+{
+    if is_shut(entry.octet_max) {
+        put_closed(press, entry.interval);
+    } else {
+        put_open(press, entry);
+    }
+}
+
+/// Puts the text of a stream gate's list, as [`write_stream`] gives it. It asks for no memory.
+pub fn put_stream<W: Sink>(press: &mut Press<'_, W>, list: &StreamList)
+    ensures { Puts W.contents press.old press.new (text_of_stream_entries list.now) }
+{
+    for entry in list.entries() {
+        put_entry(press, *entry);
+        press.put_byte(b'\n');
+    }
+}
+
+/// The text of a stream gate's list: for each entry a line with `open`, the internal priority value, the interval and
+/// the octet maximum, `-` where there is none; or, where that is 0, so that no frame passes, with `closed` and the interval
+/// (profile). The error is want of memory.
+pub fn write_stream(alloc: Global, list: &StreamList) -> Result<Vec<u8>, Memory>
+    ensures { IfOk result (λ text. text.items ≡ text_of_stream_entries list.now) }
+{
+    let mut told = Told::new(Vec::new(alloc));
+    let mut press = Press::new(&mut told, Sheet::new(alloc)?);
+    put_stream(&mut press, list);
+    let _told = press.close();
+    told_text(told)
+}

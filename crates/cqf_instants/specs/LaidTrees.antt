@@ -1,0 +1,61 @@
+-- A tree that is laid out: behind each hop's branch those of the hops that follow it, side by side.
+use Rattle.std.specs.Prelude.{ℕ, true, ◌≡◌, ◌+◌, ◌*◌, ◌≤◌, ◌<◌, ◌==◌, List, Option, Some, None, length, slice_get, slice_index_or, take}
+use Rattle.std.specs.List.{list_any}
+use Rattle.cqf_model.specs.declared.topology.Hop.{Hop}
+use Rattle.cqf_model.specs.Table.{links_in}
+use Rattle.cqf_instants.specs.declared.lanes.LaidHop.{LaidHop}
+use Rattle.cqf_instants.specs.Laid.{group_of}
+use Rattle.cqf_instants.specs.Lanes.{branch_at}
+use Rattle.cqf_instants.specs.Meaning.{links_at}
+use Rattle.cqf_instants.specs.declared.laying.Group.{Group}
+
+-- branches that stand side by side are by the links of the hops that follow a way
+pub record StandBehind (tree : List Hop) (way : Option ℕ) (branches : List LaidHop) (group : Group) : Type 0 where
+  pub inside : group.first + group.many ≤ length branches
+  pub links : links_at branches group.first group.many ≡ links_in (group_of tree way)
+
+-- the group of a link
+abbrev pub group_at : List Group → ℕ → Group
+group_at groups link = slice_index_or groups link (record { first = 0; many = 0 })
+
+-- a branch's link is one of the tree's
+abbrev pub is_of_tree : List Hop → ℕ → LaidHop → Type 0
+is_of_tree tree h branch = list_any (λ (hop : Hop). hop.link == branch.link) tree ≡ true
+
+-- behind branches that stood there were laid, for each of the first so many hops of a tree, those that follow it
+pub record AreBehind (tree : List Hop) (before after : List LaidHop) (many : ℕ) (groups : List Group) : Type 0 where
+  pub count : length groups ≡ 4096
+  pub longer : length before ≤ length after
+  pub short : length after ≤ length before + 200 * many
+  pub front : take (length before) after ≡ before
+  pub each : (k : ℕ) (hop : Hop) → k < many → slice_get tree k ≡ Some hop → StandBehind tree (Some hop.link) after (group_at groups hop.link)
+  pub beyond : (k : ℕ) (hop : Hop) → k < many → slice_get tree k ≡ Some hop → length before ≤ (group_at groups hop.link).first
+  pub own : (h : ℕ) → length before ≤ h → h < length after → is_of_tree tree h (branch_at after h)
+
+-- from a place on links have numbers below 4096
+abbrev pub HaveLinks : List LaidHop → ℕ → Type 0
+HaveLinks branches from = (h : ℕ) → from ≤ h → h < length branches → (branch_at branches h).link < 4096
+
+-- the branches from a place up to another lead to the group of their link, and all else is as it was
+pub record AreTied (before after : List LaidHop) (from to : ℕ) (groups : List Group) : Type 0 where
+  pub count : length after ≡ length before
+  pub links : (h : ℕ) → (branch_at after h).link ≡ (branch_at before h).link
+  pub tied : (h : ℕ) → from ≤ h → h < to → ((branch_at after h).next ≡ (group_at groups (branch_at before h).link).first)
+      × ((branch_at after h).many ≡ (group_at groups (branch_at before h).link).many)
+  pub front : (h : ℕ) → h < from → branch_at after h ≡ branch_at before h
+
+-- where the branches behind a branch stand
+abbrev pub behind_at : List LaidHop → ℕ → Group
+behind_at branches h = let branch = branch_at branches h in record { first = branch.next; many = branch.many }
+
+-- a tree was laid behind branches that stood there: from the edge it begins with a group, and each branch of it leads to those that
+-- follow its link, which are of it too
+pub record IsLaidBranch (tree : List Hop) (before after : List LaidHop) (edge : Group) : Type 0 where
+  pub longer : length before ≤ length after
+  pub short : length after ≤ length before + 40200
+  pub front : (h : ℕ) → h < length before → branch_at after h ≡ branch_at before h
+  pub begins : StandBehind tree None after edge
+  pub from : length before ≤ edge.first
+  pub own : (h : ℕ) → length before ≤ h → h < length after → is_of_tree tree h (branch_at after h)
+  pub behind : (h : ℕ) → length before ≤ h → h < length after → StandBehind tree (Some (branch_at after h).link) after (behind_at after h)
+  pub beyond : (h : ℕ) → length before ≤ h → h < length after → length before ≤ (behind_at after h).first

@@ -1,8 +1,0 @@
--- Of the first those that come before the end are listed.
-use Rattle.std.specs.Prelude.{◌≡◌, filter, take}
-use Rattle.cqf_model.specs.Network.{numbered_background}
-use Rattle.cqf_instants_background.specs.Frames.{is_early}
-use Rattle.cqf_instants_background.proofs.frames.listed_before.Given as goal
-
-abbrev pub invariant-loop-place : goal.invariant-loop-place
-invariant-loop-place l = l.frames.items ≡ filter (is_early l.end.0) (numbered_background (take l.place l.background))

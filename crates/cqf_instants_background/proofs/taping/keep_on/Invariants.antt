@@ -1,7 +1,0 @@
--- Of the first starts those of background frames stand on the tape.
-use Rattle.std.proofs.Common.{take}
-use Rattle.cqf_instants_background.proofs.Tapes.{HasBesides}
-use Rattle.cqf_instants_background.proofs.taping.keep_on.Given as goal
-
-abbrev pub invariant-loop-start : goal.invariant-loop-start
-invariant-loop-start l = HasBesides (take l.start-index l.start-items) l.initial.tape l.tape

@@ -1,6 +1,0 @@
--- The branches up to here are tied.
-use Rattle.cqf_instants_branches.specs.Laid.{AreTied}
-use Rattle.cqf_instants_branches.proofs.laying.tie.Given as goal
-
-abbrev pub invariant-loop-place : goal.invariant-loop-place
-invariant-loop-place l = AreTied l.initial.branches.items l.branches.items l.from l.place l.groups

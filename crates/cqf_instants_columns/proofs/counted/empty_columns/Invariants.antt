@@ -1,6 +1,0 @@
--- There are so many columns, in which nothing is counted.
-use Rattle.cqf_instants_columns.specs.Columns.{AreEmptyColumns}
-use Rattle.cqf_instants_columns.proofs.counted.empty_columns.Given as goal
-
-abbrev pub invariant-loop-link : goal.invariant-loop-link
-invariant-loop-link l = AreEmptyColumns l.columns.items l._link l.width

@@ -1,4 +1,0 @@
-pub mod LastRows
-pub mod InForce
-pub mod Covers
-pub mod Step

@@ -1,4 +1,0 @@
-pub mod Single
-pub mod ByPlace
-pub mod Drops
-pub mod OfParts

@@ -1,2 +1,0 @@
-pub mod Drops
-pub mod Parts

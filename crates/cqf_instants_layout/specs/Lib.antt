@@ -1,4 +1,0 @@
-pub mod Laid
-pub mod Entered
-pub mod History
-pub mod Passes

@@ -1,0 +1,10 @@
+use Rattle.std.proofs.Common.{rules}
+use Rattle.std.proofs.lemmas.List.Sorted.{IsNonDecreasingBy-from_sort_by_key, answers_always}
+use Rattle.cqf_instants_run.proofs.Arranged.{arranged, at_of}
+use Rattle.cqf_instants_run.proofs.frames.frames_before.Goals as goal
+
+-- the sort is stable
+pub returns : goal.returns
+returns c = arranged c.args.background.now c.args.end.0 _ _ c.in_ok-frames.ensures c.sort_by_key.ensures.permutation
+    (IsNonDecreasingBy-from_sort_by_key at_of _ c.in_ok-sort_by_key.ensures.sorted (λ a r q k. search rules))
+    (c.sort_by_key.ensures.stable at_of (answers_always _ _ _ (λ f a r q k. search rules)))

@@ -1,0 +1,15 @@
+pub mod Begun
+pub mod Coverage
+pub mod Laid
+pub mod Entered
+pub mod HistoryStarts
+pub mod Passes
+pub mod Columns
+pub mod Drops
+pub mod Parts
+pub mod Feeding
+pub mod Sending
+pub mod BackgroundStarts
+pub mod Taping
+-- what the inner functions say
+pub mod Frames

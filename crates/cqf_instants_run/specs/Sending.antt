@@ -1,0 +1,55 @@
+-- What a port starts of background frames beside streams' frames that come when they start.
+use Rattle.std.specs.Prelude.{ℕ, ◌≡◌, ◌<◌, ◌++◌, All, Bool, List, filter, length, map, nat_lt}
+use Rattle.cqf_units.specs.Timing.{cycle_at}
+use Rattle.cqf_lists.specs.Lists.{each_below}
+use Rattle.cqf_model.specs.declared.frames.Sent.{Sent}
+use Rattle.cqf_model.specs.declared.frames.Started.{Started}
+use Rattle.cqf_model.specs.declared.ports.Arrival.{Arrival}
+use Rattle.cqf_model.specs.declared.ports.Start.{Start}
+use Rattle.cqf_model.specs.Book.{started_backed}
+use Rattle.cqf_model.specs.Domain.{Domain, IsAccepted, octet_time_of}
+use Rattle.cqf_model.specs.GateList.{port_list}
+use Rattle.cqf_model.specs.Network.{QueuedFrame, Sends, compiled_lists}
+use Rattle.cqf_model.specs.Port.{AreLegal, Transmission}
+use Rattle.cqf_laws_cycle.specs.Beside.{IsToldByClass}
+use Rattle.cqf_port.specs.PortState.{start_of}
+use Rattle.cqf_instants_run.specs.Feeding.{arrival_of_sent, backs_among, fed}
+
+-- a start is of a background frame: of a class below 6
+abbrev pub is_low : Start → Bool
+is_low start = nat_lt start.class 6
+
+-- the background frames that a port of a link under the compiled gate list starts, up to an end, of what it is given
+pub record Backs (d : Domain) (end l : ℕ) (arrivals : List Arrival) (backed : List Start) : Type 0 where
+  pub starts : List Transmission
+  pub legal : AreLegal (record { entries = port_list d.cycle_time d.guard; octet_time = octet_time_of d l }) arrivals end starts
+  pub are_backed : backed ≡ filter is_low (map (start_of arrivals) starts)
+
+-- a port hands out, up to an end, starts that are legal for what it is given, and no others are
+pub record Hands (d : Domain) (end l : ℕ) (arrivals : List Arrival) (made : List Start) : Type 0 where
+  pub starts : List Transmission
+  pub legal : AreLegal (record { entries = port_list d.cycle_time d.guard; octet_time = octet_time_of d l }) arrivals end starts
+  pub only : (others : List Transmission) →
+      AreLegal (record { entries = port_list d.cycle_time d.guard; octet_time = octet_time_of d l }) arrivals end others → others ≡ starts
+  pub are : made ≡ map (start_of arrivals) starts
+
+-- a port starts the same background frames where the streams' frames come to it when they start, and where one has no background
+-- frame, none
+abbrev pub PortStartsTheBackground : Type 0
+PortStartsTheBackground = (d : Domain) (end l : ℕ) (queued : List QueuedFrame) (sents : List Sent) (backed : List Start) →
+    IsAccepted d → l < length d.links → All IsToldByClass queued → Sends d (compiled_lists d l) end l queued sents backed →
+    Backs d end l (fed (backs_among queued) (map (arrival_of_sent d) sents)) backed
+
+-- a start in the background list, in the cycle of its instant
+abbrev pub told : ℕ → ℕ → Start → Started
+told cycle_time link start = started_backed (cycle_at cycle_time start.start.0) link start
+
+-- what a port starts of background frames is told behind what was
+abbrev pub TellsLink : Domain → ℕ → ℕ → List Arrival → List Started → List Started → Type 0
+TellsLink d end l arrivals before after =
+    (backed : List Start) → Backs d end l arrivals backed → after ≡ before ++ map (told d.cycle_time l) backed
+
+-- and so is what the ports of the first links start, by link
+abbrev pub TellsLinks : Domain → ℕ → (ℕ → List Arrival) → ℕ → List Started → Type 0
+TellsLinks d end feeds count starts = (backed : ℕ → List Start) → ((l : ℕ) → l < count → Backs d end l (feeds l) (backed l)) →
+    starts ≡ each_below (λ l. map (told d.cycle_time l) (backed l)) count

@@ -1,0 +1,55 @@
+-- What the links' tapes get of background frames when a run has ended, beside what stands on them (profile).
+use Rattle.std.specs.Prelude.{ℕ, ◌≡◌, ◌<◌, ◌*◌, ◌^◌, ◌++◌, List, length, map, slice_index_or}
+use Rattle.cqf_model.specs.declared.frames.Background.{Background}
+use Rattle.cqf_model.specs.declared.ports.Arrival.{Arrival}
+use Rattle.cqf_model.specs.declared.ports.Start.{Start}
+use Rattle.cqf_model.specs.Domain.{Domain, cycle_of}
+use Rattle.cqf_model.specs.Network.{Network}
+use Rattle.cqf_model.specs.Run.{Run}
+use Rattle.cqf_laws_cycle.specs.Compiled.{open_class}
+use Rattle.cqf_laws_shift.specs.Run.{IsLegalRun}
+use Rattle.cqf_tape.specs.declared.tape.Mark.{Mark}
+use Rattle.cqf_tape.specs.declared.tape.Tape.{Tape}
+use Rattle.cqf_tape.specs.Tapes.{background_at, first_links, links_of, mark_of_sent, mark_of_start, starts_at}
+use Rattle.cqf_instants_run.specs.Feeding.{fed}
+use Rattle.cqf_instants_run.specs.Sending.{Backs}
+
+-- a stream's frame on a tape that comes when it starts, with the class that its cycle sends
+abbrev pub arrival_of_mark : Domain → Mark → Arrival
+arrival_of_mark d m = record { at = m.start; class = open_class (cycle_of d m.start.0); octets = m.octets; frame = m.frame }
+
+-- a legal run of the domain with these background frames, which ends then: the tapes stand by number of their links, and on each stand the
+-- streams' frames that its link carries
+pub record IsTapedRun (d : Domain) (end : ℕ) (background : List Background) (tapes : List Tape) (run : Run) (net : Network) : Type 0 where
+  pub legal : IsLegalRun run net
+  pub of_domain : run.domain ≡ d
+  pub backed : run.background ≡ background
+  pub ends : end ≡ length run.tables * d.cycle_time
+  pub early : end < 2 ^ 62
+  pub links : links_of tapes ≡ first_links (length d.links)
+  pub starts : (l : ℕ) → l < length d.links → starts_at tapes l ≡ map mark_of_sent (net.carried l)
+
+-- there is such a run
+pub record SomeTapedRun (d : Domain) (end : ℕ) (background : List Background) (tapes : List Tape) : Type 0 where
+  pub run : Run
+  pub net : Network
+  pub is : IsTapedRun d end background tapes run net
+
+-- each link's tape has besides what the network of each such run starts of background frames there, and nothing else is changed
+pub record BacksTheTapes (d : Domain) (end : ℕ) (frames : List Background) (before after : List Tape) : Type 0 where
+  pub links : links_of after ≡ links_of before
+  pub starts : (l : ℕ) → starts_at after l ≡ starts_at before l
+  pub background : (run : Run) (net : Network) → IsTapedRun d end frames before run net → (l : ℕ) → l < length d.links →
+      background_at after l ≡ background_at before l ++ map mark_of_start (net.backed l)
+
+-- a tape has besides what its link's port starts of background frames up to an end, given these and the streams' frames of the tape
+pub record TakesBackground (d : Domain) (end : ℕ) (frames : List Arrival) (before after : Tape) : Type 0 where
+  pub link : after.link ≡ before.link
+  pub starts : after.starts ≡ before.starts
+  pub background : (backed : List Start) → Backs d end before.link (fed frames (map (arrival_of_mark d) before.starts.items)) backed →
+      after.background.items ≡ before.background.items ++ map mark_of_start backed
+
+-- and so each tape of a list does, with the background frames that are fed by its place
+pub record TakeBackground (d : Domain) (end : ℕ) (feeds : ℕ → List Arrival) (before after : List Tape) : Type 0 where
+  pub many : length after ≡ length before
+  pub each : (k : ℕ) (none : Tape) → k < length before → TakesBackground d end (feeds k) (slice_index_or before k none) (slice_index_or after k none)

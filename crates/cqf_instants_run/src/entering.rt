@@ -1,0 +1,65 @@
+//! The offers of a run, with where their first hops stand.
+ghost use Rattle.std.specs.Prelude.{◌≡◌, IfOk, length};
+ghost use Rattle.cqf_instants_run.specs.Entered.{AreEntered, group_for, group_until};
+
+use crate::EdgeVerdict;
+use cqf_instants::{Entering, Group};
+use cqf_model::Offer;
+use cqf_units::{Memory, Nanos};
+use std::alloc::Global;
+
+/// No hops.
+const NONE: Group = Group { first: 0, many: 0 };
+
+/// Where the first hops of an offer stand that is judged so.
+fn group_for(groups: &[Group], edge_verdict: EdgeVerdict) -> Group
+    ensures { result ≡ group_for groups.now edge_verdict }
+{
+    match edge_verdict {
+        EdgeVerdict::Covered(place) => match groups.get(place) {
+            Some(group) => *group,
+            None => NONE,
+        },
+        EdgeVerdict::Dropped(_) => NONE,
+    }
+}
+
+/// And of one that is offered before an instant; of a later one none stand.
+fn group_until(end: Nanos, groups: &[Group], offer: &Offer, edge_verdict: EdgeVerdict) -> Group
+    ensures { result ≡ group_until end.0 groups.now offer.now edge_verdict }
+{
+    if offer.at.0 < end.0 {
+        group_for(groups, edge_verdict)
+    } else {
+        NONE
+    }
+}
+
+/// Gives each of some offers, in their order, with where the hops stand by which it enters: where a row covers it, those of the
+/// group of the row, which is at the row's place; none where it is dropped, or offered at the end or later (profile). There
+/// are as many verdicts as offers. The time grows with the offers.
+///
+/// # Errors
+/// Where a growth is refused.
+pub fn enter_offers(
+    alloc: Global,
+    end: Nanos,
+    offers: &[Offer],
+    edge_verdicts: &[EdgeVerdict],
+    groups: &[Group],
+) -> Result<Vec<Entering>, Memory>
+    requires { length edge_verdicts.now ≡ length offers.now }
+    ensures { IfOk result (λ entering. AreEntered end.0 offers.now edge_verdicts.now groups.now (length offers.now) entering.items) }
+{
+    let mut entering = Vec::with_capacity(alloc, offers.len())?;
+    for (place, offer) in offers.iter().enumerate() {
+        let Group { first, many } = group_until(end, groups, offer, edge_verdicts[place]);
+        entering.push(Entering {
+            at: offer.at.0,
+            octets: offer.octets,
+            first,
+            many,
+        })?;
+    }
+    Ok(entering)
+}

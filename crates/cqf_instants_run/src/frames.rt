@@ -1,0 +1,59 @@
+//! The background frames of a run in order of instant.
+ghost use Rattle.std.specs.Prelude.{◌≡◌, ◌+◌, ◌^◌, ◌<◌, ◌≤◌, IfOk, filter, length, nat_lt};
+ghost use Rattle.cqf_model.specs.Network.{numbered_background};
+ghost use Rattle.cqf_instants_run.specs.Frames.{by_instant, is_early};
+ghost use Rattle.cqf_model.specs.Limits.{most_rows};
+
+use cqf_model::{Backed, Background};
+use cqf_units::{Memory, Nanos};
+use std::alloc::Global;
+
+/// The background frame at a place among all, with its number.
+fn numbered_frame(place: usize, background: &Background) -> Backed
+    requires { place + 1 < 2 ^ 32 }
+    ensures { result ≡ record { frame = place + 1; background = background.now } }
+{
+    Backed {
+        frame: (place + 1) as u32,
+        background: *background,
+    }
+}
+
+/// Whether a background frame comes before an instant.
+fn is_early(frame: &Background, end: Nanos) -> bool
+    ensures { result ≡ nat_lt frame.now.at.0 end.0 }
+{
+    frame.at.0 < end.0
+}
+
+/// The background frames that come before an instant, as they are listed.
+fn listed_before(
+    alloc: Global,
+    background: &[Background],
+    end: Nanos,
+) -> Result<Vec<Backed>, Memory>
+    requires { length background.now ≤ most_rows }
+    ensures { IfOk result (λ frames. frames.items ≡ filter (is_early end.0) (numbered_background background.now)) }
+{
+    let mut frames = Vec::new(alloc);
+    for (place, frame) in background.iter().enumerate() {
+        if is_early(frame, end) {
+            frames.push(numbered_frame(place, frame))?;
+        }
+    }
+    Ok(frames)
+}
+
+/// The background frames that come before an instant, by instant, then place, each with its number among all.
+pub(crate) fn frames_before(
+    alloc: Global,
+    background: &[Background],
+    end: Nanos,
+) -> Result<Vec<Backed>, Memory>
+    requires { length background.now ≤ most_rows }
+    ensures { IfOk result (λ frames. frames.items ≡ by_instant background.now end.0) }
+{
+    let mut frames = listed_before(alloc, background, end)?;
+    frames.sort_by_key(|frame| frame.background.at.0)?;
+    Ok(frames)
+}

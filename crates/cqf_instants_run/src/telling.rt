@@ -1,0 +1,122 @@
+//! What the ports start of background frames.
+ghost use Rattle.std.specs.Prelude.{◌≡◌, ◌++◌, ◌^◌, ◌<◌, ◌≤◌, All, IfOk, OnOk, filter, length, map, slice_index_or, ℕ, []};
+ghost use Rattle.cqf_units.specs.Timing.{cycle_at};
+ghost use Rattle.cqf_port.specs.PortState.{AreTaken};
+ghost use Rattle.cqf_lists.specs.ByNumber.{lists_of};
+ghost use Rattle.cqf_instants_run.specs.Sending.{Hands, TellsLink, TellsLinks, is_low, told};
+
+use cqf_gates::compiled_list;
+use cqf_model::{Arrival, Start, Started};
+use cqf_port::Port;
+use cqf_topology::Domain;
+use cqf_units::{Memory, Nanos, cycle_of};
+use std::alloc::Global;
+
+/// The least class of streams' frames.
+const STREAMS: u8 = 6;
+
+/// Whether a start is of a background frame.
+pub(crate) fn is_low(start: &Start) -> bool
+    ensures { result ≡ is_low start.now }
+{
+    start.class < STREAMS
+}
+
+/// The start of a background frame as a book has it.
+fn told(start: &Start, link: u16, cycle_time: Nanos) -> Started
+    requires lasting { 0 < cycle_time.0 }
+    requires fits { cycle_at cycle_time.0 start.now.start.0 < 2 ^ 32 }
+    ensures { result ≡ told cycle_time.0 link start.now }
+{
+    Started {
+        cycle: cycle_of(start.start, cycle_time),
+        link,
+        frame: start.frame,
+        octets: start.octets,
+        start: start.start,
+    }
+}
+
+/// Puts the starts of background frames behind others, each as a book has it.
+fn tell_starts(
+    made: &[Start],
+    link: u16,
+    cycle_time: Nanos,
+    starts: &mut Vec<Started>,
+) -> Result<(), Memory>
+    requires lasting { 0 < cycle_time.0 }
+    requires fits { All (λ start. cycle_at cycle_time.0 start.start.0 < 2 ^ 32) made.now }
+    ensures { OnOk result (starts.new.items ≡ starts.old.items ++ map (told cycle_time.0 link) (filter is_low made.now)) }
+{
+    for start in made {
+        if is_low(start) {
+            starts.push(told(start, link, cycle_time))?;
+        }
+    }
+    Ok(())
+}
+
+/// What the port of a link starts up to an end of what it is given.
+pub(crate) fn starts_of_port(
+    alloc: Global,
+    domain: &Domain,
+    link: u16,
+    end: Nanos,
+    arrivals: Vec<Arrival>,
+) -> Result<Vec<Start>, Memory>
+    requires link { link < length domain.now.links }
+    requires early { end.0 < 2 ^ 62 }
+    requires taken { AreTaken arrivals.items }
+    ensures { IfOk result (λ made. Hands domain.now end.0 link arrivals.items made.items) }
+{
+    let list = compiled_list(domain.cycle_time(), domain.guard());
+    let mut port = Port::with_arrivals(alloc, list, domain.link(link).rate, arrivals);
+    let mut made = Vec::new(alloc);
+    port.advance(end, &mut made)?;
+    Ok(made)
+}
+
+/// Tells what the port of a link starts of background frames, behind what was told.
+fn tell_link(
+    alloc: Global,
+    domain: &Domain,
+    link: u16,
+    end: Nanos,
+    arrivals: Vec<Arrival>,
+    starts: &mut Vec<Started>,
+) -> Result<(), Memory>
+    requires link { link < length domain.now.links }
+    requires early { end.0 < 2 ^ 62 }
+    requires fits { cycle_at domain.now.cycle_time end.0 < 2 ^ 32 }
+    requires taken { AreTaken arrivals.items }
+    ensures { OnOk result (TellsLink domain.now end.0 link arrivals.items starts.old.items starts.new.items) }
+{
+    let made = starts_of_port(alloc, domain, link, end, arrivals)?;
+    tell_starts(made.as_slice(), link, domain.cycle_time(), starts)?;
+    Ok(())
+}
+
+/// What the ports of the links start of background frames up to an end, of what each is given, by link. Each list is let go once
+/// its port has run.
+pub(crate) fn tell_links(
+    alloc: Global,
+    domain: &Domain,
+    end: Nanos,
+    lists: Vec<Vec<Arrival>>,
+) -> Result<Vec<Started>, Memory>
+    requires one_each { length lists.items ≡ length domain.now.links }
+    requires few { length lists.items ≤ 4096 }
+    requires early { end.0 < 2 ^ 62 }
+    requires fits { cycle_at domain.now.cycle_time end.0 < 2 ^ 32 }
+    requires taken { (l : ℕ) → l < length lists.items → AreTaken (slice_index_or (lists_of lists.items) l []) }
+    ensures { IfOk result (λ starts.
+        TellsLinks domain.now end.0 (λ l. slice_index_or (lists_of lists.items) l []) (length lists.items) starts.items) }
+{
+    let mut starts = Vec::new(alloc);
+    let mut link = 0;
+    for arrivals in lists {
+        tell_link(alloc, domain, link, end, arrivals, &mut starts)?;
+        link += 1;
+    }
+    Ok(starts)
+}

@@ -1,0 +1,16 @@
+pub mod Matched
+pub mod Hops
+pub mod Counts
+pub mod InOneCycle
+pub mod Columns
+pub mod Found
+pub mod Rows
+pub mod Names
+pub mod Fronts
+pub mod Counters
+pub mod Judged
+pub mod Cells
+pub mod Told
+pub mod There
+pub mod Single
+pub mod InTurn

@@ -1,0 +1,140 @@
+//! Laws about coverage and the sums by link: what becomes of each offer by the rows that a history ever granted, and so what a book says by
+//! link, from the offers and these rows alone. [`Column`] is what one link carries.
+//!
+//! Each law is a function that ends at once: its contract is a statement of `specs/` about the definitions of `cqf_model`,
+//! and its proof shows that the statement holds. A proof elsewhere uses the law by a call of the function.
+//!
+//! ```
+//! // here on, a proof knows that the starts of a book are the hops of the covered offers
+//! cqf_laws_coverage::starts_are_hops();
+//! ```
+#![tactic(auto)]
+
+ghost use Rattle.cqf_laws_coverage.specs.Counted.{ColumnsTell, HistoryIsCounted, StartsAreHops};
+ghost use Rattle.cqf_laws_coverage.specs.InOneCycle.{MostIsTheGreatest};
+ghost use Rattle.cqf_laws_coverage.specs.Rows.{AsLive, OneIsInForce, RowsAreFound, RowsOfANameFollow, RowsSayTheTables, RowsStandAsTheyBegin};
+ghost use Rattle.cqf_laws_coverage.specs.Judged.{
+  CounterOfTheRow,
+  CountersBegin,
+  CountersGoOn,
+  CountersOfOthers,
+  OffersAreJudged,
+  OffersBeforeStandBefore,
+  ReportIsCounted,
+};
+ghost use Rattle.cqf_laws_coverage.specs.Told.{BookOfHistoryIsThere, CellsFit};
+
+mod column;
+
+pub use column::Column;
+
+/// The starts of a book are the hops of the covered offers: what is counted of the ones is what is counted of the others
+/// (profile).
+pub fn starts_are_hops()
+    ensures { StartsAreHops }
+{
+    cqf_laws_cycle::port_is_one_cycle_late();
+    cqf_laws_cycle::streams_are_sent_as_alone();
+    cqf_laws_cycle::gate_gives_class();
+    cqf_laws_cycle::gate_counts_cycles();
+    cqf_laws_shift::run_beside_is_run_alone();
+    cqf_laws_shift::book_says_the_shift();
+}
+
+/// So a link's frames, octets and octets in a cycle are those of the covered offers' hops, in each book of a legal history
+/// (profile).
+pub fn history_is_counted()
+    ensures { HistoryIsCounted }
+{
+    starts_are_hops();
+    cqf_laws_history::tables_are_orderly();
+}
+
+/// The most octets that a link has in one cycle is so, over all cycles: no cycle has more, and one has it, unless it is 0.
+pub fn most_is_the_greatest()
+    ensures { MostIsTheGreatest }
+{}
+
+/// A list of what a link has in each cycle tells its octets, and the most in one cycle.
+pub fn columns_tell()
+    ensures { ColumnsTell }
+{}
+
+/// The rows that a history ever accepted say the table of each cycle that it closes, and the row of each name in it; no two of
+/// one name are held in one cycle (profile).
+pub fn rows_say_the_tables()
+    ensures tables { RowsSayTheTables }
+    ensures found { RowsAreFound }
+    ensures live { AsLive }
+    ensures one { OneIsInForce }
+{
+    cqf_laws_history::tables_are_orderly();
+}
+
+/// Rows stand in the order in which they begin, and those of one name follow one another in time: so a place that only goes
+/// on finds the row in force (profile).
+pub fn rows_follow()
+    ensures begin { RowsStandAsTheyBegin }
+    ensures follow { RowsOfANameFollow }
+{
+    rows_say_the_tables();
+    cqf_laws_history::state_follows_history();
+}
+
+/// Where offers stand in order of instant, the offers before one stand before it, so that what they
+/// take of a row is counted as one goes on (profile).
+pub fn offers_stand_in_order()
+    ensures before { OffersBeforeStandBefore }
+    ensures goes_on { CountersGoOn }
+    ensures begins { CountersBegin }
+{}
+
+/// Four tests by the row in force and its counter decide on an offer what the definitions say (profile).
+pub fn offers_are_judged()
+    ensures { OffersAreJudged }
+{
+    rows_say_the_tables();
+    offers_stand_in_order();
+}
+
+/// An offer changes the counter of the row in force alone, of the rows that are held in its cycle (profile).
+pub fn counters_step()
+    ensures row { CounterOfTheRow }
+    ensures others { CountersOfOthers }
+{
+    rows_say_the_tables();
+}
+
+/// So a book's sums by link are those of the hops of the offers that pass these tests (profile).
+pub fn report_is_counted()
+    ensures { ReportIsCounted }
+{
+    history_is_counted();
+    offers_are_judged();
+}
+
+/// And what leaves by a link in a cycle is within the link's budget, so that it has room in a cell of the link's column (profile).
+pub fn cells_fit()
+    ensures { CellsFit }
+{
+    report_is_counted();
+    cqf_laws_network::book_exists();
+    cqf_laws_history::tables_are_orderly();
+    cqf_laws_cycle::port_is_one_cycle_late();
+    cqf_laws_cycle::streams_are_sent_as_alone();
+    cqf_laws_cycle::gate_gives_class();
+    cqf_laws_cycle::gate_counts_cycles();
+    cqf_laws_shift::run_beside_is_run_alone();
+    cqf_laws_shift::gates_mean_the_shift();
+}
+
+/// The book of a legal history is there without any run: there is just one, and all that is promised of a run's book holds of
+/// it (profile).
+pub fn book_of_history_is_there()
+    ensures { BookOfHistoryIsThere }
+{
+    cqf_laws_network::book_exists();
+    cqf_laws_network::book_is_unique();
+    cqf_laws_history::tables_are_orderly();
+    cqf_laws_shift::book_says_the_shift();
+}

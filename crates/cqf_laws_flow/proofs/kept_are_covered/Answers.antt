@@ -1,5 +1,0 @@
-use Rattle.cqf_laws_flow.proofs.Kept.{kept_are_covered}
-use Rattle.cqf_laws_flow.proofs.kept_are_covered.Goals as goal
-
-pub returns : goal.returns
-returns c = kept_are_covered c.taken_is_covered.ensures c.what_a_cycle_queues.ensures.covering

@@ -1,4 +1,0 @@
-pub mod Latency
-pub mod Streams
-pub mod Verdicts
-pub mod Listeners

@@ -1,4 +1,0 @@
-mod Hindmost
-mod Unled
-mod Lanes
-mod Follow

@@ -1,5 +1,0 @@
-use Rattle.cqf_laws_links.proofs.Hindmost.{some_link_can_go_on}
-use Rattle.cqf_laws_links.proofs.some_link_can_go_on.Goals as goal
-
-pub returns : goal.returns
-returns c = some_link_can_go_on

@@ -1,0 +1,11 @@
+mod Hindmost
+mod Orders
+mod Alike
+mod Ways
+mod Known
+mod Turns
+mod Following
+mod Kept
+mod Drops
+mod Taped
+mod Coming

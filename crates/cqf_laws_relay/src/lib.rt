@@ -1,0 +1,83 @@
+//! Laws about bridges whose links go on by themselves, as `cqf_relay` has them.
+//!
+//! Each law is a function that ends at once: its contract is a statement of `specs/` about the definitions of `cqf_model`,
+//! and its proof shows that the statement holds. A proof elsewhere uses the law by a call of the function.
+//!
+//! - The offers that a bridge keeps, judging one behind the other, are those that the run's rows cover ([`kept_are_covered`]).
+//! - Those that it drops are the drops of the run's book ([`dropped_are_the_runs`]).
+//! - Where all has come to each bridge, and each link has gone on over all cycles, all have sent what the network sends
+//!   ([`relays_follow_the_network`]).
+//! - The tapes of their reels have what the network sends ([`relays_keep_the_tapes`]), and with its background frames they are those of the
+//!   run's book ([`backed_tapes_are_the_books`]).
+//! - The tables of a history may come to such bridges ([`tables_may_come`]).
+//! - A link that has come least far can go on ([`some_link_can_go_on`]).
+//!
+//! ```
+//! // here on, a proof knows that bridges whose links go on by themselves send what the gates ask for
+//! cqf_laws_relay::relays_follow_the_network();
+//! ```
+#![tactic(auto)]
+
+ghost use Rattle.cqf_laws_relay.specs.Following.{DroppedAreTheRuns, KeptAreCovered, RelaysFollowTheNetwork, TablesMayCome};
+ghost use Rattle.cqf_laws_relay.specs.Hindmost.{SomeLinkCanGoOn};
+ghost use Rattle.cqf_laws_relay.specs.Taped.{BackedTapesAreTheBooks, RelaysKeepTheTapes};
+
+/// The offers of a cycle that a bridge keeps, judging one behind the other by what is used of their rows, are those that the run's rows
+/// cover, each with its row (profile).
+pub fn kept_are_covered()
+    ensures { KeptAreCovered }
+{
+    cqf_laws_shift::taken_is_covered();
+    cqf_laws_instants::what_a_cycle_queues();
+}
+
+/// Those that it drops, by frame, are the drops of the run's book at the bridge in the cycle (profile).
+pub fn dropped_are_the_runs()
+    ensures { DroppedAreTheRuns }
+{
+    cqf_laws_history::relayed_frames_are_queued_or_lost();
+    cqf_laws_shift::taken_is_covered();
+    cqf_laws_shift::gates_mean_the_shift();
+}
+
+/// Where all of a run has come to each bridge, and each link has gone on over all cycles by what came to its bridge, whatever turns they
+/// took, each has sent what the network sends (IEEE 802.1Q, Annex T, and the profile).
+pub fn relays_follow_the_network()
+    ensures { RelaysFollowTheNetwork }
+{
+    cqf_laws_cycle::cycle_brings_its_batches();
+    cqf_laws_shift::gates_mean_the_shift();
+    cqf_laws_instants::lane_is_queued();
+    cqf_laws_instants::batch_is_due();
+    cqf_laws_instants::queue_has_room();
+    kept_are_covered();
+}
+
+/// The tapes that are gathered from the reels of bridges whose links have gone on so have the streams' frames that the network sends, and the
+/// drops of its book (profile).
+pub fn relays_keep_the_tapes()
+    ensures { RelaysKeepTheTapes }
+{
+    dropped_are_the_runs();
+    relays_follow_the_network();
+}
+
+/// With the background frames that the network starts such tapes are those of its book (profile).
+pub fn backed_tapes_are_the_books()
+    ensures { BackedTapesAreTheBooks }
+{}
+
+/// The tables of a legal history bring their new rows by number, behind those of all before (profile).
+pub fn tables_may_come()
+    ensures { TablesMayCome }
+{
+    cqf_laws_history::tables_are_orderly();
+    cqf_laws_coverage::rows_say_the_tables();
+    cqf_laws_coverage::rows_follow();
+}
+
+/// Of links that haven't come to the end of a run, one that has come least far waits for none: so no order of turns holds all of them up
+/// (profile).
+pub fn some_link_can_go_on()
+    ensures { SomeLinkCanGoOn }
+{}

@@ -1,0 +1,11 @@
+pub mod Within
+pub mod Timely
+pub mod Listed
+pub mod Kept
+pub mod Listeners
+pub mod Fits
+pub mod Taking
+pub mod Arriving
+pub mod Alone
+pub mod Planned
+pub mod Held

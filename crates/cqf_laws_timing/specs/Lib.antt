@@ -1,0 +1,9 @@
+pub mod Latency
+pub mod Streams
+pub mod Verdicts
+pub mod Listeners
+pub mod Traffic
+pub mod Covered
+pub mod InTime
+pub mod Asking
+pub mod Told

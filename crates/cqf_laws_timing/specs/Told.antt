@@ -1,0 +1,63 @@
+-- What is told of a plan's rows, and of which frames it holds.
+use Rattle.std.specs.Prelude.{ℕ, ◌≡◌, List, [], Some, Contains, length, slice_get}
+use Rattle.cqf_model.specs.declared.frames.Background.{Background}
+use Rattle.cqf_model.specs.declared.frames.Offer.{Offer}
+use Rattle.cqf_model.specs.declared.frames.Started.{Started}
+use Rattle.cqf_model.specs.declared.topology.Hop.{Hop}
+use Rattle.cqf_model.specs.declared.topology.Row.{Row}
+use Rattle.cqf_model.specs.Book.{Contents}
+use Rattle.cqf_model.specs.Domain.{Domain, IsAccepted}
+use Rattle.cqf_model.specs.History.{Asked, IsLegalHistory, Recorded, held_in, most_beside, pace_of, tables_of, tree_of}
+use Rattle.cqf_model.specs.HistoryBook.{IsBookOfHistory, run_of_history}
+use Rattle.cqf_model.specs.Run.{AreBackground, AreOffers}
+use Rattle.cqf_model.specs.Shift.{InShift}
+use Rattle.cqf_model.specs.Table.{SameStream, table_of}
+use Rattle.cqf_laws_timing.specs.Latency.{IsTimely, least_of, most_of, whole_of}
+use Rattle.cqf_laws_timing.specs.Streams.{AdmitsOnly, AreGranted, with_all}
+use Rattle.cqf_laws_timing.specs.Verdicts.{IsAsSaid, sure_of}
+
+-- the rows of a plan: those of cycle 0, where its streams are asked for in turn before it
+abbrev pub planned_rows : Domain → List Asked → List Row
+planned_rows d streams = held_in d (with_all d [] streams) 0
+
+-- the row is that of the stream of its number
+pub record IsPlanned (d : Domain) (streams : List Asked) (row : Row) : Type 0 where
+  pub asked : Asked
+  pub stands : slice_get streams row.no ≡ Some asked
+  pub name : row.name ≡ asked.name
+  pub octets : row.octets ≡ asked.octets
+  pub pace : row.pace ≡ pace_of asked
+  pub tree : row.tree.items ≡ tree_of d asked.paths
+
+-- where all streams of a plan are admitted, each row of it is
+abbrev pub RowsArePlanned : Type 0
+RowsArePlanned = (d : Domain) (streams : List Asked) (row : Row) → AreGranted d [] streams → Contains (planned_rows d streams) row →
+    IsPlanned d streams row
+
+-- a row of the plan and one of a history that admits the plan's streams alone are of one stream, where they have one name
+abbrev pub NamesTellStreams : Type 0
+NamesTellStreams = (d : Domain) (streams : List Asked) (entries : List Recorded) (cycles cycle : ℕ) (told row : Row) → AreGranted d [] streams →
+    AdmitsOnly streams entries → Contains (planned_rows d streams) told → Contains (table_of (tables_of d entries cycles) cycle) row →
+    told.name ≡ row.name → SameStream told row
+
+-- the most that a plan costs of a link in a cycle in which one of its rows' streams has frames there
+abbrev pub told_cost : Domain → List Asked → Row → ℕ → ℕ
+told_cost d streams told link = most_beside (planned_rows d streams) told.tree.items told.pace link
+
+-- a frame that is offered at an instant and whole at another is within the bounds that are told at the end of a hop of a row of the
+-- plan, and as the verdict on any deadline says
+pub record IsAsToldAt (d : Domain) (streams : List Asked) (told : Row) (hop : Hop) (at whole : ℕ) : Type 0 where
+  pub timely : IsTimely d hop.link hop.depth (told_cost d streams told hop.link) at whole
+  pub verdict : (deadline : ℕ) → IsAsSaid at whole deadline
+      (sure_of (least_of d hop.link hop.depth) (most_of d hop.link hop.depth (told_cost d streams told hop.link)) deadline)
+
+-- what is told at the end of a hop of a row of the plan holds of each frame that the row's name is claimed for and that starts on
+-- the hop's link, in the book of each history that admits the plan's streams alone, whatever is offered, and beside any background
+abbrev pub ToldHolds : Type 0
+ToldHolds =
+    (d : Domain) (streams : List Asked) (entries : List Recorded) (offers : List Offer) (background : List Background) (cycles : ℕ) (book : Contents)
+    (told : Row) (hop : Hop) → IsAccepted d → AreGranted d [] streams → IsLegalHistory d entries → AdmitsOnly streams entries →
+    AreOffers d offers → AreBackground d background → IsBookOfHistory d entries offers background cycles book →
+    Contains (planned_rows d streams) told → Contains told.tree.items hop → (s : Started) → Contains book.starts s → s.link ≡ hop.link →
+    (shift : InShift (run_of_history d entries offers background cycles) (length (tables_of d entries cycles)) s.frame s.link s.cycle.0) →
+    shift.x.offer.stream ≡ told.name → IsAsToldAt d streams told hop shift.x.offer.at.0 (whole_of d s)

@@ -1,0 +1,43 @@
+-- Whether frames keep a deadline, for sure.
+use Rattle.std.specs.Prelude.{ℕ, ◌≡◌, ◌+◌, ◌<◌, ◌≤◌, List, length, nat_le, nat_lt, if◌then◌else◌, Contains}
+use Rattle.cqf_model.specs.declared.frames.Background.{Background}
+use Rattle.cqf_model.specs.declared.frames.Offer.{Offer}
+use Rattle.cqf_model.specs.declared.frames.Started.{Started}
+use Rattle.cqf_model.specs.Book.{Contents}
+use Rattle.cqf_model.specs.Domain.{Domain, IsAccepted}
+use Rattle.cqf_model.specs.History.{Asked, IsLegalHistory, Recorded, tables_of}
+use Rattle.cqf_model.specs.HistoryBook.{IsBookOfHistory, run_of_history}
+use Rattle.cqf_model.specs.Run.{AreBackground, AreOffers}
+use Rattle.cqf_model.specs.Shift.{InShift}
+use Rattle.cqf_laws_timing.specs.Latency.{least_of, most_of, whole_of}
+use Rattle.cqf_laws_timing.specs.Streams.{AdmitsOnly, ArePaced, IsOfList, most_beside_all}
+
+-- each frame keeps the deadline, each misses it, or one may
+pub data Sure : Type 0 where
+  InTime : Sure
+  Late : Sure
+  MayBeLate : Sure
+
+-- by the least and the most that a frame takes
+abbrev pub sure_of : ℕ → ℕ → ℕ → Sure
+sure_of least most deadline = if nat_le most deadline then InTime else (if nat_lt deadline least then Late else MayBeLate)
+
+-- for a stream and a link of this depth, where these streams are admitted
+abbrev pub sure_on : Domain → List Asked → Asked → ℕ → ℕ → ℕ → Sure
+sure_on d streams asked link depth deadline =
+    sure_of (least_of d link depth) (most_of d link depth (most_beside_all d streams asked link)) deadline
+
+-- a frame that is offered at an instant and whole at another is as the verdict says
+pub record IsAsSaid (at whole deadline : ℕ) (sure : Sure) : Type 0 where
+  pub in_time : sure ≡ InTime → whole ≤ at + deadline
+  pub late : sure ≡ Late → at + deadline < whole
+
+-- so is each start of a book of a history that admits streams of the list alone, whatever the deadline
+abbrev pub VerdictsHold : Type 0
+VerdictsHold =
+    (d : Domain) (entries : List Recorded) (offers : List Offer) (background : List Background) (cycles : ℕ) (book : Contents) (streams : List Asked) →
+    IsAccepted d → IsLegalHistory d entries → AreOffers d offers → AreBackground d background →
+    IsBookOfHistory d entries offers background cycles book → AdmitsOnly streams entries → ArePaced streams → (s : Started) → Contains book.starts s →
+    (shift : InShift (run_of_history d entries offers background cycles) (length (tables_of d entries cycles)) s.frame s.link s.cycle.0) →
+    (of : IsOfList d streams shift.row) × ((deadline : ℕ) →
+    IsAsSaid shift.x.offer.at.0 (whole_of d s) deadline (sure_on d streams of.asked s.link shift.depth deadline))

@@ -1,0 +1,67 @@
+//! Laws about how long frames take.
+ghost use Rattle.cqf_laws_timing.specs.Latency.{BookIsTimely, BoundsAreShort, FramesAreWholeWithinHeld};
+ghost use Rattle.cqf_laws_timing.specs.Latency.{FramesAreWholeWithinQueued, LatencyIsWithinHeld};
+ghost use Rattle.cqf_laws_timing.specs.Latency.{StartsAreWholeWithinHeld};
+ghost use Rattle.cqf_laws_timing.specs.Listeners.{BranchesEnd, DepthsAreBridges};
+ghost use Rattle.cqf_laws_timing.specs.Streams.{AdmitsOnlyGoesOn, AdmittedHaveNames, HistoryIsTimely};
+ghost use Rattle.cqf_laws_timing.specs.Streams.{ListCostsItsTable, NoneAdmitsOnly, OneOfAName, RowsAreOfList};
+ghost use Rattle.cqf_laws_timing.specs.Streams.{TablesCostNoMore};
+ghost use Rattle.cqf_laws_timing.specs.Verdicts.{VerdictsHold};
+
+/// Each frame that a link sends is whole in the next node within what the streams cost that are held in the cycle of its
+/// start (profile).
+pub fn frames_are_timely()
+    ensures whole { FramesAreWholeWithinHeld }
+    ensures queued { FramesAreWholeWithinQueued }
+    ensures latency { LatencyIsWithinHeld }
+    ensures starts { StartsAreWholeWithinHeld }
+    ensures book { BookIsTimely }
+    ensures short { BoundsAreShort }
+{
+    cqf_laws_cycle::port_is_one_cycle_late();
+    cqf_laws_cycle::streams_are_sent_as_alone();
+    cqf_laws_cycle::gate_gives_class();
+    cqf_laws_cycle::gate_counts_cycles();
+    cqf_laws_shift::run_beside_is_run_alone();
+    cqf_laws_shift::gates_mean_the_shift();
+}
+
+/// Where each stream that a history admits is one of a list, each row of its tables is one of the list's, and no table costs
+/// more of a link than the whole list. A list that is admitted before cycle 0 costs just what the table of cycle 0 does
+/// (profile).
+pub fn lists_bound_costs()
+    ensures none { NoneAdmitsOnly }
+    ensures more { AdmitsOnlyGoesOn }
+    ensures rows { RowsAreOfList }
+    ensures tables { TablesCostNoMore }
+    ensures admitted { ListCostsItsTable }
+    ensures names { AdmittedHaveNames }
+    ensures one { OneOfAName }
+{
+    cqf_laws_history::tables_are_orderly();
+    cqf_laws_history::state_follows_history();
+}
+
+/// So the frames of such a history take no less than the least and no more than the most that is told of the list, and the
+/// verdicts on deadlines hold (profile).
+pub fn lists_bound_latencies()
+    ensures timely { HistoryIsTimely }
+    ensures verdicts { VerdictsHold }
+{
+    cqf_laws_cycle::port_is_one_cycle_late();
+    cqf_laws_cycle::streams_are_sent_as_alone();
+    cqf_laws_cycle::gate_gives_class();
+    cqf_laws_cycle::gate_counts_cycles();
+    cqf_laws_shift::run_beside_is_run_alone();
+    cqf_laws_shift::gates_mean_the_shift();
+    cqf_laws_history::tables_are_orderly();
+}
+
+/// A branch of a request that isn't refused ends by a link of the request's tree in its listener's station, and that link is as
+/// deep as bridges are on the way (profile).
+pub fn branches_end_at_listeners()
+    ensures ends { BranchesEnd }
+    ensures depths { DepthsAreBridges }
+{
+    cqf_laws_history::granted_is_a_tree();
+}

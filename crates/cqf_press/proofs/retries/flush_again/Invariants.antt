@@ -1,0 +1,11 @@
+-- Nothing was taken yet, and once it was tried, there is a kind of error for which the writer may refuse.
+use Rattle.std.proofs.Common.{◌<◌}
+use Rattle.std.specs.Io.KnownBytes.{Keeps}
+use Rattle.cqf_press.specs.Kinds.{SomeKind}
+use Rattle.cqf_press.proofs.retries.flush_again.Given as goal
+
+abbrev pub invariant-loop : goal.invariant-loop
+invariant-loop g l = record {
+  kept : Keeps (g.W.Write.contents l.initial.writer) (g.W.Write.contents l.writer);
+  may : 0 < l.counter → SomeKind g.W.Sink.refuses;
+}

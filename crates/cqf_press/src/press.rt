@@ -1,0 +1,110 @@
+//! A press: text is put on a sheet, and each full sheet is told.
+ghost use Rattle.std.specs.Prelude.{◌≡◌, ◌≤◌, ◌∷◌, [], length};
+ghost use Rattle.cqf_press.specs.Press.{ClosesSheet, Opens, Puts};
+
+use crate::outputs::{flush_out, tell_on};
+use crate::sheet::{MOST_PUT, SHEET, Sheet};
+use crate::sinks::Sink;
+use crate::told::Told;
+use itoa::{Buffer, Integer};
+
+/// A sheet of text, and the writer that it's told to.
+#[derive(Drop)]
+pub struct Press<'o, W: Sink> {
+    told: &'o mut Told<W>,
+    sheet: Sheet,
+}
+
+impl<'o, W: Sink> Press<'o, W> {
+    /// The sheet before the writer: what stood on it is taken away.
+    pub fn new(told: &'o mut Told<W>, sheet: Sheet) -> Press<'o, W>
+        ensures same { result.told.ghost_name ≡ told.entry.ghost_name }
+        ensures opens { Opens told.old result }
+    {
+        let mut sheet = sheet;
+        sheet.clear();
+        Press { told, sheet }
+    }
+
+    /// Tells the sheet, and takes an empty one.
+    fn turn(&mut self)
+        ensures puts { Puts W.contents self.old self.new [] }
+        ensures empty { self.new.sheet ≡ [] }
+    {
+        tell_on(self.told, self.sheet.text());
+        self.sheet.clear();
+    }
+
+    /// Tells the sheet where it's full.
+    fn make_room(&mut self)
+        ensures puts { Puts W.contents self.old self.new [] }
+        ensures room { length self.new.sheet ≤ 65536 }
+    {
+        if self.sheet.len() > SHEET {
+            self.turn();
+        }
+    }
+
+    /// Puts bytes behind the text that fit on a sheet with room.
+    fn put_few(&mut self, bytes: &[u8])
+        requires { length bytes.now ≤ 512 }
+        ensures { Puts W.contents self.old self.new bytes.now }
+    {
+        self.make_room();
+        self.sheet.put(bytes);
+    }
+
+    /// Tells the sheet, and then bytes that are too many for one.
+    fn put_many(&mut self, bytes: &[u8])
+        ensures { Puts W.contents self.old self.new bytes.now }
+    {
+        self.turn();
+        self.tell_past(bytes);
+    }
+
+    /// Tells bytes past an empty sheet.
+    fn tell_past(&mut self, bytes: &[u8])
+        requires { self.old.sheet ≡ [] }
+        ensures { Puts W.contents self.old self.new bytes.now }
+    {
+        tell_on(self.told, bytes);
+    }
+
+    /// Puts bytes behind the text, however many.
+    pub fn put(&mut self, bytes: &[u8])
+        ensures { Puts W.contents self.old self.new bytes.now }
+    {
+        if bytes.len() <= MOST_PUT {
+            self.put_few(bytes);
+        } else {
+            self.put_many(bytes);
+        }
+    }
+
+    /// Puts a byte behind the text.
+    pub fn put_byte(&mut self, byte: u8)
+        ensures { Puts W.contents self.old self.new (byte ∷ []) }
+    {
+        self.make_room();
+        self.sheet.put_byte(byte);
+    }
+
+    /// Puts a number behind the text.
+    pub fn put_number<I: Integer>(&mut self, number: I)
+        ensures { Puts W.contents self.old self.new (I.text number) }
+    {
+        let mut buffer = Buffer::new();
+        self.put(buffer.format(number).as_bytes());
+    }
+
+    /// Tells what is left, flushes the writer, and gives it back.
+    pub fn close(self) -> &'o mut Told<W>
+        ensures same { result.ghost_name ≡ self.entry.told.ghost_name }
+        ensures closes { ClosesSheet W.contents self.entry result.now }
+    {
+        let Press { told, sheet } = self;
+        tell_on(told, sheet.text());
+        flush_out(told);
+        told
+    }
+}

@@ -1,0 +1,20 @@
+//! A text that was told into a list.
+ghost use Rattle.std.specs.Prelude.{ℕ, ◌≡◌, [], List, IfOk, OnErr, Some, true};
+ghost use Rattle.cqf_press.specs.Edge.{HasTold, since};
+
+use crate::told::Told;
+use std::alloc::AllocError;
+
+/// The text that a list was told that was empty before: all of it.
+///
+/// # Errors
+/// Where the list refused a part, which it does only for want of memory.
+pub fn told_text(told: Told<Vec<u8>>) -> Result<Vec<u8>, AllocError>
+    ensures ok { IfOk result (λ list. (text : List ℕ) → HasTold (since (λ list. Some list.items) (Some []) told) text → list.items ≡ text) }
+    ensures err { OnErr result (told.refused ≡ true) }
+{
+    if told.is_refused() {
+        return Err(AllocError);
+    }
+    Ok(told.into_writer())
+}

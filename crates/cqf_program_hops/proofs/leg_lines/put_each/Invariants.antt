@@ -1,7 +1,0 @@
-use Rattle.std.proofs.Common.{take}
-use Rattle.cqf_program_press.specs.Press.{Puts}
-use Rattle.cqf_program_hops.specs.LegsText.{lines_of_legs}
-use Rattle.cqf_program_hops.proofs.leg_lines.put_each.Given as goal
-
-abbrev pub invariant-loop-leg : goal.invariant-loop-leg
-invariant-loop-leg g l = Puts g.W.Write.contents l.initial.press l.press (lines_of_legs l.domain l.offers (take l.leg-index l.legs))

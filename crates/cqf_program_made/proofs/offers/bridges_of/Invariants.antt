@@ -1,7 +1,0 @@
-use Rattle.std.proofs.Common.{◌≡◌, map, take}
-use Rattle.cqf_traffic.specs.FlowsText.{flow_text}
-use Rattle.cqf_program_made.specs.Made.{bridges_of}
-use Rattle.cqf_program_made.proofs.offers.bridges_of.Given as goal
-
-abbrev pub invariant-loop-flow : goal.invariant-loop-flow
-invariant-loop-flow l = l.most ≡ bridges_of (map flow_text (take l.flow-index l.flows))

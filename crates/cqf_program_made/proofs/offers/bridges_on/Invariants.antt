@@ -1,7 +1,0 @@
-use Rattle.std.proofs.Common.{◌≡◌, take}
-use Rattle.cqf_admission_trees.specs.Branches.{branches_of}
-use Rattle.cqf_program_made.specs.Made.{bridges_on}
-use Rattle.cqf_program_made.proofs.offers.bridges_on.Given as goal
-
-abbrev pub invariant-loop-path : goal.invariant-loop-path
-invariant-loop-path l = l.most ≡ bridges_on (branches_of (take l.path-index l.paths))

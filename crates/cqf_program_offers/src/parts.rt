@@ -1,0 +1,68 @@
+//! The parts that what is made is made of.
+ghost use Rattle.std.specs.Prelude.{◌≡◌, [], true, IfErr, IfOk, Ok, map};
+ghost use Rattle.cqf_admission.specs.Asking.{asked_paced};
+ghost use Rattle.cqf_program_offers.specs.Made.{asked_of_part};
+ghost use Rattle.cqf_program_offers.specs.OffersOutput.{asked_in};
+ghost use Rattle.cqf_press.specs.Stops.{EndsWith, IsRefused};
+ghost use Rattle.cqf_traffic.specs.FlowsText.{flow_text};
+
+use cqf_press::Stop;
+use cqf_program_plans::parted;
+use cqf_program_scenario::{planned_part, streams_part};
+use cqf_topology::PacedRequest;
+use cqf_traffic::Flow;
+use cqf_units::Memory;
+use std::alloc::Global;
+
+/// The requests of streams once more.
+fn requests_of(alloc: Global, flows: &[Flow]) -> Result<Vec<PacedRequest>, Memory>
+    ensures { IfOk result (λ requests. map asked_paced requests.items ≡ map asked_in (map flow_text flows.now)) }
+{
+    let mut requests = Vec::new(alloc);
+    for flow in flows {
+        requests.push(flow.planned.request.try_copy(alloc)?)?;
+    }
+    Ok(requests)
+}
+
+/// The requests of streams once more. `Err` with status 3 for want of memory.
+pub(crate) fn copied_requests(alloc: Global, flows: &[Flow]) -> Result<Vec<PacedRequest>, Stop>
+    ensures ok { IfOk result (λ requests. map asked_paced requests.items ≡ map asked_in (map flow_text flows.now)) }
+    ensures err { IfErr result (EndsWith 3 []) }
+{
+    match requests_of(alloc, flows) {
+        Ok(requests) => Ok(requests),
+        Err(_) => Err(Stop::memory(alloc)),
+    }
+}
+
+/// The requests of a part whose deadlines are read.
+fn planned_requests(alloc: Global, text: &[u8]) -> Result<Vec<PacedRequest>, Stop>
+    ensures ok { IfOk result (λ requests. asked_of_part true text.now ≡ Ok (map asked_paced requests.items)) }
+    ensures err { IfErr result (IsRefused (asked_of_part true text.now)) }
+{
+    let planned = planned_part(alloc, text)?;
+    match parted(alloc, planned) {
+        Ok((requests, _deadlines)) => Ok(requests),
+        Err(_) => Err(Stop::memory(alloc)),
+    }
+}
+
+/// The requests of a part, whose deadlines are read or not. `Err` with status 1 and the line of its first fault, and with status 3 for want of
+/// memory.
+pub(crate) fn requests_part(
+    alloc: Global,
+    planned: bool,
+    text: &[u8],
+) -> Result<Vec<PacedRequest>, Stop>
+    ensures ok { IfOk result (λ requests. asked_of_part planned text.now ≡ Ok (map asked_paced requests.items)) }
+    ensures err { IfErr result (IsRefused (asked_of_part planned text.now)) }
+{
+    if planned {
+        return planned_requests(alloc, text);
+    }
+    match streams_part(alloc, text) {
+        Ok(requests) => Ok(requests),
+        Err(stop) => Err(stop),
+    }
+}

@@ -1,0 +1,10 @@
+use Rattle.std.proofs.Common.{◌∙◌, ◌++◌, ◌∷◌, [], ap, sym, append_assoc, codes}
+use Rattle.std.specs.Fmt.{decimal}
+use Rattle.cqf_model.specs.Refusals.{text_of_refusal}
+use Rattle.cqf_program_plans.proofs.compile.command.line_of_stream.Goals as goal
+
+-- the line feed stands behind the refusal
+pub returns : goal.returns
+returns c =
+    c.in_ok-line.ensures.ok
+    ∙ ap (λ rest. codes "cqf: stream " ++ rest) (sym (append_assoc (decimal c.args.place) (codes ": " ++ text_of_refusal c.args.refused) (10 ∷ [])))

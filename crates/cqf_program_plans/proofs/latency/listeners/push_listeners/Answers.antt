@@ -1,0 +1,40 @@
+use Rattle.std.proofs.Common.{◌∙◌, ◌++◌, List, Contains, append-nil, ap, get_or, refl, subst, sym}
+use Rattle.std.proofs.lemmas.List.Elements.{Contains-get_or}
+use Rattle.cqf_compile.proofs.Bridges.{link-inside, no_hop}
+use Rattle.cqf_model.specs.declared.topology.Hop.{Hop}
+use Rattle.cqf_model.specs.Domain.{end_of}
+use Rattle.cqf_model.specs.History.{most_beside}
+use Rattle.cqf_program_plans.specs.Latency.Text.{is_station, latency_to}
+use Rattle.cqf_program_plans.proofs.Found.{items_of, listed_more}
+use Rattle.cqf_program_plans.proofs.latency.listeners.push_listeners.Goals as goal
+use Rattle.cqf_program_plans.proofs.latency.listeners.push_listeners.Goals.{in-Some+in_ok-push, in_default}
+
+pub latency_at-requires-clause-link : goal.latency_at-requires-clause-link
+latency_at-requires-clause-link c =
+    let d = c.args.costs.now.domain in
+    link-inside d d c.args.row.now.tree.items c.as_slice-hop-items.result.now c.loop-hop.hop-index refl c.as_slice-hop-items.ensures.value
+    c.loop-hop-test.true c.requires.countable.inside
+
+pub latency_at-requires-clause-of_tree : goal.latency_at-requires-clause-of_tree
+latency_at-requires-clause-of_tree c =
+    let items = c.as_slice-hop-items.result.now in
+    let hop : Hop = get_or items c.loop-hop.hop-index no_hop in
+    subst (λ (hops : List Hop). Contains hops hop) c.as_slice-hop-items.ensures.value
+    (Contains-get_or items c.loop-hop.hop-index no_hop c.loop-hop-test.true)
+
+pub loop-hop-preserved : goal.loop-hop-preserved
+loop-hop-preserved c =
+    let d = c.args.costs.now.domain in
+    let rows = c.args.costs.now.rows in
+    let done = c.loop-hop.latencies.items in
+    let row = c.args.row.now in
+    let items = c.as_slice-hop-items.result.now in
+    let more = listed_more (λ (hop : Hop). is_station (end_of d hop.link))
+    (λ (hop : Hop). latency_to d (most_beside rows row.tree.items row.pace hop.link) row c.args.deadline hop) items c.loop-hop.hop-index no_hop
+    c.latency_at.result c.args.latencies.now.items done c.loop-hop-test.true c.latency_at.ensures c.loop-hop.invariant in
+    elim c.match-latency_at.branch [
+      | in-Some+in_ok-push w ↦
+          ap (λ v. v.items) w.latencies-is ∙ w.in_ok-push.ensures.items ∙ ap (λ o. done ++ items_of o) (sym w.in-Some.is) ∙ more
+      | in_default w ↦
+          ap (λ v. v.items) w.latencies-is ∙ sym (append-nil done) ∙ ap (λ o. done ++ items_of o) (sym w.in_default.is) ∙ more
+    ]

@@ -1,6 +1,0 @@
-use Rattle.std.proofs.Common.{subst, sym}
-use Rattle.cqf_admission_trees.specs.Turns.{AreOfGoodPaces}
-use Rattle.cqf_program_plans.proofs.latency_command.latencies_ready.Goals as goal
-
-pub latencies_of_rows-requires-clause-good : goal.latencies_of_rows-requires-clause-good
-latencies_of_rows-requires-clause-good c = subst AreOfGoodPaces (sym c.as_slice.ensures.value) c.requires.good

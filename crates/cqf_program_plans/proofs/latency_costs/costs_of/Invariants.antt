@@ -1,7 +1,0 @@
--- The costs of the rows so far.
-use Rattle.std.proofs.Common.{length, take}
-use Rattle.cqf_program_plans.specs.LatencyOutput.{AreCostsOf}
-use Rattle.cqf_program_plans.proofs.latency_costs.costs_of.Given as goal
-
-abbrev pub invariant-loop-row : goal.invariant-loop-row
-invariant-loop-row l = AreCostsOf (length l.domain.links) (take l.row-index l.rows) l.costs

@@ -1,7 +1,0 @@
-use Rattle.std.proofs.Common.{take}
-use Rattle.cqf_program_press.specs.Press.{Puts}
-use Rattle.cqf_program_plans.specs.LatencyText.{lines_of_latencies}
-use Rattle.cqf_program_plans.proofs.latency_telling.put_each.Given as goal
-
-abbrev pub invariant-loop-latency : goal.invariant-loop-latency
-invariant-loop-latency g l = Puts g.W.Write.contents l.initial.press l.press (lines_of_latencies (take l.latency-index l.latencies))

@@ -1,7 +1,0 @@
-use Rattle.cqf_program_press.proofs.PressLemmas.{Puts-then}
-use Rattle.cqf_program_plans.proofs.tc_bridges.put_link_call.Goals as goal
-
-pub returns : goal.returns
-returns g c = Puts-then _ _ c.put.ensures
-    (Puts-then _ _ c.put_number.ensures
-    c.put-2.ensures)

@@ -1,6 +1,0 @@
-use Rattle.cqf_program_press.proofs.PressLemmas.{Puts-then}
-use Rattle.cqf_program_plans.proofs.tc_bridges.put_needs_by.Goals as goal
-
-pub returns : goal.returns
-returns g c = Puts-then _ _ c.put_new_need.ensures
-    c.put_frame_needs.ensures

@@ -1,9 +1,0 @@
-use Rattle.cqf_program_press.proofs.PressLemmas.{Puts-then}
-use Rattle.cqf_program_plans.proofs.tc_frame.put_choice_line.Goals as goal
-
-pub returns : goal.returns
-returns g c = Puts-then _ _ c.put.ensures
-    (Puts-then _ _ c.put_bridge.ensures
-    (Puts-then _ _ c.put-2.ensures
-    (Puts-then _ _ c.put_number.ensures
-    c.put-3.ensures)))

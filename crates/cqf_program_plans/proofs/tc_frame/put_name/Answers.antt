@@ -1,6 +1,0 @@
-use Rattle.cqf_program_press.proofs.PressLemmas.{Puts-then}
-use Rattle.cqf_program_plans.proofs.tc_frame.put_name.Goals as goal
-
-pub returns : goal.returns
-returns g c = Puts-then _ _ c.put.ensures
-    c.put_bridge.ensures

@@ -1,5 +1,0 @@
-use Rattle.cqf_program_plans.proofs.TcCallLemmas.{calls_are_due}
-use Rattle.cqf_program_plans.proofs.tc_laws.scripts_call_what_is_due.Goals as goal
-
-pub returns : goal.returns
-returns c = calls_are_due

@@ -1,8 +1,0 @@
--- The entries so far are put.
-use Rattle.std.proofs.Common.{take}
-use Rattle.cqf_program_press.specs.Press.{Puts}
-use Rattle.cqf_program_plans.specs.TcWords.{list_words}
-use Rattle.cqf_program_plans.proofs.tc_lists.put_list_words.Given as goal
-
-abbrev pub invariant-loop-entry : goal.invariant-loop-entry
-invariant-loop-entry g l = Puts g.W.Write.contents l.initial.press l.press (list_words (take l.entry-index l.entry-items))

@@ -1,8 +1,0 @@
--- The functions so far are put.
-use Rattle.cqf_lists.specs.Lists.{each_below}
-use Rattle.cqf_program_press.specs.Press.{Puts}
-use Rattle.cqf_program_plans.specs.TcBridge.{bridge_text}
-use Rattle.cqf_program_plans.proofs.tc_told.put_bridges.Given as goal
-
-abbrev pub invariant-loop-bridge : goal.invariant-loop-bridge
-invariant-loop-bridge g l = Puts g.W.Write.contents l.initial.press l.press (each_below (bridge_text l.domain l.rows) l.bridge)

@@ -1,0 +1,69 @@
+-- What the command `compile` gives for its input (profile): the configuration of a domain and its streams, or the line of
+-- the input's first fault.
+use Rattle.cqf_model.specs.declared.limits.Limits.{Limits}
+use Rattle.std.specs.Prelude.{ℕ, ◌≡◌, ◌≤◌, ◌+◌, ◌++◌, codes, decimal, length, List, [], ◌∷◌, map, Result, Ok}
+use Rattle.cqf_model.specs.declared.topology.Row.{Row}
+use Rattle.cqf_model.specs.Domain.{Domain}
+use Rattle.cqf_model.specs.History.{Admits, Asked, Recorded, held_in, IsLegalHistory, refusal_of, reply_to, seals}
+use Rattle.cqf_text.specs.Parts.{parts_of}
+use Rattle.cqf_topology.specs.DomainText.{domain_within}
+use Rattle.cqf_lists.specs.Results.{and_then, refuse}
+use Rattle.cqf_topology.specs.PacedText.{paced_of_text}
+use Rattle.cqf_laws_history.specs.StateLaws.{with_entry}
+use Rattle.cqf_admission.specs.Admission.{Administration}
+use Rattle.cqf_admission.specs.Asking.{asked_by}
+use Rattle.cqf_compile.specs.ConfigText.{config_text}
+use Rattle.cqf_program_scenario.specs.Lines.{domain_line, streams_line}
+use Rattle.cqf_program_scenario.specs.Parts.{two_parts}
+use Rattle.cqf_model.specs.Refusals.{text_of_refusal}
+use Rattle.cqf_model.specs.declared.history.Refused.{Refused}
+use Rattle.cqf_press.specs.Stops.{line_of, or_line}
+use Rattle.cqf_model.specs.Limits.{most_streams}
+
+-- why a stream isn't admitted, by its place among the streams, from 1
+abbrev pub stream_line : ℕ → Refused → List ℕ
+stream_line place refused = line_of (codes "cqf: stream " ++ (decimal place ++ (codes ": " ++ text_of_refusal refused)))
+
+-- the history with a stream asked for by seat 0, and the answer that is due
+abbrev pub with_asked : Domain → List Recorded → Asked → List Recorded
+with_asked d entries asked = with_entry entries 0 (Admits asked) (reply_to d entries (Admits asked))
+
+-- the history with streams admitted in turn, the first of which has this place; or the line of the first that is refused
+abbrev pub admitted_from : Domain → List Recorded → ℕ → List Asked → Result (List Recorded) (List ℕ)
+admitted_from d entries place [] = Ok entries
+admitted_from d entries place (asked ∷ more) =
+    refuse (refusal_of d (held_in d entries (seals entries)) asked) (stream_line place) (admitted_from d (with_asked d entries asked) (place + 1) more)
+
+-- the domain and the streams of an input, or the line of the first fault: of the parts, then of the domain, then of the
+-- streams
+abbrev pub compile_input : Limits → List ℕ → Result (Domain × List Asked) (List ℕ)
+compile_input limits input = and_then (two_parts (parts_of input)) (λ parts.
+    and_then (or_line domain_line (domain_within limits parts.0)) (λ domain.
+    and_then (or_line streams_line (paced_of_text parts.1)) (λ requests. Ok (domain, map asked_by requests))))
+
+-- the configuration of a domain with all of these streams admitted before cycle 0
+abbrev pub configuration_of : Domain → List Asked → Result (List ℕ) (List ℕ)
+configuration_of d streams = and_then (admitted_from d [] 1 streams) (λ entries. Ok (config_text d (held_in d entries 0)))
+
+-- the configuration for an input, or the line of its first fault
+abbrev pub compiled_input : Limits → List ℕ → Result (List ℕ) (List ℕ)
+compiled_input limits input = and_then (compile_input limits input) (λ found. configuration_of found.0 found.1)
+
+-- a history of admissions alone, each of them granted: no Seal, one held stream for each entry, and at most 16,384
+pub record AreAllHeld (d : Domain) (entries : List Recorded) : Type 0 where
+  pub legal : IsLegalHistory d entries
+  pub no_seal : seals entries ≡ 0
+  pub one_each : length (held_in d entries 0) ≡ length entries
+  pub few : length entries ≤ most_streams
+
+-- an administration of a domain with all of its streams held from cycle 0 on, and their rows
+pub record ArePlanned (d : Domain) (administration : Administration) (rows : List Row) : Type 0 where
+  pub domain : administration.domain ≡ d
+  pub all : AreAllHeld d administration.entries
+  pub held : rows ≡ held_in d administration.entries 0
+
+-- the rows are those of all of these streams, which were admitted before cycle 0, in the table of that cycle
+pub record HoldsAll (d : Domain) (streams : List Asked) (rows : List Row) : Type 0 where
+  pub entries : List Recorded
+  pub admitted : admitted_from d [] 1 streams ≡ Ok entries
+  pub held : rows ≡ held_in d entries 0

@@ -1,0 +1,31 @@
+-- What is told of a plan holds of every run over it.
+use Rattle.std.specs.Prelude.{ℕ, ◌≡◌, List, [], Ok, length, Contains}
+use Rattle.cqf_model.specs.declared.frames.Background.{Background}
+use Rattle.cqf_model.specs.declared.frames.Offer.{Offer}
+use Rattle.cqf_model.specs.declared.frames.Started.{Started}
+use Rattle.cqf_model.specs.Book.{Contents}
+use Rattle.cqf_model.specs.Domain.{Domain, IsAccepted}
+use Rattle.cqf_model.specs.History.{Asked, IsLegalHistory, Recorded, held_in, most_beside, tables_of}
+use Rattle.cqf_model.specs.HistoryBook.{IsBookOfHistory, run_of_history}
+use Rattle.cqf_model.specs.Run.{AreBackground, AreOffers}
+use Rattle.cqf_model.specs.Shift.{InShift}
+use Rattle.cqf_program_plans.specs.Compile.Output.{admitted_from}
+use Rattle.cqf_laws_timing.specs.Latency.{IsTimely, least_of, most_of, whole_of}
+use Rattle.cqf_laws_timing.specs.Streams.{AdmitsOnly}
+use Rattle.cqf_laws_timing.specs.Verdicts.{IsAsSaid, sure_of}
+
+-- a frame that is offered at an instant and whole at another at the end of a link of this depth is within the bounds that are
+-- told where the streams cost so much of the link, and as the verdict on any deadline says
+pub record IsAsTold (d : Domain) (link depth cost at whole : ℕ) : Type 0 where
+  pub timely : IsTimely d link depth cost at whole
+  pub verdict : (deadline : ℕ) → IsAsSaid at whole deadline (sure_of (least_of d link depth) (most_of d link depth cost) deadline)
+
+-- where a plan's streams are all admitted, each start of a stream's frame in the book of each history that admits streams of the
+-- plan alone is as it's told of the plan, whatever else is called for, whatever is offered, and beside any background
+abbrev pub ToldLatenciesHold : Type 0
+ToldLatenciesHold =
+    (d : Domain) (streams : List Asked) (plan entries : List Recorded) (offers : List Offer) (background : List Background) (cycles : ℕ)
+    (book : Contents) → IsAccepted d → admitted_from d [] 1 streams ≡ Ok plan → IsLegalHistory d entries → AdmitsOnly streams entries →
+    AreOffers d offers → AreBackground d background → IsBookOfHistory d entries offers background cycles book → (s : Started) → Contains book.starts s →
+    (shift : InShift (run_of_history d entries offers background cycles) (length (tables_of d entries cycles)) s.frame s.link s.cycle.0) →
+    IsAsTold d s.link shift.depth (most_beside (held_in d plan 0) shift.row.tree.items shift.row.pace s.link) shift.x.offer.at.0 (whole_of d s)

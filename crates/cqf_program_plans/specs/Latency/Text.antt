@@ -1,0 +1,126 @@
+-- The latencies of the streams of a table to each of their listeners, and their text (profile).
+use Rattle.std.specs.Prelude.{ℕ, ◌++◌, List, [], ◌∷◌, Bool, true, false, codes, decimal, filter, find, map, Option, Some, None, option_map, slice_index_or}
+use Rattle.std.specs.Option.{option_map_or}
+use Rattle.std.specs.List.{flat_map}
+use Rattle.cqf_model.specs.declared.topology.Hop.{Hop}
+use Rattle.cqf_model.specs.declared.topology.Node.{Node}
+use Rattle.cqf_model.specs.declared.topology.Node.TheVariants.{Bridge, Station}
+use Rattle.cqf_model.specs.declared.topology.Row.{Row}
+use Rattle.cqf_model.specs.Domain.{Domain, end_of}
+use Rattle.cqf_model.specs.History.{most_beside}
+use Rattle.cqf_laws_timing.specs.Latency.{least_of, most_of, window_of}
+use Rattle.cqf_laws_timing.specs.Verdicts.{Sure, InTime, Late, MayBeLate, sure_of}
+use Rattle.cqf_report.specs.Records.{Fields}
+use Rattle.cqf_report.specs.Written.{line_of_fields}
+use Rattle.cqf_program_plans.specs.EndNames.{name_of_end}
+use Rattle.cqf_press.specs.Stops.{fault_line}
+use Rattle.cqf_program_plans.specs.declared.latency.latencies.Latency.{Latency}
+use Rattle.cqf_program_plans.specs.declared.latency.latencies.Verdict.{Verdict}
+use Rattle.cqf_program_plans.specs.declared.latency.latencies.Verdict.TheVariants as told
+
+-- whether there is a node, and it is a station
+abbrev pub is_station : Option Node → Bool
+is_station None = false
+is_station (Some (Bridge bridge)) = false
+is_station (Some (Station station)) = true
+
+-- the listeners of a row: the hops of its tree whose links end in a station, in the tree's order
+abbrev pub listeners_of : Domain → Row → List Hop
+listeners_of d row = filter (λ (hop : Hop). is_station (end_of d hop.link)) row.tree.items
+
+-- what is told of a listener of a row with this deadline, where the streams cost so much of the link that ends there
+abbrev pub latency_to : Domain → ℕ → Row → Option ℕ → Hop → Latency
+latency_to d cost row deadline hop = record {
+  stream = row.name;
+  listener = name_of_end d hop.link;
+  bridges = hop.depth;
+  least = least_of d hop.link hop.depth;
+  most = most_of d hop.link hop.depth cost;
+  window = window_of d hop.link cost;
+  deadline = deadline;
+}
+
+-- that of each of its listeners, beside the rows of its table: by the most that these cost in a cycle of its own
+abbrev pub latencies_of_row : Domain → List Row → Row → Option ℕ → List Latency
+latencies_of_row d rows row deadline = map (λ (hop : Hop). latency_to d (most_beside rows row.tree.items row.pace hop.link) row deadline hop) (listeners_of d row)
+
+-- the deadline of the stream of a number
+abbrev pub deadline_of : List (Option ℕ) → ℕ → Option ℕ
+deadline_of deadlines number = slice_index_or deadlines number None
+
+-- that of each listener of each row
+abbrev pub latencies_of : Domain → List Row → List (Option ℕ) → List Latency
+latencies_of d rows deadlines = flat_map (λ (row : Row). latencies_of_row d rows row (deadline_of deadlines row.no)) rows
+
+-- whether the frames keep their deadline for sure, as it is said
+abbrev pub said_of_latency : Sure → Verdict
+said_of_latency InTime = told.InTime
+said_of_latency Late = told.Late
+said_of_latency MayBeLate = told.MayBeLate
+
+abbrev pub verdict_on_deadline : Latency → Option Verdict
+verdict_on_deadline latency = option_map (λ (deadline : ℕ). said_of_latency (sure_of latency.least latency.most deadline)) latency.deadline
+
+abbrev pub name_of_verdict : Verdict → List ℕ
+name_of_verdict told.InTime = codes "in-time"
+name_of_verdict told.Late = codes "late"
+name_of_verdict told.MayBeLate = codes "may-be-late"
+
+-- the header of latencies
+abbrev pub latency_header : Fields
+latency_header =
+    codes "stream" ∷ codes "listener" ∷ codes "bridges" ∷ codes "least" ∷ codes "most" ∷ codes "window" ∷ codes "deadline" ∷ codes "verdict" ∷ []
+
+-- a deadline and a verdict, or nothing
+abbrev pub text_of_deadline : Option ℕ → List ℕ
+text_of_deadline deadline = option_map_or decimal deadline []
+
+abbrev pub text_of_verdict : Option Verdict → List ℕ
+text_of_verdict verdict = option_map_or name_of_verdict verdict []
+
+-- a latency: its stream, its listener's station, how many bridges are on the way, the least, the most and the window, the
+-- deadline and the verdict
+abbrev pub latency_fields : Latency → Fields
+latency_fields latency =
+    latency.stream ∷ latency.listener ∷ decimal latency.bridges ∷ decimal latency.least ∷ decimal latency.most ∷ decimal latency.window ∷ text_of_deadline
+    latency.deadline ∷ text_of_verdict (verdict_on_deadline latency) ∷ []
+
+-- one line a latency, in their order
+abbrev pub lines_of_latencies : List Latency → List ℕ
+lines_of_latencies latencies = flat_map (λ (latency : Latency). line_of_fields (latency_fields latency)) latencies
+
+-- the text of latencies: the header, and their lines
+abbrev pub text_of_latency : List Latency → List ℕ
+text_of_latency latencies = line_of_fields latency_header ++ lines_of_latencies latencies
+
+-- that of the rows of a table
+abbrev pub latency_text : Domain → List Row → List (Option ℕ) → List ℕ
+latency_text d rows deadlines = text_of_latency (latencies_of d rows deadlines)
+
+-- whether there is a verdict, and frames may miss their deadline
+abbrev pub may_miss : Option Verdict → Bool
+may_miss None = false
+may_miss (Some told.InTime) = false
+may_miss (Some told.Late) = true
+may_miss (Some told.MayBeLate) = true
+
+abbrev pub is_not_sure : Latency → Bool
+is_not_sure latency = may_miss (verdict_on_deadline latency)
+
+-- the line that tells so of a latency
+abbrev pub not_sure_line : Latency → List ℕ
+not_sure_line latency = fault_line (codes "latency")
+    (latency.stream
+    ++ (codes " at "
+    ++ (latency.listener
+    ++ (codes ": "
+    ++ (text_of_verdict (verdict_on_deadline latency)
+    ++ (codes ", most " ++ (decimal latency.most ++ (codes ", deadline " ++ text_of_deadline latency.deadline))))))))
+
+-- the line of the first of some latencies whose frames may miss their deadline
+abbrev pub first_line_of : List Latency → Option (List ℕ)
+first_line_of latencies = option_map not_sure_line (find is_not_sure latencies)
+
+-- that of the rows of a table
+abbrev pub first_not_sure : Domain → List Row → List (Option ℕ) → Option (List ℕ)
+first_not_sure d rows deadlines = first_line_of (latencies_of d rows deadlines)

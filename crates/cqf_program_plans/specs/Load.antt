@@ -1,0 +1,5 @@
+pub mod Output
+pub mod Text
+pub mod Listing
+pub mod Fitting
+pub mod Laws

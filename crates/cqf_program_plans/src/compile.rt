@@ -1,0 +1,4 @@
+//! The command `compile`: the gate lists and stream gates of a domain and its streams.
+
+pub(crate) mod command;
+pub(crate) mod outputs;

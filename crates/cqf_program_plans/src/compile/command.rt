@@ -1,0 +1,259 @@
+//! The command `compile`: the configuration of a domain and its streams.
+ghost use Rattle.std.specs.Prelude.{ℕ, ◌≡◌, ◌≢◌, ◌+◌, ◌++◌, ◌<◌, ◌^◌, [], ◌∷◌, List, Ok, IfOk, IfErr, OnOk, length, map, string_bytes};
+ghost use Rattle.cqf_admission.specs.Admission.{HoldsOneMore};
+ghost use Rattle.cqf_admission.specs.Asking.{asked_paced};
+ghost use Rattle.cqf_admission.specs.Tables.{AreAlongLinks};
+ghost use Rattle.cqf_laws_history.specs.StateLaws.{AreHeld};
+ghost use Rattle.cqf_admission.specs.Forms.{IsRowOfGoodForm};
+ghost use Rattle.cqf_model.specs.History.{Asked, Recorded};
+ghost use Rattle.cqf_program_plans.specs.Compile.Output.{stream_line, admitted_from, compile_input, compiled_input};
+ghost use Rattle.cqf_program_plans.specs.Compile.Output.{configuration_of, AreAllHeld, ArePlanned, HoldsAll};
+ghost use Rattle.cqf_program_plans.specs.Compile.Told.{text_of_config};
+ghost use Rattle.cqf_admission.specs.Turns.{AreOfGoodPaces};
+ghost use Rattle.cqf_admission.specs.Orders.{request_at};
+ghost use Rattle.cqf_press.specs.Stops.{EndsWith, IsRefused};
+
+use crate::compile::outputs::ConfigOutput;
+use cqf_admission::{Ledger, Receipt, Refused, count_places, judge_paced};
+use cqf_compile::{compile, port_text};
+use cqf_laws_history::state_follows_history;
+use cqf_model::{Limits, Row};
+use cqf_press::{REFUSED, Sheet, Stop};
+use cqf_program_scenario::{domain_part, streams_part, two_parts};
+use cqf_topology::{Domain, PacedRequest};
+use cqf_units::{Cycle, Memory};
+use std::alloc::Global;
+
+/// The administrator that the streams of `compile` are admitted by.
+const SEAT: u16 = 0;
+
+/// The domain and the streams of the input, which is read within some limits.
+///
+/// # Errors
+/// With status 1 and the line of the first fault of the input: of its parts, of the domain, or of the streams; and with status 3
+/// for want of memory.
+pub fn read_plan(
+    alloc: Global,
+    limits: Limits,
+    input: &[u8],
+) -> Result<(Domain, Vec<PacedRequest>), Stop>
+    ensures ok { IfOk result (λ found. compile_input limits input.now ≡ Ok (found.0, map asked_paced found.1.items)) }
+    ensures err { IfErr result (IsRefused (compile_input limits input.now)) }
+{
+    let (domain_text, streams_text) = two_parts(alloc, input)?;
+    let domain = domain_part(alloc, limits, domain_text)?;
+    let requests = streams_part(alloc, streams_text)?;
+    Ok((domain, requests))
+}
+
+/// The line of a stream at a place that isn't admitted.
+fn line_of_stream(alloc: Global, place: usize, refused: Refused) -> Result<String, Memory>
+    ensures { IfOk result (λ line. string_bytes line ≡ stream_line place refused) }
+{
+    let line = format!(in alloc; "cqf: stream {place}: {refused}\n")?;
+    Ok(line)
+}
+
+/// The end where the stream at a place, from 1, isn't admitted: with status 1 and a line that names the place and the reason, or
+/// with status 3 for want of memory.
+pub fn stream_stop(alloc: Global, place: usize, refused: Refused) -> Stop
+    ensures refused { refused ≢ Refused.Memory → EndsWith 1 (stream_line place refused) result }
+    ensures memory { refused ≡ Refused.Memory → EndsWith 3 [] result }
+{
+    match refused {
+        Refused::Memory => Stop::memory(alloc),
+        _ => Stop::with_text(alloc, REFUSED, line_of_stream(alloc, place, refused)),
+    }
+}
+
+/// The row of the stream at a place, from 0, as that of number 0 and of cycle 0: its form is good.
+fn row_at(alloc: Global, domain: &Domain, request: &PacedRequest, place: usize) -> Result<Row, Stop>
+    requires { place + 1 < 2 ^ 64 }
+    ensures ok { IfOk result (IsRowOfGoodForm domain.now (asked_paced request.now)) }
+    ensures err { IfErr result (λ stop. (entries : List Recorded) → (more : List Asked) → IsRefused
+        (admitted_from domain.now entries (place + 1) (asked_paced request.now ∷ more)) stop) }
+{
+    if count_places(request.paths.as_slice()).is_none() {
+        return Err(Stop::memory(alloc));
+    }
+    match judge_paced(domain, request) {
+        Ok(judged) => match judged.into_row(alloc, request.octets, 0, Cycle(0)) {
+            Ok(row) => Ok(row),
+            Err(_) => Err(Stop::memory(alloc)),
+        },
+        Err(refused) => Err(stream_stop(alloc, place + 1, refused)),
+    }
+}
+
+/// Admits the stream at a place, from 0, where each call so far admitted one.
+fn admit_one(alloc: Global, ledger: &mut Ledger<'_>, place: usize) -> Result<Receipt, Stop>
+    requires there { place < length ledger.old.requests }
+    requires few { place + 1 < 2 ^ 64 }
+    requires held { AreAllHeld ledger.old.administration.domain ledger.old.administration.entries }
+    ensures domain { ledger.new.administration.domain ≡ ledger.old.administration.domain }
+    ensures requests { ledger.new.requests ≡ ledger.old.requests }
+    ensures held { IfOk result (λ _. AreAllHeld ledger.new.administration.domain ledger.new.administration.entries) }
+    ensures one_more { IfOk result (λ receipt.
+        HoldsOneMore ledger.old.administration ledger.new.administration (request_at ledger.old.requests place) (Ok receipt)) }
+    ensures ok { let d = ledger.old.administration.domain in IfOk result (λ _. (more : List Asked) →
+        admitted_from d ledger.old.administration.entries (place + 1) (request_at ledger.old.requests place ∷ more)
+        ≡ admitted_from d ledger.new.administration.entries (place + 1 + 1) more) }
+    ensures err { let d = ledger.old.administration.domain in IfErr result (λ stop. (more : List Asked) →
+        IsRefused (admitted_from d ledger.old.administration.entries (place + 1) (request_at ledger.old.requests place ∷ more)) stop) }
+{
+    state_follows_history();
+    match ledger.admit(SEAT, place) {
+        Ok(receipt) => Ok(receipt),
+        Err(Refused::HistoryFull) => unreachable!(),
+        Err(refused) => Err(stream_stop(alloc, place + 1, refused)),
+    }
+}
+
+/// Lets a ledger know the row of the request at a place.
+fn learn(alloc: Global, ledger: &mut Ledger<'_>, place: usize, row: &Row) -> Result<(), Stop>
+    requires there { place < length ledger.old.requests }
+    requires row { IsRowOfGoodForm ledger.old.administration.domain (request_at ledger.old.requests place) row.now }
+    ensures same { ledger.new ≡ ledger.old }
+    ensures memory { IfErr result (EndsWith 3 []) }
+{
+    match ledger.learn(place, row) {
+        Ok(()) => Ok(()),
+        Err(_) => Err(Stop::memory(alloc)),
+    }
+}
+
+/// Puts a row behind others, with the number and the cycle of its receipt.
+fn push_row(alloc: Global, rows: &mut Vec<Row>, row: Row, receipt: Receipt) -> Result<(), Stop>
+    ensures ok { OnOk result (rows.new.items ≡ rows.old.items ++ record row { no = receipt.no; admitted = receipt.effect } ∷ []) }
+    ensures memory { IfErr result (EndsWith 3 []) }
+{
+    let mut row = row;
+    row.no = receipt.no;
+    row.admitted = receipt.effect;
+    match rows.push(row) {
+        Ok(()) => Ok(()),
+        Err(_) => Err(Stop::memory(alloc)),
+    }
+}
+
+/// Admits the streams in turn by a ledger over them, in which no call was made before, and puts their rows.
+fn admit_all(
+    alloc: Global,
+    domain: &Domain,
+    requests: &[PacedRequest],
+    ledger: &mut Ledger<'_>,
+    rows: &mut Vec<Row>,
+) -> Result<(), Stop>
+    requires domain { ledger.old.administration.domain ≡ domain.now }
+    requires begins { ledger.old.administration.entries ≡ [] }
+    requires requests { ledger.old.requests ≡ map asked_paced requests.now }
+    requires none { rows.old.items ≡ [] }
+    ensures held { IfOk result (λ _. ArePlanned domain.now ledger.new.administration rows.new.items) }
+    ensures ok { IfOk result (λ _. admitted_from domain.now [] 1 (map asked_paced requests.now) ≡ Ok ledger.new.administration.entries) }
+    ensures err { IfErr result (IsRefused (admitted_from domain.now [] 1 (map asked_paced requests.now))) }
+{
+    ledger.know();
+    for place in 0..requests.len() {
+        let row = match row_at(alloc, domain, &requests[place], place) {
+            Ok(row) => row,
+            Err(stop) => return Err(stop),
+        };
+        learn(alloc, ledger, place, &row)?;
+        let receipt = match admit_one(alloc, ledger, place) {
+            Ok(receipt) => receipt,
+            Err(stop) => return Err(stop),
+        };
+        push_row(alloc, rows, row, receipt)?;
+    }
+    Ok(())
+}
+
+/// Admits the streams in turn by a ledger over them, in which no call was made before: their rows.
+fn rows_with(
+    alloc: Global,
+    domain: &Domain,
+    requests: &[PacedRequest],
+    ledger: &mut Ledger<'_>,
+) -> Result<Vec<Row>, Stop>
+    requires domain { ledger.old.administration.domain ≡ domain.now }
+    requires begins { ledger.old.administration.entries ≡ [] }
+    requires requests { ledger.old.requests ≡ map asked_paced requests.now }
+    ensures held { IfOk result (λ rows. HoldsAll domain.now (map asked_paced requests.now) rows.items) }
+    ensures along { IfOk result (λ rows. AreAlongLinks domain.now rows.items) }
+    ensures sound { IfOk result (λ rows. (next : ℕ) × AreHeld domain.now rows.items next 0) }
+    ensures good { IfOk result (λ rows. AreOfGoodPaces rows.items) }
+    ensures err { IfErr result (IsRefused (admitted_from domain.now [] 1 (map asked_paced requests.now))) }
+{
+    state_follows_history();
+    let mut rows = Vec::new(alloc);
+    admit_all(alloc, domain, requests, ledger, &mut rows)?;
+    Ok(rows)
+}
+
+/// The rows of the table of cycle 0, with all streams, by number: each is admitted before it, in their order. They are what held
+/// streams are: their trees are trees of the domain, and what they cost of a link is within its budget.
+///
+/// # Errors
+/// With status 1 and the line of the first stream that isn't admitted; and with status 3 for want of memory.
+pub fn rows_of_cycle_0(
+    alloc: Global,
+    domain: &Domain,
+    requests: &[PacedRequest],
+) -> Result<Vec<Row>, Stop>
+    ensures held { IfOk result (λ rows. HoldsAll domain.now (map asked_paced requests.now) rows.items) }
+    ensures along { IfOk result (λ rows. AreAlongLinks domain.now rows.items) }
+    ensures sound { IfOk result (λ rows. (next : ℕ) × AreHeld domain.now rows.items next 0) }
+    ensures good { IfOk result (λ rows. AreOfGoodPaces rows.items) }
+    ensures err { IfErr result (IsRefused (admitted_from domain.now [] 1 (map asked_paced requests.now))) }
+{
+    let Ok(mut ledger) = Ledger::new(alloc, domain, requests, &[]) else {
+        return Err(Stop::memory(alloc));
+    };
+    rows_with(alloc, domain, requests, &mut ledger)
+}
+
+/// The domain's configuration with the streams of these rows, ready to be told.
+fn config_ready(alloc: Global, domain: &Domain, rows: Vec<Row>) -> Result<ConfigOutput, Memory>
+    requires along { AreAlongLinks domain.now rows.items }
+    requires paced { AreOfGoodPaces rows.items }
+    ensures { IfOk result (λ output. output ≡ record { domain = domain.now; rows = rows.items }) }
+{
+    let port_text = port_text(alloc, domain)?;
+    let plan = compile(alloc, domain)?;
+    let sheet = Sheet::new(alloc)?;
+    Ok(ConfigOutput {
+        plan,
+        rows,
+        port_text,
+        sheet,
+    })
+}
+
+/// The configuration of a domain with these streams, ready to be told.
+fn config_of(
+    alloc: Global,
+    domain: &Domain,
+    requests: &[PacedRequest],
+) -> Result<ConfigOutput, Stop>
+    ensures ok { IfOk result (λ output. configuration_of domain.now (map asked_paced requests.now) ≡ Ok (text_of_config output)) }
+    ensures err { IfErr result (IsRefused (configuration_of domain.now (map asked_paced requests.now))) }
+{
+    let rows = rows_of_cycle_0(alloc, domain, requests)?;
+    match config_ready(alloc, domain, rows) {
+        Ok(output) => Ok(output),
+        Err(_) => Err(Stop::memory(alloc)),
+    }
+}
+
+/// The output of `compile` for an input that is read within some limits, ready to be told: the configuration of the domain and its streams.
+///
+/// # Errors
+/// With status 1 and the line of the first fault of the input: of its parts, of the domain, of the streams, or of the first
+/// stream that isn't admitted; and with status 3 for want of memory.
+pub fn compile_output(alloc: Global, limits: Limits, input: &[u8]) -> Result<ConfigOutput, Stop>
+    ensures ok { IfOk result (λ output. compiled_input limits input.now ≡ Ok (text_of_config output)) }
+    ensures err { IfErr result (IsRefused (compiled_input limits input.now)) }
+{
+    let (domain, requests) = read_plan(alloc, limits, input)?;
+    config_of(alloc, &domain, requests.as_slice())
+}

@@ -1,0 +1,46 @@
+//! The output of `compile`.
+ghost use Rattle.cqf_program_plans.specs.Compile.Told.{text_of_config};
+ghost use Rattle.cqf_press.specs.Edge.{HasTold, writing};
+
+use cqf_compile::{Plan, put_config};
+use cqf_model::Row;
+use cqf_press::{Press, Sheet, Sink, Told};
+use std::marker::Model;
+
+/// What the output of `compile` is told from: the plan of a domain, the rows of its streams by number, the text of the gate list that each port has, and
+/// a sheet.
+#[derive(Drop)]
+pub struct ConfigOutput {
+    pub(crate) plan: Plan,
+    pub(crate) rows: Vec<Row>,
+    pub(crate) port_text: Vec<u8>,
+    pub(crate) sheet: Sheet,
+}
+
+impl Model for ConfigOutput {
+    ghost use Rattle.cqf_compile.specs.ConfigLines.{IsReadyConfig};
+    ghost use Rattle.cqf_program_plans.specs.Compile.Told.{ConfiguredPlan};
+
+    ghost Value = { ConfiguredPlan };
+
+    ghost view = { λ o. record { domain = o.plan; rows = o.rows.items } };
+
+    ghost invariant = { λ o. IsReadyConfig o.plan o.rows.items o.port_text.items };
+}
+
+impl ConfigOutput {
+    /// Tells the output: the configuration, as `cqf_compile::write_config` gives it (profile). It asks for no memory.
+    pub fn tell<W: Sink>(self, told: &mut Told<W>)
+        ensures { HasTold (writing W.contents told.old told.new) (text_of_config self) }
+    {
+        let ConfigOutput {
+            plan,
+            rows,
+            port_text,
+            sheet,
+        } = self;
+        let mut press = Press::new(told, sheet);
+        put_config(&mut press, &plan, rows.as_slice(), port_text.as_slice());
+        let _told = press.close();
+    }
+}

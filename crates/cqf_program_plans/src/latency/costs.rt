@@ -1,0 +1,120 @@
+//! What the streams of some rows cost of each link.
+ghost use Rattle.std.specs.Prelude.{ℕ, ◌≡◌, ◌<◌, ◌∷◌, [], Contains, IfOk, length};
+ghost use Rattle.cqf_admission.specs.Costs.{most_cost};
+ghost use Rattle.cqf_admission.specs.Rows.{IsCountable};
+ghost use Rattle.cqf_admission.specs.Turns.{AreOfGoodPaces, IsOfGoodPace};
+ghost use Rattle.cqf_laws_history.specs.StateLaws.{AreHeld};
+ghost use Rattle.cqf_lists.specs.Lists.{each_below};
+ghost use Rattle.cqf_model.specs.History.{most_beside};
+ghost use Rattle.cqf_program_plans.specs.Latency.Output.{AreCostsOf, AreCountable};
+
+use crate::row_costs::add_cost;
+use cqf_admission::CycleSums;
+use cqf_model::{Hop, Row};
+use cqf_topology::Domain;
+use cqf_units::Memory;
+use std::alloc::Global;
+use std::marker::Model;
+
+/// The rows of a domain's table, and what their streams cost of each link in each cycle, in octets.
+#[derive(Drop)]
+pub(crate) struct Costs<'r> {
+    domain: &'r Domain,
+    rows: &'r [Row],
+    costs: CycleSums,
+}
+
+impl<'r> Model for Costs<'r> {
+    ghost use Rattle.cqf_program_plans.specs.Latency.Output.{AreCosts, DomainTable};
+
+    ghost Value = { DomainTable };
+
+    ghost view = { λ c. record { domain = c.domain.now; rows = c.rows.now } };
+
+    ghost invariant = { λ c. AreCosts c.domain.now c.rows.now c.costs };
+}
+
+/// What the rows' streams cost of each link in each cycle, unless memory runs out.
+fn costs_of(alloc: Global, domain: &Domain, rows: &[Row]) -> Result<CycleSums, Memory>
+    requires held { (next : ℕ) × AreHeld domain.now rows.now next 0 }
+    requires good { AreOfGoodPaces rows.now }
+    ensures { IfOk result (λ costs. AreCostsOf (length domain.now.links) rows.now costs) }
+{
+    domain.know();
+    let mut costs = CycleSums::new(alloc, domain.links())?;
+    for row in rows {
+        add_cost(&mut costs, row);
+    }
+    Ok(costs)
+}
+
+/// What the streams of these rows of a table of the domain cost of each link at most in a cycle, by number, in octets.
+///
+/// # Errors
+/// `Memory` where a growth is refused.
+pub fn link_costs(alloc: Global, domain: &Domain, rows: &[Row]) -> Result<Vec<u32>, Memory>
+    requires held { (next : ℕ) × AreHeld domain.now rows.now next 0 }
+    requires good { AreOfGoodPaces rows.now }
+    ensures { IfOk result (λ costs. costs.items ≡ each_below (λ l. most_cost rows.now l ∷ []) (length domain.now.links)) }
+{
+    // the domain is accepted: its cycle is short
+    domain.know();
+    let sums = costs_of(alloc, domain, rows)?;
+    let mut costs = Vec::new(alloc);
+    for link in 0..domain.links() {
+        let most = sums.most_of(link);
+        prove!(most <= 10_000_000);
+        costs.push(most as u32)?;
+    }
+    Ok(costs)
+}
+
+impl<'r> Costs<'r> {
+    /// The costs of the streams of these rows of a table of the domain.
+    pub(crate) fn new(
+        alloc: Global,
+        domain: &'r Domain,
+        rows: &'r [Row],
+    ) -> Result<Costs<'r>, Memory>
+        requires held { (next : ℕ) × AreHeld domain.now rows.now next 0 }
+        requires good { AreOfGoodPaces rows.now }
+        ensures { IfOk result (λ costs. costs ≡ record { domain = domain.now; rows = rows.now }) }
+    {
+        // the domain is accepted: its cycle is short
+        domain.know();
+        let costs = costs_of(alloc, domain, rows)?;
+        Ok(Costs {
+            domain,
+            rows,
+            costs,
+        })
+    }
+
+    /// The domain.
+    pub(crate) fn domain(&self) -> &Domain
+        ensures { result.now ≡ self.now.domain }
+    {
+        self.domain
+    }
+
+    /// The rows of the streams, by number.
+    pub(crate) fn rows(&self) -> &[Row]
+        ensures rows { result.now ≡ self.now.rows }
+        ensures countable { AreCountable (length self.now.domain.links) self.now.rows }
+        ensures good { AreOfGoodPaces self.now.rows }
+    {
+        self.rows
+    }
+
+    /// What the streams cost at most, in octets, of the link of a hop in the cycles in which a row's frames go by it.
+    pub(crate) fn at_hop(&self, row: &Row, hop: &Hop) -> u32
+        requires of_tree { Contains row.now.tree.items hop.now }
+        requires countable { IsCountable (length self.now.domain.links) row.now }
+        requires good { IsOfGoodPace row.now }
+        ensures { result ≡ most_beside self.now.rows row.now.tree.items row.now.pace hop.now.link }
+    {
+        let most = self.costs.most_at(hop, row.pace);
+        prove!(most <= 10_000_000);
+        most as u32
+    }
+}

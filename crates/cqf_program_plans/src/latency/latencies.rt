@@ -1,0 +1,85 @@
+//! How long frames take to a listener, and whether they keep a deadline.
+ghost use Rattle.std.specs.Prelude.{◌≡◌};
+ghost use Rattle.cqf_laws_timing.specs.Verdicts.{sure_of};
+ghost use Rattle.cqf_program_plans.specs.Latency.Text.{is_not_sure, name_of_verdict, said_of_latency, verdict_on_deadline};
+
+use cqf_units::Name;
+
+/// Whether the frames of a stream keep its deadline, for sure (profile).
+#[derive(Clone, Copy, Debug, PartialEq, Eq)]
+pub enum Verdict {
+    /// Each frame does.
+    InTime,
+    /// No frame does.
+    Late,
+    /// A frame may miss it.
+    MayBeLate,
+}
+
+impl Verdict {
+    /// The verdict as it is told: `in-time`, `late` or `may-be-late`.
+    pub fn name(self) -> &'static str
+        ensures { result.now ≡ name_of_verdict self }
+    {
+        match self {
+            Verdict::InTime => "in-time",
+            Verdict::Late => "late",
+            Verdict::MayBeLate => "may-be-late",
+        }
+    }
+}
+
+/// How long the frames of a stream take to one of its listeners, in nanoseconds: from the instant of a frame's offer to its
+/// being whole in the listener's station (profile).
+#[derive(Debug, Drop)]
+pub struct Latency {
+    /// The stream's name.
+    pub stream: Name,
+    /// The name of the listener's station.
+    pub listener: Name,
+    /// How many bridges are on the way.
+    pub bridges: u8,
+    /// No frame takes less.
+    pub least: u64,
+    /// No frame takes more.
+    pub most: u64,
+    /// How far apart the frames of one cycle can be whole there.
+    pub window: u64,
+    /// What the frames are to take at most, where the stream has a deadline.
+    pub deadline: Option<u32>,
+}
+
+/// The verdict on a deadline, by the least and the most that a frame takes.
+fn verdict_on(least: u64, most: u64, deadline: u64) -> Verdict
+    ensures { result ≡ said_of_latency (sure_of least most deadline) }
+{
+    if most <= deadline {
+        Verdict::InTime
+    } else if deadline < least {
+        Verdict::Late
+    } else {
+        Verdict::MayBeLate
+    }
+}
+
+impl Latency {
+    /// Whether the frames keep their deadline; none where the stream has no deadline.
+    pub fn verdict(&self) -> Option<Verdict>
+        ensures { result ≡ verdict_on_deadline self.now }
+    {
+        match self.deadline {
+            Some(deadline) => Some(verdict_on(self.least, self.most, u64::from(deadline))),
+            None => None,
+        }
+    }
+
+    /// Whether a frame may miss its deadline.
+    pub fn is_not_sure(&self) -> bool
+        ensures { result ≡ is_not_sure self.now }
+    {
+        match self.verdict() {
+            Some(Verdict::Late | Verdict::MayBeLate) => true,
+            Some(Verdict::InTime) | None => false,
+        }
+    }
+}

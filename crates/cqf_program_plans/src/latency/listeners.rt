@@ -1,0 +1,167 @@
+//! The latencies of the streams of a table to their listeners.
+ghost use Rattle.std.specs.Prelude.{ℕ, ◌≡◌, ◌*◌, ◌<◌, ◌≤◌, ◌^◌, ◌++◌, Contains, IfOk, OnOk, Some, None, if◌then◌else◌, length};
+ghost use Rattle.cqf_admission.specs.Rows.{IsCountable};
+ghost use Rattle.cqf_admission.specs.Turns.{AreOfGoodPaces, IsOfGoodPace};
+ghost use Rattle.cqf_laws_history.specs.StateLaws.{AreHeld};
+ghost use Rattle.cqf_laws_timing.specs.Latency.{least_of, most_of, window_of};
+ghost use Rattle.cqf_program_plans.specs.EndNames.{name_of_end};
+ghost use Rattle.cqf_program_plans.specs.Latency.Text.{deadline_of, is_station, latencies_of, latencies_of_row, latency_to};
+ghost use Rattle.cqf_model.specs.Domain.{end_of};
+ghost use Rattle.cqf_model.specs.History.{most_beside};
+
+use crate::latency::costs::Costs;
+use crate::latency::latencies::Latency;
+use cqf_model::{Hop, Node, Row};
+use cqf_topology::Domain;
+use cqf_units::{Memory, Name, octet_time};
+use std::alloc::Global;
+
+/// The least that a frame takes to the end of a link of this depth.
+fn least_to(domain: &Domain, link: u16, depth: u8) -> u64
+    requires { link < length domain.now.links }
+    ensures { result ≡ least_of domain.now link depth }
+{
+    let (cycle_time, ends) = (domain.cycle_time().0, domain.link(link));
+    let waits = u64::from(depth.saturating_sub(1)) * cycle_time;
+    waits + 1 + 72 * octet_time(ends.rate) + u64::from(ends.delay)
+}
+
+/// The most that a frame takes to the end of a link of this depth, in nanoseconds, of which the streams cost so many octets (profile).
+pub fn most_to(domain: &Domain, link: u16, depth: u8, cost: u64) -> u64
+    requires link { link < length domain.now.links }
+    requires cost { cost ≤ 2 ^ 32 * 100000 }
+    ensures { result ≡ most_of domain.now link depth cost }
+{
+    let (cycle_time, ends) = (domain.cycle_time().0, domain.link(link));
+    let waits = u64::from(depth) * cycle_time;
+    waits + octet_time(ends.rate) * cost.saturating_sub(12) + u64::from(ends.delay)
+}
+
+/// How far apart the frames of one cycle can be whole at the end of a link of which the streams cost so much.
+fn window_at(domain: &Domain, link: u16, cost: u32) -> u64
+    requires { link < length domain.now.links }
+    ensures { result ≡ window_of domain.now link cost }
+{
+    let octets = u64::from(cost.saturating_sub(84));
+    octet_time(domain.link(link).rate) * octets
+}
+
+/// The name of the station that a link of the domain ends in, where a listener is; none where it ends in a bridge.
+pub fn listener_at(domain: &Domain, link: u16) -> Option<Name>
+    requires { link < length domain.now.links }
+    ensures { result ≡ (if is_station (end_of domain.now link) then Some (name_of_end domain.now link) else None) }
+{
+    domain.know();
+    match domain.link(link).to {
+        Node::Station(station) => Some(domain.station_name(station).copied()),
+        Node::Bridge(_) => None,
+    }
+}
+
+/// The latency to a listener at the end of a hop of a row's tree, where the streams cost so much of its link.
+fn latency_to(
+    domain: &Domain,
+    cost: u32,
+    row: &Row,
+    deadline: Option<u32>,
+    hop: &Hop,
+    listener: Name,
+) -> Latency
+    requires link { hop.now.link < length domain.now.links }
+    requires named { listener ≡ name_of_end domain.now hop.now.link }
+    ensures { result ≡ latency_to domain.now cost row.now deadline hop.now }
+{
+    let (link, depth) = (hop.link, hop.depth);
+    Latency {
+        stream: row.name.copied(),
+        listener,
+        bridges: depth,
+        least: least_to(domain, link, depth),
+        most: most_to(domain, link, depth, u64::from(cost)),
+        window: window_at(domain, link, cost),
+        deadline,
+    }
+}
+
+/// The latency to the end of a hop of a row's tree, where a listener is there.
+fn latency_at(costs: &Costs<'_>, row: &Row, deadline: Option<u32>, hop: &Hop) -> Option<Latency>
+    requires link { hop.now.link < length costs.now.domain.links }
+    requires of_tree { Contains row.now.tree.items hop.now }
+    requires countable { IsCountable (length costs.now.domain.links) row.now }
+    requires good { IsOfGoodPace row.now }
+    ensures { let cost = most_beside costs.now.rows row.now.tree.items row.now.pace hop.now.link in result
+        ≡ (if is_station (end_of costs.now.domain hop.now.link) then Some (latency_to costs.now.domain cost row.now deadline hop.now) else None) }
+{
+    let domain = costs.domain();
+    match listener_at(domain, hop.link) {
+        Some(listener) => {
+            let cost = costs.at_hop(row, hop);
+            Some(latency_to(domain, cost, row, deadline, hop, listener))
+        }
+        None => None,
+    }
+}
+
+/// Puts the latencies to the listeners of a row behind those before it.
+fn push_listeners(
+    latencies: &mut Vec<Latency>,
+    costs: &Costs<'_>,
+    row: &Row,
+    deadline: Option<u32>,
+) -> Result<(), Memory>
+    requires countable { IsCountable (length costs.now.domain.links) row.now }
+    requires good { IsOfGoodPace row.now }
+    ensures { OnOk result (latencies.new.items ≡ latencies.old.items ++ latencies_of_row costs.now.domain costs.now.rows row.now deadline) }
+{
+    for hop in row.tree.as_slice() {
+        if let Some(latency) = latency_at(costs, row, deadline, hop) {
+            latencies.push(latency)?;
+        }
+    }
+    Ok(())
+}
+
+/// The deadline of the stream of a number, where it has one.
+fn deadline_of(deadlines: &[Option<u32>], number: u32) -> Option<u32>
+    ensures { result ≡ deadline_of deadlines.now number }
+{
+    match deadlines.get(number as usize) {
+        Some(deadline) => *deadline,
+        None => None,
+    }
+}
+
+/// The latencies of the streams of a table to each of their listeners, where the deadlines are by stream number.
+fn latencies_of(
+    alloc: Global,
+    costs: &Costs<'_>,
+    deadlines: &[Option<u32>],
+) -> Result<Vec<Latency>, Memory>
+    ensures { IfOk result (λ latencies. latencies.items ≡ latencies_of costs.now.domain costs.now.rows deadlines.now) }
+{
+    let mut latencies = Vec::new(alloc);
+    for row in costs.rows() {
+        push_listeners(&mut latencies, costs, row, deadline_of(deadlines, row.no))?;
+    }
+    Ok(latencies)
+}
+
+/// How long the frames of the streams of a table's rows take to each of their listeners, in the order of the rows, and of the listeners in
+/// each stream's tree. The deadlines, in nanoseconds, are by stream number; a stream has none where there are fewer.
+///
+/// # Errors
+/// `Memory` where a growth is refused.
+pub fn latencies_of_rows(
+    alloc: Global,
+    domain: &Domain,
+    rows: &[Row],
+    deadlines: &[Option<u32>],
+) -> Result<Vec<Latency>, Memory>
+    requires held { (next : ℕ) × AreHeld domain.now rows.now next 0 }
+    requires good { AreOfGoodPaces rows.now }
+    ensures { IfOk result (λ latencies. latencies.items ≡ latencies_of domain.now rows.now deadlines.now) }
+{
+    let costs = Costs::new(alloc, domain, rows)?;
+    let latencies = latencies_of(alloc, &costs, deadlines)?;
+    Ok(latencies)
+}

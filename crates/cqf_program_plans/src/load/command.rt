@@ -1,0 +1,79 @@
+//! The command `load`: what each link holds of the streams of a plan, and what it has left.
+ghost use Rattle.std.specs.Prelude.{◌≡◌, ◌∷◌, [], IfErr, IfOk, List, Ok, map};
+ghost use Rattle.cqf_model.specs.History.{Asked};
+ghost use Rattle.cqf_admission.specs.Asking.{asked_paced};
+ghost use Rattle.cqf_program_plans.specs.Load.Output.{listed_from, loaded_input};
+ghost use Rattle.cqf_program_plans.specs.Load.Text.{text_of_load};
+ghost use Rattle.cqf_press.specs.Stops.{IsRefused};
+
+use crate::load::listing::LoadListing;
+use crate::load::outputs::LoadOutput;
+use crate::{read_plan, stream_stop};
+use cqf_admission::count_places;
+use cqf_model::Limits;
+use cqf_press::{Sheet, Stop};
+use cqf_topology::{Domain, PacedRequest};
+use std::alloc::Global;
+
+/// The streams with one more listed behind them, whatever room links have, or the end where it is refused.
+fn list_one(
+    alloc: Global,
+    domain: &Domain,
+    listing: LoadListing,
+    request: &PacedRequest,
+) -> Result<LoadListing, Stop>
+    ensures ok { IfOk result (λ after. (more : List Asked) → listed_from domain.now listing (asked_paced request.now ∷ more) ≡ listed_from domain.now after more) }
+    ensures err { IfErr result (λ stop. (more : List Asked) → IsRefused (listed_from domain.now listing (asked_paced request.now ∷ more)) stop) }
+{
+    domain.know();
+    if count_places(request.paths.as_slice()).is_none() {
+        return Err(Stop::memory(alloc));
+    }
+    let Ok(looked) = listing.look_over(alloc, domain, request) else {
+        return Err(Stop::memory(alloc));
+    };
+    match looked {
+        Ok(row) => match listing.with(row) {
+            Ok(after) => Ok(after),
+            Err(_) => Err(Stop::memory(alloc)),
+        },
+        Err(refused) => Err(stream_stop(alloc, listing.len() + 1, refused)),
+    }
+}
+
+/// Streams listed in turn, or the end with the line of the first that is refused.
+fn list_all(alloc: Global, domain: &Domain, requests: &[PacedRequest]) -> Result<LoadListing, Stop>
+    ensures ok { IfOk result (λ listing. listed_from domain.now [] (map asked_paced requests.now) ≡ Ok listing) }
+    ensures err { IfErr result (IsRefused (listed_from domain.now [] (map asked_paced requests.now))) }
+{
+    let Ok(mut listing) = LoadListing::new(alloc) else {
+        return Err(Stop::memory(alloc));
+    };
+    for request in requests {
+        listing = list_one(alloc, domain, listing, request)?;
+    }
+    Ok(listing)
+}
+
+/// The output of `load` for an input that is read within some limits, ready to be told: a line a link, with what it holds of the streams
+/// and has left. A stream that a link has no room for is told with the others (profile).
+///
+/// # Errors
+/// With status 1 and the line of the first fault of the input: of its parts, of the domain, of the streams, or of the first
+/// stream that is refused for another reason than a link's budget, where those before it count as accepted; and with status 3
+/// for want of memory.
+pub fn load_output(alloc: Global, limits: Limits, input: &[u8]) -> Result<LoadOutput, Stop>
+    ensures ok { IfOk result (λ output. loaded_input limits input.now ≡ Ok (text_of_load output)) }
+    ensures err { IfErr result (IsRefused (loaded_input limits input.now)) }
+{
+    let (domain, requests) = read_plan(alloc, limits, input)?;
+    let listing = list_all(alloc, &domain, requests.as_slice())?;
+    match Sheet::new(alloc) {
+        Ok(sheet) => Ok(LoadOutput {
+            domain,
+            listing,
+            sheet,
+        }),
+        Err(_) => Err(Stop::memory(alloc)),
+    }
+}

@@ -1,0 +1,22 @@
+//! The output of `load`, before it is told.
+
+use crate::load::listing::LoadListing;
+use cqf_press::Sheet;
+use cqf_topology::Domain;
+use std::marker::Model;
+
+/// What the output of `load` is told from: a domain, its streams, and a sheet.
+#[derive(Drop)]
+pub struct LoadOutput {
+    pub(crate) domain: Domain,
+    pub(crate) listing: LoadListing,
+    pub(crate) sheet: Sheet,
+}
+
+impl Model for LoadOutput {
+    ghost use Rattle.cqf_program_plans.specs.Load.Text.{ListedPlan};
+
+    ghost Value = { ListedPlan };
+
+    ghost view = { λ o. record { domain = o.domain; rows = o.listing } };
+}

@@ -1,0 +1,161 @@
+//! The output of `load`, told line by line.
+ghost use Rattle.std.specs.Prelude.{◌≡◌, ◌-◌, ◌<◌, ◌^◌, decimal, length};
+ghost use Rattle.cqf_model.specs.Domain.{budget};
+ghost use Rattle.cqf_program_plans.specs.Load.Fitting.{fits_in, megabits_of, rate_on};
+ghost use Rattle.cqf_program_plans.specs.Load.Text.{left_text, lines_of_links, load_fields, load_header, load_text, percentage_text, text_of_load, used_text};
+ghost use Rattle.cqf_press.specs.Edge.{HasTold, writing};
+ghost use Rattle.cqf_press.specs.Press.{Puts};
+ghost use Rattle.cqf_report.specs.Written.{line_of_fields};
+
+use crate::load::listing::LoadListing;
+use crate::load::outputs::LoadOutput;
+use cqf_model::MOST_OCTETS;
+use cqf_press::{Press, Sink, Told};
+use cqf_topology::{Domain, put_link};
+use cqf_units::{Rate, budget};
+
+/// A rate in Mb/s.
+fn megabits_of(rate: Rate) -> u32
+    ensures { result ≡ megabits_of rate }
+{
+    match rate {
+        Rate::Mb10 => 10,
+        Rate::Mb100 => 100,
+        Rate::Mb1000 => 1000,
+    }
+}
+
+/// The rate of a link in Mb/s.
+fn rate_on(domain: &Domain, link: u16) -> u32
+    requires { link < length domain.now.links }
+    ensures { result ≡ rate_on domain.now link }
+{
+    megabits_of(domain.link(link).rate)
+}
+
+/// The budget of a link, in octets a cycle. A domain has at most 4,096 links.
+fn budget_on(domain: &Domain, link: u16) -> u64
+    requires { link < length domain.now.links }
+    ensures value { result ≡ budget domain.now link }
+    ensures range { result < 2 ^ 32 }
+    ensures low { link < 4096 }
+{
+    let rate = domain.link(link).rate;
+    u64::from(budget(domain.cycle_time(), domain.guard(), rate).0)
+}
+
+/// The greatest reservation, in octets a cycle, that costs no more than what is left, below 2^32; 0 where there is none.
+fn fits_in(left: u64) -> u64
+    requires { left < 2 ^ 32 }
+    ensures { result ≡ fits_in left }
+{
+    let frames = left / 84;
+    if frames == 0 {
+        return 0;
+    }
+    let (by_octets, by_frames) = (left - 20 * frames, 64 * frames + 63);
+    by_octets.min(by_frames).min(MOST_OCTETS as u64)
+}
+
+/// Puts what is left of a budget.
+fn put_left<W: Sink>(press: &mut Press<'_, W>, budget: u64, held: u64)
+    ensures { Puts W.contents press.old press.new (left_text budget held) }
+{
+    if held <= budget {
+        press.put_number(budget - held);
+    } else {
+        press.put_byte(b'-');
+        press.put_number(held - budget);
+    }
+}
+
+/// Puts thousandths as a percentage.
+fn put_percentage<W: Sink>(press: &mut Press<'_, W>, thousandths: u64)
+    ensures { Puts W.contents press.old press.new (percentage_text thousandths) }
+{
+    press.put_number(thousandths / 10);
+    press.put_byte(b'.');
+    press.put_number(thousandths % 10);
+}
+
+/// Puts the share of a budget that is held: nothing where there is no budget.
+fn put_used<W: Sink>(press: &mut Press<'_, W>, budget: u64, held: u64)
+    requires { held < 2 ^ 32 }
+    ensures { Puts W.contents press.old press.new (used_text budget held) }
+{
+    if budget != 0 {
+        put_percentage(press, 1000 * held / budget);
+    }
+}
+
+/// Puts the greatest reservation that still fits a budget.
+fn put_fits<W: Sink>(press: &mut Press<'_, W>, budget: u64, held: u64)
+    requires { budget < 2 ^ 32 }
+    ensures { Puts W.contents press.old press.new (decimal (fits_in (budget - held))) }
+{
+    press.put_number(fits_in(budget.saturating_sub(held)));
+}
+
+/// Puts the line of a link.
+fn put_line<W: Sink>(press: &mut Press<'_, W>, domain: &Domain, listing: &LoadListing, link: u16)
+    requires { link < length domain.now.links }
+    ensures { Puts W.contents press.old press.new (line_of_fields (load_fields domain.now listing.now link)) }
+{
+    let (most, held) = (budget_on(domain, link), listing.cost_on(link));
+    put_link(press, domain, link);
+    press.put_byte(b',');
+    press.put_number(rate_on(domain, link));
+    press.put_byte(b',');
+    press.put_number(most);
+    press.put_byte(b',');
+    press.put_number(held);
+    press.put_byte(b',');
+    put_left(press, most, held);
+    press.put_byte(b',');
+    put_fits(press, most, held);
+    press.put_byte(b',');
+    press.put_number(listing.streams_on(link));
+    press.put_byte(b',');
+    put_used(press, most, held);
+    press.put_byte(b'\n');
+}
+
+/// Puts the header.
+fn put_header<W: Sink>(press: &mut Press<'_, W>)
+    ensures { Puts W.contents press.old press.new (line_of_fields load_header) }
+{
+    press.put(b"link,rate,budget,held,left,fits,streams,used\n");
+}
+
+/// Puts a line for each link.
+fn put_lines<W: Sink>(press: &mut Press<'_, W>, domain: &Domain, listing: &LoadListing)
+    ensures { Puts W.contents press.old press.new (lines_of_links domain.now listing.now (length domain.now.links)) }
+{
+    for link in 0..domain.links() {
+        put_line(press, domain, listing, link);
+    }
+}
+
+/// Puts the header, and a line for each link.
+fn put_load<W: Sink>(press: &mut Press<'_, W>, domain: &Domain, listing: &LoadListing)
+    ensures { Puts W.contents press.old press.new (load_text domain.now listing.now) }
+{
+    put_header(press);
+    put_lines(press, domain, listing);
+}
+
+impl LoadOutput {
+    /// Tells the output: a line for each link (profile). It asks for no memory.
+    pub fn tell<W: Sink>(self, told: &mut Told<W>)
+        ensures { HasTold (writing W.contents told.old told.new) (text_of_load self) }
+    {
+        let LoadOutput {
+            domain,
+            listing,
+            sheet,
+        } = self;
+        let mut press = Press::new(told, sheet);
+        put_load(&mut press, &domain, &listing);
+        let _told = press.close();
+    }
+}

@@ -1,0 +1,118 @@
+//! The command `port`: the starts of one output port before an instant.
+ghost use Rattle.std.specs.Prelude.{◌≡◌, ◌≢◌, ◌<◌, ◌^◌, [], Ok, IfOk, IfErr};
+ghost use Rattle.cqf_gates.specs.TxText.{list_of_text};
+ghost use Rattle.cqf_press.specs.Edge.{HasTold, writing};
+ghost use Rattle.cqf_report.specs.Arrivals.{arrivals_of_table};
+ghost use Rattle.cqf_port.specs.PortState.{rules_of};
+ghost use Rattle.cqf_press.specs.Stops.{EndsWith, IsRefused, or_line};
+ghost use Rattle.cqf_program_plans.specs.Port.Output.{arrivals_line, list_line, port_input, AreOfferable, IsStartsText, IsPortOutput};
+ghost use Rattle.cqf_program_plans.specs.Port.Told.{text_of_port};
+
+use crate::port::outputs::PortOutput;
+use cqf_gates::{TextFault, TxList, read_tx};
+use cqf_port::{Arrival, Port};
+use cqf_press::{Press, Sheet, Sink, Stop, Told};
+use cqf_program_scenario::{put_starts_of_port, two_parts};
+use cqf_report::{TableFault, read_arrivals};
+use cqf_units::{Memory, Nanos, Rate};
+use std::alloc::Global;
+
+/// The end where a gate list is refused.
+fn list_stop(alloc: Global, fault: TextFault) -> Stop
+    ensures { EndsWith 1 (list_line fault) result }
+{
+    Stop::refused(alloc, "list", &fault)
+}
+
+/// The gate list of a part.
+fn list_part(alloc: Global, text: &[u8]) -> Result<TxList, Stop>
+    ensures ok { IfOk result (λ list. list_of_text text.now ≡ Ok list) }
+    ensures err { IfErr result (IsRefused (or_line list_line (list_of_text text.now))) }
+{
+    match read_tx(text) {
+        Ok(list) => Ok(list),
+        Err(fault) => Err(list_stop(alloc, fault)),
+    }
+}
+
+/// The end where arrivals are refused.
+fn arrivals_stop(alloc: Global, fault: TableFault) -> Stop
+    ensures refused { fault ≢ TableFault.Memory → EndsWith 1 (arrivals_line fault) result }
+    ensures memory { fault ≡ TableFault.Memory → EndsWith 3 [] result }
+{
+    match fault {
+        TableFault::Memory => Stop::memory(alloc),
+        _ => Stop::refused(alloc, "arrivals", &fault),
+    }
+}
+
+/// The arrivals of a part.
+fn arrivals_part(alloc: Global, text: &[u8]) -> Result<Vec<Arrival>, Stop>
+    ensures ok { IfOk result (λ arrivals. arrivals_of_table text.now ≡ Ok arrivals.items) }
+    ensures order { IfOk result (λ arrivals. AreOfferable arrivals.items) }
+    ensures err { IfErr result (IsRefused (or_line arrivals_line (arrivals_of_table text.now))) }
+{
+    match read_arrivals(alloc, text) {
+        Ok(arrivals) => Ok(arrivals),
+        Err(fault) => Err(arrivals_stop(alloc, fault)),
+    }
+}
+
+/// The gate list and the arrivals of the input.
+fn read_port(alloc: Global, input: &[u8]) -> Result<(TxList, Vec<Arrival>), Stop>
+    ensures ok { IfOk result (λ found. port_input input.now ≡ Ok (found.0, found.1.items)) }
+    ensures order { IfOk result (λ found. AreOfferable found.1.items) }
+    ensures err { IfErr result (IsRefused (port_input input.now)) }
+{
+    let (list_text, arrivals_text) = two_parts(alloc, input)?;
+    let list = list_part(alloc, list_text)?;
+    let arrivals = arrivals_part(alloc, arrivals_text)?;
+    Ok((list, arrivals))
+}
+
+/// The starts before the instant, ready to be told.
+fn starts_ready(
+    alloc: Global,
+    list: TxList,
+    rate: Rate,
+    arrivals: Vec<Arrival>,
+    until: u64,
+) -> Result<PortOutput, Memory>
+    requires early { until < 2 ^ 62 }
+    requires offerable { AreOfferable arrivals.items }
+    ensures { IfOk result (λ output. IsStartsText (rules_of list rate) arrivals.items until rate (text_of_port output)) }
+{
+    let mut port = Port::with_arrivals(alloc, list, rate, arrivals);
+    port.run_to(Nanos(until))?;
+    let sheet = Sheet::new(alloc)?;
+    Ok(PortOutput { port, rate, sheet })
+}
+
+impl PortOutput {
+    /// Tells the output: the starts before the instant (profile). It asks for no memory.
+    pub fn tell<W: Sink>(self, told: &mut Told<W>)
+        ensures { HasTold (writing W.contents told.old told.new) (text_of_port self) }
+    {
+        let PortOutput { port, rate, sheet } = self;
+        let mut press = Press::new(told, sheet);
+        put_starts_of_port(&mut press, port.arrivals(), port.starts(), rate);
+        let _told = press.close();
+    }
+}
+
+/// The output of `port`, ready to be told: the starts before `until`.
+///
+/// # Errors
+/// With status 1 and the line of the first fault of the input: of its parts, of the gate list, of the arrivals; and with
+/// status 3 for want of memory.
+pub fn port_output(alloc: Global, until: u64, rate: Rate, input: &[u8]) -> Result<PortOutput, Stop>
+    requires { until < 2 ^ 62 }
+    ensures ok { IfOk result (λ output. IsPortOutput until rate input.now (text_of_port output)) }
+    ensures err { IfErr result (IsRefused (port_input input.now)) }
+{
+    let (list, arrivals) = read_port(alloc, input)?;
+    match starts_ready(alloc, list, rate, arrivals, until) {
+        Ok(output) => Ok(output),
+        Err(_) => Err(Stop::memory(alloc)),
+    }
+}

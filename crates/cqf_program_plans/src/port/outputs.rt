@@ -1,0 +1,27 @@
+//! The output of `port`, before it is told.
+
+use cqf_port::Port;
+use cqf_press::Sheet;
+use cqf_units::Rate;
+use std::marker::Model;
+
+/// What the output of `port` is told from: a port, whose starts they are, the rate of its link, and a sheet.
+#[derive(Drop)]
+pub struct PortOutput {
+    pub(crate) port: Port,
+    pub(crate) rate: Rate,
+    pub(crate) sheet: Sheet,
+}
+
+impl Model for PortOutput {
+    ghost use Rattle.std.specs.Prelude.{map};
+    ghost use Rattle.cqf_port.specs.PortState.{start_of};
+    ghost use Rattle.cqf_program_plans.specs.Port.Told.{StartsAtRate};
+    ghost use Rattle.cqf_program_scenario.specs.PortLines.{AreTellable};
+
+    ghost Value = { StartsAtRate };
+
+    ghost view = { λ o. record { starts = map (start_of o.port.arrivals) o.port.starts; rate = o.rate } };
+
+    ghost invariant = { λ o. AreTellable o.port.arrivals o.port.starts };
+}

@@ -1,8 +1,0 @@
-use Rattle.std.proofs.Common.{◌∙◌}
-use Rattle.std.specs.Fmt.{decimal}
-use Rattle.cqf_program_runs.proofs.Lines.{well_told}
-use Rattle.cqf_program_runs.proofs.checked.well_line.Goals as goal
-
-pub returns : goal.returns
-returns c =
-    c.in_ok-line.ensures.ok ∙ well_told (decimal c.args.counts.frames) (decimal c.args.counts.delivered) (decimal c.args.counts.timed)

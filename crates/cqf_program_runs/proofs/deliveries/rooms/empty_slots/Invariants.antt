@@ -1,0 +1,6 @@
+-- So many slots are there, in which nothing is kept.
+use Rattle.cqf_program_runs.specs.Deliveries.UnderWay.{AreEmptySlots, slots_of}
+use Rattle.cqf_program_runs.proofs.deliveries.rooms.empty_slots.Given as goal
+
+abbrev pub invariant-loop-slot : goal.invariant-loop-slot
+invariant-loop-slot l = AreEmptySlots l.width l._slot (slots_of l.slots.items)

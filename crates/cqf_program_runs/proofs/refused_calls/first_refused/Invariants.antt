@@ -1,7 +1,0 @@
--- The first refused call is that of the entries that are left, which begin with the next number.
-use Rattle.std.proofs.Common.{◌≡◌, ◌+◌, ◌≤◌, drop}
-use Rattle.cqf_program_runs.specs.RefusedInLog.{refused_from}
-use Rattle.cqf_program_runs.proofs.refused_calls.first_refused.Given as goal
-
-abbrev pub invariant-loop-logged : goal.invariant-loop-logged
-invariant-loop-logged l = (refused_from (l.number + 1) (drop l.logged-index l.log) ≡ refused_from 1 l.log) × (l.number ≤ l.logged-index)

@@ -1,0 +1,19 @@
+-- What is told of a scenario that was read.
+use Rattle.std.specs.Prelude.{ℕ, ◌≡◌, ◌⊎◌, List, [], Result, Err}
+use Rattle.cqf_topology.specs.PlannedText.{PlannedText}
+use Rattle.cqf_program_scenario.specs.Closing.{scenario_given}
+use Rattle.cqf_press.specs.declared.stops.Stop.{Stop}
+use Rattle.cqf_program_runs.specs.declared.deliveries.reading.PlannedGiven.{PlannedGiven}
+use Rattle.cqf_program_runs.specs.Check.Output.{IsCheckedScenario}
+use Rattle.cqf_program_runs.specs.Deliveries.Reading.{ArePlannedBeside}
+
+-- what was found is told of it, for whatever streams its requests and deadlines are those of
+abbrev pub IsCheckedGiven : ℕ → PlannedGiven → Result (List ℕ) (List ℕ) → Type 0
+IsCheckedGiven cycles planned found = (streams : List PlannedText) → ArePlannedBeside streams planned.given.requests.items planned.deadlines.items →
+    IsCheckedScenario cycles (scenario_given planned.given) streams found
+
+-- not all is well, and this tells why; or the run lacks memory
+pub record IsRefusedGiven (cycles : ℕ) (planned : PlannedGiven) (stop : Stop) : Type 0 where
+  pub statuses : (stop.status ≡ 1) ⊎ (stop.status ≡ 3)
+  pub line : stop.status ≡ 1 → IsCheckedGiven cycles planned (Err stop.text.items)
+  pub memory : stop.status ≡ 3 → stop.text.items ≡ []

@@ -1,0 +1,28 @@
+-- What a check has looked at so far.
+use Rattle.std.specs.Prelude.{ℕ, ◌≡◌, ◌*◌, ◌≤◌, List, None, Result, find, length, take}
+use Rattle.cqf_model.specs.Traffic.{numbered}
+use Rattle.cqf_program_runs.specs.declared.check.checked.CheckCounts.{CheckCounts}
+use Rattle.cqf_program_runs.specs.declared.deliveries.delivery.Delivery.{Delivery}
+use Rattle.cqf_program_runs.specs.Check.Checked.{checked_by, counts_of, is_bad}
+use Rattle.cqf_program_runs.specs.Deliveries.{fate_of}
+use Rattle.cqf_program_runs.specs.Deliveries.Ending.{Over, deliveries_among, deliveries_over}
+
+-- the counts are those of the deliveries of so many offers, each of which has at most 200
+pub record AreCountsBefore (place : ℕ) (counts : CheckCounts) : Type 0 where
+  pub under_way : counts.under_way ≤ 200 * place
+  pub delivered : counts.delivered ≤ 200 * place
+  pub timed : counts.timed ≤ 200 * place
+
+-- what is told of a run that is over, of whose offers so many are of cycles that aren't run
+abbrev pub checked_over : Over → ℕ → Result (List ℕ) (List ℕ)
+checked_over over later = checked_by (deliveries_over over) (counts_of (length over.offers) later (deliveries_over over))
+
+-- none of some deliveries is bad
+abbrev pub NoneBad : List Delivery → Type 0
+NoneBad deliveries = find (λ (delivery : Delivery). is_bad (fate_of delivery)) deliveries ≡ None
+
+-- none of the deliveries of the first offers is bad, and all are counted
+pub record GoesWellSoFar (over : Over) (later place : ℕ) (counts : CheckCounts) : Type 0 where
+  pub well : NoneBad (deliveries_among over (take place (numbered over.offers)))
+  pub counted : counts ≡ counts_of (length over.offers) later (deliveries_among over (take place (numbered over.offers)))
+  pub before : AreCountsBefore place counts

@@ -1,0 +1,36 @@
+-- The first call of a history that is refused, and what a check says of it (profile).
+use Rattle.std.specs.Prelude.{ℕ, ◌++◌, Bool, true, false, not, List, Option, codes, decimal, filter, find}
+use Rattle.std.specs.List.{enumerate_from}
+use Rattle.cqf_model.specs.declared.history.Reply.{Reply}
+use Rattle.cqf_model.specs.declared.history.Reply.TheVariants.{Accepted, Sealed, Refused as RefusedFor}
+use Rattle.cqf_model.specs.History.{Act, Admits, Recorded, Seals, Withdraws, is_seal}
+use Rattle.cqf_report.specs.HistoryText.{reply_text}
+use Rattle.cqf_press.specs.Stops.{fault_line}
+
+-- whether an answer says that a call is refused
+abbrev pub is_refused : Reply → Bool
+is_refused (Accepted receipt) = false
+is_refused (RefusedFor refused) = true
+is_refused Sealed = false
+
+-- the calls of a history, each with its number from 1: Seals are none
+abbrev pub numbered_calls : List Recorded → List (ℕ × Recorded)
+numbered_calls entries = enumerate_from 1 (filter (λ (e : Recorded). not (is_seal e.act)) entries)
+
+-- the first that is refused
+abbrev pub first_refused : List Recorded → Option (ℕ × Recorded)
+first_refused entries = find (λ (call : ℕ × Recorded). is_refused call.1.reply) (numbered_calls entries)
+
+-- what was called for
+abbrev pub act_text : Act → List ℕ
+act_text (Admits asked) = codes "admit " ++ asked.name
+act_text (Withdraws name) = codes "withdraw " ++ name
+act_text Seals = codes "seal"
+
+-- the line that tells of a call: its number, what was called for, whose it was, and the answer as a history tells it
+abbrev pub refused_call_line : ℕ × Recorded → List ℕ
+refused_call_line call = fault_line (codes "check")
+    (codes "call "
+    ++ (decimal call.0
+    ++ (codes ", "
+    ++ (act_text call.1.act ++ (codes " by " ++ (decimal call.1.seat ++ (codes ": " ++ reply_text call.1.reply)))))))

@@ -1,0 +1,83 @@
+-- A run that is over, followed offer by offer while its starts are told.
+use Rattle.std.specs.Prelude.{ℕ, ◌≡◌, ◌+◌, ◌≤◌, ◌<◌, All, List, Option, Some, length, slice_get}
+use Rattle.cqf_units.specs.Timing.{cycle_at}
+use Rattle.cqf_units.specs.declared.timing.Nanos.{Nanos}
+use Rattle.cqf_instants.specs.Meaning.{Given as GivenRun}
+use Rattle.cqf_instants.specs.Progress.{IsBasisOf}
+use Rattle.cqf_instants.specs.declared.basis.Basis.{Basis}
+use Rattle.cqf_model.specs.declared.frames.Offer.{Offer}
+use Rattle.cqf_model.specs.declared.frames.Started.{Started}
+use Rattle.cqf_laws_coverage.specs.Judged.{StandInOrder}
+use Rattle.cqf_program_runs.specs.declared.deliveries.noted.Noted.{Noted}
+use Rattle.cqf_program_runs.specs.declared.deliveries.reading.PlannedGiven.{PlannedGiven}
+use Rattle.cqf_program_runs.specs.declared.deliveries.delivery.Delivery.{Delivery}
+use Rattle.cqf_program_runs.specs.declared.deliveries.made.CompletedRun.{CompletedRun}
+use Rattle.cqf_program_runs.specs.declared.deliveries.under_way.UnderWay.{UnderWay}
+use Rattle.cqf_program_runs.specs.Deliveries.{whole_on}
+use Rattle.cqf_program_runs.specs.Deliveries.Reading.{AreDeliveriesOf}
+use Rattle.cqf_program_runs.specs.Deliveries.Text.{text_of_deliveries}
+use Rattle.cqf_program_runs.specs.Deliveries.Ending.{IsOver, Over, deliveries_over, over_by, over_of}
+use Rattle.cqf_program_runs.specs.Deliveries.UnderWay.{AreSlots, IsInTime, IsWideFor, slots_of, starts_told}
+
+-- a start of an offer's frame is of a cycle behind the offer's, and at most so many behind it
+pub record IsBehind (cycle_time depth : ℕ) (offers : List Offer) (s : Started) : Type 0 where
+  pub later : (place : ℕ) (offer : Offer) → slice_get offers place ≡ Some offer → s.frame ≡ place + 1 →
+      cycle_at cycle_time offer.at.0 < s.cycle.0
+  pub soon : (place : ℕ) (offer : Offer) → slice_get offers place ≡ Some offer → s.frame ≡ place + 1 →
+      s.cycle.0 ≤ cycle_at cycle_time offer.at.0 + depth
+
+-- frames are whole by the starts of a run that the pass is of, each of which is in time, and behind its offer
+pub record IsBookBehind (over : Over) (depth : ℕ) (basis : Basis) (given : GivenRun) : Type 0 where
+  pub is : IsBasisOf given basis
+  pub whole : over.whole ≡ whole_on over.domain (starts_told given basis.cycles)
+  pub in_time : All (IsInTime over.domain) (starts_told given basis.cycles)
+  pub behind : All (IsBehind over.domain.cycle_time depth over.offers) (starts_told given basis.cycles)
+
+-- the run is followed from the offer at a place on: what is kept are the frames under way from there on, and no start of one behind them is told
+pub record IsFollowed (over : Over) (place : ℕ) (under_way : UnderWay) : Type 0 where
+  pub given : GivenRun
+  pub width : ℕ
+  pub is_over : IsOver over
+  pub ordered : StandInOrder over.offers
+  pub book : IsBookBehind over under_way.depth under_way.pass.basis given
+  pub counted : under_way.told ≡ under_way.pass.told
+  pub within : under_way.told ≤ under_way.pass.basis.cycles
+  pub some : 0 < length under_way.slots.items
+  pub enough : IsWideFor over.domain.cycle_time under_way.depth over.offers (length under_way.slots.items)
+  pub slots : AreSlots over.domain over.rows over.edge_verdicts (starts_told given under_way.pass.told) place width (slots_of under_way.slots.items)
+  pub early : (later : ℕ) (offer : Offer) → place ≤ later → slice_get over.offers later ≡ Some offer →
+      under_way.told ≤ cycle_at over.domain.cycle_time offer.at.0 + under_way.depth + 1
+
+-- what was lent can be followed so
+pub record CanFollow (ended : CompletedRun) (place : ℕ) (under_way : UnderWay) : Type 0 where
+  pub whole : ℕ → ℕ → Option Nanos
+  pub is : IsFollowed (over_of ended whole) place under_way
+
+-- what is noted of a scenario can be followed from the first offer on, and tells its deliveries
+pub record IsNotedOf (cycles : ℕ) (planned : PlannedGiven) (noted : Noted) (under_way : UnderWay) : Type 0 where
+  pub whole : ℕ → ℕ → Option Nanos
+  pub followed : IsFollowed (over_by planned cycles noted whole) 0 under_way
+  pub are : AreDeliveriesOf cycles planned (deliveries_over (over_by planned cycles noted whole))
+
+-- what an output of deliveries is told from
+pub record Ending : Type 0 where
+  pub planned : PlannedGiven
+  pub cycles : ℕ
+  pub noted : Noted
+  pub under_way : UnderWay
+
+-- it can be told
+pub record CanBeTold (ending : Ending) : Type 0 where
+  pub whole : ℕ → ℕ → Option Nanos
+  pub followed : IsFollowed (over_by ending.planned ending.cycles ending.noted whole) 0 ending.under_way
+
+-- the text of an output: of the deliveries by what is followed
+pub record AreDeliveriesTold (ending : Ending) (text : List ℕ) : Type 0 where
+  pub whole : ℕ → ℕ → Option Nanos
+  pub followed : IsFollowed (over_by ending.planned ending.cycles ending.noted whole) 0 ending.under_way
+  pub is : text ≡ text_of_deliveries (deliveries_over (over_by ending.planned ending.cycles ending.noted whole))
+
+-- an output tells the deliveries of what was read
+abbrev pub TellsDeliveriesOf : ℕ → PlannedGiven → Ending → Type 0
+TellsDeliveriesOf cycles planned ending = (text : List ℕ) × AreDeliveriesTold ending text
+    × (deliveries : List Delivery) × AreDeliveriesOf cycles planned deliveries × (text ≡ text_of_deliveries deliveries)

@@ -1,0 +1,147 @@
+-- The frames under way: what is kept of them while the starts of a run are told.
+use Rattle.std.specs.Prelude.{ℕ, ◌≡◌, ◌≢◌, ◌+◌, ◌^◌, ◌≤◌, ◌<◌, ◌++◌, ◌==◌, All, Contains, List, [], ◌∷◌, Option, Some, None}
+use Rattle.std.specs.Prelude.{drop, length, map, position, slice_get, slice_index_or}
+use Rattle.std.specs.Global.{Global}
+use Rattle.std.specs.Option.{option_and_then, option_or}
+use Rattle.std.specs.declared.vec.Vec.{Vec}
+use Rattle.cqf_units.specs.Timing.{cycle_at}
+use Rattle.cqf_units.specs.declared.timing.Nanos.{Nanos}
+use Rattle.cqf_instants.specs.Meaning.{Given as GivenRun}
+use Rattle.cqf_instants.specs.Progress.{IsBasisOf}
+use Rattle.cqf_instants.specs.declared.basis.Basis.{Basis}
+use Rattle.cqf_instants_run.specs.declared.judged.EdgeVerdict.{EdgeVerdict}
+use Rattle.cqf_instants_run.specs.declared.judged.EdgeVerdict.TheVariants.{Covered, Dropped}
+use Rattle.cqf_model.specs.declared.frames.Offer.{Offer}
+use Rattle.cqf_model.specs.declared.frames.Started.{Started}
+use Rattle.cqf_model.specs.declared.topology.Hop.{Hop}
+use Rattle.cqf_model.specs.declared.topology.Row.{Row}
+use Rattle.cqf_model.specs.Book.{starts_of}
+use Rattle.cqf_model.specs.Domain.{Domain}
+use Rattle.cqf_model.specs.Table.{residence}
+use Rattle.cqf_laws_timing.specs.Latency.{whole_of}
+use Rattle.cqf_program_plans.specs.Latency.Text.{listeners_of}
+use Rattle.cqf_program_runs.specs.declared.deliveries.under_way.UnderWay.{UnderWay}
+use Rattle.cqf_program_runs.specs.Deliveries.{whole_on}
+
+-- a start on a link of the domain is whole in time to be told
+abbrev pub IsInTime : Domain → Started → Type 0
+IsInTime d s = whole_of d s < 2 ^ 64
+
+-- the place of the listener at the end of a link among those of a row
+abbrev pub column_of : Domain → Row → ℕ → Option ℕ
+column_of d row link = position (λ (hop : Hop). hop.link == link) (listeners_of d row)
+
+-- when a frame of a row is whole at the end of a link, by what is kept of it
+abbrev pub whole_in : Domain → Row → List (Option Nanos) → ℕ → Option Nanos
+whole_in d row slot link = option_and_then (λ (column : ℕ). slice_index_or slot column None) (column_of d row link)
+
+-- the row by which an offer goes on that is judged so, and the offer at a place
+abbrev pub row_judged : List Row → EdgeVerdict → Option Row
+row_judged rows (Covered place) = slice_get rows place
+row_judged rows (Dropped reason) = None
+
+abbrev pub row_at : List Row → List EdgeVerdict → ℕ → Option Row
+row_at rows edge_verdicts place = option_and_then (row_judged rows) (slice_get edge_verdicts place)
+
+-- what is kept of each frame
+abbrev pub slots_of : List (Vec (Option Nanos) Global) → List (List (Option Nanos))
+slots_of slots = map (λ (slot : Vec (Option Nanos) Global). slot.items) slots
+
+-- what is kept of a frame of a row tells when it is whole at each of the row's listeners
+abbrev pub TellsWhole : Domain → Option Row → List (Option Nanos) → (ℕ → Option Nanos) → Type 0
+TellsWhole d found slot whole = (row : Row) (link column : ℕ) → found ≡ Some row → column_of d row link ≡ Some column →
+    slice_index_or slot column None ≡ whole link
+
+-- a row has no more listeners than are kept
+abbrev pub HaveListeners : Domain → List Row → ℕ → Type 0
+HaveListeners d rows width = (row : Row) → Contains rows row → length (listeners_of d row) ≤ width
+
+-- slots of one width, which has room for each row, tell by some starts when the frames of the offers from a place on are whole
+pub record AreSlots (d : Domain) (rows : List Row) (edge_verdicts : List EdgeVerdict) (starts : List Started) (place width : ℕ)
+    (slots : List (List (Option Nanos))) : Type 0 where
+  pub room : HaveListeners d rows width
+  pub wide : (behind : ℕ) → behind < length slots → length (slice_index_or slots behind []) ≡ width
+  pub tell : (behind : ℕ) → behind < length slots →
+      TellsWhole d (row_at rows edge_verdicts (place + behind)) (slice_index_or slots behind []) (whole_on d starts (place + behind + 1))
+
+-- an instant is kept in a column in which none is kept yet
+pub record KeepsFirst (before after : List (Option Nanos)) (column : ℕ) (whole : Nanos) : Type 0 where
+  pub as_many : length after ≡ length before
+  pub own : column < length before → slice_index_or after column None ≡ option_or (slice_index_or before column None) (Some whole)
+  pub others : (other : ℕ) → other ≢ column → slice_index_or after other None ≡ slice_index_or before other None
+
+-- in the slot at a place
+pub record KeepsInSlot (before after : List (List (Option Nanos))) (behind column : ℕ) (whole : Nanos) : Type 0 where
+  pub as_many : length after ≡ length before
+  pub own : KeepsFirst (slice_index_or before behind []) (slice_index_or after behind []) column whole
+  pub others : (other : ℕ) → other ≢ behind → slice_index_or after other [] ≡ slice_index_or before other []
+
+-- some starts are noted behind whatever starts were
+pub record NotesAll (d : Domain) (rows : List Row) (edge_verdicts : List EdgeVerdict) (place : ℕ) (more : List Started)
+    (before after : List (List (Option Nanos))) : Type 0 where
+  pub as_many : length after ≡ length before
+  pub noted : (starts : List Started) (width : ℕ) → AreSlots d rows edge_verdicts starts place width before →
+      AreSlots d rows edge_verdicts (starts ++ more) place width after
+
+-- the starts of a run's first cycles
+abbrev pub starts_told : GivenRun → ℕ → List Started
+starts_told given cycles = starts_of given.run.domain cycles given.net.carried
+
+-- all that a pass tells are in time
+pub record TellsInTime (d : Domain) (basis : Basis) : Type 0 where
+  pub given : GivenRun
+  pub is : IsBasisOf given basis
+  pub in_time : All (IsInTime d) (starts_told given basis.cycles)
+
+-- the starts of so many cycles are told and noted, of each run that the pass is of
+abbrev pub NotesTold : Domain → List Row → List EdgeVerdict → ℕ → UnderWay → UnderWay → Type 0
+NotesTold d rows edge_verdicts place old new = (given : GivenRun) (width : ℕ) → IsBasisOf given old.pass.basis →
+    AreSlots d rows edge_verdicts (starts_told given old.pass.told) place width (slots_of old.slots.items) →
+    AreSlots d rows edge_verdicts (starts_told given new.pass.told) place width (slots_of new.slots.items)
+
+-- the starts of the cycles up to one are told
+pub record TellsUpTo (d : Domain) (rows : List Row) (edge_verdicts : List EdgeVerdict) (place last : ℕ) (old new : UnderWay) : Type 0 where
+  pub basis : new.pass.basis ≡ old.pass.basis
+  pub depth : new.depth ≡ old.depth
+  pub as_many : length new.slots.items ≡ length old.slots.items
+  pub counted : new.told ≡ new.pass.told
+  pub within : old.told ≤ old.pass.basis.cycles → new.told ≤ old.pass.basis.cycles
+  pub no_more : (most : ℕ) → old.told ≤ most → last < most → new.told ≤ most
+  pub all : (cycle : ℕ) → cycle ≤ last → cycle < old.pass.basis.cycles → cycle < new.told
+  pub noted : NotesTold d rows edge_verdicts place old new
+
+-- the first slot is emptied, and is the last one then
+pub record GoesOn (old new : UnderWay) : Type 0 where
+  pub pass : new.pass ≡ old.pass
+  pub told : new.told ≡ old.told
+  pub depth : new.depth ≡ old.depth
+  pub as_many : length new.slots.items ≡ length old.slots.items
+  pub emptied : List (Option Nanos)
+  pub as_wide : length emptied ≡ length (slice_index_or (slots_of old.slots.items) 0 [])
+  pub none : (column : ℕ) → slice_index_or emptied column None ≡ None
+  pub slots : slots_of new.slots.items ≡ drop 1 (slots_of old.slots.items) ++ emptied ∷ []
+
+-- where an offer stands so many places behind another, its cycle is as deep as a tree behind the other's
+abbrev pub IsWideFor : ℕ → ℕ → List Offer → ℕ → Type 0
+IsWideFor cycle_time depth offers frames = (place : ℕ) (early late : Offer) → slice_get offers place ≡ Some early →
+    slice_get offers (place + frames) ≡ Some late → cycle_at cycle_time early.at.0 + depth ≤ cycle_at cycle_time late.at.0
+
+-- no frame of a row is under way for longer than so many cycles
+abbrev pub NoneIsDeeper : List Row → ℕ → Type 0
+NoneIsDeeper rows depth = (row : Row) → Contains rows row → residence row ≤ depth
+
+-- so many slots, in which nothing is kept
+pub record AreEmptySlots (width many : ℕ) (slots : List (List (Option Nanos))) : Type 0 where
+  pub count : length slots ≡ many
+  pub wide : (behind : ℕ) → behind < many → length (slice_index_or slots behind []) ≡ width
+  pub none : (behind column : ℕ) → slice_index_or (slice_index_or slots behind []) column None ≡ None
+
+-- nothing is told yet, and there is room for all that is going to be kept
+pub record IsLaid (d : Domain) (rows : List Row) (offers : List Offer) (under_way : UnderWay) : Type 0 where
+  pub width : ℕ
+  pub fresh : under_way.told ≡ 0
+  pub deep : NoneIsDeeper rows under_way.depth
+  pub room : HaveListeners d rows width
+  pub some : 0 < length under_way.slots.items
+  pub enough : IsWideFor d.cycle_time under_way.depth offers (length under_way.slots.items)
+  pub empty : AreEmptySlots width (length under_way.slots.items) (slots_of under_way.slots.items)

@@ -1,0 +1,24 @@
+-- What the command `run` gives for its input (profile): the history of a scenario, and its book.
+use Rattle.cqf_model.specs.declared.limits.Limits.{Limits}
+use Rattle.std.specs.Prelude.{ℕ, ◌≡◌, ◌++◌, List, Ok, codes}
+use Rattle.cqf_model.specs.Book.{Contents}
+use Rattle.cqf_model.specs.Domain.{Domain}
+use Rattle.cqf_model.specs.History.{Recorded}
+use Rattle.cqf_report.specs.Books.{text_of_book}
+use Rattle.cqf_report.specs.HistoryText.{history_text}
+use Rattle.cqf_program_scenario.specs.Books.{IsBookOfScenario}
+use Rattle.cqf_program_scenario.specs.Calls.{history_of}
+use Rattle.cqf_program_scenario.specs.Scenario.{Scenario, scenario_input}
+use Rattle.cqf_press.specs.Stops.{line_of}
+
+-- the text of a history and of a book, and between them the line that divides parts
+abbrev pub run_text : Domain → List Recorded → Contents → List ℕ
+run_text d entries book = history_text entries ++ (line_of (codes "%%") ++ text_of_book d book)
+
+-- the output is the text of the history of the input's scenario, and of the one-thread book of that history
+pub record IsRunOutput (limits : Limits) (cycles : ℕ) (input output : List ℕ) : Type 0 where
+  pub scenario : Scenario
+  pub holds : scenario_input limits cycles input ≡ Ok scenario
+  pub book : Contents
+  pub is_book : IsBookOfScenario cycles scenario book
+  pub written : output ≡ run_text scenario.domain (history_of cycles scenario) book

@@ -1,0 +1,259 @@
+//! The commands `deliveries` and `check`.
+ghost use Rattle.std.specs.Prelude.{ℕ, ◌≡◌, ◌≤◌, true, List, None, Ok, Err, IfErr, IfOk, Option, map};
+ghost use Rattle.cqf_admission.specs.Asking.{asked_paced};
+ghost use Rattle.cqf_admission.specs.Ledger.{recorded_in};
+ghost use Rattle.cqf_admission.specs.Orders.{StandsIn};
+ghost use Rattle.cqf_program_scenario.specs.Calls.{history_of};
+ghost use Rattle.cqf_program_scenario.specs.Closing.{MayBeRun, scenario_given};
+ghost use Rattle.cqf_program_scenario.specs.Logged.{HasOrders};
+ghost use Rattle.cqf_program_scenario.specs.Outcomes.{IsOutcomeOf};
+ghost use Rattle.cqf_press.specs.Stops.{EndsWith, IsRefused};
+ghost use Rattle.cqf_program_runs.specs.Check.Checked.{complaint_line, finished, is_bad, unfinished_line, well_line};
+ghost use Rattle.cqf_program_runs.specs.Deliveries.{fate_of};
+ghost use Rattle.cqf_program_runs.specs.Check.Output.{IsCheckRefusal, IsChecked};
+ghost use Rattle.cqf_program_runs.specs.Check.Counting.{checked_over};
+ghost use Rattle.cqf_program_runs.specs.Deliveries.Ending.{over_of};
+ghost use Rattle.cqf_program_runs.specs.Deliveries.Following.{AreDeliveriesTold, CanFollow, IsFollowed, IsNotedOf, TellsDeliveriesOf};
+ghost use Rattle.cqf_units.specs.declared.timing.Nanos.{Nanos as AnInstant};
+ghost use Rattle.cqf_program_runs.specs.Check.Checking.{IsCheckedGiven, IsRefusedGiven};
+ghost use Rattle.cqf_program_runs.specs.Deliveries.Output.{IsDeliveriesOutput};
+ghost use Rattle.cqf_program_runs.specs.Deliveries.PlannedScenario.{planned_scenario};
+ghost use Rattle.cqf_program_runs.specs.Check.RefusedCalls.{first_refused, is_refused, refused_call_line};
+ghost use Rattle.cqf_model.specs.Limits.{most_cycles};
+
+use crate::check::checked::no_counts;
+use crate::check::refused_calls::{first_refused, refused_line};
+use crate::deliveries::few::Few;
+use crate::deliveries::made::{CompletedRun, put_those_of};
+use crate::deliveries::noted::{Noted, later_offers, noted_of, noted_of_scenario};
+use crate::deliveries::outputs::DeliveriesOutput;
+use crate::deliveries::reading::{PlannedGiven, read_planned_given};
+use crate::deliveries::under_way::UnderWay;
+use crate::{CheckCounts, Delivery, complaint_about, first_bad, unfinished_line, well_line};
+use cqf_admission::Logged;
+use cqf_laws_coverage::book_of_history_is_there;
+use cqf_model::Limits;
+use cqf_press::{REFUSED, Sheet, Stop};
+use cqf_program_scenario::{RunInput, ScenarioOutcome, outcome_of};
+use cqf_units::Memory;
+use std::alloc::Global;
+
+/// The output for a scenario.
+fn output_of(alloc: Global, cycles: u32, planned: PlannedGiven) -> Result<DeliveriesOutput, Memory>
+    requires short { cycles ≤ most_cycles }
+    requires may { MayBeRun cycles (scenario_given planned.given) }
+    requires stand { HasOrders planned.given }
+    ensures { IfOk result (λ output. TellsDeliveriesOf cycles planned output) }
+{
+    let (noted, under_way) = noted_of_scenario(alloc, cycles, &planned)?;
+    let here = Few::new(alloc)?;
+    let sheet = Sheet::new(alloc)?;
+    Ok(DeliveriesOutput {
+        planned,
+        cycles,
+        noted,
+        under_way,
+        here,
+        sheet,
+    })
+}
+
+/// The output of `deliveries` over so many cycles, 0 to 100,000, for an input that is read within some limits, ready to be told: what
+/// becomes of each offer of these cycles, and when it is whole at each listener (profile).
+///
+/// # Errors
+/// With status 1 and the line of the first fault of the input: of its parts, of the domain, the streams, the script, the
+/// offers, or the background frames; and with status 3 for want of memory.
+pub fn deliveries_output(
+    alloc: Global,
+    limits: Limits,
+    cycles: u32,
+    input: &[u8],
+) -> Result<DeliveriesOutput, Stop>
+    requires { cycles ≤ most_cycles }
+    ensures ok { IfOk result (λ output. (text : List ℕ) × AreDeliveriesTold output text × IsDeliveriesOutput limits cycles input.now text) }
+    ensures err { IfErr result (IsRefused (planned_scenario limits cycles input.now)) }
+{
+    let planned = read_planned_given(alloc, limits, cycles, input)?;
+    match output_of(alloc, cycles, planned) {
+        Ok(output) => Ok(output),
+        Err(_) => Err(Stop::memory(alloc)),
+    }
+}
+
+/// The end where not all has come.
+fn unfinished_stop(alloc: Global, counts: CheckCounts) -> Stop
+    ensures { EndsWith 1 (unfinished_line counts) result }
+{
+    Stop::with_text(alloc, REFUSED, unfinished_line(alloc, counts))
+}
+
+/// The end with the first delivery that is dropped or late.
+fn complaint_stop(alloc: Global, delivery: &Delivery) -> Stop
+    requires { is_bad (fate_of delivery.now) ≡ true }
+    ensures { EndsWith 1 (complaint_line delivery.now) result }
+{
+    Stop::with_text(alloc, REFUSED, complaint_about(alloc, delivery))
+}
+
+/// The line where all is well.
+fn well_bytes(alloc: Global, counts: CheckCounts) -> Result<Vec<u8>, Memory>
+    ensures { IfOk result (λ line. line.items ≡ well_line counts) }
+{
+    let line = well_line(alloc, counts)?;
+    Ok(line.into_bytes())
+}
+
+/// The line where all that was counted is well, or the end with the line that tells what hasn't come.
+fn finish(alloc: Global, counts: CheckCounts) -> Result<Vec<u8>, Stop>
+    ensures ok { IfOk result (λ line. finished counts ≡ Ok line.items) }
+    ensures err { IfErr result (IsRefused (finished counts)) }
+{
+    if !counts.is_finished() {
+        return Err(unfinished_stop(alloc, counts));
+    }
+    match well_bytes(alloc, counts) {
+        Ok(line) => Ok(line),
+        Err(_) => Err(Stop::memory(alloc)),
+    }
+}
+
+/// What is told of the deliveries of a run that is over, whose frames are followed from the first offer on, and of whose offers so many
+/// are of cycles that aren't run. What was there is room for the deliveries of one offer.
+fn check_each(
+    alloc: Global,
+    here: Few,
+    under_way: UnderWay,
+    ended: &CompletedRun<'_>,
+    later: usize,
+) -> Result<Vec<u8>, Stop>
+    requires { CanFollow ended.now 0 under_way }
+    ensures ok { IfOk result (λ line. (whole : ℕ → ℕ → Option AnInstant) → IsFollowed (over_of ended.now whole) 0 under_way →
+        checked_over (over_of ended.now whole) later ≡ Ok line.items) }
+    ensures err { IfErr result (λ stop. (whole : ℕ → ℕ → Option AnInstant) → IsFollowed (over_of ended.now whole) 0 under_way →
+        IsRefused (checked_over (over_of ended.now whole) later) stop) }
+{
+    let (mut here, mut under_way) = (here, under_way);
+    let many = ended.offers.len();
+    let mut counts = no_counts(many, later);
+    for place in 0..many {
+        put_those_of(&mut here, ended, &mut under_way, place);
+        if let Some(delivery) = first_bad(here.as_slice()) {
+            return Err(complaint_stop(alloc, delivery));
+        }
+        counts = counts.with(here.as_slice());
+    }
+    finish(alloc, counts)
+}
+
+/// What is told of a scenario of which this is noted, where no call of its history is refused.
+fn check_noted(
+    alloc: Global,
+    cycles: u32,
+    planned: &PlannedGiven,
+    noted: &Noted,
+    under_way: UnderWay,
+) -> Result<Vec<u8>, Stop>
+    requires may { MayBeRun cycles (scenario_given planned.now.given) }
+    requires granted { first_refused (history_of cycles (scenario_given planned.now.given)) ≡ None }
+    requires noted { IsNotedOf cycles planned.now noted.now under_way }
+    ensures ok { IfOk result (λ line. IsCheckedGiven cycles planned.now (Ok line.items)) }
+    ensures err { IfErr result (IsRefusedGiven cycles planned.now) }
+{
+    let offers = planned.given.offers.as_slice();
+    let later = later_offers(&planned.given.domain, cycles, offers);
+    match Few::new(alloc) {
+        Ok(here) => check_each(alloc, here, under_way, &noted.over(planned, cycles), later),
+        Err(_) => Err(Stop::memory(alloc)),
+    }
+}
+
+/// What is told of a scenario of which this is the outcome, where no call of its history is refused.
+fn check_frames(
+    alloc: Global,
+    cycles: u32,
+    planned: &PlannedGiven,
+    outcome: ScenarioOutcome,
+) -> Result<Vec<u8>, Stop>
+    requires short { cycles ≤ most_cycles }
+    requires may { MayBeRun cycles (scenario_given planned.now.given) }
+    requires granted { first_refused (history_of cycles (scenario_given planned.now.given)) ≡ None }
+    requires outcome { IsOutcomeOf cycles planned.now.given outcome }
+    ensures ok { IfOk result (λ line. IsCheckedGiven cycles planned.now (Ok line.items)) }
+    ensures err { IfErr result (IsRefusedGiven cycles planned.now) }
+{
+    match noted_of(alloc, cycles, planned, outcome) {
+        Ok((noted, under_way)) => check_noted(alloc, cycles, planned, &noted, under_way),
+        Err(_) => Err(Stop::memory(alloc)),
+    }
+}
+
+/// The end with a call that is refused.
+fn refused_stop(alloc: Global, given: &RunInput, number: usize, logged: &Logged) -> Stop
+    requires there { StandsIn (map asked_paced given.now.requests.items) given.now.script.items logged.now.what }
+    requires refused { is_refused logged.now.reply ≡ true }
+    ensures { EndsWith 1
+        (refused_call_line (number, recorded_in (map asked_paced given.now.requests.items) given.now.script.items logged.now)) result }
+{
+    let requests = given.requests.as_slice();
+    let script = given.script.as_slice();
+    let line = refused_line(alloc, requests, script, number, logged);
+    Stop::with_text(alloc, REFUSED, line)
+}
+
+/// What is told of a scenario of which this is the outcome.
+fn check_outcome(
+    alloc: Global,
+    cycles: u32,
+    planned: &PlannedGiven,
+    outcome: ScenarioOutcome,
+) -> Result<Vec<u8>, Stop>
+    requires short { cycles ≤ most_cycles }
+    requires may { MayBeRun cycles (scenario_given planned.now.given) }
+    requires outcome { IsOutcomeOf cycles planned.now.given outcome }
+    ensures ok { IfOk result (λ line. IsCheckedGiven cycles planned.now (Ok line.items)) }
+    ensures err { IfErr result (IsRefusedGiven cycles planned.now) }
+{
+    book_of_history_is_there();
+    planned.given.domain.know();
+    match first_refused(outcome.entries.as_slice()) {
+        Some((number, logged)) => Err(refused_stop(alloc, &planned.given, number, &logged)),
+        None => check_frames(alloc, cycles, planned, outcome),
+    }
+}
+
+/// What is told of a scenario.
+fn check_scenario(alloc: Global, cycles: u32, planned: &PlannedGiven) -> Result<Vec<u8>, Stop>
+    requires short { cycles ≤ most_cycles }
+    requires may { MayBeRun cycles (scenario_given planned.now.given) }
+    requires stand { HasOrders planned.now.given }
+    ensures ok { IfOk result (λ line. IsCheckedGiven cycles planned.now (Ok line.items)) }
+    ensures err { IfErr result (IsRefusedGiven cycles planned.now) }
+{
+    match outcome_of(alloc, cycles, &planned.given) {
+        Ok(outcome) => check_outcome(alloc, cycles, planned, outcome),
+        Err(_) => Err(Stop::memory(alloc)),
+    }
+}
+
+/// The line of `check` over so many cycles, 0 to 100,000, for an input that is read within some limits, where all goes well: no call of
+/// the script is refused, and every offer is of a cycle that is run, covered, whole at every listener within the run, and within its
+/// deadline (profile).
+///
+/// # Errors
+/// With status 1 and a line: of the first fault of the input, as [`deliveries_output`]; else of the first call that is refused; else
+/// of the first delivery that is dropped or late; else, of how many deliveries are under way and how many offers are of cycles that
+/// aren't run. And with status 3 for want of memory.
+pub fn check_output(
+    alloc: Global,
+    limits: Limits,
+    cycles: u32,
+    input: &[u8],
+) -> Result<Vec<u8>, Stop>
+    requires { cycles ≤ most_cycles }
+    ensures ok { IfOk result (λ line. IsChecked limits cycles input.now (Ok line.items)) }
+    ensures err { IfErr result (IsCheckRefusal limits cycles input.now) }
+{
+    let planned = read_planned_given(alloc, limits, cycles, input)?;
+    check_scenario(alloc, cycles, &planned)
+}

@@ -1,0 +1,61 @@
+//! The deadlines of the frames of streams, by name.
+ghost use Rattle.std.specs.Prelude.{◌≡◌, IfOk, None, slice_index_or};
+ghost use Rattle.cqf_program_runs.specs.Deliveries.Deadlines.{deadline_in};
+
+use cqf_admission::Names;
+use cqf_topology::PacedRequest;
+use cqf_units::{Memory, Name};
+use std::alloc::Global;
+use std::marker::Model;
+
+/// The deadline at a place.
+fn deadline_at(deadlines: &[Option<u32>], place: usize) -> Option<u32>
+    ensures { result ≡ slice_index_or deadlines.now place None }
+{
+    match deadlines.get(place) {
+        Some(deadline) => *deadline,
+        None => None,
+    }
+}
+
+/// Deadlines in nanoseconds, found by the names of their streams: a name means the first request of it (profile).
+#[derive(Drop)]
+pub struct Deadlines<'r> {
+    names: Names<'r>,
+    deadlines: &'r [Option<u32>],
+}
+
+impl<'r> Model for Deadlines<'r> {
+    ghost use Rattle.cqf_program_runs.specs.Deliveries.Deadlines.{Due};
+
+    ghost Value = { Due };
+
+    ghost view = { λ d. record { requests = d.names; deadlines = d.deadlines.now } };
+}
+
+impl<'r> Deadlines<'r> {
+    /// The deadlines of these requests, by their places. A request past the last deadline has none.
+    ///
+    /// # Errors
+    /// Where a growth is refused.
+    pub fn new(
+        alloc: Global,
+        requests: &'r [PacedRequest],
+        deadlines: &'r [Option<u32>],
+    ) -> Result<Deadlines<'r>, Memory>
+        ensures { IfOk result (λ made. made ≡ record { requests = requests.now; deadlines = deadlines.now }) }
+    {
+        let names = Names::new(alloc, requests)?;
+        Ok(Deadlines { names, deadlines })
+    }
+
+    /// The deadline of the frames of a name, where they have one, in a time that doesn't grow with the streams.
+    pub fn of(&self, stream: &Name) -> Option<u32>
+        ensures { result ≡ deadline_in self.now stream.now }
+    {
+        match self.names.place_of(stream.as_str()) {
+            Some(place) => deadline_at(self.deadlines, place),
+            None => None,
+        }
+    }
+}

@@ -1,0 +1,53 @@
+//! The output of `deliveries`, before it is told.
+ghost use Rattle.std.specs.Prelude.{ℕ, List};
+ghost use Rattle.cqf_press.specs.Edge.{HasTold, writing};
+ghost use Rattle.cqf_program_runs.specs.Deliveries.Following.{AreDeliveriesTold};
+
+use crate::deliveries::few::Few;
+use crate::deliveries::lines::put_deliveries;
+use crate::deliveries::noted::Noted;
+use crate::deliveries::reading::PlannedGiven;
+use crate::deliveries::under_way::UnderWay;
+use cqf_press::{Press, Sheet, Sink, Told};
+use std::marker::Model;
+
+/// What the output of `deliveries` is told from: a scenario with what is noted of it, its frames under way, room for the deliveries of one
+/// offer, and a sheet.
+#[derive(Drop)]
+pub struct DeliveriesOutput {
+    pub(crate) planned: PlannedGiven,
+    pub(crate) cycles: u32,
+    pub(crate) noted: Noted,
+    pub(crate) under_way: UnderWay,
+    pub(crate) here: Few,
+    pub(crate) sheet: Sheet,
+}
+
+impl Model for DeliveriesOutput {
+    ghost use Rattle.cqf_program_runs.specs.Deliveries.Following.{CanBeTold, Ending};
+
+    ghost Value = { Ending };
+
+    ghost view = { λ o. record { planned = o.planned; cycles = o.cycles; noted = o.noted; under_way = o.under_way } };
+
+    ghost invariant = { λ o. CanBeTold (record { planned = o.planned; cycles = o.cycles; noted = o.noted; under_way = o.under_way }) };
+}
+
+impl DeliveriesOutput {
+    /// Tells the output: the deliveries, in their order (profile). It asks for no memory.
+    pub fn tell<W: Sink>(self, told: &mut Told<W>)
+        ensures { (text : List ℕ) → AreDeliveriesTold self text → HasTold (writing W.contents told.old told.new) text }
+    {
+        let DeliveriesOutput {
+            planned,
+            cycles,
+            noted,
+            under_way,
+            here,
+            sheet,
+        } = self;
+        let mut press = Press::new(told, sheet);
+        put_deliveries(&mut press, here, under_way, &noted.over(&planned, cycles));
+        let _told = press.close();
+    }
+}

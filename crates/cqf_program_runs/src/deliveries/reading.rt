@@ -1,0 +1,72 @@
+//! What the commands `deliveries` and `check` read, and others over deliveries.
+ghost use Rattle.std.specs.Prelude.{IfErr, IfOk};
+ghost use Rattle.cqf_program_scenario.specs.Lines.{streams_line};
+ghost use Rattle.cqf_program_scenario.specs.RunParts.{texts_of};
+ghost use Rattle.cqf_press.specs.Stops.{IsRefused, or_line};
+ghost use Rattle.cqf_topology.specs.PlannedText.{planned_of_text};
+ghost use Rattle.cqf_program_runs.specs.Deliveries.PlannedScenario.{planned_scenario, planned_scenario_of};
+ghost use Rattle.cqf_program_runs.specs.Deliveries.Reading.{ArePlannedIn, IsPlannedGiven, IsPlannedIn};
+
+use cqf_model::Limits;
+use cqf_press::Stop;
+use cqf_program_plans::parted;
+use cqf_program_scenario::{RunInput, RunParts, domain_part, planned_part, read_behind, run_parts};
+use cqf_topology::PacedRequest;
+use std::alloc::Global;
+
+/// What a run is given, and the deadlines of its streams.
+#[derive(Drop)]
+pub struct PlannedGiven {
+    pub given: RunInput,
+    /// The deadlines of its requests in nanoseconds, where they have one, by the same places.
+    pub deadlines: Vec<Option<u32>>,
+}
+
+/// The requests for the streams of a part, and their deadlines.
+fn read_paced_streams(
+    alloc: Global,
+    text: &[u8],
+) -> Result<(Vec<PacedRequest>, Vec<Option<u32>>), Stop>
+    ensures ok { IfOk result (λ found. ArePlannedIn text.now found.0.items found.1.items) }
+    ensures err { IfErr result (IsRefused (or_line streams_line (planned_of_text text.now))) }
+{
+    let streams = planned_part(alloc, text)?;
+    match parted(alloc, streams) {
+        Ok(found) => Ok(found),
+        Err(_) => Err(Stop::memory(alloc)),
+    }
+}
+
+/// The scenario of some parts that are read within some limits, with its streams' deadlines.
+fn read_planned_parts(
+    alloc: Global,
+    limits: Limits,
+    cycles: u32,
+    parts: RunParts<'_>,
+) -> Result<PlannedGiven, Stop>
+    ensures ok { IfOk result (λ made. IsPlannedIn limits cycles (texts_of parts.entry) made) }
+    ensures err { IfErr result (IsRefused (planned_scenario_of limits cycles (texts_of parts.entry))) }
+{
+    let domain = domain_part(alloc, limits, parts.domain)?;
+    let (requests, deadlines) = read_paced_streams(alloc, parts.streams)?;
+    let given = read_behind(alloc, cycles, domain, requests, parts)?;
+    Ok(PlannedGiven { given, deadlines })
+}
+
+/// The scenario of the input over so many cycles, read within some limits, with its streams' deadlines (profile).
+///
+/// # Errors
+/// With status 1 and the line of the first fault of the input: of its parts, of the domain, the streams, the script, the
+/// offers, or the background frames; and with status 3 for want of memory.
+pub fn read_planned_given(
+    alloc: Global,
+    limits: Limits,
+    cycles: u32,
+    input: &[u8],
+) -> Result<PlannedGiven, Stop>
+    ensures ok { IfOk result (λ made. IsPlannedGiven limits cycles input.now made) }
+    ensures err { IfErr result (IsRefused (planned_scenario limits cycles input.now)) }
+{
+    let parts = run_parts(alloc, input)?;
+    read_planned_parts(alloc, limits, cycles, parts)
+}

@@ -1,0 +1,65 @@
+//! The command `report`: the sums by link of a scenario's book.
+ghost use Rattle.std.specs.Prelude.{◌≤◌, IfErr, IfOk};
+ghost use Rattle.cqf_model.specs.Limits.{most_cycles};
+ghost use Rattle.cqf_press.specs.Stops.{IsRefused};
+ghost use Rattle.cqf_program_runs.specs.Report.Output.{IsReportOutput};
+ghost use Rattle.cqf_program_runs.specs.Report.Telling.{TellsTheSums};
+ghost use Rattle.cqf_program_scenario.specs.Closing.{MayBeRun, scenario_given};
+ghost use Rattle.cqf_program_scenario.specs.Logged.{HasOrders};
+ghost use Rattle.cqf_program_scenario.specs.Scenario.{scenario_input};
+
+use crate::report::carried::carried_columns;
+use cqf_laws_coverage::book_of_history_is_there;
+use cqf_model::Limits;
+use cqf_press::Stop;
+use cqf_program_scenario::{RunInput, outcome_of, read_given};
+use cqf_report::{report_is_told, write_columns};
+use cqf_units::Memory;
+use std::alloc::Global;
+use std::thread::Threads;
+
+/// The text of the sums by link of the book of a scenario over so many cycles: background frames change nothing in it.
+fn text_of_report(
+    rt: &(impl Threads + Sync),
+    alloc: Global,
+    cycles: u32,
+    given: &RunInput,
+) -> Result<Vec<u8>, Memory>
+    requires short { cycles ≤ most_cycles }
+    requires may { MayBeRun cycles (scenario_given given.now) }
+    requires stand { HasOrders given.now }
+    ensures { IfOk result (λ text. TellsTheSums cycles (scenario_given given.now) text.items) }
+{
+    report_is_told();
+    book_of_history_is_there();
+    // the domain is accepted: a fact for the book
+    given.domain.know();
+    let outcome = outcome_of(alloc, cycles, given)?;
+    let columns = carried_columns(alloc, cycles, given, &outcome)?;
+    write_columns(rt, alloc, &given.domain, columns.as_slice())
+}
+
+/// The output of `report` over so many cycles, 0 to 100,000, for an input that is read within some limits: the sums by link of the book
+/// of the input's scenario, which is the book that `run` writes (profile). The network isn't run: what its links carry is told by the
+/// offers and the history of admissions. The time grows with the input and the cycles, and with the links by which the offers leave.
+///
+/// # Errors
+/// With status 1 and the line of the first fault of the input: of its parts, of the domain, the streams, the script, the
+/// offers, or the background frames; and with status 3 for want of memory.
+pub fn report_output(
+    rt: &(impl Threads + Sync),
+    alloc: Global,
+    limits: Limits,
+    cycles: u32,
+    input: &[u8],
+) -> Result<Vec<u8>, Stop>
+    requires { cycles ≤ most_cycles }
+    ensures ok { IfOk result (λ output. IsReportOutput limits cycles input.now output.items) }
+    ensures err { IfErr result (IsRefused (scenario_input limits cycles input.now)) }
+{
+    let given = read_given(alloc, limits, cycles, input)?;
+    match text_of_report(rt, alloc, cycles, &given) {
+        Ok(text) => Ok(text),
+        Err(_) => Err(Stop::memory(alloc)),
+    }
+}

@@ -1,0 +1,4 @@
+//! The command `run`: the history and the book of a scenario.
+
+pub(crate) mod command;
+pub(crate) mod outputs;

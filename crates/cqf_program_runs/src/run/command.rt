@@ -1,0 +1,57 @@
+//! The command `run`: the history and the book of a scenario.
+ghost use Rattle.std.specs.Prelude.{ℕ, ◌≤◌, IfErr, IfOk, List};
+ghost use Rattle.cqf_model.specs.Limits.{most_cycles};
+ghost use Rattle.cqf_press.specs.Stops.{IsRefused};
+ghost use Rattle.cqf_program_runs.specs.Run.Output.{IsRunOutput};
+ghost use Rattle.cqf_program_runs.specs.Run.Told.{IsRunTold, TellsTheRun};
+ghost use Rattle.cqf_program_scenario.specs.Closing.{MayBeRun, scenario_given};
+ghost use Rattle.cqf_program_scenario.specs.Logged.{HasOrders};
+ghost use Rattle.cqf_program_scenario.specs.Scenario.{scenario_input};
+
+use crate::run::outputs::RunOutput;
+use cqf_model::Limits;
+use cqf_press::{Sheet, Stop};
+use cqf_program_scenario::{RunInput, book_of_outcome, outcome_of, read_given};
+use cqf_units::Memory;
+use std::alloc::Global;
+
+/// The output for a scenario.
+fn output_of(alloc: Global, cycles: u32, given: RunInput) -> Result<RunOutput, Memory>
+    requires short { cycles ≤ most_cycles }
+    requires may { MayBeRun cycles (scenario_given given) }
+    requires stand { HasOrders given }
+    ensures { IfOk result (TellsTheRun cycles (scenario_given given)) }
+{
+    let outcome = outcome_of(alloc, cycles, &given)?;
+    let book = book_of_outcome(alloc, cycles, &given, &outcome)?;
+    let sheet = Sheet::new(alloc)?;
+    Ok(RunOutput {
+        given,
+        entries: outcome.entries,
+        book,
+        sheet,
+    })
+}
+
+/// The output of `run` over so many cycles, 0 to 100,000, for an input that is read within some limits, ready to be told. All of the input
+/// is read before anything is admitted.
+///
+/// # Errors
+/// With status 1 and the line of the first fault of the input: of its parts, of the domain, the streams, the script, the
+/// offers, or the background frames; and with status 3 for want of memory.
+pub fn run_output(
+    alloc: Global,
+    limits: Limits,
+    cycles: u32,
+    input: &[u8],
+) -> Result<RunOutput, Stop>
+    requires { cycles ≤ most_cycles }
+    ensures ok { IfOk result (λ output. (text : List ℕ) × IsRunTold output text × IsRunOutput limits cycles input.now text) }
+    ensures err { IfErr result (IsRefused (scenario_input limits cycles input.now)) }
+{
+    let given = read_given(alloc, limits, cycles, input)?;
+    match output_of(alloc, cycles, given) {
+        Ok(output) => Ok(output),
+        Err(_) => Err(Stop::memory(alloc)),
+    }
+}

@@ -1,0 +1,78 @@
+//! The output of `run`, before it is told.
+ghost use Rattle.std.specs.Prelude.{ℕ, List, codes, map};
+ghost use Rattle.cqf_admission.specs.Asking.{asked_paced};
+ghost use Rattle.cqf_admission.specs.Running.{AreThere};
+ghost use Rattle.cqf_model.specs.Book.{Contents};
+ghost use Rattle.cqf_press.specs.Edge.{HasTold, writing};
+ghost use Rattle.cqf_press.specs.Press.{Puts};
+ghost use Rattle.cqf_press.specs.Stops.{line_of};
+ghost use Rattle.cqf_program_runs.specs.Run.Output.{run_text};
+ghost use Rattle.cqf_program_runs.specs.Run.Told.{IsRunTold};
+ghost use Rattle.cqf_program_scenario.specs.ExactBooks.{AreExactParts};
+ghost use Rattle.cqf_program_scenario.specs.Logged.{entries_in};
+
+use cqf_admission::Logged;
+use cqf_press::{Press, Sheet, Sink, Told};
+use cqf_program_scenario::{ExactBook, RunInput};
+use cqf_report::put_log;
+use std::marker::Model;
+
+/// What the output of `run` is told from: a scenario with the log of its history and its book, and a sheet.
+#[derive(Drop)]
+pub struct RunOutput {
+    pub(crate) given: RunInput,
+    /// The log's entries, over the scenario's own requests and script.
+    pub(crate) entries: Vec<Logged>,
+    pub(crate) book: ExactBook,
+    pub(crate) sheet: Sheet,
+}
+
+impl Model for RunOutput {
+    ghost use Rattle.std.specs.Prelude.{map};
+    ghost use Rattle.cqf_admission.specs.Asking.{asked_paced};
+    ghost use Rattle.cqf_admission.specs.Running.{AreThere};
+    ghost use Rattle.cqf_program_runs.specs.Run.Told.{RunToTell};
+
+    ghost Value = { RunToTell };
+
+    ghost view = { λ o. record { given = o.given; entries = o.entries.items; book = o.book } };
+
+    ghost invariant = { λ o. AreThere (map asked_paced o.given.requests.items) o.given.script.items o.entries.items };
+}
+
+/// Puts the line `%%`.
+fn put_parting<W: Sink>(press: &mut Press<'_, W>)
+    ensures { Puts W.contents press.old press.new (line_of (codes "%%")) }
+{
+    press.put(b"%%\n");
+}
+
+/// Puts the text of the history that the log of a scenario stands for and of a book that is ready to be told, with a line `%%` between them.
+fn put_run<W: Sink>(press: &mut Press<'_, W>, given: &RunInput, entries: &[Logged], book: ExactBook)
+    requires { AreThere (map asked_paced given.now.requests.items) given.now.script.items entries.now }
+    ensures { (of_parts : Contents) → AreExactParts book of_parts →
+        Puts W.contents press.old press.new (run_text given.now.domain (entries_in given.now entries.now) of_parts) }
+{
+    let requests = given.requests.as_slice();
+    let script = given.script.as_slice();
+    put_log(press, requests, script, entries);
+    put_parting(press);
+    book.put(press, &given.domain);
+}
+
+impl RunOutput {
+    /// Tells the output: the history of the scenario, a line `%%`, and the one-thread book of that history (profile). It asks for no memory.
+    pub fn tell<W: Sink>(self, told: &mut Told<W>)
+        ensures { (text : List ℕ) → IsRunTold self text → HasTold (writing W.contents told.old told.new) text }
+    {
+        let RunOutput {
+            given,
+            entries,
+            book,
+            sheet,
+        } = self;
+        let mut press = Press::new(told, sheet);
+        put_run(&mut press, &given, entries.as_slice(), book);
+        let _told = press.close();
+    }
+}

@@ -1,0 +1,103 @@
+//! The book of a run, told cycle by cycle.
+ghost use Rattle.std.specs.Prelude.{◌≡◌, IfOk, List, codes};
+ghost use Rattle.cqf_model.specs.declared.frames.Started.{Started as AStarted};
+ghost use Rattle.cqf_model.specs.Book.{Contents, contents_of};
+ghost use Rattle.cqf_program_scenario.specs.ExactBooks.{AreExactParts};
+ghost use Rattle.cqf_instants.specs.Progress.{AreStartsOf};
+ghost use Rattle.cqf_press.specs.Press.{Puts};
+ghost use Rattle.cqf_report.specs.Books.{lines_of_starts, text_of_book};
+
+use cqf_instants::{Pass, gather_starts};
+use cqf_model::{Book, Dropped, Started};
+use cqf_press::{Press, Sink};
+use cqf_report::{put_book_header, put_drops, put_starts};
+use cqf_topology::Domain;
+use cqf_units::Memory;
+use std::alloc::Global;
+use std::marker::Model;
+
+/// A book whose starts are found while it is told, so that no list of them is kept.
+#[derive(Debug, Drop)]
+pub struct ExactBook {
+    /// Before its first cycle.
+    pass: Pass,
+    background: Vec<Started>,
+    drops: Vec<Dropped>,
+}
+
+impl Model for ExactBook {
+    ghost use Rattle.std.specs.Prelude.{◌≡◌};
+    ghost use Rattle.cqf_program_scenario.specs.ExactBooks.{ExactParts};
+
+    ghost Value = { ExactParts };
+
+    ghost view = { λ b. record { pass = b.pass; background = b.background.items; drops = b.drops.items } };
+
+    ghost invariant = { λ b. b.pass.told ≡ 0 };
+}
+
+impl ExactBook {
+    /// The book with the starts of streams' frames that the pass tells, which is before its first cycle, with these starts of background
+    /// frames, and with these drops. It takes no memory.
+    pub fn new(pass: Pass, background: Vec<Started>, drops: Vec<Dropped>) -> ExactBook
+        requires { pass.told ≡ 0 }
+        ensures { result ≡ record { pass = pass; background = background.items; drops = drops.items } }
+    {
+        ExactBook {
+            pass,
+            background,
+            drops,
+        }
+    }
+
+    /// Puts the text of the book, one of the domain, as `cqf_report::write_book` gives it: its header, the starts, those of background
+    /// frames, and the drops (profile). It asks for no memory. The time grows with the lines.
+    pub fn put<W: Sink>(self, press: &mut Press<'_, W>, domain: &Domain)
+        ensures { (book : Contents) → AreExactParts self book →
+            Puts W.contents press.old press.new (text_of_book domain.now book) }
+    {
+        let ExactBook {
+            pass,
+            background,
+            drops,
+        } = self;
+        let background = background.as_slice();
+        let drops = drops.as_slice();
+        put_book_header(press);
+        put_starts_of_pass(press, domain, pass);
+        put_starts(press, b"background", domain, background);
+        put_drops(press, domain, drops);
+    }
+
+    /// The book with all its starts in a list.
+    ///
+    /// # Errors
+    /// Where a growth is refused.
+    pub fn gather(self, alloc: Global) -> Result<Book, Memory>
+        ensures { IfOk result (λ gathered. (book : Contents) → AreExactParts self book → contents_of gathered ≡ book) }
+    {
+        let ExactBook {
+            pass,
+            background,
+            drops,
+        } = self;
+        let starts = gather_starts(alloc, pass)?;
+        Ok(Book {
+            starts,
+            background,
+            drops,
+        })
+    }
+}
+
+/// Puts a line for each start that a pass tells, cycle by cycle.
+fn put_starts_of_pass<W: Sink>(press: &mut Press<'_, W>, domain: &Domain, pass: Pass)
+    requires { pass.told ≡ 0 }
+    ensures { (starts : List AStarted) → AreStartsOf pass.basis starts →
+        Puts W.contents press.old press.new (lines_of_starts (codes "start") domain.now starts) }
+{
+    let mut pass = pass;
+    while pass.next_cycle() {
+        put_starts(press, b"start", domain, pass.starts());
+    }
+}

@@ -1,0 +1,67 @@
+//! The starts of a port, told line by line.
+
+ghost use Rattle.std.specs.Prelude.{◌<◌, ◌^◌, length, map};
+ghost use Rattle.cqf_port.specs.PortState.{start_of};
+ghost use Rattle.cqf_press.specs.Press.{Puts};
+ghost use Rattle.cqf_report.specs.Starts.{lines_of_port, start_fields, text_of_starts};
+ghost use Rattle.cqf_report.specs.Written.{line_of_fields};
+ghost use Rattle.cqf_program_scenario.specs.PortLines.{AreTellable};
+ghost use Rattle.cqf_units.specs.Timing.{nanos_of_octet};
+
+use cqf_model::{Arrival, Start};
+use cqf_press::{Press, Sink};
+use cqf_report::{put_port_header, put_port_start};
+use cqf_units::{Nanos, Rate};
+
+/// Puts the line of a start, which is the place of its arrival and its instant, with the instant at which its frame is
+/// over at this rate.
+fn put_start_at<W: Sink>(
+    press: &mut Press<'_, W>,
+    arrivals: &[Arrival],
+    start: (usize, u64),
+    rate: Rate,
+)
+    requires inside { start.0 < length arrivals.now }
+    requires early { start.1 < 2 ^ 63 }
+    ensures { Puts W.contents press.old press.new (line_of_fields (start_fields (nanos_of_octet rate) (start_of arrivals.now start))) }
+{
+    let (place, instant) = start;
+    let arrival = arrivals[place];
+    let started = Start {
+        start: Nanos(instant),
+        class: arrival.class,
+        octets: arrival.octets,
+        frame: arrival.frame,
+    };
+    put_port_start(press, &started, rate);
+}
+
+/// Puts a line for each start.
+fn put_each<W: Sink>(
+    press: &mut Press<'_, W>,
+    arrivals: &[Arrival],
+    starts: &[(usize, u64)],
+    rate: Rate,
+)
+    requires { AreTellable arrivals.now starts.now }
+    ensures { Puts W.contents press.old press.new (lines_of_port (nanos_of_octet rate) (map (start_of arrivals.now) starts.now)) }
+{
+    for start in starts {
+        put_start_at(press, arrivals, *start, rate);
+    }
+}
+
+/// Puts the text of a port's starts at a rate, as `cqf_report::write_starts` gives it. Of each start there are the place
+/// of its arrival among the arrivals, from 0, and its instant, before 2^63 ns.
+pub fn put_starts_of_port<W: Sink>(
+    press: &mut Press<'_, W>,
+    arrivals: &[Arrival],
+    starts: &[(usize, u64)],
+    rate: Rate,
+)
+    requires { AreTellable arrivals.now starts.now }
+    ensures { Puts W.contents press.old press.new (text_of_starts (nanos_of_octet rate) (map (start_of arrivals.now) starts.now)) }
+{
+    put_port_header(press);
+    put_each(press, arrivals, starts, rate);
+}

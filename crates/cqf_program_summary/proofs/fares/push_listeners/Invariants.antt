@@ -1,8 +1,0 @@
--- The ways to the listeners so far stand behind those before them.
-use Rattle.std.proofs.Common.{◌≡◌, ◌++◌, Some, take}
-use Rattle.cqf_program_summary.specs.Listing.{cost_beside}
-use Rattle.cqf_program_summary.proofs.Found.{ways_among}
-use Rattle.cqf_program_summary.proofs.fares.push_listeners.Given as goal
-
-abbrev pub invariant-loop-hop : goal.invariant-loop-hop
-invariant-loop-hop l = l.ways.items ≡ l.initial.ways.items ++ ways_among l.domain (cost_beside l.costs (Some l.row)) (take l.hop-index l.hop-items)

@@ -1,0 +1,15 @@
+-- The offers so far are added, and the run is followed from the next one on.
+use Rattle.std.proofs.Common.{ℕ, ◌*◌, Option}
+use Rattle.cqf_units.specs.declared.timing.Nanos.{Nanos}
+use Rattle.cqf_program_runs.specs.Deliveries.Ending.{over_of}
+use Rattle.cqf_program_runs.specs.Deliveries.Following.{IsFollowed}
+use Rattle.cqf_program_summary.specs.Summary.Counting.{SummaryWithin}
+use Rattle.cqf_program_summary.specs.Summary.Gathering.{IsSummaryOfFirst}
+use Rattle.cqf_program_summary.proofs.summary.gathering.gathered.Given as goal
+
+abbrev pub invariant-loop-place : goal.invariant-loop-place
+invariant-loop-place l = record {
+  within : SummaryWithin (201 * l.place) l.sums;
+  so_far : (whole : ℕ → ℕ → Option Nanos) → IsFollowed (over_of l.ended whole) 0 l.initial.under_way →
+      IsFollowed (over_of l.ended whole) l.place l.under_way × IsSummaryOfFirst (over_of l.ended whole) l.place l.initial.sums l.sums;
+}

@@ -1,7 +1,0 @@
-use Rattle.std.proofs.Common.{take}
-use Rattle.cqf_program_press.specs.Press.{Puts}
-use Rattle.cqf_program_summary.specs.SummaryText.{lines_of_fares}
-use Rattle.cqf_program_summary.proofs.summary_lines.put_fares.Given as goal
-
-abbrev pub invariant-loop-each : goal.invariant-loop-each
-invariant-loop-each g l = Puts g.W.Write.contents l.initial.press l.press (lines_of_fares (take l.each-index l.fares))

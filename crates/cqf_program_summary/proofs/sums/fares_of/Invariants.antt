@@ -1,9 +1,0 @@
-use Rattle.std.proofs.Common.{◌≡◌, map, take}
-use Rattle.cqf_program_runs.specs.Deadlines.{deadline_in}
-use Rattle.cqf_program_summary.specs.Listing.{fare_named}
-use Rattle.cqf_program_summary.proofs.sums.fares_of.Given as goal
-
--- those of the streams so far are there
-abbrev pub invariant-loop-listed : goal.invariant-loop-listed
-invariant-loop-listed l =
-    l.fares.items ≡ map (fare_named l.domain l.costs (deadline_in l.deadlines)) (take l.listed-index l.streams)

@@ -1,0 +1,4 @@
+pub mod Output
+pub mod Legs
+pub mod Text
+pub mod Gathered

@@ -1,0 +1,124 @@
+-- What is counted, step by step.
+use Rattle.std.specs.Prelude.{ℕ, ◌≡◌, ◌+◌, ◌*◌, ◌≤◌, ◌^◌, ⊤, All, AllPairs, Bool, true, false, List, [], ◌∷◌, Option, Some, None, count_by, fold, if◌then◌else◌, map, max, min, position, slice_get, suc, zero}
+use Rattle.cqf_units.specs.declared.timing.Nanos.{Nanos}
+use Rattle.cqf_model.specs.Domain.{is_text}
+use Rattle.cqf_program_runs.specs.declared.deliveries.delivery.Delivery.{Delivery}
+use Rattle.cqf_program_runs.specs.declared.deliveries.delivery.Fate.{Fate}
+use Rattle.cqf_program_runs.specs.declared.deliveries.delivery.Fate.TheVariants as fate
+use Rattle.cqf_program_runs.specs.declared.deliveries.delivery.Journey.{Journey}
+use Rattle.cqf_program_runs.specs.declared.deliveries.delivery.Passage.{Passage}
+use Rattle.cqf_program_runs.specs.declared.deliveries.delivery.Passage.TheVariants as passage
+use Rattle.cqf_program_runs.specs.Deliveries.{fate_of, latency_of}
+use Rattle.cqf_program_summary.specs.declared.summary.fares.Listener.{Listener}
+use Rattle.cqf_program_summary.specs.declared.summary.fares.Others.{Others}
+use Rattle.cqf_program_summary.specs.declared.summary.fares.ListenerWay.{ListenerWay}
+use Rattle.cqf_program_summary.specs.declared.summary.tallies.LatencySummary.{LatencySummary}
+use Rattle.cqf_program_summary.specs.declared.summary.tallies.Tally.{Tally}
+use Rattle.cqf_program_summary.specs.Summary.{Fare, Summary}
+use Rattle.cqf_program_summary.specs.Summary.Tallies.{is_dropped}
+
+-- one latency more
+abbrev pub taken_more : ℕ → Option LatencySummary → LatencySummary
+taken_more n None = record { least = n; most = n; total = n; behind = 0 }
+taken_more n (Some t) = record { least = min t.least n; most = max t.most n; total = t.total + n; behind = t.behind + 1 }
+
+abbrev pub taken_with : ℕ → Option Nanos → Option LatencySummary → Option LatencySummary
+taken_with at None taken = taken
+taken_with at (Some whole) taken = Some (taken_more (latency_of at whole) taken)
+
+-- one frame more that goes to the listener
+abbrev pub counted : Fate → Tally → Tally
+counted fate.Delivered t = record t { delivered = t.delivered + 1 }
+counted fate.Late t = record t { late = t.late + 1 }
+counted fate.UnderWay t = record t { under_way = t.under_way + 1 }
+counted (fate.Dropped reason) t = t
+
+abbrev pub tally_with : Fate → ℕ → Option Nanos → Tally → Tally
+tally_with ending at whole t = let now = counted ending t in record now { taken = taken_with at whole now.taken }
+
+-- whether a way leads to the listener of a name
+abbrev pub leads_to : List ℕ → Option Listener → Bool
+leads_to name None = false
+leads_to name (Some listener) = is_text name listener.name
+
+-- a way with one frame more that is on a journey
+abbrev pub way_with : Fate → ℕ → Journey → ListenerWay → ListenerWay
+way_with ending at journey way =
+    if leads_to journey.listener way.to then record way { tally = tally_with ending at journey.whole way.tally } else way
+
+abbrev pub ways_with : Fate → ℕ → Passage → List ListenerWay → List ListenerWay
+ways_with ending at (passage.Dropped reason) ways = ways
+ways_with ending at (passage.Goes journey) ways = map (way_with ending at journey) ways
+
+-- the place of a way to the listener of a name: an expected one, where that leads there, and else the first
+abbrev pub leads_there : List ℕ → Option ListenerWay → Bool
+leads_there name None = false
+leads_there name (Some way) = leads_to name way.to
+
+abbrev pub place_by : List ListenerWay → ℕ → List ℕ → Option ℕ
+place_by ways expected name =
+    if leads_there name (slice_get ways expected) then Some expected else position (λ (way : ListenerWay). leads_to name way.to) ways
+
+-- what is told of a stream, with one delivery more of a frame of it, with those of an offer, and with an offer
+abbrev pub fare_with : Fare → Delivery → Fare
+fare_with fare x = record fare {
+  dropped = fare.dropped + (if is_dropped (fate_of x) then 1 else 0);
+  ways = ways_with (fate_of x) x.at.0 x.passage fare.ways;
+}
+
+abbrev pub fare_with_each : List Delivery → Fare → Fare
+fare_with_each here fare = fold fare_with fare here
+
+abbrev pub fare_with_offer : List Delivery → Fare → Fare
+fare_with_offer here fare = fare_with_each here (record fare { offered = fare.offered + 1 })
+
+abbrev pub others_with : List Delivery → Others → Others
+others_with here others = record {
+  offered = others.offered + 1;
+  dropped = others.dropped + count_by (λ (x : Delivery). is_dropped (fate_of x)) here;
+}
+
+-- a list with the element at a place changed
+abbrev pub changed_at : {A : Type 0} → (A → A) → ℕ → List A → List A
+changed_at change place [] = []
+changed_at change zero (x ∷ xs) = change x ∷ xs
+changed_at change (suc place) (x ∷ xs) = x ∷ changed_at change place xs
+
+-- a summary with an offer more of a name: that of its stream, or else of those of other names
+abbrev pub summary_at : List Delivery → Option ℕ → Summary → Summary
+summary_at here None summary = record summary { others = others_with here summary.others }
+summary_at here (Some place) summary = record summary { fares = changed_at (fare_with_offer here) place summary.fares }
+
+abbrev pub summary_with : List ℕ → List Delivery → Summary → Summary
+summary_with name here summary = summary_at here (position (λ (fare : Fare). is_text fare.name name) summary.fares) summary
+
+-- no two ways lead to one listener
+abbrev pub AreApart : List ListenerWay → Type 0
+AreApart ways = AllPairs (λ (a b : ListenerWay). (name : List ℕ) → leads_to name a.to ≡ true → leads_to name b.to ≡ true → ⊥) ways
+
+-- no more is counted than so many deliveries could have, each of them below 2 ^ 64 ns
+abbrev pub TakenWithin : ℕ → Option LatencySummary → Type 0
+TakenWithin many None = ⊤
+TakenWithin many (Some t) = (t.behind + 1 ≤ many) × (t.total ≤ many * 2 ^ 64)
+
+pub record TallyWithin (many : ℕ) (t : Tally) : Type 0 where
+  pub delivered : t.delivered ≤ many
+  pub late : t.late ≤ many
+  pub under_way : t.under_way ≤ many
+  pub taken : TakenWithin many t.taken
+
+abbrev pub WaysWithin : ℕ → List ListenerWay → Type 0
+WaysWithin many ways = All (λ (way : ListenerWay). TallyWithin many way.tally) ways
+
+pub record FareWithin (many : ℕ) (fare : Fare) : Type 0 where
+  pub offered : fare.offered ≤ many
+  pub dropped : fare.dropped ≤ many
+  pub ways : WaysWithin many fare.ways
+
+pub record OthersWithin (many : ℕ) (others : Others) : Type 0 where
+  pub offered : others.offered ≤ many
+  pub dropped : others.dropped ≤ many
+
+pub record SummaryWithin (many : ℕ) (summary : Summary) : Type 0 where
+  pub fares : All (FareWithin many) summary.fares
+  pub others : OthersWithin many summary.others

@@ -1,0 +1,151 @@
+//! What a book tells of frames, told line by line.
+ghost use Rattle.std.specs.Prelude.{◌≡◌, ◌<◌, ◌^◌, ◌∷◌, [], All};
+ghost use Rattle.cqf_model.specs.Domain.{delay_of, octet_time_of};
+ghost use Rattle.cqf_laws_timing.specs.Latency.{whole_of};
+ghost use Rattle.cqf_press.specs.Press.{Puts};
+ghost use Rattle.cqf_report.specs.Written.{line_of_fields};
+ghost use Rattle.cqf_program_summary.specs.Hops.Gathered.{IsLegInTime};
+ghost use Rattle.cqf_program_summary.specs.Hops.Text.{dropped_fields, end_of_start, hops_header, leg_fields};
+ghost use Rattle.cqf_program_summary.specs.Hops.Text.{lines_of_legs, started_fields, text_of_legs};
+
+use crate::hops::legs::Leg;
+use crate::hops::wanting::stream_of;
+use cqf_model::{Dropped, Offer, Started};
+use cqf_press::{Press, Sink};
+use cqf_report::reason_name;
+use cqf_topology::{Domain, put_bridge, put_link};
+use cqf_units::octet_time;
+
+/// A link's octet time. A link that the domain lacks has none.
+fn octet_time_of(domain: &Domain, link: u16) -> u64
+    ensures value { result ≡ octet_time_of domain.now link }
+{
+    if link >= domain.links() {
+        return 0;
+    }
+    octet_time(domain.link(link).rate)
+}
+
+/// A link's delay. A link that the domain lacks has none.
+fn delay_of(domain: &Domain, link: u16) -> u64
+    ensures { result ≡ delay_of domain.now link }
+{
+    if link >= domain.links() {
+        return 0;
+    }
+    u64::from(domain.link(link).delay)
+}
+
+/// The instant at which a frame that starts has left the bridge.
+fn end_of(domain: &Domain, started: &Started) -> u64
+    requires { whole_of domain.now started.now < 2 ^ 64 }
+    ensures { result ≡ end_of_start domain.now started.now }
+{
+    let octets = u64::from(started.octets) + 8;
+    started.start.0 + octets * octet_time_of(domain, started.link)
+}
+
+/// The instant at which it is whole at the link's end.
+fn whole_of(domain: &Domain, started: &Started) -> u64
+    requires { whole_of domain.now started.now < 2 ^ 64 }
+    ensures { result ≡ whole_of domain.now started.now }
+{
+    end_of(domain, started) + delay_of(domain, started.link)
+}
+
+/// Puts the line of a start of a frame of a stream.
+fn put_started<W: Sink>(press: &mut Press<'_, W>, domain: &Domain, stream: &str, started: &Started)
+    requires { whole_of domain.now started.now < 2 ^ 64 }
+    ensures { Puts W.contents press.old press.new (line_of_fields (started_fields domain.now stream.now started.now)) }
+{
+    press.put_number(started.frame);
+    press.put_byte(b',');
+    press.put(stream.as_bytes());
+    press.put_byte(b',');
+    press.put_number(started.octets);
+    press.put_byte(b',');
+    press.put_number(started.cycle.0);
+    press.put_byte(b',');
+    put_link(press, domain, started.link);
+    press.put_byte(b',');
+    press.put_number(started.start.0);
+    press.put_byte(b',');
+    press.put_number(end_of(domain, started));
+    press.put_byte(b',');
+    press.put_number(whole_of(domain, started));
+    press.put_byte(b',');
+    press.put_byte(b'\n');
+}
+
+/// Puts the fields of a drop behind its bridge.
+fn put_reason<W: Sink>(press: &mut Press<'_, W>, reason: &[u8])
+    ensures { Puts W.contents press.old press.new (line_of_fields ([] ∷ [] ∷ [] ∷ reason.now ∷ [])) }
+{
+    press.put(b",,,");
+    press.put(reason);
+    press.put_byte(b'\n');
+}
+
+/// Puts the line of a drop of a frame of a stream.
+fn put_dropped<W: Sink>(press: &mut Press<'_, W>, domain: &Domain, stream: &str, dropped: &Dropped)
+    ensures { Puts W.contents press.old press.new (line_of_fields (dropped_fields domain.now stream.now dropped.now)) }
+{
+    press.put_number(dropped.frame);
+    press.put_byte(b',');
+    press.put(stream.as_bytes());
+    press.put_byte(b',');
+    press.put_number(dropped.octets);
+    press.put_byte(b',');
+    press.put_number(dropped.cycle.0);
+    press.put_byte(b',');
+    put_bridge(press, domain, dropped.bridge);
+    press.put_byte(b',');
+    let reason = reason_name(dropped.reason);
+    put_reason(press, reason.as_bytes());
+}
+
+/// Puts the line of what is told of one of the offers' frames.
+fn put_leg<W: Sink>(press: &mut Press<'_, W>, domain: &Domain, offers: &[Offer], leg: &Leg)
+    requires { IsLegInTime domain.now leg.now }
+    ensures { Puts W.contents press.old press.new (line_of_fields (leg_fields domain.now offers.now leg.now)) }
+{
+    match leg {
+        Leg::Started(started) => {
+            put_started(press, domain, stream_of(offers, started.frame), started)
+        }
+        Leg::Dropped(dropped) => {
+            put_dropped(press, domain, stream_of(offers, dropped.frame), dropped)
+        }
+    }
+}
+
+/// Puts the header.
+fn put_header<W: Sink>(press: &mut Press<'_, W>)
+    ensures { Puts W.contents press.old press.new (line_of_fields hops_header) }
+{
+    press.put(b"frame,stream,octets,cycle,where,start,end,whole,dropped\n");
+}
+
+/// Puts the lines.
+fn put_each<W: Sink>(press: &mut Press<'_, W>, domain: &Domain, offers: &[Offer], legs: &[Leg])
+    requires { All (IsLegInTime domain.now) legs.now }
+    ensures { Puts W.contents press.old press.new (lines_of_legs domain.now offers.now legs.now) }
+{
+    for leg in legs {
+        put_leg(press, domain, offers, leg);
+    }
+}
+
+/// Puts the text of what is told of the offers' frames.
+pub(crate) fn put_legs<W: Sink>(
+    press: &mut Press<'_, W>,
+    domain: &Domain,
+    offers: &[Offer],
+    legs: &[Leg],
+)
+    requires { All (IsLegInTime domain.now) legs.now }
+    ensures { Puts W.contents press.old press.new (text_of_legs domain.now offers.now legs.now) }
+{
+    put_header(press);
+    put_each(press, domain, offers, legs);
+}

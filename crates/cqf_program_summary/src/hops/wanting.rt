@@ -1,0 +1,56 @@
+//! Of which frames is told.
+ghost use Rattle.std.specs.Prelude.{◌≡◌, option_map};
+ghost use Rattle.cqf_program_summary.specs.Hops.Gathered.{wanted_by};
+ghost use Rattle.cqf_program_summary.specs.Hops.Legs.{is_frame, is_stream, is_wanted, stream_of};
+
+use cqf_model::Offer;
+
+/// Of which frames is told: where a stream is named, of those that claim it, and where a number is given, of that one alone; else of all.
+#[derive(Clone, Copy, Debug)]
+pub struct FrameFilter<'c> {
+    pub stream: Option<&'c str>,
+    /// The place of its offer among the offers, from 1.
+    pub frame: Option<u32>,
+}
+
+/// The name of the stream that a frame claims. A number that no offer has claims none.
+pub(crate) fn stream_of(offers: &[Offer], frame: u32) -> &str
+    ensures { result.now ≡ stream_of offers.now frame }
+{
+    match offers.get((frame as usize).saturating_sub(1)) {
+        Some(offer) => offer.stream.as_str(),
+        None => "",
+    }
+}
+
+/// Whether a name is that of the stream, where one is named.
+fn is_stream(stream: Option<&str>, name: &str) -> bool
+    ensures { result ≡ is_stream (option_map (λ stream. stream.now) stream.entry) name.now }
+{
+    match stream {
+        Some(stream) => name == stream,
+        None => true,
+    }
+}
+
+/// Whether a number is that of the frame, where one is given.
+fn is_frame(frame: Option<u32>, number: u32) -> bool
+    ensures { result ≡ is_frame frame number }
+{
+    match frame {
+        Some(frame) => number == frame,
+        None => true,
+    }
+}
+
+impl<'c> FrameFilter<'c> {
+    /// Whether it is told of the frame of this number.
+    pub(crate) fn wants(self, offers: &[Offer], frame: u32) -> bool
+        ensures { result ≡ is_wanted offers.now (wanted_by self.entry) frame }
+    {
+        if !is_frame(self.frame, frame) {
+            return false;
+        }
+        is_stream(self.stream, stream_of(offers, frame))
+    }
+}

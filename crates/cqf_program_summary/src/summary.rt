@@ -1,0 +1,10 @@
+//! The command `summary`: how frames fare, by stream and listener.
+
+pub(crate) mod command;
+pub(crate) mod fares;
+pub(crate) mod gathering;
+pub(crate) mod lines;
+pub(crate) mod listing;
+pub(crate) mod outputs;
+pub(crate) mod sums;
+pub(crate) mod tallies;

@@ -1,0 +1,54 @@
+//! The command `summary`.
+ghost use Rattle.std.specs.Prelude.{◌≤◌, IfErr, IfOk};
+ghost use Rattle.cqf_model.specs.Limits.{most_cycles};
+ghost use Rattle.cqf_program_scenario.specs.Closing.{MayBeRun, scenario_given};
+ghost use Rattle.cqf_program_scenario.specs.Logged.{HasOrders};
+ghost use Rattle.cqf_press.specs.Stops.{IsRefused};
+ghost use Rattle.cqf_program_runs.specs.Deliveries.PlannedScenario.{planned_scenario};
+ghost use Rattle.cqf_program_summary.specs.Summary.Gathering.{IsSummaryOf};
+ghost use Rattle.cqf_program_summary.specs.Summary.Output.{IsSummaryOutput};
+ghost use Rattle.cqf_program_summary.specs.Summary.Text.{text_of_summary};
+
+use crate::summary::gathering::sums_of_scenario;
+use crate::summary::outputs::SummaryOutput;
+use cqf_model::Limits;
+use cqf_press::{Sheet, Stop};
+use cqf_program_runs::{PlannedGiven, read_planned_given};
+use cqf_units::Memory;
+use std::alloc::Global;
+
+/// The output for a scenario.
+fn output_of(alloc: Global, cycles: u32, planned: &PlannedGiven) -> Result<SummaryOutput, Memory>
+    requires short { cycles ≤ most_cycles }
+    requires may { MayBeRun cycles (scenario_given planned.now.given) }
+    requires stand { HasOrders planned.now.given }
+    ensures { IfOk result (IsSummaryOf cycles planned.now) }
+{
+    let sums = sums_of_scenario(alloc, cycles, planned)?;
+    let sheet = Sheet::new(alloc)?;
+    Ok(SummaryOutput { sums, sheet })
+}
+
+/// The output of `summary` over so many cycles, 0 to 100,000, for an input that is read within some limits, ready to be told: of each
+/// stream and listener how many frames are offered, how they end, how long those took that came, and the most that one can take
+/// (profile).
+///
+/// # Errors
+/// With status 1 and the line of the first fault of the input: of its parts, of the domain, the streams, the script, the
+/// offers, or the background frames; and with status 3 for want of memory.
+pub fn summary_output(
+    alloc: Global,
+    limits: Limits,
+    cycles: u32,
+    input: &[u8],
+) -> Result<SummaryOutput, Stop>
+    requires { cycles ≤ most_cycles }
+    ensures ok { IfOk result (λ output. IsSummaryOutput limits cycles input.now (text_of_summary output)) }
+    ensures err { IfErr result (IsRefused (planned_scenario limits cycles input.now)) }
+{
+    let planned = read_planned_given(alloc, limits, cycles, input)?;
+    match output_of(alloc, cycles, &planned) {
+        Ok(output) => Ok(output),
+        Err(_) => Err(Stop::memory(alloc)),
+    }
+}

@@ -1,0 +1,214 @@
+-- The lines of the script before the functions of bridges, and what is found among them.
+use Rattle.std.proofs.Common.{ℕ, ◌≡◌, ◌++◌, ◌==◌, ◌∙◌, ◌||◌, ◌/◌, ◌%◌, Bool, true, false, not, List, [], ◌∷◌, append_assoc, ap, codes, cond, decimal}
+use Rattle.std.proofs.Common.{arith, length, nat_le, refl, suc, zero}
+use Rattle.std.specs.List.{list_all, list_any}
+use Rattle.std.specs.Prelude.{if◌then◌else◌}
+use Rattle.std.proofs.lemmas.Bool.{and_from}
+use Rattle.std.proofs.lemmas.Bool.Decides.{nat_tests}
+use Rattle.cqf_lists.specs.Lists.{each_below}
+use Rattle.cqf_text.specs.Lines.{lines_of}
+use Rattle.cqf_gates.specs.GateListText.{hex_digit, line_of_gates}
+use Rattle.cqf_model.specs.declared.topology.Row.{Row}
+use Rattle.cqf_model.specs.Domain.{Domain, is_text}
+use Rattle.cqf_model.specs.GateList.{Entry, port_list}
+use Rattle.cqf_model.specs.Limits.{streams_within}
+use Rattle.cqf_topology.specs.DomainText.{IsDomain}
+use Rattle.cqf_program_tc.specs.Bridge.{pauses}
+use Rattle.cqf_program_tc.specs.Calls.{head_of, lines_behind, lines_before, lines_of_function}
+use Rattle.cqf_program_tc.specs.Checks.{checks_text}
+use Rattle.cqf_program_tc.specs.Text.{bridges_text, by_list_lines, by_list_text, choice_text, list_gates_text}
+use Rattle.cqf_program_tc.specs.Text.{gate_command, given_text, last_gate, link_text, list_command, multiple, name_text}
+use Rattle.cqf_program_tc.specs.Text.{names_text, no_gates_text, old_gates_text, opening_text, tc_gate_text, tc_text, undo_gate, undo_list, usage_text}
+use Rattle.cqf_program_tc.specs.Words.{tx_words}
+use Rattle.cqf_program_tc.proofs.Lines.{IsWithin, Reads, Skips, begins, behind_within, bridge_within, decimal_within, is_within, none_within}
+use Rattle.cqf_program_tc.proofs.Lines.{both_true, reads_joined, skips, within_then}
+
+-- the functions that are looked for begin with one of these bytes
+abbrev pub is_head_byte : ℕ → Bool
+is_head_byte byte = (byte == 98) || ((byte == 103) || (byte == 108))
+
+no_b : (x y : ℕ) (xs ys : List ℕ) → is_head_byte y ≡ true → not (is_head_byte x) ≡ true → is_text (x ∷ xs) (y ∷ ys) ≡ false
+no_b x y xs ys head other = grind (arith, nat_tests)
+
+-- a line that begins with another byte is none of their heads
+other_line : (y : ℕ) (head line : List ℕ) → is_head_byte y ≡ true → not (begins is_head_byte line) ≡ true → is_text line (y ∷ head) ≡ false
+other_line y head [] of_head other = refl
+other_line y head (x ∷ line) of_head other = no_b x y line head of_head other
+
+-- such lines are passed over
+pub passed_over : (y : ℕ) (head : List ℕ) (lines more : List (List ℕ)) → is_head_byte y ≡ true →
+    list_all (λ (line : List ℕ). not (begins is_head_byte line)) lines ≡ true →
+    lines_behind (y ∷ head) (lines ++ more) ≡ lines_behind (y ∷ head) more
+passed_over y head [] more of_head other = refl
+passed_over y head (line ∷ lines) more of_head other =
+    let parts = both_true (not (begins is_head_byte line)) (list_all (λ (line : List ℕ). not (begins is_head_byte line)) lines) other in
+    ap (λ (b : Bool). cond b (lines ++ more) (lines_behind (y ∷ head) (lines ++ more))) (other_line y head line of_head parts.0)
+    ∙ passed_over y head lines more of_head parts.1
+
+-- and so is a text of them
+pub text_passed : (y : ℕ) (head text rest : List ℕ) → is_head_byte y ≡ true → Skips is_head_byte text →
+    lines_behind (y ∷ head) (lines_of (text ++ rest)) ≡ lines_behind (y ∷ head) (lines_of rest)
+text_passed y head text rest of_head skipped =
+    ap (lines_behind (y ∷ head)) (skipped.reads rest) ∙ passed_over y head skipped.lines (lines_of rest) of_head skipped.other
+
+-- the texts before the functions
+multiple_within : (d : Domain) (rows : List Row) → IsWithin (multiple d rows)
+multiple_within d rows = decimal_within _
+
+names_within : (d : Domain) → IsDomain d → (n : ℕ) → IsWithin (each_below (name_text d) n)
+names_within d domain zero = refl
+names_within d domain (suc n) = within_then (each_below (name_text d) n) (name_text d n) (names_within d domain n) (bridge_within d domain n)
+
+usage_skipped : (d : Domain) (rows : List Row) → Skips is_head_byte (usage_text d rows)
+usage_skipped d rows = skips is_head_byte (usage_text d rows) (none_within is_head_byte (multiple d rows) _ (multiple_within d rows) refl)
+    (behind_within (multiple d rows) _ (multiple_within d rows) refl)
+
+opening_skipped : (d : Domain) → IsDomain d → Skips is_head_byte (opening_text d)
+opening_skipped d domain = skips is_head_byte (opening_text d) (none_within is_head_byte (names_text d) _ (names_within d domain (length d.bridges)) refl)
+    (behind_within (names_text d) _ (names_within d domain (length d.bridges)) refl)
+
+given_skipped : (d : Domain) (rows : List Row) → Skips is_head_byte (given_text d rows)
+given_skipped d rows =
+    let within = multiple_within d rows in
+    skips is_head_byte (given_text d rows)
+    (none_within is_head_byte (multiple d rows) _ within (none_within is_head_byte (multiple d rows) _ within (none_within is_head_byte (multiple d rows) _ within refl)))
+    (behind_within (multiple d rows) _ within (behind_within (multiple d rows) _ within (behind_within (multiple d rows) _ within refl)))
+
+checks_skipped : Skips is_head_byte checks_text
+checks_skipped = skips is_head_byte checks_text refl refl
+
+old_gates_by : (few : Bool) → Skips is_head_byte (old_gates_text (if few then codes "1024" else codes "16384"))
+old_gates_by true = skips is_head_byte (old_gates_text (codes "1024")) refl refl
+old_gates_by false = skips is_head_byte (old_gates_text (codes "16384")) refl refl
+
+old_gates_skipped : (d : Domain) → Skips is_head_byte (old_gates_text (last_gate d))
+old_gates_skipped d = old_gates_by (nat_le (streams_within d.limits) 1024)
+
+no_gates_skipped : Skips is_head_byte no_gates_text
+no_gates_skipped = skips is_head_byte no_gates_text refl refl
+
+-- the words of a list stand in one line
+hex_within : (n : ℕ) → is_within (hex_digit n) ≡ true
+hex_within n = grind (arith, nat_tests)
+
+tx_within : (entries : List Entry) → IsWithin (tx_words entries)
+tx_within [] = refl
+tx_within (entry ∷ entries) =
+    let line : IsWithin (line_of_gates entry) =
+    and_from (is_within (hex_digit (entry.0 / 16))) _ (hex_within (entry.0 / 16))
+    (and_from (is_within (hex_digit (entry.0 % 16))) _ (hex_within (entry.0 % 16)) (decimal_within entry.1)) in
+    within_then (line_of_gates entry) (tx_words entries) line (tx_within entries)
+
+list_within : (d : Domain) → IsWithin (list_command d)
+list_within d = within_then (tx_words (port_list d.cycle_time d.guard)) (codes " flags 0x2") (tx_within (port_list d.cycle_time d.guard)) refl
+
+gate_within : (d : Domain) → IsWithin (gate_command d)
+gate_within d =
+    within_then (decimal d.cycle_time) _ (decimal_within d.cycle_time)
+    (within_then (decimal d.cycle_time) (codes " 7 \"$5\"") (decimal_within d.cycle_time) refl)
+
+-- the lines of the two functions
+abbrev lines_of_link : Domain → List (List ℕ)
+lines_of_link d =
+    codes "# the transmission gates of the interface $1" ∷ codes "link() {" ∷ list_command d ∷ undo_list ∷ codes "}" ∷ [] ∷ []
+
+link_reads : (d : Domain) → Reads (link_text d) (lines_of_link d)
+link_reads d = reads_joined (lines_of_link d) (refl, (refl, (list_within d, (refl, (refl, (refl, tt))))))
+
+abbrev lines_of_gate : Domain → List (List ℕ)
+lines_of_gate d =
+    codes "# stream gate $2 at the interface $1: address $3, VLAN $4, at most $5 octets a cycle" ∷ codes "gate() {" ∷ gate_command d ∷ undo_gate
+    ∷ codes "}" ∷ [] ∷ []
+
+gate_reads : (d : Domain) → Reads (tc_gate_text d) (lines_of_gate d)
+gate_reads d = reads_joined (lines_of_gate d) (refl, (refl, (gate_within d, (refl, (refl, (refl, tt))))))
+
+-- behind the head of a function in the script are the lines behind it among those of the functions
+abbrev last_of : Domain → List Row → List ℕ
+last_of d rows = bridges_text d rows ++ choice_text d
+
+abbrev rest_of : Domain → List Row → List ℕ
+rest_of d rows = list_gates_text rows ++ last_of d rows
+
+to_functions : (d : Domain) (rows : List Row) (y : ℕ) (head : List ℕ) → IsDomain d → is_head_byte y ≡ true →
+    lines_behind (y ∷ head) (lines_of (tc_text d rows)) ≡ lines_behind (y ∷ head)
+    (lines_of (link_text d ++ ((old_gates_text (last_gate d)) ++ (no_gates_text ++ (tc_gate_text d ++ rest_of d rows)))))
+to_functions d rows y head domain of_head =
+    let rest = rest_of d rows in
+    let tail = last_of d rows in
+    let gates = tc_gate_text d ++ list_gates_text rows in
+    let last = no_gates_text ++ gates in
+    let behind_link = (old_gates_text (last_gate d)) ++ last in
+    let behind_checks = link_text d ++ behind_link in
+    let one : (checks_text ++ behind_checks) ++ tail ≡ checks_text ++ (link_text d ++ ((old_gates_text (last_gate d)) ++ (no_gates_text ++ (tc_gate_text d ++ rest)))) =
+    append_assoc checks_text behind_checks tail
+    ∙ ap (λ text. checks_text ++ text) (append_assoc (link_text d) behind_link tail
+    ∙ ap (λ text. link_text d ++ text) (append_assoc (old_gates_text (last_gate d)) last tail
+    ∙ ap (λ text. (old_gates_text (last_gate d)) ++ text) (append_assoc no_gates_text gates tail
+    ∙ ap (λ text. no_gates_text ++ text) (append_assoc (tc_gate_text d) (list_gates_text rows) tail)))) in
+    text_passed y head (usage_text d rows) _ of_head (usage_skipped d rows)
+    ∙ text_passed y head (opening_text d) _ of_head (opening_skipped d domain)
+    ∙ text_passed y head (given_text d rows) _ of_head (given_skipped d rows)
+    ∙ ap (λ text. lines_behind (y ∷ head) (lines_of text)) one
+    ∙ text_passed y head checks_text (link_text d ++ ((old_gates_text (last_gate d)) ++ (no_gates_text ++ (tc_gate_text d ++ rest)))) of_head checks_skipped
+
+-- the function of a link is read
+pub link_found : (d : Domain) (rows : List Row) → IsDomain d → lines_of_function (codes "link") (tc_text d rows) ≡ list_command d ∷ undo_list ∷ []
+link_found d rows domain =
+    ap (lines_before (codes "}")) (to_functions d rows 108 (codes "ink() {") domain refl
+    ∙ ap (lines_behind (head_of (codes "link"))) (link_reads d ((old_gates_text (last_gate d)) ++ (no_gates_text ++ (tc_gate_text d ++ rest_of d rows)))))
+
+-- behind that of a link, other functions are looked for among those of gates and of bridges
+to_gate : (d : Domain) (rows : List Row) (y : ℕ) (head : List ℕ) → IsDomain d → is_head_byte y ≡ true → is_text (codes "link() {") (y ∷ head) ≡ false →
+    lines_behind (y ∷ head) (lines_of (tc_text d rows)) ≡ lines_behind (y ∷ head) (lines_of (tc_gate_text d ++ rest_of d rows))
+to_gate d rows y head domain of_head other =
+    let behind = (old_gates_text (last_gate d)) ++ (no_gates_text ++ (tc_gate_text d ++ rest_of d rows)) in
+    let more = list_command d ∷ undo_list ∷ codes "}" ∷ [] ∷ lines_of behind in
+    to_functions d rows y head domain of_head
+    ∙ ap (lines_behind (y ∷ head)) (link_reads d behind)
+    ∙ passed_over y head (codes "# the transmission gates of the interface $1" ∷ []) (codes "link() {" ∷ more) of_head refl
+    ∙ ap (λ (b : Bool). cond b more (lines_behind (y ∷ head) more)) other
+    ∙ passed_over y head (list_command d ∷ undo_list ∷ codes "}" ∷ [] ∷ []) (lines_of behind) of_head refl
+    ∙ text_passed y head (old_gates_text (last_gate d)) (no_gates_text ++ (tc_gate_text d ++ rest_of d rows)) of_head (old_gates_skipped d)
+    ∙ text_passed y head no_gates_text (tc_gate_text d ++ rest_of d rows) of_head no_gates_skipped
+
+-- the function of a gate is read
+pub gate_found : (d : Domain) (rows : List Row) → IsDomain d → lines_of_function (codes "gate") (tc_text d rows) ≡ gate_command d ∷ undo_gate ∷ []
+gate_found d rows domain =
+    ap (lines_before (codes "}")) (to_gate d rows 103 (codes "ate() {") domain refl refl
+    ∙ ap (lines_behind (head_of (codes "gate"))) (gate_reads d (rest_of d rows)))
+
+-- the lines of the function of lists
+abbrev lines_of_by_list : List (List ℕ)
+lines_of_by_list =
+    codes "# stream gate $2 at the interface $1: address $3, VLAN $4, and behind these the entries of its list" ∷ codes "gate_by_list() {"
+    ∷ (by_list_lines ++ (codes "}" ∷ [] ∷ []))
+
+by_list_reads : Reads by_list_text lines_of_by_list
+by_list_reads = reads_joined lines_of_by_list (refl, (refl, (refl, (refl, (refl, (refl, (refl, (refl, tt))))))))
+
+-- it is read where a stream pauses
+pub by_list_found : (d : Domain) (rows : List Row) → IsDomain d → list_any pauses rows ≡ true →
+    lines_of_function (codes "gate_by_list") (tc_text d rows) ≡ by_list_lines
+by_list_found d rows domain some =
+    let head = head_of (codes "gate_by_list") in
+    ap (lines_before (codes "}")) (to_gate d rows 103 (codes "ate_by_list() {") domain refl refl
+    ∙ ap (lines_behind head) (gate_reads d (rest_of d rows))
+    ∙ ap (λ (b : Bool). lines_behind head (lines_of ((if b then by_list_text else []) ++ last_of d rows))) some
+    ∙ ap (lines_behind head) (by_list_reads (last_of d rows)))
+
+-- and passed over where another is looked for
+lists_passed : (d : Domain) (rows : List Row) (head : List ℕ) →
+    lines_behind (98 ∷ head) (lines_of (rest_of d rows)) ≡ lines_behind (98 ∷ head) (lines_of (last_of d rows))
+lists_passed d rows head = by_test (list_any pauses rows)
+  where
+    by_test : (b : Bool) → lines_behind (98 ∷ head) (lines_of ((if b then by_list_text else []) ++ last_of d rows))
+        ≡ lines_behind (98 ∷ head) (lines_of (last_of d rows))
+    by_test true = ap (lines_behind (98 ∷ head)) (by_list_reads (last_of d rows))
+    by_test false = refl
+
+-- and those of bridges are looked for behind it
+pub to_bridges : (d : Domain) (rows : List Row) (head : List ℕ) → IsDomain d →
+    lines_behind (98 ∷ head) (lines_of (tc_text d rows)) ≡ lines_behind (98 ∷ head) (lines_of (bridges_text d rows ++ choice_text d))
+to_bridges d rows head domain =
+    to_gate d rows 98 head domain refl refl ∙ ap (lines_behind (98 ∷ head)) (gate_reads d (rest_of d rows)) ∙ lists_passed d rows head

@@ -1,0 +1,9 @@
+mod WordLemmas
+mod Lines
+mod Functions
+mod CallLemmas
+mod Streams
+mod NextKept
+mod LeavingRows
+mod NotedRows
+mod Rounds

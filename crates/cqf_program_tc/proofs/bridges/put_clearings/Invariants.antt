@@ -1,0 +1,11 @@
+-- The lines up to the next place are put, and it is noted by which links streams came.
+use Rattle.std.proofs.Common.{get_or, length}
+use Rattle.cqf_press.specs.Press.{Puts}
+use Rattle.cqf_program_tc.specs.Bridge.{stream_clearing}
+use Rattle.cqf_program_tc.proofs.LeavingRows.{AreSoFar}
+use Rattle.cqf_program_tc.proofs.bridges.put_clearings.Given as goal
+
+abbrev pub invariant-loop-place : goal.invariant-loop-place
+invariant-loop-place g l =
+    AreSoFar (λ text. Puts g.W.Write.contents l.initial.press l.press text) (stream_clearing l.domain l.bridge) l.domain l.bridge l.rows l.seen
+    (get_or l.places l.place-index (length l.rows))

@@ -1,0 +1,11 @@
+use Rattle.cqf_press.proofs.PressLemmas.{Puts-then}
+use Rattle.cqf_program_tc.proofs.bridges.put_link_lines.Goals as goal
+
+pub returns : goal.returns
+returns g c = Puts-then _ _ c.put.ensures
+    (Puts-then _ _ c.put_number.ensures
+    (Puts-then _ _ c.put-2.ensures
+    (Puts-then _ _ c.put_link.ensures
+    (Puts-then _ _ c.put-3.ensures
+    (Puts-then _ _ c.put_link_call.ensures
+    c.put-4.ensures)))))

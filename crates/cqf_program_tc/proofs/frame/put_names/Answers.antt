@@ -1,0 +1,11 @@
+use Rattle.std.proofs.Common.{ap, sym, add-one}
+use Rattle.cqf_lists.specs.Lists.{each_below}
+use Rattle.cqf_press.proofs.PressLemmas.{Puts-as, Puts-then}
+use Rattle.cqf_program_tc.specs.Text.{name_text}
+use Rattle.cqf_program_tc.proofs.frame.put_names.Goals as goal
+
+pub loop-bridge-preserved : goal.loop-bridge-preserved
+loop-bridge-preserved g c =
+    let text = name_text c.args.domain.now in
+    let bridge = c.loop-bridge.bridge in
+    Puts-as _ _ (sym (ap (each_below text) (add-one bridge))) (Puts-then (each_below text bridge) (text bridge) c.loop-bridge.invariant c.put_name.ensures)

@@ -1,0 +1,11 @@
+-- The entries so far are written, each in the range of its type.
+use Rattle.std.proofs.Common.{◌≡◌, ◌<◌, ◌^◌, All, take}
+use Rattle.cqf_model.specs.GateList.{Entry}
+use Rattle.cqf_program_tc.specs.Words.{tx_words}
+use Rattle.cqf_program_tc.proofs.words.write_tx_words.Given as goal
+
+abbrev pub invariant-loop-entry : goal.invariant-loop-entry
+invariant-loop-entry l = record {
+  written : l.words.items ≡ tx_words (take l.entry-index l.entry-items);
+  ranges : All (λ (entry : Entry). (entry.0 < 256) × (entry.1 < 2 ^ 32)) (take l.entry-index l.entry-items);
+}

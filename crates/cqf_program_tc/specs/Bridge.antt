@@ -1,0 +1,166 @@
+-- What a bridge does in the script, line by line (profile). Links and streams go by their numbers in variables, since a name may
+-- hold `-`.
+use Rattle.std.specs.Prelude.{ℕ, ◌+◌, ◌++◌, ◌==◌, List, [], Bool, true, false, Option, Some, None, codes, decimal}
+use Rattle.std.specs.Prelude.{if◌then◌else◌, length, not, option_map, slice_get, take}
+use Rattle.std.specs.Option.{option_map_or}
+use Rattle.std.specs.List.{flat_map, list_any}
+use Rattle.cqf_lists.specs.Lists.{each_below}
+use Rattle.cqf_model.specs.declared.topology.Hop.{Hop}
+use Rattle.cqf_model.specs.declared.topology.Row.{Row}
+use Rattle.cqf_model.specs.Domain.{Domain, bridge_of, leaves}
+use Rattle.cqf_model.specs.Table.{same_way}
+use Rattle.cqf_topology.specs.NodeNames.{name_of_bridge, name_of_link}
+use Rattle.cqf_compile.specs.BridgeGates.{first_hop, gate_at}
+use Rattle.cqf_program_plans.specs.EndNames.{name_of_end}
+use Rattle.cqf_program_tc.specs.Words.{list_words}
+
+-- the variable of the interface by which it comes
+abbrev pub way_in : Row → Option ℕ → List ℕ
+way_in row None = codes "TALKER_" ++ decimal row.no
+way_in row (Some link) = codes "IN_" ++ decimal link
+
+-- whether a stream comes to a bridge by a link
+abbrev pub comes_by : Domain → ℕ → ℕ → Row → Bool
+comes_by d bridge link row = option_map_or (λ (hop : Hop). same_way hop.from (Some link)) (first_hop d bridge row) false
+
+-- whether none of the streams before comes to the bridge that way. No two come from one talker's interface
+abbrev pub is_new : Domain → ℕ → List Row → Option ℕ → Bool
+is_new d bridge before None = true
+is_new d bridge before (Some link) = not (list_any (comes_by d bridge link) before)
+
+-- the way by which a stream comes to a bridge that it leaves, and whether it's new
+abbrev pub way_at : Domain → ℕ → List Row → Row → Option (Option ℕ × Bool)
+way_at d bridge before row = option_map (λ (hop : Hop). (hop.from, is_new d bridge before hop.from)) (first_hop d bridge row)
+
+-- the lines that end the script where a variable isn't set or is no good: the variable's name and value, the node that the interface
+-- leads to, where it isn't a talker, and what it is
+abbrev pub out_need : Domain → ℕ → ℕ → List ℕ
+out_need d bridge link =
+    codes "    port OUT_"
+    ++ (decimal link
+    ++ (codes " \"${OUT_"
+    ++ (decimal link
+    ++ (codes ":-}\" "
+    ++ (name_of_end d link
+    ++ (codes " \"interface of " ++ (name_of_bridge d bridge ++ (codes " to " ++ (name_of_end d link ++ codes "\"\n")))))))))
+
+abbrev pub link_need : Domain → ℕ → ℕ → List ℕ
+link_need d bridge link =
+    codes "    port IN_"
+    ++ (decimal link
+    ++ (codes " \"${IN_"
+    ++ (decimal link
+    ++ (codes ":-}\" "
+    ++ (name_of_bridge d (bridge_of d link)
+    ++ (codes " \"interface of " ++ (name_of_bridge d bridge ++ (codes " to " ++ (name_of_bridge d (bridge_of d link) ++ codes "\"\n")))))))))
+
+abbrev pub way_need : Domain → ℕ → Row → Option ℕ → List ℕ
+way_need d bridge row None =
+    codes "    port TALKER_"
+    ++ (decimal row.no
+    ++ (codes " \"${TALKER_"
+    ++ (decimal row.no
+    ++ (codes ":-}\" \"\" \"interface of " ++ (name_of_bridge d bridge ++ (codes " to the talker of " ++ (row.name ++ codes "\"\n")))))))
+way_need d bridge row (Some link) = link_need d bridge link
+
+abbrev pub frame_needs : Row → List ℕ
+frame_needs row =
+    codes "    frames "
+    ++ (decimal row.no
+    ++ (codes " \"${MAC_" ++ (decimal row.no ++ (codes ":-}\" \"${VLAN_" ++ (decimal row.no ++ (codes ":-}\" " ++ (row.name ++ codes "\n")))))))
+
+-- the line that takes the gates of an earlier plan off the interface by which a stream comes
+abbrev pub way_clearing : Row → Option ℕ → List ℕ
+way_clearing row way = codes "    no_gates \"$" ++ (way_in row way ++ codes "\"\n")
+
+-- the call that sets the list of a link that leaves the bridge
+abbrev pub link_call : ℕ → List ℕ
+link_call link = codes "    link \"$OUT_" ++ (decimal link ++ codes "\"")
+
+-- the lines of the link
+abbrev pub link_lines : Domain → ℕ → List ℕ
+link_lines d link = codes "    # link " ++ (decimal link ++ (codes " " ++ (name_of_link d link ++ (codes "\n" ++ (link_call link ++ codes "\n")))))
+
+-- the interfaces by which a stream leaves the bridge, in the order of its tree
+abbrev pub way_out : Domain → ℕ → Hop → List ℕ
+way_out d bridge hop = if leaves d hop.link bridge then codes " OUT_" ++ decimal hop.link else []
+
+abbrev pub ways_out : Domain → ℕ → Row → List ℕ
+ways_out d bridge row = flat_map (way_out d bridge) row.tree.items
+
+-- whether a stream pauses between two cycles of its own
+abbrev pub pauses : Row → Bool
+pauses row = not (row.pace.pause == 0)
+
+-- what a call says of a stream's gate before its list: the interface by which the stream comes, the gate's index, and the frames
+abbrev pub gate_target : Row → Option ℕ → List ℕ
+gate_target row way =
+    way_in row way
+    ++ (codes "\" "
+    ++ (decimal (row.no + 1)
+    ++ (codes " \"$MAC_" ++ (decimal row.no ++ (codes "\" \"$VLAN_" ++ (decimal row.no ++ codes "\""))))))
+
+-- the call that sets the gate of a stream that is offered in each cycle and comes this way, with the octets of its reservation
+abbrev pub plain_call : Row → Option ℕ → List ℕ
+plain_call row way = codes "    gate \"$" ++ (gate_target row way ++ (codes " " ++ decimal row.octets))
+
+-- and of one that pauses, with its gate's list at the bridge
+abbrev pub list_call : Domain → ℕ → Row → Option ℕ → List ℕ
+list_call d bridge row way = codes "    gate_by_list \"$" ++ (gate_target row way ++ list_words (gate_at d row bridge))
+
+abbrev pub gate_call : Domain → ℕ → Row → Option ℕ → List ℕ
+gate_call d bridge row way = if pauses row then list_call d bridge row way else plain_call row way
+
+-- the lines of the stream: by which interfaces it leaves, and its gate
+abbrev pub stream_lines : Domain → ℕ → Row → Option ℕ → List ℕ
+stream_lines d bridge row way =
+    codes "    # stream "
+    ++ (decimal row.no
+    ++ (codes " " ++ (row.name ++ (codes ", leaves by" ++ (ways_out d bridge row ++ (codes "\n" ++ (gate_call d bridge row way ++ codes "\n")))))))
+
+-- a text for each link that leaves the bridge, by number
+abbrev pub if_left : Domain → ℕ → (ℕ → List ℕ) → ℕ → List ℕ
+if_left d bridge text link = if leaves d link bridge then text link else []
+
+abbrev pub each_link : Domain → ℕ → (ℕ → List ℕ) → List ℕ
+each_link d bridge text = each_below (if_left d bridge text) (length d.links)
+
+-- a text for each stream that leaves the bridge, by number, each made with the streams before it
+abbrev pub stream_at : (List Row → Row → List ℕ) → List Row → ℕ → List ℕ
+stream_at text rows place = option_map_or (text (take place rows)) (slice_get rows place) []
+
+abbrev pub each_stream : (List Row → Row → List ℕ) → List Row → List ℕ
+each_stream text rows = each_below (stream_at text rows) (length rows)
+
+-- what a stream needs that isn't needed before it: the interface by which it comes, its frames' destination address and their VLAN
+abbrev pub needs_by : Domain → ℕ → Row → (Option ℕ × Bool) → List ℕ
+needs_by d bridge row way = (if way.1 then way_need d bridge row way.0 else []) ++ frame_needs row
+
+abbrev pub stream_needs : Domain → ℕ → List Row → Row → List ℕ
+stream_needs d bridge before row = option_map_or (needs_by d bridge row) (way_at d bridge before row) []
+
+-- the interface by which it comes is cleared once
+abbrev pub clearing_by : Row → (Option ℕ × Bool) → List ℕ
+clearing_by row way = if way.1 then way_clearing row way.0 else []
+
+abbrev pub stream_clearing : Domain → ℕ → List Row → Row → List ℕ
+stream_clearing d bridge before row = option_map_or (clearing_by row) (way_at d bridge before row) []
+
+-- its lines
+abbrev pub stream_gates : Domain → ℕ → Row → List ℕ
+stream_gates d bridge row = option_map_or (λ (hop : Hop). stream_lines d bridge row hop.from) (first_hop d bridge row) []
+
+-- the function of a bridge: each variable once, in the order in which it uses them first, so that a bridge that lacks one is left as
+-- it was; the end of what is checked; the interfaces by which streams come, cleared; its links; its streams
+abbrev pub bridge_text : Domain → List Row → ℕ → List ℕ
+bridge_text d rows bridge =
+    codes "bridge_"
+    ++ (decimal bridge
+    ++ (codes "() {\n    # "
+    ++ (name_of_bridge d bridge
+    ++ (codes "\n"
+    ++ (each_link d bridge (out_need d bridge)
+    ++ (each_stream (stream_needs d bridge) rows
+    ++ (codes "    ready\n"
+    ++ (each_stream (stream_clearing d bridge) rows
+    ++ (each_link d bridge (link_lines d) ++ (flat_map (stream_gates d bridge) rows ++ codes "}\n"))))))))))

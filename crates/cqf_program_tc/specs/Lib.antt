@@ -1,0 +1,9 @@
+pub mod Words
+pub mod Bridge
+pub mod Checks
+pub mod Text
+pub mod Output
+pub mod Rows
+pub mod Calls
+pub mod Laws
+pub mod Ways

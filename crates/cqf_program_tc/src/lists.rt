@@ -1,0 +1,119 @@
+//! The gates of streams that pause, in the script.
+ghost use Rattle.std.specs.Prelude.{◌≡◌, ◌<◌};
+ghost use Rattle.std.specs.List.{list_any};
+ghost use Rattle.cqf_press.specs.Press.{Puts};
+ghost use Rattle.cqf_program_tc.specs.Bridge.{pauses};
+ghost use Rattle.cqf_program_tc.specs.Text.{by_list_text, list_gates_text, rounds_in};
+ghost use Rattle.cqf_program_tc.specs.Words.{closed_words, entry_words, list_words, octets_word, open_words};
+
+use cqf_gates::{StreamEntry, StreamList, is_shut};
+use cqf_model::{MOST_EVERY, Row};
+use cqf_press::{Press, Sink};
+
+/// How many cycles pass before the lists of streams of each cycle and of ports begin anew.
+const ROUND: u64 = 2;
+
+/// Whether the stream pauses between two cycles of its own.
+pub(crate) fn pauses(row: &Row) -> bool
+    ensures { result ≡ pauses row.now }
+{
+    row.pace.pause != 0
+}
+
+/// Whether one of the streams does.
+fn some_pauses(rows: &[Row]) -> bool
+    ensures { result ≡ list_any pauses rows.now }
+{
+    rows.iter().any(|row| pauses(row))
+}
+
+/// How many cycles pass before all lists begin anew.
+pub(crate) fn rounds_in(rows: &[Row]) -> u64
+    ensures value { result ≡ rounds_in rows.now }
+    ensures few { result < 81 }
+{
+    if some_pauses(rows) {
+        u64::from(MOST_EVERY)
+    } else {
+        ROUND
+    }
+}
+
+/// Puts octets, or -1 where there is no limit.
+fn put_octets<W: Sink>(press: &mut Press<'_, W>, octet_max: Option<u32>)
+    ensures { Puts W.contents press.old press.new (octets_word octet_max) }
+{
+    match octet_max {
+        Some(most) => press.put_number(most),
+        None => press.put(b"-1"),
+    }
+}
+
+/// Puts the words of an entry in which frames may pass.
+fn put_open_words<W: Sink>(press: &mut Press<'_, W>, entry: StreamEntry)
+    ensures { Puts W.contents press.old press.new (open_words entry) }
+{
+    press.put(b" sched-entry open ");
+    press.put_number(entry.interval);
+    press.put(b" ");
+    press.put_number(entry.ipv);
+    press.put(b" ");
+    put_octets(press, entry.octet_max);
+}
+
+/// Puts the words of one in which none passes.
+fn put_closed_words<W: Sink>(press: &mut Press<'_, W>, interval: u32)
+    ensures { Puts W.contents press.old press.new (closed_words interval) }
+{
+    press.put(b" sched-entry close ");
+    press.put_number(interval);
+    press.put(b" -1 -1");
+}
+
+/// Puts the words of an entry.
+fn put_entry_words<W: Sink>(press: &mut Press<'_, W>, entry: StreamEntry)
+    ensures { Puts W.contents press.old press.new (entry_words entry) }
+{
+    if is_shut(entry.octet_max) {
+        put_closed_words(press, entry.interval);
+    } else {
+        put_open_words(press, entry);
+    }
+}
+
+/// Puts the words of a gate's list, a space before each.
+pub(crate) fn put_list_words<W: Sink>(press: &mut Press<'_, W>, gate: &StreamList)
+    ensures { Puts W.contents press.old press.new (list_words gate.now) }
+{
+    for entry in gate.entries() {
+        put_entry_words(press, *entry);
+    }
+}
+
+/// Puts the function that sets a stream's gate by the list that it is given.
+fn put_by_list<W: Sink>(press: &mut Press<'_, W>)
+    ensures { Puts W.contents press.old press.new by_list_text }
+{
+    press.put(
+        b"# stream gate $2 at the interface $1: address $3, VLAN $4, and behind these the entries of its list\ngate_by_list() {\n",
+    );
+    press.put(b"    gate_at=$1 gate_no=$2 gate_mac=$3 gate_vlan=$4\n    shift 4\n");
+    press.put(
+        b"    $tc filter add dev \"$gate_at\" ingress chain \"$chain\" protocol 802.1Q pref \"$gate_no\" handle \"$gate_no\" flower skip_sw",
+    );
+    press.put(
+        b" dst_mac \"$gate_mac\" vlan_id \"$gate_vlan\" action gate index \"$gate_no\" base-time \"$BASE\" \"$@\"\n",
+    );
+    press.put(
+        b"    undo=\"filter del dev $gate_at ingress chain $chain protocol 802.1Q pref $gate_no handle $gate_no flower/$undo\"\n}\n\n",
+    );
+}
+
+/// Puts it where a stream pauses.
+pub(crate) fn put_list_gates<W: Sink>(press: &mut Press<'_, W>, rows: &[Row])
+    ensures { Puts W.contents press.old press.new (list_gates_text rows.now) }
+{
+    if some_pauses(rows) {
+        put_by_list(press);
+    }
+}

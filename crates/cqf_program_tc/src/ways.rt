@@ -1,0 +1,53 @@
+//! By which interfaces streams come to a bridge.
+ghost use Rattle.std.specs.Prelude.{ℕ, ◌≡◌, ◌<◌, ◌++◌, ◌∷◌, [], List, Some};
+ghost use Rattle.cqf_model.specs.declared.topology.Row.{Row as ARow};
+ghost use Rattle.cqf_program_tc.specs.Bridge.{way_at};
+ghost use Rattle.cqf_program_tc.specs.Ways.{IsSeenWay, NotesWay, is_unseen};
+
+use cqf_compile::first_hop;
+use cqf_model::Row;
+use cqf_topology::Domain;
+
+/// Whether no stream was seen to come that way.
+fn is_unseen(seen: &[bool; 65536], way: Option<u16>) -> bool
+    ensures value { result ≡ is_unseen seen.now way }
+    ensures range { (link : ℕ) → way ≡ Some link → link < 65536 }
+{
+    match way {
+        Some(link) => !seen[usize::from(link)],
+        None => true,
+    }
+}
+
+/// Notes that a stream comes by a link.
+fn mark(seen: &mut [bool; 65536], link: u16)
+    ensures { NotesWay seen.old (Some link) seen.new }
+{
+    seen[usize::from(link)] = true;
+}
+
+/// Notes that a stream comes that way.
+fn note(seen: &mut [bool; 65536], way: Option<u16>)
+    ensures { NotesWay seen.old way seen.new }
+{
+    match way {
+        Some(link) => mark(seen, link),
+        None => (),
+    }
+}
+
+/// By which way the row's stream comes to the bridge, and whether none did before, where it leaves the bridge at all. It is noted.
+pub(crate) fn way_of(
+    domain: &Domain,
+    bridge: u16,
+    seen: &mut [bool; 65536],
+    row: &Row,
+) -> Option<(Option<u16>, bool)>
+    ensures way { (before : List ARow) → IsSeenWay domain.now bridge before seen.old → result ≡ way_at domain.now bridge before row.now }
+    ensures noted { (before : List ARow) → IsSeenWay domain.now bridge before seen.old → IsSeenWay domain.now bridge (before ++ row.now ∷ []) seen.new }
+{
+    let hop = first_hop(domain, row, bridge)?;
+    let is_new = is_unseen(seen, hop.from);
+    note(seen, hop.from);
+    Some((hop.from, is_new))
+}

@@ -1,7 +1,0 @@
-use Rattle.std.proofs.Common.{take}
-use Rattle.cqf_program_press.specs.Press.{Puts}
-use Rattle.cqf_report.specs.Books.{lines_of_drops}
-use Rattle.cqf_program_telling.proofs.books.put_drops.Given as goal
-
-abbrev pub invariant-loop-dropped : goal.invariant-loop-dropped
-invariant-loop-dropped g l = Puts g.W.Write.contents l.initial.press l.press (lines_of_drops l.domain (take l.dropped-index l.drops))

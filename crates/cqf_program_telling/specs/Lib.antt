@@ -1,4 +1,0 @@
-pub mod PortLines
-pub mod ExactBooks
--- what the inner functions say
-pub mod CallTexts

@@ -1,0 +1,240 @@
+//! The options of the program's commands, each once: its name, how it is given, and what help says of it.
+ghost use Rattle.std.specs.Prelude.{◌≡◌, ◌++◌, bytes_eq, codes, false};
+ghost use Rattle.clap.specs.Words.{rule_of};
+ghost use Rattle.cqf_program_words.specs.Options.{default_rule, flag_rule, free_rule, gives_value, name_of, option_rule, parser_of, rule_for, takes_value, wanted_rule};
+
+use clap::builder::ValueParser;
+use clap::{Arg, ArgAction};
+use cqf_model::{LAST_UNTIL, Limits, MOST_CYCLES};
+use std::alloc::Global;
+
+/// The greatest seed (profile).
+pub(crate) const LAST_SEED: u64 = 4_294_967_295;
+
+/// An option of commands.
+#[derive(Clone, Copy, Debug, PartialEq, Eq)]
+pub(crate) enum CommandOption {
+    Until,
+    Rate,
+    Cycles,
+    Format,
+    Seed,
+    Stream,
+    Frame,
+    Cycle,
+    Strict,
+    Threads,
+    Table,
+    Large,
+}
+
+/// A name, and the word that gives the option of this name.
+macro_rules! long {
+    ($name:literal) => {
+        ($name, concat!("--", $name))
+    };
+}
+
+impl CommandOption {
+    /// Its name, and the word that gives it.
+    fn texts(self) -> (&'static str, &'static str)
+        ensures name { result.0.now ≡ name_of self }
+        ensures word { result.1.now ≡ codes "--" ++ name_of self }
+    {
+        match self {
+            CommandOption::Until => long!("until"),
+            CommandOption::Rate => long!("rate"),
+            CommandOption::Cycles => long!("cycles"),
+            CommandOption::Format => long!("format"),
+            CommandOption::Seed => long!("seed"),
+            CommandOption::Stream => long!("stream"),
+            CommandOption::Frame => long!("frame"),
+            CommandOption::Cycle => long!("cycle"),
+            CommandOption::Strict => long!("strict"),
+            CommandOption::Threads => long!("threads"),
+            CommandOption::Table => long!("table"),
+            CommandOption::Large => long!("large"),
+        }
+    }
+
+    /// Its name.
+    fn name(self) -> &'static str
+        ensures { result.now ≡ name_of self }
+    {
+        self.texts().0
+    }
+
+    /// Whether a value stands behind it.
+    fn takes_value(self) -> bool
+        ensures { result ≡ takes_value (option_rule self) }
+    {
+        match self {
+            CommandOption::Until
+            | CommandOption::Rate
+            | CommandOption::Cycles
+            | CommandOption::Format
+            | CommandOption::Seed
+            | CommandOption::Stream
+            | CommandOption::Frame
+            | CommandOption::Cycle => true,
+            CommandOption::Strict
+            | CommandOption::Threads
+            | CommandOption::Table
+            | CommandOption::Large => false,
+        }
+    }
+
+    /// Which numbers its value may be, where plants may be large or not; `None` where it needs to be no number.
+    fn numbers<'a>(self, is_large: bool) -> Option<ValueParser<'a>>
+        ensures { result ≡ parser_of is_large self }
+    {
+        match self {
+            CommandOption::Until => Some(ValueParser::Unsigned(1, LAST_UNTIL)),
+            CommandOption::Cycles => Some(ValueParser::Unsigned(1, MOST_CYCLES)),
+            CommandOption::Seed => Some(ValueParser::Unsigned(0, LAST_SEED)),
+            CommandOption::Frame => {
+                let rows = Limits::where_large(is_large).rows;
+                Some(ValueParser::Unsigned(1, u64::from(rows)))
+            }
+            CommandOption::Rate
+            | CommandOption::Format
+            | CommandOption::Stream
+            | CommandOption::Cycle
+            | CommandOption::Strict
+            | CommandOption::Threads
+            | CommandOption::Table
+            | CommandOption::Large => None,
+        }
+    }
+
+    /// What help calls its value, where it has one.
+    fn value(self) -> &'static str {
+        match self {
+            CommandOption::Until | CommandOption::Cycles => "N",
+            CommandOption::Rate => "RATE",
+            CommandOption::Format => "FORMAT",
+            CommandOption::Seed => "S",
+            CommandOption::Stream => "NAME",
+            CommandOption::Frame => "F",
+            CommandOption::Cycle => "WORD",
+            CommandOption::Strict
+            | CommandOption::Threads
+            | CommandOption::Table
+            | CommandOption::Large => "",
+        }
+    }
+
+    /// What help says of it, where plants may be large or not.
+    fn about(self, is_large: bool) -> &'static str {
+        match self {
+            CommandOption::Until => "starts before this instant, in nanoseconds, 1 to 100000000",
+            CommandOption::Rate => "the link's rate in Mb/s: 10, 100 or 1000",
+            CommandOption::Cycles => "the number of cycles, 1 to 100000",
+            CommandOption::Format => "the form of the output: list or tc",
+            CommandOption::Seed => "how blocks are late by chance, 0 to 4294967295",
+            CommandOption::Stream => "only frames of this stream",
+            CommandOption::Frame if is_large => "only this frame, 1 to 10000000",
+            CommandOption::Frame => "only this frame, 1 to 1000000",
+            CommandOption::Cycle => "the candidates for the cycle time in ns: N or FROM..TO/STEP",
+            CommandOption::Strict => "status 1 where a deadline isn't kept for sure",
+            CommandOption::Threads =>
+                "a thread for each bridge and each administrator of the script",
+            CommandOption::Table => "a line for each candidate in place of a plant",
+            CommandOption::Large => "a plant of up to 1024 bridges, 4096 links and 16384 streams",
+        }
+    }
+
+    /// Whether the word gives this option.
+    fn is_given_by(self, word: &str) -> bool
+        ensures { result ≡ bytes_eq word.now (codes "--" ++ name_of self) }
+    {
+        word == self.texts().1
+    }
+
+    /// Whether the word gives this option, and its value stands behind it as a word of its own.
+    pub(crate) fn wants_value(self, word: &str) -> bool
+        ensures { result ≡ gives_value word.now (option_rule self) }
+    {
+        self.takes_value() && self.is_given_by(word)
+    }
+}
+
+/// An option `--NAME N` that has to be given, whatever N is.
+fn wanted_option<'a>(alloc: Global, name: &'static str, value: &'static str) -> Arg<'a>
+    ensures rule { rule_of result ≡ wanted_rule name.now }
+    ensures own { result.global ≡ false }
+{
+    Arg::new(alloc, name)
+        .long(name)
+        .action(ArgAction::Set)
+        .required(true)
+        .value_name(value)
+}
+
+/// An option `--NAME VALUE`, and the text that stands for its value where it isn't given.
+fn default_option<'a>(
+    alloc: Global,
+    name: &'static str,
+    default: &'static str,
+    value: &'static str,
+) -> Arg<'a>
+    ensures rule { rule_of result ≡ default_rule name.now default.now }
+    ensures own { result.global ≡ false }
+{
+    Arg::new(alloc, name)
+        .long(name)
+        .action(ArgAction::Set)
+        .default_value(default)
+        .value_name(value)
+}
+
+/// An option `--NAME N` that may be given, whatever N is.
+fn free_option<'a>(alloc: Global, name: &'static str, value: &'static str) -> Arg<'a>
+    ensures rule { rule_of result ≡ free_rule name.now }
+    ensures own { result.global ≡ false }
+{
+    Arg::new(alloc, name)
+        .long(name)
+        .action(ArgAction::Set)
+        .value_name(value)
+}
+
+/// A flag `--NAME`.
+fn flag<'a>(alloc: Global, name: &'static str) -> Arg<'a>
+    ensures rule { rule_of result ≡ flag_rule name.now }
+    ensures own { result.global ≡ false }
+{
+    Arg::new(alloc, name).long(name).action(ArgAction::SetTrue)
+}
+
+/// The option as `clap` has it, but for its help and for the numbers that its value may be.
+fn bare_argument<'a>(alloc: Global, option: CommandOption) -> Arg<'a>
+    ensures rule { rule_of result ≡ option_rule option }
+    ensures own { result.global ≡ false }
+{
+    match option {
+        CommandOption::Until | CommandOption::Cycles => {
+            wanted_option(alloc, option.name(), option.value())
+        }
+        CommandOption::Rate => default_option(alloc, option.name(), "1000", option.value()),
+        CommandOption::Format => default_option(alloc, option.name(), "list", option.value()),
+        CommandOption::Seed | CommandOption::Stream | CommandOption::Frame | CommandOption::Cycle =>
+            free_option(alloc, option.name(), option.value()),
+        CommandOption::Strict
+        | CommandOption::Threads
+        | CommandOption::Table
+        | CommandOption::Large => flag(alloc, option.name()),
+    }
+}
+
+/// The option as `clap` has it, where plants may be large or not.
+pub(crate) fn argument<'a>(alloc: Global, option: CommandOption, is_large: bool) -> Arg<'a>
+    ensures rule { rule_of result ≡ rule_for is_large option }
+    ensures own { result.global ≡ false }
+{
+    let told = bare_argument(alloc, option).help(option.about(is_large));
+    match option.numbers(is_large) {
+        Some(parser) => told.value_parser(parser),
+        None => told,
+    }
+}

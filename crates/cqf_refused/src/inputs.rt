@@ -1,0 +1,67 @@
+//! Bytes that are read.
+ghost use Rattle.std.specs.Prelude.{⊤};
+
+use crate::program::is_wanting;
+use cqf_press::Stop;
+use cqf_program_engine::{Heard, MOST_BYTES, Source, read_input};
+use cqf_refused_values::{Told, mark, once, twice};
+use std::alloc::Global;
+use std::io;
+use std::io::Read;
+
+/// A reader that gives so many bytes of value 1.
+#[derive(Drop)]
+struct Ones {
+    left: usize,
+}
+
+impl Read for Ones {
+    fn read(&mut self, buf: &mut [u8]) -> io::Result<usize> {
+        let count = self.left.min(buf.len());
+        self.left -= count;
+        buf[..count].fill(1);
+        Ok(count)
+    }
+}
+
+/// It may fail for anything.
+impl Source for Ones {
+    ghost fails = { λ _. ⊤ };
+
+    fn read_some(&mut self, buffer: &mut [u8]) -> io::Result<usize> {
+        self.read(buffer)
+    }
+}
+
+/// Whether all of so many bytes were heard.
+fn is_heard(heard: &Heard<Ones>, read: &Result<(), Stop>, count: usize) -> bool {
+    read.is_ok() && heard.bytes().len() == count && heard.bytes().iter().all(|byte| *byte == 1)
+}
+
+/// Whether a fresh reader's bytes are heard.
+fn is_heard_again(alloc: Global, count: usize) -> bool {
+    let mut input = Heard::new(alloc, Ones { left: count });
+    let read = read_input(alloc, MOST_BYTES, &mut input);
+    is_heard(&input, &read, count)
+}
+
+/// So many bytes are read. Where memory is wanted, some of them are kept.
+fn heard(alloc: Global, count: usize) -> Told {
+    let mut input = Heard::new(alloc, Ones { left: count });
+    mark(alloc);
+    let first = read_input(alloc, MOST_BYTES, &mut input);
+    mark(alloc);
+    if is_wanting(&first) {
+        let stands = input.bytes().len() <= count && input.bytes().iter().all(|byte| *byte == 1);
+        return twice(stands, is_heard_again(alloc, count));
+    }
+    once(is_heard(&input, &first, count))
+}
+
+pub(crate) fn input_told(alloc: Global) -> Told {
+    heard(alloc, 70_000)
+}
+
+pub(crate) fn long_told(alloc: Global) -> Told {
+    heard(alloc, 3_500_000)
+}

@@ -1,0 +1,74 @@
+//! Words that are read.
+use crate::program::is_wanting;
+use cqf_press::{DONE, Stop, USAGE};
+use cqf_program_words::{Job, read_words};
+use cqf_refused_values::{Told, mark, once, twice};
+use std::alloc::Global;
+
+/// What is to come of words: a job, or an end with this status whose text has this in it.
+#[derive(Clone, Copy)]
+enum Wanted<'w> {
+    Job(&'w Job),
+    End(u8, &'static str),
+}
+
+/// Whether a text has another one in it.
+fn has(text: &[u8], part: &str) -> bool {
+    match std::str::from_utf8(text) {
+        Ok(text) => text.contains(part),
+        Err(_) => false,
+    }
+}
+
+/// Whether it comes.
+fn is_wanted(read: &Result<Job, Stop>, wanted: Wanted<'_>) -> bool {
+    match (read, wanted) {
+        (Ok(job), Wanted::Job(other)) => *job == *other,
+        (Err(stop), Wanted::End(status, part)) => {
+            stop.status == status && has(stop.text.as_slice(), part)
+        }
+        _ => false,
+    }
+}
+
+/// The words are read.
+fn read(alloc: Global, words: &[&str], wanted: Wanted<'_>) -> Told {
+    mark(alloc);
+    let first = read_words(alloc, words);
+    mark(alloc);
+    if is_wanting(&first) {
+        return twice(true, is_wanted(&read_words(alloc, words), wanted));
+    }
+    once(is_wanted(&first, wanted))
+}
+
+pub(crate) fn job_told(alloc: Global) -> Told {
+    let job = Job::Run {
+        cycles: 5,
+        threads: false,
+    };
+    read(alloc, &["run", "--cycles", "5"], Wanted::Job(&job))
+}
+
+pub(crate) fn named_told(alloc: Global) -> Option<Told> {
+    let name = String::from_str(alloc, "mic-l").ok()?;
+    let job = Job::Hops {
+        cycles: 5,
+        stream: Some(name),
+        frame: Some(7),
+    };
+    let words = ["hops", "--cycles", "5", "--stream", "mic-l", "--frame", "7"];
+    Some(read(alloc, &words, Wanted::Job(&job)))
+}
+
+pub(crate) fn misuse_told(alloc: Global) -> Told {
+    read(alloc, &["run"], Wanted::End(USAGE, "--cycles <N>"))
+}
+
+pub(crate) fn help_told(alloc: Global) -> Told {
+    read(
+        alloc,
+        &["--help"],
+        Wanted::End(DONE, "Usage: cqf <COMMAND>"),
+    )
+}

@@ -1,0 +1,387 @@
+//! Worlds of the line, in which a frame goes along.
+ghost use Rattle.std.specs.Prelude.{◌≤◌, length};
+ghost use Rattle.cqf_model.specs.Run.{AreOffers};
+
+use cqf_admission::Command;
+use cqf_book::Pages;
+use cqf_compile::Plan;
+use cqf_model::Offer;
+use cqf_refused_values::{Told, X, looked_at, mark, once, plan_of, twice, writes};
+use cqf_test_fixtures::{admission_of, are_offers, line, offers_of, request};
+use cqf_units::{Cycle, Memory};
+use cqf_world::{Applied, Event, World};
+use std::alloc::Global;
+
+/// An event: the stream `x` is asked for or withdrawn by seat 0, or a cycle is closed by seat 1; or what happens to a bridge or a link.
+#[derive(Clone, Copy)]
+enum Act {
+    Admit,
+    Withdraw,
+    Seal,
+    Give(u16),
+    Step(u16),
+    Take(u16),
+    Post(u16),
+}
+
+/// The event itself.
+fn event_of(alloc: Global, act: Act) -> Result<Event, Memory> {
+    match act {
+        Act::Admit => Ok(Event::Call(0, Command::Admit(request(alloc, &X)?))),
+        Act::Withdraw => Ok(Event::Call(0, Command::Withdraw(String::from_str(alloc, "x")?))),
+        Act::Seal => Ok(Event::Seal(1)),
+        Act::Give(bridge) => Ok(Event::Give(bridge)),
+        Act::Step(bridge) => Ok(Event::Step(bridge)),
+        Act::Take(link) => Ok(Event::Take(link)),
+        Act::Post(bridge) => Ok(Event::Post(bridge)),
+    }
+}
+
+/// Whether an event comes to this.
+fn comes_to(alloc: Global, world: &mut World, act: Act, wanted: Applied) -> bool {
+    match event_of(alloc, act) {
+        Ok(event) => world.apply(event) == Ok(wanted),
+        Err(_) => false,
+    }
+}
+
+/// Whether each of these events is done.
+fn all_happen(alloc: Global, world: &mut World, acts: &[Act]) -> bool {
+    for act in acts {
+        if !comes_to(alloc, world, *act, Applied::Done) {
+            return false;
+        }
+    }
+    true
+}
+
+/// Whether each event of these parts is done.
+fn all_parts_happen(alloc: Global, world: &mut World, parts: &[&[Act]]) -> bool {
+    for acts in parts {
+        if !all_happen(alloc, world, acts) {
+            return false;
+        }
+    }
+    true
+}
+
+/// Whether none of these events is enabled.
+fn none_happens(alloc: Global, world: &mut World, acts: &[Act]) -> bool {
+    for act in acts {
+        if !comes_to(alloc, world, *act, Applied::NotEnabled) {
+            return false;
+        }
+    }
+    true
+}
+
+/// An event of each kind.
+const ALL: &[Act] = &[
+    Act::Admit,
+    Act::Withdraw,
+    Act::Seal,
+    Act::Give(0),
+    Act::Give(1),
+    Act::Step(0),
+    Act::Step(1),
+    Act::Take(0),
+    Act::Post(0),
+    Act::Post(1),
+];
+
+/// A world of three cycles over a plan, where it may be made, which begins with no call.
+fn world_of<'a>(alloc: Global, plan: &Plan, offers: &'a [Offer]) -> Option<World<'a>> {
+    if offers.len() > 1_000_000 || !are_offers(plan.domain(), offers) {
+        return None;
+    }
+    let admission = admission_of(alloc, plan.domain(), &[])?;
+    match World::new(alloc, plan, admission, offers, &[], 3) {
+        Ok(world) => Some(world),
+        Err(_) => None,
+    }
+}
+
+/// How many pages of the first three cycles of three bridges were posted, and how many starts stand on them.
+fn posted(pages: &Pages) -> (u32, usize) {
+    let mut count = 0u32;
+    let mut starts = 0usize;
+    for bridge in 0..3 {
+        for cycle in 0..3 {
+            if let Some(page) = pages.page(bridge, Cycle(cycle)) {
+                count = count.saturating_add(1);
+                starts = starts.saturating_add(page.starts.len());
+            }
+        }
+    }
+    (count, starts)
+}
+
+/// How a world stands: its history, how many pages were posted, and how many starts stand on them.
+#[derive(Clone, Copy)]
+struct Standing {
+    history: &'static str,
+    pages: u32,
+    starts: usize,
+}
+
+/// Whether it stands so.
+fn stands(alloc: Global, world: &World, standing: &Standing) -> bool {
+    writes(alloc, world.admission().history(), standing.history)
+        && posted(world.pages()) == (standing.pages, standing.starts)
+}
+
+/// What happens in a world, part by part, then the event that is tried, and how the world stands before and behind that.
+#[derive(Clone, Copy)]
+struct Trial {
+    parts: &'static [&'static [Act]],
+    act: Act,
+    before: Standing,
+    behind: Standing,
+}
+
+/// The event is tried, or else in a twin: then the world enables nothing any more, and has what it had.
+fn tried(alloc: Global, world: &mut World, twin: &mut World, event: Event, trial: &Trial) -> Told {
+    mark(alloc);
+    let first = world.apply(event);
+    mark(alloc);
+    if first.is_ok() {
+        let is_done = first == Ok(Applied::Done);
+        return once(is_done && stands(alloc, world, &trial.behind));
+    }
+    let is_left = none_happens(alloc, world, ALL) && stands(alloc, world, &trial.before);
+    let is_done = comes_to(alloc, twin, trial.act, Applied::Done);
+    twice(is_left, is_done && stands(alloc, twin, &trial.behind))
+}
+
+/// It is, behind what happens before.
+fn tried_behind(alloc: Global, world: &mut World, twin: &mut World, trial: &Trial) -> Option<Told> {
+    if !all_parts_happen(alloc, world, trial.parts) || !all_parts_happen(alloc, twin, trial.parts) {
+        return None;
+    }
+    let event = event_of(alloc, trial.act).ok()?;
+    Some(tried(alloc, world, twin, event, trial))
+}
+
+/// It is, in a world of a plan.
+fn tried_over(alloc: Global, plan: &Plan, offers: &[Offer], trial: &Trial) -> Option<Told> {
+    let mut world = world_of(alloc, plan, offers)?;
+    let mut twin = world_of(alloc, plan, offers)?;
+    tried_behind(alloc, &mut world, &mut twin, trial)
+}
+
+/// It is, over the line, where a frame is offered at the first bridge, and one at the second, which drops it.
+fn told(alloc: Global, trial: &Trial) -> Option<Told> {
+    let offers = offers_of(alloc, &[(0, 0, "x", 64), (125_000, 1, "x", 64)]).ok()?;
+    let plan = plan_of(alloc, line())?;
+    tried_over(alloc, &plan, offers.as_slice(), trial)
+}
+
+/// Nothing has happened.
+const NOTHING: Standing = Standing {
+    history: "",
+    pages: 0,
+    starts: 0,
+};
+
+/// The stream was granted, and three cycles were closed.
+const GRANTED: Standing = Standing {
+    history: "0 admit x accepted 0 0\n",
+    ..NOTHING
+};
+
+const CLOSED: Standing = Standing {
+    history: "0 admit x accepted 0 0\n1 seal\n1 seal\n1 seal\n",
+    ..NOTHING
+};
+
+/// The calls.
+const CALLS: &[Act] = &[Act::Admit, Act::Seal, Act::Seal, Act::Seal];
+
+pub(crate) fn request_told(alloc: Global) -> Option<Told> {
+    let trial = Trial {
+        parts: &[],
+        act: Act::Admit,
+        before: NOTHING,
+        behind: GRANTED,
+    };
+    told(alloc, &trial)
+}
+
+pub(crate) fn withdrawal_told(alloc: Global) -> Option<Told> {
+    let trial = Trial {
+        parts: &[&[Act::Admit]],
+        act: Act::Withdraw,
+        before: GRANTED,
+        behind: Standing {
+            history: "0 admit x accepted 0 0\n0 withdraw x accepted 0 0\n",
+            ..NOTHING
+        },
+    };
+    told(alloc, &trial)
+}
+
+/// A cycle was closed with it.
+const SEALED: Standing = Standing {
+    history: "0 admit x accepted 0 0\n1 seal\n",
+    ..NOTHING
+};
+
+pub(crate) fn seal_told(alloc: Global) -> Option<Told> {
+    let trial = Trial {
+        parts: &[&[Act::Admit]],
+        act: Act::Seal,
+        before: GRANTED,
+        behind: SEALED,
+    };
+    told(alloc, &trial)
+}
+
+pub(crate) fn give_told(alloc: Global) -> Option<Told> {
+    let trial = Trial {
+        parts: &[CALLS],
+        act: Act::Give(0),
+        before: CLOSED,
+        behind: CLOSED,
+    };
+    told(alloc, &trial)
+}
+
+/// The first bridge goes through cycle 0, and is given the table of cycle 1.
+const FIRST_GOES: &[Act] = &[Act::Give(0), Act::Step(0), Act::Post(0), Act::Give(0)];
+
+/// Its page has no start.
+const FIRST_POSTED: Standing = Standing { pages: 1, ..CLOSED };
+
+pub(crate) fn step_told(alloc: Global) -> Option<Told> {
+    let trial = Trial {
+        parts: &[CALLS, FIRST_GOES],
+        act: Act::Step(0),
+        before: FIRST_POSTED,
+        behind: FIRST_POSTED,
+    };
+    told(alloc, &trial)
+}
+
+/// The second one goes through it, with what the first one sent, and sends cycle 1.
+const SECOND_GOES: &[Act] = &[
+    Act::Give(1),
+    Act::Step(1),
+    Act::Take(0),
+    Act::Post(1),
+    Act::Give(1),
+    Act::Step(1),
+];
+
+/// Neither page has a start.
+const BOTH_POSTED: Standing = Standing { pages: 2, ..CLOSED };
+
+pub(crate) fn take_told(alloc: Global) -> Option<Told> {
+    let trial = Trial {
+        parts: &[CALLS, FIRST_GOES, &[Act::Step(0)], SECOND_GOES],
+        act: Act::Take(0),
+        before: BOTH_POSTED,
+        behind: BOTH_POSTED,
+    };
+    told(alloc, &trial)
+}
+
+/// The first bridge's page of cycle 1 has a start.
+const ONE_START: Standing = Standing {
+    pages: 3,
+    starts: 1,
+    ..CLOSED
+};
+
+pub(crate) fn post_told(alloc: Global) -> Option<Told> {
+    let trial = Trial {
+        parts: &[
+            CALLS,
+            FIRST_GOES,
+            &[Act::Step(0), Act::Post(0)],
+            SECOND_GOES,
+            &[Act::Take(0)],
+        ],
+        act: Act::Post(1),
+        before: ONE_START,
+        behind: Standing {
+            pages: 4,
+            ..ONE_START
+        },
+    };
+    told(alloc, &trial)
+}
+
+/// Whether a new world goes through the calls.
+fn goes_on(alloc: Global, world: &mut World) -> bool {
+    stands(alloc, world, &GRANTED)
+        && all_happen(
+            alloc,
+            world,
+            &[Act::Seal, Act::Give(0), Act::Step(0), Act::Post(0)],
+        )
+}
+
+/// Whether a world was made that does.
+fn is_new(alloc: Global, made: Result<World<'_>, Memory>) -> bool {
+    match made {
+        Ok(mut world) => goes_on(alloc, &mut world),
+        Err(_) => false,
+    }
+}
+
+/// A world is made of an admission, or else of its twin.
+fn made(alloc: Global, plan: &Plan, offers: &[Offer]) -> Option<Told>
+    requires offers { AreOffers plan.now offers.now }
+    requires few_offers { length offers.now ≤ 1000000 }
+{
+    let admission = admission_of(alloc, plan.domain(), &[X])?;
+    let twin = admission_of(alloc, plan.domain(), &[X])?;
+    mark(alloc);
+    let first = World::new(alloc, plan, admission, offers, &[], 3);
+    mark(alloc);
+    if first.is_ok() {
+        return Some(once(is_new(alloc, first)));
+    }
+    let again = World::new(alloc, plan, twin, offers, &[], 3);
+    Some(twice(true, is_new(alloc, again)))
+}
+
+/// It is, where these may be its offers.
+fn made_with(alloc: Global, plan: &Plan, offers: &[Offer]) -> Option<Told> {
+    if offers.len() > 1_000_000 || !are_offers(plan.domain(), offers) {
+        return None;
+    }
+    made(alloc, plan, offers)
+}
+
+pub(crate) fn new_told(alloc: Global) -> Option<Told> {
+    let offers = offers_of(alloc, &[(0, 0, "x", 64), (125_000, 1, "x", 64)]).ok()?;
+    let plan = plan_of(alloc, line())?;
+    made_with(alloc, &plan, offers.as_slice())
+}
+
+/// An event that is not enabled is tried, and the world is looked at.
+fn left(alloc: Global, world: &mut World) -> Option<Told> {
+    let event = event_of(alloc, Act::Step(0)).ok()?;
+    Some(looked_at!(
+        alloc,
+        world.apply(event) == Ok(Applied::NotEnabled)
+            && world.admission().history().len() == 1
+            && posted(world.pages()) == (0, 0)
+    ))
+}
+
+/// It is, in a world of a plan.
+fn left_over(alloc: Global, plan: &Plan) -> Option<Told> {
+    let mut world = world_of(alloc, plan, &[])?;
+    if all_happen(alloc, &mut world, &[Act::Admit]) {
+        left(alloc, &mut world)
+    } else {
+        None
+    }
+}
+
+pub(crate) fn not_enabled_told(alloc: Global) -> Option<Told> {
+    let plan = plan_of(alloc, line())?;
+    left_over(alloc, &plan)
+}

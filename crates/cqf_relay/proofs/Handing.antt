@@ -1,0 +1,300 @@
+-- Relays whose links hand on what they sent, or have it back.
+use Rattle.std.proofs.Common.{◌≡◌, ◌∙◌, ℕ, ◌+◌, ◌-◌, ◌<◌, ◌≤◌, true}
+use Rattle.std.proofs.Common.{List, [], ◌++◌, Some, All, length, map, set, set-set, option_map}
+use Rattle.std.proofs.Common.{refl, sym, ap, subst, arith}
+use Rattle.std.specs.Prelude.{slice_get}
+use Rattle.std.specs.Global.{Global}
+use Rattle.std.specs.declared.vec.Vec.{Vec}
+use Rattle.std.proofs.lemmas.List.{map-set}
+use Rattle.std.proofs.lemmas.List.Elements.{All-contains, All-set}
+use Rattle.std.proofs.lemmas.Option.{same_Some, slice_get-map, slice_get_within}
+use Rattle.cqf_lists.specs.Lists.{each_below}
+use Rattle.cqf_lists.proofs.Members.{contains_at}
+use Rattle.cqf_lists.proofs.Written.{map_kept, slice_get-set_same}
+use Rattle.cqf_model.specs.declared.frames.Sent.{Sent}
+use Rattle.cqf_model.specs.declared.topology.Row.{Row}
+use Rattle.cqf_model.specs.Domain.{Domain}
+use Rattle.cqf_tape.specs.declared.tape.Tape.{Tape}
+use Rattle.cqf_relay.specs.declared.edge.Edge.{Edge}
+use Rattle.cqf_relay.specs.declared.inlet.Inlet.{Inlet}
+use Rattle.cqf_relay.specs.declared.leads.Leads.{Leads}
+use Rattle.cqf_relay.specs.declared.log.ArrivedFrame.{ArrivedFrame}
+use Rattle.cqf_relay.specs.declared.moving.Stretch.{Stretch}
+use Rattle.cqf_relay.specs.declared.outlet.Outlet.{Outlet}
+use Rattle.cqf_relay.specs.declared.relay.Relay.{Relay}
+use Rattle.cqf_relay.specs.declared.wire.Wire.{Wire}
+use Rattle.cqf_relay.specs.Stretches.{IsNextStretch, IsStretchOf, Sendings, batch_at, frames_of, moving_between, moving_in}
+use Rattle.cqf_relay.specs.Logs.{ByCycle, came_by_stretch}
+use Rattle.cqf_relay.specs.Sending.{IsSameLink, IsTidy, KeepsStretchBack, TakesPending}
+use Rattle.cqf_relay.specs.Standing.{AreKnown, Come, HandsOn, HasGoneOnBy, IsEdgeOf, IsInletOf, IsOutletOf, IsSameButLinks, IsWithin, KeepsBack, KnowsRows}
+use Rattle.cqf_relay.specs.Standing.{StandsSo, StaysAs, link_in, link_out, links_from, links_into}
+use Rattle.cqf_relay.specs.Standing.{told_by, wire_on, wire_out}
+use Rattle.cqf_relay.proofs.Tidy.{back_tidy, hands_tidy}
+
+-- what holds of each element holds of that at a place
+pub all_at : {X : Type 0} (P : X → Type 0) (xs : List X) (k : ℕ) (x : X) → All P xs → slice_get xs k ≡ Some x → P x
+all_at P xs k x each is = All-contains P xs x each (contains_at xs k x is)
+
+-- ---- links that leave the bridge
+
+-- nothing is on its way between a cycle and itself
+pub none_between : (d : Domain) (m : ℕ) (sends : List (List Sent)) (first begin upto : ℕ) → begin ≡ upto → moving_between d m sends first begin upto ≡ []
+none_between d m sends first begin upto same =
+    let none : upto - begin ≡ 0 = omega (arith, same) in
+    ap (each_below (λ (k : ℕ). map (moving_in d m first (begin + k)) (batch_at sends (begin + k)))) none
+
+-- what is on its way between the same cycles is the same
+pub same_between : (d : Domain) (sends : List (List Sent)) (l m first base begin told upto sent : ℕ) → l ≡ m → first ≡ base → begin ≡ told → upto ≡ sent →
+    moving_between d l sends first begin upto ≡ moving_between d m sends base told sent
+same_between d sends l m first base begin told upto sent link from begins ends =
+    ap (λ (i : ℕ). moving_between d i sends first begin upto) link
+    ∙ ap (λ (i : ℕ). moving_between d m sends i begin upto) from
+    ∙ ap (λ (i : ℕ). moving_between d m sends base i upto) begins
+    ∙ ap (λ (i : ℕ). moving_between d m sends base told i) ends
+
+-- a link that is the same knows the same rows
+pub knows_same : (tables : List (List Row)) (before after : Outlet) → IsSameLink before after → KnowsRows before.tape.link tables before.leads →
+    KnowsRows after.tape.link tables after.leads
+knows_same tables before after same knows =
+    subst (λ (l : ℕ). KnowsRows l tables after.leads) (sym same.link) (subst (λ (known : Leads). KnowsRows before.tape.link tables known) (sym same.leads) knows)
+
+-- a link that hands on what it sent stands as before, with nothing more to hand on
+pub outlet_hands : (d : Domain) (bridge : ℕ) (come : Come) (sends : List (List Sent)) (before after : Outlet) (stretch : Stretch) →
+    TakesPending before after stretch → IsOutletOf d bridge come sends before → IsOutletOf d bridge come sends after
+outlet_hands d bridge come sends before after stretch takes stands = record {
+  wire = takes.same.wire ∙ stands.wire ∙ ap (wire_on d) (sym takes.same.link);
+  knows = knows_same come.tables before after takes.same stands.knows;
+  as_far = takes.as_far ∙ stands.as_far;
+  handed = omega (arith, takes.told, takes.as_far);
+  pends = λ onward. takes.none ∙ sym (none_between d after.tape.link sends after.pending.base after.told after.sent (takes.told ∙ sym takes.as_far));
+  counts = λ onward cycle from upto some. absurd (omega (arith, from, upto, takes.told, takes.as_far));
+  marked = ap (λ (tape : Tape). tape.starts.items) takes.tape ∙ stands.marked;
+  no_background = ap (λ (tape : Tape). tape.background.items) takes.tape ∙ stands.no_background;
+  gone = subst (λ (l : ℕ). HasGoneOnBy d bridge come l sends) (sym takes.same.link) stands.gone;
+}
+
+-- a link that has back what it handed on stands as before that
+pub outlet_again : (d : Domain) (bridge : ℕ) (come : Come) (sends : List (List Sent)) (older before after : Outlet) (told : ℕ) (stretch : Stretch) →
+    TakesPending older before stretch → KeepsStretchBack told stretch before after → told ≡ older.told → IsOutletOf d bridge come sends older →
+    IsOutletOf d bridge come sends after
+outlet_again d bridge come sends older before after told stretch takes keeps by_then stands =
+    let link : after.tape.link ≡ older.tape.link = keeps.same.link ∙ takes.same.link in
+    let wire : after.wire ≡ older.wire = keeps.same.wire ∙ takes.same.wire in
+    let base : after.pending.base ≡ older.pending.base = keeps.base ∙ takes.from in
+    let told_is : after.told ≡ older.told = keeps.told_by_then ∙ by_then in
+    let sent_is : after.sent ≡ older.sent = keeps.as_far ∙ takes.as_far in
+    let tape : after.tape ≡ older.tape = keeps.tape ∙ takes.tape in
+    let on : after.wire.onward ≡ true → older.wire.onward ≡ true = λ (yes : after.wire.onward ≡ true). ap (λ (w : Wire). w.onward) (sym wire) ∙ yes in
+    record {
+      wire = wire ∙ stands.wire ∙ ap (wire_on d) (sym link);
+      knows = knows_same come.tables before after keeps.same (knows_same come.tables older before takes.same stands.knows);
+      as_far = sent_is ∙ stands.as_far;
+      handed = omega (arith, told_is, sent_is, stands.handed);
+      pends = λ onward.
+          keeps.frames
+          ∙ takes.frames
+          ∙ stands.pends (on onward)
+          ∙ sym (same_between d sends after.tape.link older.tape.link after.pending.base older.pending.base after.told older.told after.sent older.sent link
+          base told_is sent_is);
+      counts = λ onward cycle from upto some.
+          let counted = stands.counts (on onward) cycle (omega (arith, from, told_is)) (omega (arith, upto, sent_is)) some in
+          (omega (arith, counted.0, base), omega (arith, counted.1, base));
+      marked = ap (λ (tape : Tape). tape.starts.items) tape ∙ stands.marked;
+      no_background = ap (λ (tape : Tape). tape.background.items) tape ∙ stands.no_background;
+      gone = subst (λ (l : ℕ). HasGoneOnBy d bridge come l sends) (sym link) stands.gone;
+    }
+
+-- what a link hands on is what it sent
+pub outlet_gives : (d : Domain) (bridge : ℕ) (come : Come) (sends : List (List Sent)) (before after : Outlet) (stretch : Stretch) → TakesPending before after stretch →
+    IsOutletOf d bridge come sends before → before.wire.onward ≡ true → IsStretchOf d before.tape.link sends before.told stretch × (stretch.upto ≡ length sends)
+outlet_gives d bridge come sends before after stretch takes stands onward =
+    let ends : stretch.upto ≡ length sends = takes.upto ∙ stands.as_far in
+    let is : IsStretchOf d before.tape.link sends before.told stretch = record {
+      behind = omega (arith, takes.upto, stands.handed);
+      within = omega (arith, ends);
+      counts = λ cycle from upto some.
+          let counted = stands.counts onward cycle from (omega (arith, upto, takes.upto)) some in
+          omega (arith, takes.from, counted.0);
+      carries = takes.frames
+          ∙ stands.pends onward
+          ∙ sym (same_between d sends before.tape.link before.tape.link stretch.from before.pending.base before.told before.told stretch.upto before.sent refl takes.from
+          refl takes.upto);
+    } in
+    (is, ends)
+
+-- and may come next where it ends
+pub outlet_gives_next : (before after : Outlet) (stretch : Stretch) → TakesPending before after stretch → IsTidy before → IsNextStretch before.told stretch
+outlet_gives_next before after stretch takes tidy =
+    let frames : frames_of stretch ≡ map (came_by_stretch before.pending.base) before.pending.frames.items =
+    ap (λ (from : ℕ). map (came_by_stretch from) stretch.frames.items) takes.from ∙ ap (map (came_by_stretch before.pending.base)) takes.frames in
+    record {
+      behind = omega (arith, takes.upto, tidy.handed);
+      by_cycle = subst ByCycle (sym frames) tidy.by_cycle;
+      within = subst (λ (upto : ℕ). All (λ (came : ArrivedFrame). (before.told ≤ came.cycle) × (came.cycle < upto)) (frames_of stretch)) (sym takes.upto)
+          (subst (All (λ (came : ArrivedFrame). (before.told ≤ came.cycle) × (came.cycle < before.sent))) (sym frames) tidy.within);
+    }
+
+-- ---- relays of which one link stands otherwise
+
+-- a bridge is the same but for its links as one that is the same but for them
+pub same_but_twice : (older before after : Relay) → IsSameButLinks older before → IsSameButLinks before after → IsSameButLinks older after
+same_but_twice older before after early late = record {
+  domain = late.domain ∙ early.domain;
+  number = late.number ∙ early.number;
+  cycles = late.cycles ∙ early.cycles;
+  tables = late.tables ∙ early.tables;
+  inlets = late.inlets ∙ early.inlets;
+  edge = late.edge ∙ early.edge;
+  known = late.known ∙ early.known;
+}
+
+-- where one link stands as it may, has sent as much and knows the same rows, a bridge stands as before
+pub relay_with : (d : Domain) (come : Come) (sends : Sendings) (before after : Relay) (place : ℕ) (old new : Outlet) → IsSameButLinks before after →
+    slice_get before.outlets.items place ≡ Some old → after.outlets.items ≡ set before.outlets.items place new → new.tape.link ≡ old.tape.link →
+    new.leads ≡ old.leads → new.sent ≡ old.sent →
+    (IsOutletOf d before.number come (sends old.tape.link) old → IsOutletOf d before.number come (sends old.tape.link) new) → StandsSo d come sends before →
+    StandsSo d come sends after
+relay_with d come sends before after place old new same was is link known sent one stands =
+    let room : All (λ (outlet : Outlet). length outlet.leads.rows.items ≤ before.known) after.outlets.items =
+    subst (All (λ (outlet : Outlet). length outlet.leads.rows.items ≤ before.known)) (sym is)
+    (All-set (λ (outlet : Outlet). length outlet.leads.rows.items ≤ before.known) before.outlets.items place new
+    (subst (λ (leads : Leads). length leads.rows.items ≤ before.known) (sym known)
+    (all_at (λ (outlet : Outlet). length outlet.leads.rows.items ≤ before.known) before.outlets.items place old stands.rows.room was))
+    stands.rows.room) in
+    let rows : AreKnown come.tables before.known after.outlets.items = record { below = stands.rows.below; last = stands.rows.last; room = room } in
+    record {
+      of_domain = same.domain ∙ stands.of_domain;
+      tables_taken = same.tables ∙ stands.tables_taken;
+      offers_taken = stands.offers_taken;
+      into = ap (λ (inlets : Vec Inlet Global). map link_in inlets.items) same.inlets ∙ stands.into ∙ ap (links_into d) (sym same.number);
+      from = ap (map link_out) is ∙ map_kept link_out before.outlets.items place old new was link ∙ stands.from ∙ ap (links_from d) (sym same.number);
+      rows = subst (λ (known : ℕ). AreKnown come.tables known after.outlets.items) (sym same.known) rows;
+      least = stands.least;
+      early = subst (All (λ (outlet : Outlet). stands.least ≤ outlet.sent - 1)) (sym is)
+          (All-set (λ (outlet : Outlet). stands.least ≤ outlet.sent - 1) before.outlets.items place new
+          (subst (λ (cycle : ℕ). stands.least ≤ cycle - 1) (sym sent)
+          (all_at (λ (outlet : Outlet). stands.least ≤ outlet.sent - 1) before.outlets.items place old stands.early was))
+          stands.early);
+      inlets = subst (λ (inlets : Vec Inlet Global). All (IsInletOf come stands.least) inlets.items) (sym same.inlets) stands.inlets;
+      edge = subst (λ (bridge : ℕ). IsEdgeOf d bridge come stands.least after.edge) (sym same.number)
+          (subst (λ (edge : Edge). IsEdgeOf d before.number come stands.least edge) (sym same.edge) stands.edge);
+      outlets = subst (λ (bridge : ℕ). All (λ (outlet : Outlet). IsOutletOf d bridge come (sends outlet.tape.link) outlet) after.outlets.items) (sym same.number)
+          (subst (All (λ (outlet : Outlet). IsOutletOf d before.number come (sends outlet.tape.link) outlet)) (sym is)
+          (All-set (λ (outlet : Outlet). IsOutletOf d before.number come (sends outlet.tape.link) outlet) before.outlets.items place new
+          (subst (λ (l : ℕ). IsOutletOf d before.number come (sends l) new) (sym link)
+          (one (all_at (λ (outlet : Outlet). IsOutletOf d before.number come (sends outlet.tape.link) outlet) before.outlets.items place old stands.outlets was)))
+          stands.outlets));
+    }
+
+-- what is told of each link still is where it is told of the one that stands otherwise
+pub all_with : (P : Outlet → Type 0) (before after : List Outlet) (place : ℕ) (new : Outlet) → after ≡ set before place new → P new → All P before →
+    All P after
+all_with P before after place new is one each = subst (All P) (sym is) (All-set P before place new one each)
+
+-- a bridge of which one link hands on what it sent stays what it is
+pub stays_handing : (place : ℕ) (before after : Relay) (old new : Outlet) (stretch : Stretch) → IsSameButLinks before after →
+    slice_get before.outlets.items place ≡ Some old → after.outlets.items ≡ set before.outlets.items place new → TakesPending old new stretch →
+    StaysAs before after
+stays_handing place before after old new stretch same was is takes = record {
+  domain = same.domain;
+  number = same.number;
+  cycles = same.cycles;
+  links_in = ap (λ (inlets : Vec Inlet Global). map link_in inlets.items) same.inlets;
+  links_out = ap (map link_out) is ∙ map_kept link_out before.outlets.items place old new was takes.same.link;
+  wires = ap (map wire_out) is ∙ map_kept wire_out before.outlets.items place old new was takes.same.wire;
+  tidy = all_with IsTidy before.outlets.items after.outlets.items place new is (hands_tidy old new stretch takes);
+  within = λ within.
+      all_with (IsWithin before.cycles) before.outlets.items after.outlets.items place new is
+      (omega (arith, takes.as_far, all_at (IsWithin before.cycles) before.outlets.items place old within was)) within;
+}
+
+-- and has handed it on
+pub relay_hands_on : (place : ℕ) (before after : Relay) (old new : Outlet) (stretch : Stretch) → IsSameButLinks before after →
+    slice_get before.outlets.items place ≡ Some old → after.outlets.items ≡ set before.outlets.items place new → TakesPending old new stretch →
+    HandsOn place before after stretch
+relay_hands_on place before after old new stretch same was is takes = record {
+  same = same;
+  stays = stays_handing place before after old new stretch same was is takes;
+  outlet = old;
+  was = was;
+  handed = new;
+  is = is;
+  takes = takes;
+  told = ap (map (λ (outlet : Outlet). outlet.told)) is
+      ∙ map-set (λ (outlet : Outlet). outlet.told) before.outlets.items place new
+      ∙ ap (λ (told : ℕ). set (told_by before) place told) (takes.told ∙ sym takes.upto);
+  stands = λ d come sends stands.
+      relay_with d come sends before after place old new same was is takes.same.link takes.same.leads takes.as_far
+      (outlet_hands d before.number come (sends old.tape.link) old new stretch takes) stands;
+  is_stretch = λ d come sends outlet stands there.
+      subst
+      (λ (it : Outlet). it.wire.onward ≡ true → IsStretchOf d it.tape.link (sends it.tape.link) it.told stretch × (stretch.upto ≡ length (sends it.tape.link)))
+      (same_Some old outlet (sym was ∙ there))
+      (outlet_gives d before.number come (sends old.tape.link) old new stretch takes
+      (all_at (λ (it : Outlet). IsOutletOf d before.number come (sends it.tape.link) it) before.outlets.items place old stands.outlets was));
+  is_next = outlet_gives_next old new stretch takes;
+}
+
+module _ (place told : ℕ) (stretch : Stretch) (older before after : Relay) (old new : Outlet) (same : IsSameButLinks before after)
+    (was : slice_get before.outlets.items place ≡ Some old) (is : after.outlets.items ≡ set before.outlets.items place new)
+    (keeps : KeepsStretchBack told stretch old new) (hands : HandsOn place older before stretch) (by_then : slice_get (told_by older) place ≡ Some told) where
+  -- what a bridge's link has back is what that link handed on
+  back_to_it : KeepsStretchBack told stretch hands.handed new
+  back_to_it =
+      let inside : place < length older.outlets.items = slice_get_within older.outlets.items place hands.outlet hands.was in
+      let there : slice_get before.outlets.items place ≡ Some hands.handed =
+      ap (λ (xs : List Outlet). slice_get xs place) hands.is ∙ slice_get-set_same older.outlets.items place hands.handed inside in
+      subst (λ (it : Outlet). KeepsStretchBack told stretch it new) (same_Some old hands.handed (sym was ∙ there)) keeps
+
+  -- no other link has changed since
+  set_since : after.outlets.items ≡ set older.outlets.items place new
+  set_since = is ∙ ap (λ (xs : List Outlet). set xs place new) hands.is ∙ set-set older.outlets.items place hands.handed new
+
+  -- before that it had handed on up to the same cycle
+  told_then : told ≡ hands.outlet.told
+  told_then =
+      let told_at : slice_get (told_by older) place ≡ Some hands.outlet.told =
+      slice_get-map (λ (outlet : Outlet). outlet.told) older.outlets.items place ∙ ap (option_map (λ (outlet : Outlet). outlet.told)) hands.was in
+      same_Some told hands.outlet.told (sym by_then ∙ told_at)
+
+  -- so the bridge stands as before that
+  pub stands_again : (d : Domain) (come : Come) (sends : Sendings) → StandsSo d come sends older → StandsSo d come sends after
+  stands_again d come sends =
+      relay_with d come sends older after place hands.outlet new (same_but_twice older before after hands.same same) hands.was set_since
+      (back_to_it.same.link ∙ hands.takes.same.link)
+      (back_to_it.same.leads ∙ hands.takes.same.leads)
+      (back_to_it.as_far ∙ hands.takes.as_far)
+      (outlet_again d older.number come (sends hands.outlet.tape.link) hands.outlet hands.handed new told stretch hands.takes back_to_it told_then)
+
+  -- and its links are tidy where they were so then
+  pub tidy_again : All IsTidy older.outlets.items → All IsTidy after.outlets.items
+  tidy_again tidy =
+      all_with IsTidy older.outlets.items after.outlets.items place new set_since
+      (back_tidy hands.outlet hands.handed new told stretch hands.takes back_to_it told_then
+      (all_at IsTidy older.outlets.items place hands.outlet tidy hands.was)) tidy
+
+-- a bridge of which one link has back what it handed on
+pub relay_keeps_back : (place told : ℕ) (stretch : Stretch) (before after : Relay) (old new : Outlet) → IsSameButLinks before after →
+    slice_get before.outlets.items place ≡ Some old → after.outlets.items ≡ set before.outlets.items place new → KeepsStretchBack told stretch old new →
+    KeepsBack place told stretch before after
+relay_keeps_back place told stretch before after old new same was is keeps = record {
+  same = same;
+  links = ap (map link_out) is ∙ map_kept link_out before.outlets.items place old new was keeps.same.link;
+  wires = ap (map wire_out) is ∙ map_kept wire_out before.outlets.items place old new was keeps.same.wire;
+  outlet = old;
+  was = was;
+  kept = new;
+  is = is;
+  keeps = keeps;
+  told_by_then = ap (map (λ (outlet : Outlet). outlet.told)) is
+      ∙ map-set (λ (outlet : Outlet). outlet.told) before.outlets.items place new
+      ∙ ap (λ (told : ℕ). set (told_by before) place told) keeps.told_by_then;
+  again = λ older. stands_again place told stretch older before after old new same was is keeps;
+  tidy_again = λ older. tidy_again place told stretch older before after old new same was is keeps;
+}
+
+-- ---- what is sent, taken from the links one by one
+
+-- the tapes so far, with those of the links to come, are those of all
+pub record AreTapesUpTo (tapes : List Tape) (rest all : List Outlet) : Type 0 where
+  pub parts : tapes ++ map (λ (outlet : Outlet). outlet.tape) rest ≡ map (λ (outlet : Outlet). outlet.tape) all

@@ -1,0 +1,370 @@
+-- Relays to which a stretch comes.
+use Rattle.std.proofs.Common.{◌≡◌, ◌≢◌, ◌∙◌, ℕ, ◌+◌, ◌-◌, ◌<◌, ◌≤◌, ◌==◌, ◌&&◌, if◌then◌else◌, Bool, true, false}
+use Rattle.std.proofs.Common.{List, [], ◌++◌, Some, All, AllPairs, Contains, filter, get_or, length, map, set}
+use Rattle.std.proofs.Common.{refl, sym, ap, subst, inl, inr, arith, append-nil, get_or-set_other, get_or-set_same, eq-eqb, ne_eqb}
+use Rattle.std.proofs.Common.{length-append, length-set}
+use Rattle.std.specs.Prelude.{Err, Ok, OnOk, Result, slice_get}
+use Rattle.std.specs.Global.{Global}
+use Rattle.std.specs.List.Sorted.{IsNonDecreasingBy, IsPermutation}
+use Rattle.std.specs.declared.vec.Vec.{Vec}
+use Rattle.std.proofs.lemmas.Bool.{cases_eq, cases_lt, cases_order, cond-false, cond-true}
+use Rattle.std.proofs.lemmas.List.{get_or-append_right, get_or-map, get_or_append_left, length-map}
+use Rattle.std.proofs.lemmas.List.Elements.{All-append, All-contains, All-weaker, Contains-get_or, filter-append}
+use Rattle.std.proofs.lemmas.Option.{get_or_from_slice_get, same_Some, slice_get-get_or, slice_get_within}
+use Rattle.cqf_lists.proofs.EachBelow.{filter_none, same_below}
+use Rattle.cqf_lists.proofs.Numbers.{numbers_ascend}
+use Rattle.cqf_model.specs.declared.frames.Sent.{Sent}
+use Rattle.cqf_model.specs.declared.topology.Row.{Row}
+use Rattle.cqf_model.specs.Domain.{Domain, enters}
+use Rattle.cqf_relay.specs.declared.edge.Edge.{Edge}
+use Rattle.cqf_relay.specs.declared.inlet.Inlet.{Inlet}
+use Rattle.cqf_relay.specs.declared.leads.By.TheVariants as way
+use Rattle.cqf_relay.specs.declared.log.ArrivedFrame.{ArrivedFrame}
+use Rattle.cqf_relay.specs.declared.moving.Stretch.{Stretch}
+use Rattle.cqf_relay.specs.declared.outlet.Outlet.{Outlet}
+use Rattle.cqf_relay.specs.declared.queue.Queued.{Queued}
+use Rattle.cqf_relay.specs.declared.relay.Relay.{Relay}
+use Rattle.cqf_relay.specs.Stretches.{IsNextStretch, Sendings, batch_at, frames_of}
+use Rattle.cqf_relay.specs.Leading.{leads}
+use Rattle.cqf_relay.specs.Logs.{cycle_of_came, is_in}
+use Rattle.cqf_relay.specs.Offering.{came_of_going}
+use Rattle.cqf_relay.specs.Sending.{IsTidy}
+use Rattle.cqf_relay.specs.Standing.{AreKnown, Come, GoesOnBy, IsEdgeOf, IsInletOf, IsOutletOf, IsWithin}
+use Rattle.cqf_relay.specs.Standing.{MayHaveCome, StandsSo, TakesStretch, comes_by, comes_to, covered_in, link_in, link_out, links_from, links_into}
+use Rattle.cqf_relay.specs.Standing.{more_from, rows_of, that_go_on, upto_from, wire_out, with_stretch}
+use Rattle.cqf_lists.proofs.Written.{map_kept}
+use Rattle.cqf_relay.proofs.Handing.{all_at}
+
+-- ---- lists whose numbers ascend
+
+-- a list that doesn't fall, behind another with no larger numbers
+pub rising_append : {X : Type 0} (n : X → ℕ) (xs ys : List X) → IsNonDecreasingBy n xs → IsNonDecreasingBy n ys →
+    ((x y : X) → Contains xs x → Contains ys y → n x ≤ n y) → IsNonDecreasingBy n (xs ++ ys)
+rising_append n xs ys first second across i j d le inside = elim (cases_lt j (length xs)) [
+  | inl j_in ↦
+      let at_i : get_or (xs ++ ys) i d ≡ get_or xs i d = get_or_append_left xs ys d i (omega (arith, le, j_in)) in
+      let at_j : get_or (xs ++ ys) j d ≡ get_or xs j d = get_or_append_left xs ys d j j_in in
+      let up : n (get_or xs i d) ≤ n (get_or xs j d) = first i j d le j_in in
+      omega (arith, ap n at_i, ap n at_j, up)
+  | inr j_out ↦
+      let at_j : get_or (xs ++ ys) j d ≡ get_or ys (j - length xs) d = get_or-append_right xs ys (length xs) j d refl j_out in
+      let below : j - length xs < length ys = omega (arith, j_out, inside, length-append xs ys) in
+      elim (cases_lt i (length xs)) [
+        | inl i_in ↦
+            let at_i : get_or (xs ++ ys) i d ≡ get_or xs i d = get_or_append_left xs ys d i i_in in
+            let up : n (get_or xs i d) ≤ n (get_or ys (j - length xs) d) =
+            across (get_or xs i d) (get_or ys (j - length xs) d) (Contains-get_or xs i d i_in) (Contains-get_or ys (j - length xs) d below) in
+            omega (arith, ap n at_i, ap n at_j, up)
+        | inr i_out ↦
+            let at_i : get_or (xs ++ ys) i d ≡ get_or ys (i - length xs) d = get_or-append_right xs ys (length xs) i d refl i_out in
+            let up : n (get_or ys (i - length xs) d) ≤ n (get_or ys (j - length xs) d) =
+            second (i - length xs) (j - length xs) d (omega (arith, le, i_out)) below in
+            omega (arith, ap n at_i, ap n at_j, up)
+      ]
+]
+
+-- elements at two places have two numbers, where the numbers ascend
+pub apart_at : {X : Type 0} (f : X → ℕ) (xs : List X) (i j : ℕ) (x y : X) → AllPairs (λ (a b : ℕ). a < b) (map f xs) → i ≢ j →
+    slice_get xs i ≡ Some x → slice_get xs j ≡ Some y → f x ≢ f y
+apart_at {X} f xs i j x y ascend differ at_i at_j same = elim (cases_order i j) [
+  | inl e ↦ differ e
+  | inr o ↦ elim o [
+    | inl less ↦ omega (arith, same, number_at i x at_i, number_at j y at_j, ascend i j 0 less (within j y at_j))
+    | inr more ↦ omega (arith, same, number_at i x at_i, number_at j y at_j, ascend j i 0 more (within i x at_i))
+  ]
+]
+  where
+    -- the number of an element stands at its place
+    number_at : (k : ℕ) (z : X) → slice_get xs k ≡ Some z → get_or (map f xs) k 0 ≡ f z
+    number_at k z at = get_or-map f xs k z 0 (slice_get_within xs k z at) ∙ ap f (get_or_from_slice_get xs k z z at)
+
+    -- and it is inside
+    within : (k : ℕ) (z : X) → slice_get xs k ≡ Some z → k < length (map f xs)
+    within k z at = omega (arith, slice_get_within xs k z at, length-map xs f)
+
+-- ---- what has come, and what of it goes on
+
+-- what has come by a link has more behind it when a stretch comes by it
+own_more : (brought : ℕ → List ArrivedFrame) (m : ℕ) (more : List ArrivedFrame) → more_from brought m more m ≡ brought m ++ more
+own_more brought m more = cond-true (m == m) (brought m ++ more) (brought m) (eq-eqb m m refl)
+
+-- and stays when one comes by another
+other_more : (brought : ℕ → List ArrivedFrame) (m : ℕ) (more : List ArrivedFrame) (k : ℕ) → k ≢ m → more_from brought m more k ≡ brought k
+other_more brought m more k apart = cond-false (k == m) (brought k ++ more) (brought k) (ne_eqb k m apart)
+
+-- up to where it has come is the stretch's end
+own_upto : (upto : ℕ → ℕ) (m later : ℕ) → upto_from upto m later m ≡ later
+own_upto upto m later = cond-true (m == m) later (upto m) (eq-eqb m m refl)
+
+-- and stays when the stretch comes by another
+other_upto : (upto : ℕ → ℕ) (m later k : ℕ) → k ≢ m → upto_from upto m later k ≡ upto k
+other_upto upto m later k apart = cond-false (k == m) later (upto k) (ne_eqb k m apart)
+
+-- what may have come, by equal bounds and lists
+may_same : (upto later : ℕ) (xs ys : List ArrivedFrame) → later ≡ upto → ys ≡ xs → MayHaveCome upto xs → MayHaveCome later ys
+may_same upto later xs ys bound same may =
+    subst (λ (n : ℕ). MayHaveCome n ys) (sym bound) (subst (λ (zs : List ArrivedFrame). MayHaveCome upto zs) (sym same) may)
+
+-- what has come with a stretch that may come next behind it may have come
+pub more_may_come : (begin : ℕ) (stretch : Stretch) (brought : List ArrivedFrame) → IsNextStretch begin stretch → MayHaveCome begin brought →
+    MayHaveCome stretch.upto (brought ++ frames_of stretch)
+more_may_come begin stretch brought next may =
+    let InStretch = λ (came : ArrivedFrame). (begin ≤ came.cycle) × (came.cycle < stretch.upto) in
+    record {
+      by_cycle = rising_append cycle_of_came brought (frames_of stretch) may.by_cycle next.by_cycle
+          (λ early late held here.
+          across early.cycle late.cycle (All-contains (λ (came : ArrivedFrame). came.cycle < begin) brought early may.within held)
+          (All-contains InStretch (frames_of stretch) late next.within here).0);
+      within = All-append (λ (came : ArrivedFrame). came.cycle < stretch.upto) brought (frames_of stretch)
+          (All-weaker (λ (came : ArrivedFrame). came.cycle < begin) (λ (came : ArrivedFrame). came.cycle < stretch.upto) (λ came soon. below soon) brought may.within)
+          (All-weaker InStretch (λ (came : ArrivedFrame). came.cycle < stretch.upto) (λ came both. both.1) (frames_of stretch) next.within);
+    }
+  where
+    -- a cycle before the stretch's is no later than one of these
+    across : (early late : ℕ) → early < begin → begin ≤ late → early ≤ late
+    across early late before from = omega (arith, before, from)
+
+    -- and before its end
+    below : {cycle : ℕ} → cycle < begin → cycle < stretch.upto
+    below soon = omega (arith, soon, next.behind)
+
+-- a stretch that comes next has nothing of the cycles before
+pub none_before : (begin cycle : ℕ) (stretch : Stretch) → IsNextStretch begin stretch → cycle < begin → filter (is_in cycle) (frames_of stretch) ≡ []
+none_before begin cycle stretch next soon = filter_none (is_in cycle) (frames_of stretch) (λ came held.
+    ne_eqb came.cycle cycle
+    (late came.cycle (All-contains (λ (came : ArrivedFrame). (begin ≤ came.cycle) × (came.cycle < stretch.upto)) (frames_of stretch) came next.within held).0))
+  where
+    -- a cycle from the stretch's begin on is another
+    late : (other : ℕ) → begin ≤ other → other ≢ cycle
+    late other from same = omega (arith, from, same, soon)
+
+-- the inlet to which the stretch comes
+pub inlet_takes : (come : Come) (least : ℕ) (before after : Inlet) (stretch : Stretch) → after.link ≡ before.link → after.upto ≡ stretch.upto →
+    after.log.frames.items ≡ before.log.frames.items ++ frames_of stretch → IsNextStretch before.upto stretch → IsInletOf come least before →
+    IsInletOf (with_stretch come before.link stretch) least after
+inlet_takes come least before after stretch link upto log next stands =
+    let m = before.link in
+    let now = with_stretch come m stretch in
+    let ends : now.upto m ≡ stretch.upto = own_upto come.upto m stretch.upto in
+    let brings : now.brought m ≡ come.brought m ++ frames_of stretch = own_more come.brought m (frames_of stretch) in
+    let had : MayHaveCome before.upto (come.brought m) = subst (λ (n : ℕ). MayHaveCome n (come.brought m)) (sym stands.upto) stands.may in
+    let may : MayHaveCome (now.upto m) (now.brought m) =
+    may_same stretch.upto (now.upto m) (come.brought m ++ frames_of stretch) (now.brought m) ends brings (more_may_come before.upto stretch (come.brought m) next had) in
+    record {
+      upto = upto ∙ sym ends ∙ ap now.upto (sym link);
+      may = subst (λ (l : ℕ). MayHaveCome (now.upto l) (now.brought l)) (sym link) may;
+      held = may_same stretch.upto after.upto (before.log.frames.items ++ frames_of stretch) after.log.frames.items upto log
+          (more_may_come before.upto stretch before.log.frames.items next stands.held);
+      holds = λ cycle later.
+          ap (filter (is_in cycle)) log
+          ∙ filter-append (is_in cycle) before.log.frames.items (frames_of stretch)
+          ∙ ap (λ (xs : List ArrivedFrame). xs ++ filter (is_in cycle) (frames_of stretch)) (stands.holds cycle later)
+          ∙ sym (filter-append (is_in cycle) (come.brought m) (frames_of stretch))
+          ∙ ap (filter (is_in cycle)) (sym brings)
+          ∙ ap (λ (l : ℕ). filter (is_in cycle) (now.brought l)) (sym link);
+    }
+
+-- and one of another link
+pub inlet_beside : (come : Come) (least m : ℕ) (stretch : Stretch) (inlet : Inlet) → inlet.link ≢ m → IsInletOf come least inlet →
+    IsInletOf (with_stretch come m stretch) least inlet
+inlet_beside come least m stretch inlet apart stands =
+    let ends = other_upto come.upto m stretch.upto inlet.link apart in
+    let brings = other_more come.brought m (frames_of stretch) inlet.link apart in
+    record {
+      upto = stands.upto ∙ sym ends;
+      may = may_same (come.upto inlet.link) ((with_stretch come m stretch).upto inlet.link) (come.brought inlet.link) ((with_stretch come m stretch).brought inlet.link) ends
+          brings stands.may;
+      held = stands.held;
+      holds = λ cycle later. stands.holds cycle later ∙ ap (filter (is_in cycle)) (sym brings);
+    }
+
+-- all inlets, each of a link of its own
+pub inlets_take : (come : Come) (least place : ℕ) (stretch : Stretch) (inlets : List Inlet) (old new : Inlet) →
+    AllPairs (λ (a b : ℕ). a < b) (map link_in inlets) → slice_get inlets place ≡ Some old → new.link ≡ old.link → new.upto ≡ stretch.upto →
+    new.log.frames.items ≡ old.log.frames.items ++ frames_of stretch → IsNextStretch old.upto stretch → All (IsInletOf come least) inlets →
+    All (IsInletOf (with_stretch come old.link stretch) least) (set inlets place new)
+inlets_take come least place stretch inlets old new ascend at link upto log next stand k d below =
+    let inside : k < length inlets = omega (arith, below, length-set inlets place new) in
+    elim (cases_eq k place) [
+      | inl e ↦
+          let same : get_or (set inlets place new) k d ≡ new =
+          ap (λ (i : ℕ). get_or (set inlets place new) i d) e ∙ get_or-set_same inlets place new d (slice_get_within inlets place old at) in
+          subst (IsInletOf (with_stretch come old.link stretch) least) (sym same)
+          (inlet_takes come least old new stretch link upto log next (all_at (IsInletOf come least) inlets place old stand at))
+      | inr differ ↦
+          let same : get_or (set inlets place new) k d ≡ get_or inlets k d = get_or-set_other inlets place k new d differ in
+          subst (IsInletOf (with_stretch come old.link stretch) least) (sym same)
+          (inlet_beside come least old.link stretch (get_or inlets k d)
+          (apart_at link_in inlets k place (get_or inlets k d) old ascend differ (slice_get-get_or inlets k d inside) at)
+          (stand k d inside))
+    ]
+
+-- what had come of a cycle is the same when a stretch comes behind it
+pub brought_same : (come : Come) (m : ℕ) (stretch : Stretch) (k cycle : ℕ) → IsNextStretch (come.upto m) stretch → cycle < come.upto k →
+    filter (is_in cycle) (come.brought k) ≡ filter (is_in cycle) ((with_stretch come m stretch).brought k)
+brought_same come m stretch k cycle next had = elim (cases_eq k m) [
+  | inl e ↦
+      let soon : cycle < come.upto m = subst (λ (l : ℕ). cycle < come.upto l) e had in
+      sym
+      (ap (filter (is_in cycle)) (cond-true (k == m) (come.brought k ++ frames_of stretch) (come.brought k) (eq-eqb k m e))
+      ∙ filter-append (is_in cycle) (come.brought k) (frames_of stretch)
+      ∙ ap (λ (xs : List ArrivedFrame). filter (is_in cycle) (come.brought k) ++ xs) (none_before (come.upto m) cycle stretch next soon)
+      ∙ append-nil (filter (is_in cycle) (come.brought k)))
+  | inr apart ↦ ap (filter (is_in cycle)) (sym (other_more come.brought m (frames_of stretch) k apart))
+]
+
+-- and so what goes on of it by a link
+pub comes_same : (d : Domain) (bridge : ℕ) (come : Come) (m : ℕ) (stretch : Stretch) (rows : List Row) (l cycle k : ℕ) → IsNextStretch (come.upto m) stretch →
+    (enters d k bridge ≡ true → leads rows k l ≡ true → cycle < come.upto k) →
+    comes_by d bridge come rows l cycle k ≡ comes_by d bridge (with_stretch come m stretch) rows l cycle k
+comes_same d bridge come m stretch rows l cycle k next had =
+    where_led (enters d k bridge) (leads rows k l) (λ here led. brought_same come m stretch k cycle next (had here led))
+  where
+    -- what comes where a link is led from is the same where the frames are
+    where_led : (a b : Bool) →
+        (a ≡ true → b ≡ true → filter (is_in cycle) (come.brought k) ≡ filter (is_in cycle) ((with_stretch come m stretch).brought k)) →
+        (if a && b then that_go_on rows l (way.Link k) k (filter (is_in cycle) (come.brought k)) else [])
+        ≡ (if a && b then that_go_on rows l (way.Link k) k (filter (is_in cycle) ((with_stretch come m stretch).brought k)) else [])
+    where_led true true same = ap (that_go_on rows l (way.Link k) k) (same refl refl)
+    where_led true false same = refl
+    where_led false b same = refl
+
+-- up to where it has come is no less far with a stretch
+upto_grows : (come : Come) (m : ℕ) (stretch : Stretch) (k cycle : ℕ) → IsNextStretch (come.upto m) stretch → cycle < come.upto k → cycle < (with_stretch come m stretch).upto k
+upto_grows come m stretch k cycle next had = elim (cases_eq k m) [
+  | inl e ↦
+      let soon : cycle < come.upto m = subst (λ (l : ℕ). cycle < come.upto l) e had in
+      let ends : (with_stretch come m stretch).upto k ≡ stretch.upto = cond-true (k == m) stretch.upto (come.upto k) (eq-eqb k m e) in
+      omega (arith, soon, ends, next.behind)
+  | inr apart ↦ subst (λ (n : ℕ). cycle < n) (sym (other_upto come.upto m stretch.upto k apart)) had
+]
+
+-- a link that has gone on has gone on so with a stretch more
+pub goes_on_still : (d : Domain) (bridge : ℕ) (come : Come) (m : ℕ) (stretch : Stretch) (l cycle : ℕ) (sent : List Sent) → IsNextStretch (come.upto m) stretch →
+    GoesOnBy d bridge come l cycle sent → GoesOnBy d bridge (with_stretch come m stretch) l cycle sent
+goes_on_still d bridge come m stretch l cycle sent next goes = record {
+  count = goes.count;
+  had_table = goes.had_table;
+  within = goes.within;
+  had = λ k here led. upto_grows come m stretch k cycle next (goes.had k here led);
+  sorted = goes.sorted;
+  is_queue =
+      let rows = rows_of come.tables goes.count in
+      let same : comes_to d bridge come rows l cycle ≡ comes_to d bridge (with_stretch come m stretch) rows l cycle =
+      ap (λ (qs : List Queued). qs ++ that_go_on rows l way.Edge 4096 (map (came_of_going d cycle) (covered_in d bridge come cycle)))
+      (same_below (comes_by d bridge come rows l cycle) (comes_by d bridge (with_stretch come m stretch) rows l cycle) (length d.links)
+      (λ k inside. comes_same d bridge come m stretch rows l cycle k next (goes.had k))) in
+      subst (λ (qs : List Queued). IsPermutation qs goes.sorted) same goes.is_queue;
+  in_order = goes.in_order;
+  sends = goes.sends;
+}
+
+-- and so a link that leaves the bridge stands
+pub outlet_beside : (d : Domain) (bridge : ℕ) (come : Come) (m : ℕ) (stretch : Stretch) (sends : List (List Sent)) (outlet : Outlet) →
+    IsNextStretch (come.upto m) stretch → IsOutletOf d bridge come sends outlet → IsOutletOf d bridge (with_stretch come m stretch) sends outlet
+outlet_beside d bridge come m stretch sends outlet next stands = record {
+  wire = stands.wire;
+  knows = stands.knows;
+  as_far = stands.as_far;
+  handed = stands.handed;
+  pends = stands.pends;
+  counts = stands.counts;
+  marked = stands.marked;
+  no_background = stands.no_background;
+  gone = record {
+    first = stands.gone.first;
+    next = λ cycle soon. goes_on_still d bridge come m stretch outlet.tape.link cycle (batch_at sends (cycle + 1)) next (stands.gone.next cycle soon);
+  };
+}
+
+-- and the edge, which sees nothing of stretches
+edge_beside : (d : Domain) (bridge : ℕ) (come : Come) (m : ℕ) (stretch : Stretch) (least : ℕ) (edge : Edge) → IsEdgeOf d bridge come least edge →
+    IsEdgeOf d bridge (with_stretch come m stretch) least edge
+edge_beside d bridge come m stretch least edge stands =
+    record { number = stands.number; held = stands.held; holds = stands.holds; counted = stands.counted }
+
+-- what a bridge does that takes a stretch at a place
+pub record TakesAt (place : ℕ) (stretch : Stretch) (before after : Relay) : Type 0 where
+  pub domain : after.domain ≡ before.domain
+  pub number : after.number ≡ before.number
+  pub cycles : after.cycles ≡ before.cycles
+  pub tables : after.tables ≡ before.tables
+  pub known : after.known ≡ before.known
+  pub outlets : after.outlets ≡ before.outlets
+  pub edge : after.edge ≡ before.edge
+  pub old : Inlet
+  pub new : Inlet
+  pub was : slice_get before.inlets.items place ≡ Some old
+  pub is : after.inlets.items ≡ set before.inlets.items place new
+  pub link : new.link ≡ old.link
+  pub upto : new.upto ≡ stretch.upto
+  pub log : new.log.frames.items ≡ old.log.frames.items ++ frames_of stretch
+
+-- then it stands so with what came
+pub relay_takes : (d : Domain) (come : Come) (sends : Sendings) (place : ℕ) (stretch : Stretch) (before after : Relay) (takes : TakesAt place stretch before after) →
+    IsNextStretch takes.old.upto stretch → StandsSo d come sends before → StandsSo d (with_stretch come takes.old.link stretch) sends after
+relay_takes d come sends place stretch before after takes next stands =
+    let m = takes.old.link in
+    let old_is : IsInletOf come stands.least takes.old = all_at (IsInletOf come stands.least) before.inlets.items place takes.old stands.inlets takes.was in
+    let comes_next : IsNextStretch (come.upto m) stretch = subst (λ (begin : ℕ). IsNextStretch begin stretch) old_is.upto next in
+    let ascend : AllPairs (λ (a b : ℕ). a < b) (map link_in before.inlets.items) =
+    subst (AllPairs (λ (a b : ℕ). a < b)) (sym stands.into) (numbers_ascend (λ (l : ℕ). enters d l before.number) (length d.links)) in
+    let rows : AreKnown come.tables before.known after.outlets.items =
+    subst (λ (outlets : Vec Outlet Global). AreKnown come.tables before.known outlets.items) (sym takes.outlets) stands.rows in
+    record {
+      of_domain = takes.domain ∙ stands.of_domain;
+      tables_taken = takes.tables ∙ stands.tables_taken;
+      offers_taken = stands.offers_taken;
+      into = ap (map link_in) takes.is
+          ∙ map_kept link_in before.inlets.items place takes.old takes.new takes.was takes.link
+          ∙ stands.into
+          ∙ ap (links_into d) (sym takes.number);
+      from = ap (λ (outlets : Vec Outlet Global). map link_out outlets.items) takes.outlets ∙ stands.from ∙ ap (links_from d) (sym takes.number);
+      rows = subst (λ (known : ℕ). AreKnown come.tables known after.outlets.items) (sym takes.known) rows;
+      least = stands.least;
+      early = subst (λ (outlets : Vec Outlet Global). All (λ (outlet : Outlet). stands.least ≤ outlet.sent - 1) outlets.items) (sym takes.outlets) stands.early;
+      inlets = subst (All (IsInletOf (with_stretch come m stretch) stands.least)) (sym takes.is)
+          (inlets_take come stands.least place stretch before.inlets.items takes.old takes.new ascend takes.was takes.link takes.upto takes.log next stands.inlets);
+      edge = subst (λ (bridge : ℕ). IsEdgeOf d bridge (with_stretch come m stretch) stands.least after.edge) (sym takes.number)
+          (subst (λ (edge : Edge). IsEdgeOf d before.number (with_stretch come m stretch) stands.least edge) (sym takes.edge)
+          (edge_beside d before.number come m stretch stands.least before.edge stands.edge));
+      outlets = subst
+          (λ (bridge : ℕ). All (λ (outlet : Outlet). IsOutletOf d bridge (with_stretch come m stretch) (sends outlet.tape.link) outlet) after.outlets.items)
+          (sym takes.number)
+          (subst
+          (λ (outlets : Vec Outlet Global). All (λ (outlet : Outlet). IsOutletOf d before.number (with_stretch come m stretch) (sends outlet.tape.link) outlet)
+          outlets.items)
+          (sym takes.outlets)
+          (All-weaker (λ (outlet : Outlet). IsOutletOf d before.number come (sends outlet.tape.link) outlet)
+          (λ (outlet : Outlet). IsOutletOf d before.number (with_stretch come m stretch) (sends outlet.tape.link) outlet)
+          (λ outlet. outlet_beside d before.number come m stretch (sends outlet.tape.link) outlet comes_next) before.outlets.items stands.outlets));
+    }
+
+-- so it has taken the stretch
+pub takes_stretch : (place : ℕ) (stretch : Stretch) (before after : Relay) → TakesAt place stretch before after → TakesStretch place stretch before after
+takes_stretch place stretch before after takes = record {
+  same = record {
+    domain = takes.domain;
+    number = takes.number;
+    cycles = takes.cycles;
+    links_in = ap (map link_in) takes.is ∙ map_kept link_in before.inlets.items place takes.old takes.new takes.was takes.link;
+    links_out = ap (λ (outlets : Vec Outlet Global). map link_out outlets.items) takes.outlets;
+    wires = ap (λ (outlets : Vec Outlet Global). map wire_out outlets.items) takes.outlets;
+    tidy = subst (λ (outlets : Vec Outlet Global). All IsTidy outlets.items) (sym takes.outlets);
+    within = subst (λ (outlets : Vec Outlet Global). All (IsWithin before.cycles) outlets.items) (sym takes.outlets);
+  };
+  tables_same = takes.tables;
+  drops_same = ap (λ (edge : Edge). edge.drops) takes.edge;
+  outlets_same = takes.outlets;
+  stands = λ d come sends inlet stands there.
+      subst (λ (it : Inlet). IsNextStretch it.upto stretch → StandsSo d (with_stretch come it.link stretch) sends after)
+      (same_Some takes.old inlet (sym takes.was ∙ there)) (λ next. relay_takes d come sends place stretch before after takes next stands);
+}
+
+-- where it is taken with no fault
+pub stretch_taken : {T E : Type 0} (result : Result T E) (place : ℕ) (stretch : Stretch) (before after : Relay) (old new : Inlet) →
+    (new.upto ≡ stretch.upto → new.log.frames.items ≡ old.log.frames.items ++ frames_of stretch → TakesAt place stretch before after) →
+    OnOk result (new.upto ≡ stretch.upto) → OnOk result (new.log.frames.items ≡ old.log.frames.items ++ frames_of stretch) →
+    OnOk result (TakesStretch place stretch before after)
+stretch_taken (Ok done) place stretch before after old new takes upto log = takes_stretch place stretch before after (takes upto log)
+stretch_taken (Err fault) place stretch before after old new takes upto log = upto

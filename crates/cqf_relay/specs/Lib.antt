@@ -1,0 +1,7 @@
+pub mod Stretches
+pub mod Logs
+pub mod Leading
+pub mod Queues
+pub mod Offering
+pub mod Sending
+pub mod Standing

@@ -1,0 +1,396 @@
+-- How far a bridge's links have gone on, by what has come to it (profile).
+use Rattle.std.specs.Prelude.{ℕ, ◌≡◌, ◌+◌, ◌-◌, ◌≤◌, ◌<◌, ◌⊎◌, ◌++◌, ◌==◌, ◌&&◌, Bool, true, false, if◌then◌else◌, nat_le, slice_index_or}
+use Rattle.std.specs.Prelude.{List, [], ◌∷◌, Some, All, AllPairs, Contains, filter, length, map, slice_get, slice_set, take}
+use Rattle.std.specs.List.{flat_map, list_any}
+use Rattle.std.specs.List.Sorted.{IsNonDecreasingBy, IsPermutation}
+use Rattle.std.specs.Option.{option_map_or}
+use Rattle.cqf_lists.specs.Lists.{each_below}
+use Rattle.cqf_model.specs.declared.frames.Dropped.{Dropped}
+use Rattle.cqf_model.specs.declared.frames.Offered.{Offered}
+use Rattle.cqf_model.specs.declared.frames.Sent.{Sent}
+use Rattle.cqf_model.specs.declared.topology.Link.{Link}
+use Rattle.cqf_model.specs.declared.topology.Node.{Node}
+use Rattle.cqf_model.specs.declared.topology.Node.TheVariants.{Bridge, Station}
+use Rattle.cqf_model.specs.declared.topology.Row.{Row}
+use Rattle.cqf_model.specs.Domain.{Domain, delay_of, enters, leaves, octet_time_of}
+use Rattle.cqf_model.specs.Table.{AreOrderly, row_of, table_of}
+use Rattle.cqf_tape.specs.Tapes.{mark_of_sent}
+use Rattle.cqf_relay.specs.declared.edge.Edge.{Edge}
+use Rattle.cqf_relay.specs.declared.inlet.Inlet.{Inlet}
+use Rattle.cqf_relay.specs.declared.leads.By.{By}
+use Rattle.cqf_relay.specs.declared.leads.By.TheVariants as way
+use Rattle.cqf_relay.specs.declared.leads.Leads.{Leads}
+use Rattle.cqf_relay.specs.declared.log.ArrivedFrame.{ArrivedFrame}
+use Rattle.cqf_relay.specs.declared.moving.Stretch.{Stretch}
+use Rattle.cqf_relay.specs.declared.outlet.Outlet.{Outlet}
+use Rattle.cqf_relay.specs.declared.queue.Queued.{Queued}
+use Rattle.cqf_relay.specs.declared.relay.Relay.{Relay}
+use Rattle.cqf_relay.specs.declared.wire.Wire.{Wire}
+use Rattle.cqf_relay.specs.Stretches.{IsNextStretch, IsStretchOf, Sendings, batch_at, frames_of, moving_between}
+use Rattle.cqf_relay.specs.Leading.{by_at, by_row, leads, same_by}
+use Rattle.cqf_relay.specs.Logs.{ByCycle, is_in}
+use Rattle.cqf_relay.specs.Offering.{CountsUpto, Going, IsOfCycle, came_of_going, covered_behind, dropped_behind}
+use Rattle.cqf_relay.specs.Queues.{AreLeads, key_of_queued, queued}
+use Rattle.cqf_relay.specs.Sending.{IsNewOutlet, IsTidy, KeepsStretchBack, LearnsOf, SendsCycles, TakesPending, came_of, most_of, sends_of}
+
+-- what has come to a bridge: the tables of its first cycles, with the offers of each, by instant, then place, and by link that ends in it up to
+-- which cycle what it sent has come, and what that is
+pub record Come : Type 0 where
+  pub tables : List (List Row)
+  pub offers : List (List Offered)
+  pub upto : ℕ → ℕ
+  pub brought : ℕ → List ArrivedFrame
+
+-- the offers of a cycle, and the covered ones
+abbrev pub offers_in : Come → ℕ → List Offered
+offers_in come cycle = slice_index_or come.offers cycle []
+
+abbrev pub covered_in : Domain → ℕ → Come → ℕ → List Going
+covered_in d bridge come cycle = covered_behind d bridge cycle (table_of come.tables cycle) [] (offers_in come cycle)
+
+-- tables that may come: orderly ones, of which each brings its new rows by number, behind those of all before
+pub record MayBeTables (d : Domain) (tables : List (List Row)) : Type 0 where
+  pub orderly : AreOrderly d tables
+  pub by_number : (cycle : ℕ) → AllPairs (λ (row other : Row). row.no < other.no) (table_of tables cycle)
+  pub behind : (cycle later : ℕ) (row other : Row) → cycle < later → Contains (table_of tables cycle) row → Contains (table_of tables later) other →
+      ((before : ℕ) → before < later → list_any (λ (it : Row). it.no == other.no) (table_of tables before) ≡ false) → row.no < other.no
+
+-- the rows of so many tables, one behind the other
+abbrev pub rows_of : List (List Row) → ℕ → List Row
+rows_of tables count = flat_map (λ (table : List Row). table) (take count tables)
+
+abbrev pub all_rows : List (List Row) → List Row
+all_rows tables = rows_of tables (length tables)
+
+-- a link as its domain has it
+abbrev pub is_bridge : Node → Bool
+is_bridge (Bridge b) = true
+is_bridge (Station s) = false
+
+abbrev pub is_onward : Domain → ℕ → Bool
+is_onward d l = option_map_or (λ (link : Link). is_bridge link.to) (slice_get d.links l) false
+
+abbrev pub wire_on : Domain → ℕ → Wire
+wire_on d l = record { octet_time = octet_time_of d l; delay = delay_of d l; cycle_time = d.cycle_time; onward = is_onward d l }
+
+-- what a link has brought, where it is what may have come: cycle by cycle, and only of those up to which it has
+pub record MayHaveCome (upto : ℕ) (brought : List ArrivedFrame) : Type 0 where
+  pub by_cycle : ByCycle brought
+  pub within : All (λ (came : ArrivedFrame). came.cycle < upto) brought
+
+-- those of some frames that go on by a link, by the rows that are known
+abbrev pub that_go_on : List Row → ℕ → By → ℕ → List ArrivedFrame → List Queued
+that_go_on rows l by source frames =
+    map (queued source) (filter (λ (came : ArrivedFrame). same_by (by_row l (row_of rows came.row)) by) frames)
+
+-- what came by a link in a cycle and goes on by another, where a row is known that leads there
+abbrev pub comes_by : Domain → ℕ → Come → List Row → ℕ → ℕ → ℕ → List Queued
+comes_by d bridge come rows l cycle m =
+    if enters d m bridge && leads rows m l then that_go_on rows l (way.Link m) m (filter (is_in cycle) (come.brought m)) else []
+
+-- and all that goes on by a link of what came in a cycle
+abbrev pub comes_to : Domain → ℕ → Come → List Row → ℕ → ℕ → List Queued
+comes_to d bridge come rows l cycle = each_below (comes_by d bridge come rows l cycle) (length d.links)
+    ++ that_go_on rows l way.Edge 4096 (map (came_of_going d cycle) (covered_in d bridge come cycle))
+
+-- a link has gone on from a cycle to the next, when so many tables had come: the links from which a row of these leads to it had brought the
+-- cycle, and it sent what goes on by it of what came in that, in order, from the next one's beginning on
+pub record GoesOnBy (d : Domain) (bridge : ℕ) (come : Come) (l cycle : ℕ) (sent : List Sent) : Type 0 where
+  pub count : ℕ
+  pub had_table : cycle < count
+  pub within : count ≤ length come.tables
+  pub had : (m : ℕ) → enters d m bridge ≡ true → leads (rows_of come.tables count) m l ≡ true → cycle < come.upto m
+  pub sorted : List Queued
+  pub is_queue : IsPermutation (comes_to d bridge come (rows_of come.tables count) l cycle) sorted
+  pub in_order : IsNonDecreasingBy key_of_queued sorted
+  pub sends : sent ≡ sends_of (wire_on d l) (cycle + 1) 0 (map came_of sorted)
+
+-- what a link sent in its first cycles, by what came to its bridge: nothing in the first
+pub record HasGoneOnBy (d : Domain) (bridge : ℕ) (come : Come) (l : ℕ) (sends : List (List Sent)) : Type 0 where
+  pub first : batch_at sends 0 ≡ []
+  pub next : (cycle : ℕ) → cycle + 1 < length sends → GoesOnBy d bridge come l cycle (batch_at sends (cycle + 1))
+
+-- a link that ends in the bridge: what it brought from a cycle on is there
+pub record IsInletOf (come : Come) (least : ℕ) (inlet : Inlet) : Type 0 where
+  pub upto : inlet.upto ≡ come.upto inlet.link
+  pub may : MayHaveCome (come.upto inlet.link) (come.brought inlet.link)
+  pub held : MayHaveCome inlet.upto inlet.log.frames.items
+  pub holds : (cycle : ℕ) → least ≤ cycle →
+      filter (is_in cycle) inlet.log.frames.items ≡ filter (is_in cycle) (come.brought inlet.link)
+
+-- and so at the edge the covered offers, and nothing is counted of the next cycle yet
+pub record IsEdgeOf (d : Domain) (bridge : ℕ) (come : Come) (least : ℕ) (edge : Edge) : Type 0 where
+  pub number : edge.number ≡ bridge
+  pub held : MayHaveCome (length come.tables) edge.log.frames.items
+  pub holds : (cycle : ℕ) → least ≤ cycle →
+      filter (is_in cycle) edge.log.frames.items ≡ map (came_of_going d cycle) (covered_in d bridge come cycle)
+  pub counted : CountsUpto (length come.tables) edge.used.items
+
+-- a link knows the rows of these tables
+pub record KnowsRows (l : ℕ) (tables : List (List Row)) (known : Leads) : Type 0 where
+  pub rows : (number : ℕ) → by_at known.rows.items number ≡ by_row l (row_of (all_rows tables) number)
+  pub needs : (m : ℕ) → list_any (λ it. it == m) known.needs.items ≡ leads (all_rows tables) m l
+  pub fits : AreLeads known
+
+-- a link that leaves the bridge, which has sent this in its first cycles: what it hasn't handed on yet, of fewer than 256 cycles from the first
+-- frame's on, is pending
+pub record IsOutletOf (d : Domain) (bridge : ℕ) (come : Come) (sends : List (List Sent)) (outlet : Outlet) : Type 0 where
+  pub wire : outlet.wire ≡ wire_on d outlet.tape.link
+  pub knows : KnowsRows outlet.tape.link come.tables outlet.leads
+  pub as_far : outlet.sent ≡ length sends
+  pub handed : outlet.told ≤ outlet.sent
+  pub pends : outlet.wire.onward ≡ true →
+      outlet.pending.frames.items ≡ moving_between d outlet.tape.link sends outlet.pending.base outlet.told outlet.sent
+  pub counts : outlet.wire.onward ≡ true → (cycle : ℕ) → outlet.told ≤ cycle → cycle < outlet.sent → (batch_at sends cycle ≡ [] → ⊥) →
+      (outlet.pending.base ≤ cycle) × (cycle < outlet.pending.base + 256)
+  pub marked : outlet.tape.starts.items ≡ map mark_of_sent (flat_map (λ (batch : List Sent). batch) sends)
+  pub no_background : outlet.tape.background.items ≡ []
+  pub gone : HasGoneOnBy d bridge come outlet.tape.link sends
+
+-- the links that end in a bridge, and those that leave it, by number, and as the bridge has them
+abbrev pub links_into : Domain → ℕ → List ℕ
+links_into d bridge = each_below (λ l. if enters d l bridge then l ∷ [] else []) (length d.links)
+
+abbrev pub links_from : Domain → ℕ → List ℕ
+links_from d bridge = each_below (λ l. if leaves d l bridge then l ∷ [] else []) (length d.links)
+
+abbrev pub link_in : Inlet → ℕ
+link_in inlet = inlet.link
+
+abbrev pub link_out : Outlet → ℕ
+link_out outlet = outlet.tape.link
+
+abbrev pub wire_out : Outlet → Wire
+wire_out outlet = outlet.wire
+
+-- so many rows are known: all that have come have lower numbers, and one has the last of these
+pub record AreKnown (tables : List (List Row)) (known : ℕ) (outlets : List Outlet) : Type 0 where
+  pub below : (row : Row) → Contains (all_rows tables) row → row.no < known
+  pub last : (known ≡ 0) ⊎ ((row : Row) × Contains (all_rows tables) row × (row.no + 1 ≡ known))
+  pub room : All (λ (outlet : Outlet). length outlet.leads.rows.items ≤ known) outlets
+
+-- a bridge stands so: this has come to it, and its links have sent this
+pub record StandsSo (d : Domain) (come : Come) (sends : Sendings) (relay : Relay) : Type 0 where
+  pub of_domain : relay.domain ≡ d
+  pub tables_taken : relay.tables ≡ length come.tables
+  pub offers_taken : length come.offers ≡ length come.tables
+  pub into : map link_in relay.inlets.items ≡ links_into d relay.number
+  pub from : map link_out relay.outlets.items ≡ links_from d relay.number
+  pub rows : AreKnown come.tables relay.known relay.outlets.items
+  pub least : ℕ
+  pub early : All (λ (outlet : Outlet). least ≤ outlet.sent - 1) relay.outlets.items
+  pub inlets : All (IsInletOf come least) relay.inlets.items
+  pub edge : IsEdgeOf d relay.number come least relay.edge
+  pub outlets : All (λ (outlet : Outlet). IsOutletOf d relay.number come (sends outlet.tape.link) outlet) relay.outlets.items
+
+-- nothing has come
+abbrev pub nothing_yet : Come
+nothing_yet = record { tables = []; offers = []; upto = λ m. 0; brought = λ m. [] }
+
+-- one table more has come, with its offers; and what a link sent in some cycles more
+abbrev pub with_table : Come → List Row → List Offered → Come
+with_table come table offers =
+    record { tables = come.tables ++ table ∷ []; offers = come.offers ++ offers ∷ []; upto = come.upto; brought = come.brought }
+
+abbrev pub more_from : (ℕ → List ArrivedFrame) → ℕ → List ArrivedFrame → ℕ → List ArrivedFrame
+more_from brought m more k = if k == m then brought k ++ more else brought k
+
+abbrev pub upto_from : (ℕ → ℕ) → ℕ → ℕ → ℕ → ℕ
+upto_from upto m later k = if k == m then later else upto k
+
+abbrev pub with_stretch : Come → ℕ → Stretch → Come
+with_stretch come m stretch = record {
+  tables = come.tables;
+  offers = come.offers;
+  upto = upto_from come.upto m stretch.upto;
+  brought = more_from come.brought m (frames_of stretch);
+}
+
+-- offers are of a cycle
+abbrev pub AreOfCycle : Domain → ℕ → List Offered → Type 0
+AreOfCycle d cycle offers = All (IsOfCycle d cycle) offers
+
+-- the links of a bridge that has done nothing
+pub record IsNewInlet (inlet : Inlet) : Type 0 where
+  pub upto : inlet.upto ≡ 0
+  pub log : inlet.log.frames.items ≡ []
+
+pub record AreNewInlets (d : Domain) (bridge : ℕ) (inlets : List Inlet) : Type 0 where
+  pub links : map link_in inlets ≡ links_into d bridge
+  pub new : All IsNewInlet inlets
+
+pub record IsNewOutletOf (d : Domain) (outlet : Outlet) : Type 0 where
+  pub link : Link
+  pub is_link : slice_get d.links outlet.tape.link ≡ Some link
+  pub new : IsNewOutlet d.cycle_time outlet.tape.link link (is_onward d outlet.tape.link) outlet
+
+pub record AreNewOutlets (d : Domain) (bridge : ℕ) (outlets : List Outlet) : Type 0 where
+  pub links : map link_out outlets ≡ links_from d bridge
+  pub new : All (IsNewOutletOf d) outlets
+
+-- a link has sent no more than so many cycles
+abbrev pub IsWithin : ℕ → Outlet → Type 0
+IsWithin cycles outlet = outlet.sent ≤ cycles
+
+-- what stays of a bridge whatever it does
+pub record StaysAs (before after : Relay) : Type 0 where
+  pub domain : after.domain ≡ before.domain
+  pub number : after.number ≡ before.number
+  pub cycles : after.cycles ≡ before.cycles
+  pub links_in : map link_in after.inlets.items ≡ map link_in before.inlets.items
+  pub links_out : map link_out after.outlets.items ≡ map link_out before.outlets.items
+  pub wires : map wire_out after.outlets.items ≡ map wire_out before.outlets.items
+  pub tidy : All IsTidy before.outlets.items → All IsTidy after.outlets.items
+  pub within : All (IsWithin before.cycles) before.outlets.items → All (IsWithin before.cycles) after.outlets.items
+
+-- and all of it but what its links have sent
+pub record IsSameButLinks (before after : Relay) : Type 0 where
+  pub domain : after.domain ≡ before.domain
+  pub number : after.number ≡ before.number
+  pub cycles : after.cycles ≡ before.cycles
+  pub tables : after.tables ≡ before.tables
+  pub inlets : after.inlets ≡ before.inlets
+  pub edge : after.edge ≡ before.edge
+  pub known : after.known ≡ before.known
+
+-- each link learns a row
+pub record LearnOnEach (row : Row) (before after : List Outlet) : Type 0 where
+  pub count : length after ≡ length before
+  pub each : (place : ℕ) (outlet learned : Outlet) → slice_get before place ≡ Some outlet → slice_get after place ≡ Some learned →
+      LearnsOf row outlet learned
+
+-- each link learns rows, one behind the other
+abbrev pub LearnEach : List Row → List Outlet → List Outlet → Type 0
+LearnEach [] before after = after ≡ before
+LearnEach (row ∷ rows) before after = (between : List Outlet) × LearnOnEach row before between × LearnEach rows between after
+
+-- how many rows are known behind some
+abbrev pub known_behind : ℕ → List Row → ℕ
+known_behind known [] = known
+known_behind known (row ∷ rows) = known_behind (row.no + 1) rows
+
+-- those of some rows that are new
+abbrev pub new_rows : ℕ → List Row → List Row
+new_rows known rows = filter (λ (row : Row). nat_le known row.no) rows
+
+-- a bridge learns the new ones of a table's rows
+pub record LearnsRows (rows : List Row) (before after : Relay) : Type 0 where
+  pub domain : after.domain ≡ before.domain
+  pub number : after.number ≡ before.number
+  pub cycles : after.cycles ≡ before.cycles
+  pub tables : after.tables ≡ before.tables
+  pub inlets : after.inlets ≡ before.inlets
+  pub edge : after.edge ≡ before.edge
+  pub known : after.known ≡ known_behind before.known (new_rows before.known rows)
+  pub learn : LearnEach (new_rows before.known rows) before.outlets.items after.outlets.items
+
+-- up to which cycle each link has handed on what it sent
+abbrev pub told_by : Relay → List ℕ
+told_by relay = map (λ (outlet : Outlet). outlet.told) relay.outlets.items
+
+-- a bridge has taken a table with the cycle's offers: however it stood, it stands so with these, and has the drops of the offers that aren't
+-- covered behind those that it had
+pub record TakesTable (table : List Row) (offers : List Offered) (before after : Relay) : Type 0 where
+  pub same : StaysAs before after
+  pub taken : after.tables ≡ before.tables + 1
+  pub told_same : told_by after ≡ told_by before
+  pub stands : (d : Domain) (come : Come) (sends : Sendings) → StandsSo d come sends before → MayBeTables d (come.tables ++ table ∷ []) →
+      StandsSo d (with_table come table offers) sends after
+  pub fresh : List Dropped
+  pub behind : after.edge.drops.items ≡ before.edge.drops.items ++ fresh
+  pub are_drops : (d : Domain) (come : Come) (sends : Sendings) → StandsSo d come sends before → MayBeTables d (come.tables ++ table ∷ []) →
+      IsPermutation (dropped_behind d before.number before.tables table [] offers) fresh
+  pub by_frame : IsNonDecreasingBy (λ (dropped : Dropped). dropped.frame) fresh
+
+-- a bridge has taken what came by the inlet at a place: where that is what may come next, however it stood, it stands so with it
+pub record TakesStretch (place : ℕ) (stretch : Stretch) (before after : Relay) : Type 0 where
+  pub same : StaysAs before after
+  pub tables_same : after.tables ≡ before.tables
+  pub drops_same : after.edge.drops ≡ before.edge.drops
+  pub outlets_same : after.outlets ≡ before.outlets
+  pub stands : (d : Domain) (come : Come) (sends : Sendings) (inlet : Inlet) → StandsSo d come sends before →
+      slice_get before.inlets.items place ≡ Some inlet → IsNextStretch inlet.upto stretch → StandsSo d (with_stretch come inlet.link stretch) sends after
+
+-- what a link needs has come up to a cycle
+pub record NeedsHaveCome (place upto : ℕ) (relay : Relay) : Type 0 where
+  pub needed : (outlet : Outlet) → slice_get relay.outlets.items place ≡ Some outlet →
+      All (λ (inlet : Inlet). list_any (λ it. it == inlet.link) outlet.leads.needs.items ≡ true → upto ≤ inlet.upto) relay.inlets.items
+
+-- a link may send up to a cycle
+pub record MayReach (place until : ℕ) (relay : Relay) : Type 0 where
+  pub tables : until ≤ relay.tables + 1
+  pub cycles : until ≤ relay.cycles
+  pub most : (outlet : Outlet) → slice_get relay.outlets.items place ≡ Some outlet → until ≤ most_of outlet
+  pub needed : (outlet : Outlet) → slice_get relay.outlets.items place ≡ Some outlet →
+      All (λ (inlet : Inlet). list_any (λ it. it == inlet.link) outlet.leads.needs.items ≡ true → until ≤ inlet.upto + 1) relay.inlets.items
+
+-- a link has gone on as far as it might
+pub record SendsOn (place : ℕ) (before after : Relay) : Type 0 where
+  pub same : IsSameButLinks before after
+  pub until : ℕ
+  pub might : MayReach place until before
+  pub outlet : Outlet
+  pub was : slice_get before.outlets.items place ≡ Some outlet
+  pub gone : Outlet
+  pub is : after.outlets.items ≡ slice_set before.outlets.items place gone
+  pub sends : SendsCycles until before.inlets.items before.edge.log outlet gone
+
+-- a bridge has let go of what none of its links needs any more: however it stood, it stands so still
+pub record LetsGo (before after : Relay) : Type 0 where
+  pub same : StaysAs before after
+  pub tables_same : after.tables ≡ before.tables
+  pub drops_same : after.edge.drops ≡ before.edge.drops
+  pub outlets_same : after.outlets ≡ before.outlets
+  pub stands : (d : Domain) (come : Come) (sends : Sendings) → StandsSo d come sends before → StandsSo d come sends after
+
+-- more was sent by each link, behind what it had sent
+abbrev pub HaveSentMore : Sendings → Sendings → Type 0
+HaveSentMore sends more = (l : ℕ) → (rest : List (List Sent)) × (more l ≡ sends l ++ rest)
+
+-- a bridge's links have gone on
+pub record GoesOnAlone (before after : Relay) : Type 0 where
+  pub same : StaysAs before after
+  pub told_same : told_by after ≡ told_by before
+  pub tables_same : after.tables ≡ before.tables
+  pub drops_same : after.edge.drops ≡ before.edge.drops
+  pub stands : (d : Domain) (come : Come) (sends : Sendings) → StandsSo d come sends before → MayBeTables d come.tables →
+      (more : Sendings) × StandsSo d come more after × HaveSentMore sends more
+
+-- what a link sent since it was last asked, as a stretch
+pub record HandsOn (place : ℕ) (before after : Relay) (stretch : Stretch) : Type 0 where
+  pub same : IsSameButLinks before after
+  pub stays : StaysAs before after
+  pub outlet : Outlet
+  pub was : slice_get before.outlets.items place ≡ Some outlet
+  pub handed : Outlet
+  pub is : after.outlets.items ≡ slice_set before.outlets.items place handed
+  pub takes : TakesPending outlet handed stretch
+  pub told : told_by after ≡ slice_set (told_by before) place stretch.upto
+  pub stands : (d : Domain) (come : Come) (sends : Sendings) → StandsSo d come sends before → StandsSo d come sends after
+  pub is_stretch : (d : Domain) (come : Come) (sends : Sendings) (outlet : Outlet) → StandsSo d come sends before →
+      slice_get before.outlets.items place ≡ Some outlet → outlet.wire.onward ≡ true →
+      IsStretchOf d outlet.tape.link (sends outlet.tape.link) outlet.told stretch × (stretch.upto ≡ length (sends outlet.tape.link))
+  pub is_next : IsTidy outlet → IsNextStretch outlet.told stretch
+
+-- a stretch that couldn't be handed on was given back: the bridge stands as before it was asked for it
+pub record KeepsBack (place told : ℕ) (stretch : Stretch) (before after : Relay) : Type 0 where
+  pub same : IsSameButLinks before after
+  pub links : map link_out after.outlets.items ≡ map link_out before.outlets.items
+  pub wires : map wire_out after.outlets.items ≡ map wire_out before.outlets.items
+  pub outlet : Outlet
+  pub was : slice_get before.outlets.items place ≡ Some outlet
+  pub kept : Outlet
+  pub is : after.outlets.items ≡ slice_set before.outlets.items place kept
+  pub keeps : KeepsStretchBack told stretch outlet kept
+  pub told_by_then : told_by after ≡ slice_set (told_by before) place told
+  pub again : (older : Relay) → HandsOn place older before stretch → slice_get (told_by older) place ≡ Some told →
+      (d : Domain) (come : Come) (sends : Sendings) → StandsSo d come sends older → StandsSo d come sends after
+  pub tidy_again : (older : Relay) → HandsOn place older before stretch → slice_get (told_by older) place ≡ Some told →
+      All IsTidy older.outlets.items → All IsTidy after.outlets.items
+
+-- all is over: each table and each stretch was taken, and each link has sent all cycles and handed them on
+pub record IsOver (relay : Relay) : Type 0 where
+  pub tables : relay.cycles ≤ relay.tables
+  pub sent : All (λ (outlet : Outlet). relay.cycles ≤ outlet.sent) relay.outlets.items
+  pub told : All (λ (outlet : Outlet). outlet.wire.onward ≡ true → relay.cycles ≤ outlet.told) relay.outlets.items
+  pub come : All (λ (inlet : Inlet). relay.cycles ≤ inlet.upto) relay.inlets.items

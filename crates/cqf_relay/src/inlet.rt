@@ -1,0 +1,58 @@
+//! A link that ends in the bridge.
+ghost use Rattle.std.specs.Prelude.{◌≡◌, ◌++◌, [], OnOk, map};
+ghost use Rattle.cqf_relay.specs.Logs.{came_by_stretch};
+
+use crate::log::{ArrivedFrame, SourceLog};
+use crate::moving::{Moving, Stretch};
+use cqf_units::Memory;
+use std::alloc::Global;
+
+/// A link that ends in the bridge: up to which cycle what it sent has come, and what that is.
+#[derive(Debug, Drop)]
+pub(crate) struct Inlet {
+    pub(crate) link: u16,
+    pub(crate) upto: u32,
+    pub(crate) log: SourceLog,
+}
+
+/// A frame of a stretch that begins in a cycle, as it came.
+fn came(from: u32, moving: Moving) -> ArrivedFrame
+    ensures { result ≡ came_by_stretch from moving }
+{
+    ArrivedFrame {
+        cycle: from.saturating_add(u32::from(moving.after)),
+        at: moving.at,
+        frame: moving.frame,
+        row: moving.row,
+        octets: u32::from(moving.octets),
+    }
+}
+
+impl Inlet {
+    /// A link of which nothing has come. It takes no memory yet.
+    pub(crate) fn new(alloc: Global, link: u16) -> Inlet
+        ensures link { result.link ≡ link }
+        ensures upto { result.upto ≡ 0 }
+        ensures log { result.log.frames.items ≡ [] }
+    {
+        Inlet {
+            link,
+            upto: 0,
+            log: SourceLog::new(alloc),
+        }
+    }
+
+    /// Takes what the link sent behind what came before. `Memory` where a growth is refused.
+    pub(crate) fn take(&mut self, stretch: &Stretch) -> Result<(), Memory>
+        ensures link { self.new.link ≡ self.old.link }
+        ensures upto { OnOk result (self.new.upto ≡ stretch.now.upto) }
+        ensures log { OnOk result (self.new.log.frames.items ≡
+            self.old.log.frames.items ++ map (came_by_stretch stretch.now.from) stretch.now.frames.items) }
+    {
+        for moving in stretch.frames.as_slice() {
+            self.log.keep(came(stretch.from, *moving))?;
+        }
+        self.upto = stretch.upto;
+        Ok(())
+    }
+}

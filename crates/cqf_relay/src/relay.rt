@@ -1,0 +1,320 @@
+//! A bridge whose links go on by themselves.
+ghost use Rattle.cqf_relay.specs.Sending.{IsTidy};
+ghost use Rattle.std.specs.Prelude.{◌≡◌, ◌<◌, ◌≤◌, All, IfOk, OnOk, [], length, map, true, false};
+ghost use Rattle.cqf_model.specs.Domain.{node_is};
+ghost use Rattle.cqf_relay.specs.Standing.{AreNewInlets, AreNewOutlets, AreOfCycle, GoesOnAlone, HandsOn, IsOver, KeepsBack, LearnOnEach, LearnsRows, LetsGo, MayReach};
+ghost use Rattle.cqf_relay.specs.Standing.{NeedsHaveCome, SendsOn, StandsSo, TakesStretch, TakesTable, is_bridge, nothing_yet};
+
+use crate::edge::Edge;
+use crate::inlet::Inlet;
+use crate::moving::Stretch;
+use crate::outlet::Outlet;
+use crate::queue::Queued;
+use cqf_admission::Table;
+use cqf_model::{Dropped, Node, Offered, Row};
+use cqf_tape::{Reel, Tape};
+use cqf_topology::Domain;
+use cqf_units::{Cycle, Memory};
+use std::alloc::Global;
+use std::mem::replace;
+
+/// How many cycles beyond that up to which all links have sent a bridge takes tables of: so cycles aren't closed far ahead of what is sent.
+const AHEAD: u32 = 64;
+
+/// A bridge of a run of so many cycles: how many tables it has taken, its links by number, and its edge.
+#[derive(Drop)]
+pub struct Relay {
+    domain: Domain,
+    number: u16,
+    cycles: u32,
+    tables: u32,
+    /// The links that end in the bridge.
+    inlets: Vec<Inlet>,
+    edge: Edge,
+    /// The links that leave it.
+    outlets: Vec<Outlet>,
+    /// How many rows by number are known.
+    known: u64,
+    /// Room for the frames that a link sends in a cycle.
+    queue: Vec<Queued>,
+}
+
+/// Whether a node is the bridge.
+fn is_bridge(node: Node, number: u16) -> bool
+    ensures { result ≡ node_is node number }
+{
+    match node {
+        Node::Bridge(bridge) => bridge == number,
+        Node::Station(_) => false,
+    }
+}
+
+/// Whether a node is a bridge.
+fn is_some_bridge(node: Node) -> bool
+    ensures { result ≡ is_bridge node }
+{
+    match node {
+        Node::Bridge(_) => true,
+        Node::Station(_) => false,
+    }
+}
+
+/// The links that end in a bridge, by number, of which nothing has come.
+fn new_inlets(alloc: Global, domain: &Domain, number: u16) -> Result<Vec<Inlet>, Memory>
+    ensures { IfOk result (λ inlets. AreNewInlets domain.now number inlets.items) }
+{
+    let mut inlets = Vec::new(alloc);
+    for link in 0..domain.links() {
+        if is_bridge(domain.link(link).to, number) {
+            inlets.push(Inlet::new(alloc, link))?;
+        }
+    }
+    Ok(inlets)
+}
+
+/// The links that leave a bridge, by number, that have sent nothing.
+fn new_outlets(alloc: Global, domain: &Domain, number: u16) -> Result<Vec<Outlet>, Memory>
+    ensures { IfOk result (λ outlets. AreNewOutlets domain.now number outlets.items) }
+{
+    domain.know();
+    let mut outlets = Vec::new(alloc);
+    for place in 0..domain.links() {
+        let link = domain.link(place);
+        if link.from == number {
+            let onward = is_some_bridge(link.to);
+            let cycle_time = domain.cycle_time();
+            outlets.push(Outlet::new(alloc, cycle_time, place, link, onward))?;
+        }
+    }
+    Ok(outlets)
+}
+
+/// Has each link learn a row.
+fn learn_on_each(outlets: &mut [Outlet], row: &Row) -> Result<(), Memory>
+    ensures { OnOk result (LearnOnEach row.now outlets.old outlets.new) }
+{
+    for place in 0..outlets.len() {
+        outlets[place].learn(row)?;
+    }
+    Ok(())
+}
+
+impl Relay {
+    /// A bridge of the domain in a run of so many cycles, which has done nothing. `Memory` where a growth is refused.
+    pub fn new(alloc: Global, domain: &Domain, number: u16, cycles: u32) -> Result<Relay, Memory>
+        ensures number { IfOk result (λ relay. relay.number ≡ number) }
+        ensures cycles { IfOk result (λ relay. relay.cycles ≡ cycles) }
+        ensures drops { IfOk result (λ relay. relay.edge.drops.items ≡ []) }
+        ensures stands { IfOk result (StandsSo domain.now nothing_yet (λ l. [])) }
+        ensures tidy { IfOk result (λ relay. All IsTidy relay.outlets.items) }
+    {
+        Ok(Relay {
+            domain: domain.try_copy(alloc)?,
+            number,
+            cycles,
+            tables: 0,
+            inlets: new_inlets(alloc, domain, number)?,
+            edge: Edge::new(alloc, number),
+            outlets: new_outlets(alloc, domain, number)?,
+            known: 0,
+            queue: Vec::new(alloc),
+        })
+    }
+
+    /// The number of the bridge.
+    pub fn number(&self) -> u16
+        ensures { result ≡ self.now.number }
+    {
+        self.number
+    }
+
+    /// The domain.
+    pub fn domain(&self) -> &Domain
+        ensures { result.now ≡ self.now.domain }
+    {
+        &self.domain
+    }
+
+    /// How many cycles there are.
+    pub fn cycles(&self) -> u32
+        ensures { result ≡ self.now.cycles }
+    {
+        self.cycles
+    }
+
+    /// How many tables were taken: the next is that of the cycle of this number.
+    pub fn tables(&self) -> u32
+        ensures { result ≡ self.now.tables }
+    {
+        self.tables
+    }
+
+    /// The links that leave the bridge, by number.
+    pub fn outlets(&self) -> &[Outlet]
+        ensures { result.now ≡ self.now.outlets.items }
+    {
+        self.outlets.as_slice()
+    }
+
+    /// What a link that leaves the bridge has sent since it was last asked.
+    pub fn stretch_of(&mut self, alloc: Global, place: usize) -> Stretch
+        requires { place < length self.old.outlets.items }
+        ensures { HandsOn place self.old self.new result }
+    {
+        self.outlets[place].stretch(alloc)
+    }
+
+    /// Has the last stretch of a link back, which couldn't be handed on; before that it had handed on up to a cycle.
+    pub fn keep_back(&mut self, place: usize, told: u32, stretch: Stretch)
+        requires { place < length self.old.outlets.items }
+        ensures { KeepsBack place told stretch self.old self.new }
+    {
+        self.outlets[place].keep_back(told, stretch);
+    }
+
+    /// Learns the rows of the next table that are new: by number they come behind those that are known.
+    fn learn_rows(&mut self, table: &Table) -> Result<(), Memory>
+        ensures { OnOk result (LearnsRows table.now.rows self.old self.new) }
+    {
+        let known = self.known;
+        let rows = table.rows();
+        let first = rows.partition_point(|row| u64::from(row.no) < known);
+        for row in &rows[first..] {
+            learn_on_each(self.outlets.as_mut_slice(), row)?;
+            self.known = u64::from(row.no) + 1;
+        }
+        Ok(())
+    }
+
+    /// Whether it takes a table as yet: there is one more, and no link is far behind it.
+    pub fn wants_table(&self) -> bool
+        ensures { result ≡ true → self.now.tables < self.now.cycles }
+    {
+        self.tables < self.cycles
+            && self
+                .outlets
+                .iter()
+                .all(|it| self.tables < it.sent().saturating_add(AHEAD))
+    }
+
+    /// Takes the table of the next cycle, with the bridge's offers of the cycle, by instant, then place. `Memory` where a growth is refused.
+    pub fn take_table(&mut self, table: &Table, offers: &[Offered]) -> Result<(), Memory>
+        requires early { self.old.tables < self.old.cycles }
+        requires offers { AreOfCycle self.old.domain self.old.tables offers.now }
+        ensures { OnOk result (TakesTable table.now.rows offers.now self.old self.new) }
+    {
+        self.learn_rows(table)?;
+        let cycle = Cycle(self.tables);
+        self.edge.take(&self.domain, cycle, table, offers)?;
+        self.tables += 1;
+        Ok(())
+    }
+
+    /// Takes what came by the inlet at a place. `Memory` where a growth is refused.
+    pub fn take_stretch(&mut self, place: usize, stretch: &Stretch) -> Result<(), Memory>
+        requires { place < length self.old.inlets.items }
+        ensures { OnOk result (TakesStretch place stretch.now self.old self.new) }
+    {
+        self.inlets[place].take(stretch)
+    }
+
+    /// Up to which cycle all has come that a link needs.
+    fn has_come(&self, place: usize) -> u32
+        requires { place < length self.now.outlets.items }
+        ensures tables { result ≤ self.now.tables }
+        ensures needed { NeedsHaveCome place result self.now }
+    {
+        let mut have = self.tables;
+        for inlet in self.inlets.as_slice() {
+            if inlet.upto < have && self.outlets[place].needs(inlet.link) {
+                have = inlet.upto;
+            }
+        }
+        have
+    }
+
+    /// Up to which cycle a link may send: one more than has come.
+    fn reach(&self, place: usize) -> u32
+        requires { place < length self.now.outlets.items }
+        ensures { MayReach place result self.now }
+    {
+        let most = self.outlets[place].most();
+        self.has_come(place)
+            .saturating_add(1)
+            .min(self.cycles)
+            .min(most)
+    }
+
+    /// Whether a link may go on.
+    pub fn may_send(&self) -> bool {
+        for place in 0..self.outlets.len() {
+            if self.reach(place) > self.outlets[place].sent() {
+                return true;
+            }
+        }
+        false
+    }
+
+    /// Has a link go on as far as it may.
+    fn send_on(&mut self, place: usize) -> Result<(), Memory>
+        requires { place < length self.old.outlets.items }
+        ensures { OnOk result (SendsOn place self.old self.new) }
+    {
+        let until = self.reach(place);
+        self.outlets[place].send_to(
+            until,
+            self.inlets.as_slice(),
+            &self.edge.log,
+            &mut self.queue,
+        )
+    }
+
+    /// Lets go of what came in cycles that no link needs any more.
+    fn let_go(&mut self)
+        ensures { LetsGo self.old self.new }
+    {
+        let mut least = self.tables;
+        for outlet in self.outlets.as_slice() {
+            least = least.min(outlet.sent().saturating_sub(1));
+        }
+        for place in 0..self.inlets.len() {
+            self.inlets[place].log.let_go(least);
+        }
+        self.edge.log.let_go(least);
+    }
+
+    /// Has each link go on as far as it may. `Memory` where a growth is refused.
+    pub fn send(&mut self) -> Result<(), Memory>
+        ensures { OnOk result (GoesOnAlone self.old self.new) }
+    {
+        for place in 0..self.outlets.len() {
+            self.send_on(place)?;
+        }
+        self.let_go();
+        Ok(())
+    }
+
+    /// Whether all is over: each table and each stretch was taken, and each link has sent all cycles and handed them on.
+    pub fn is_over(&self) -> bool
+        ensures over { result ≡ true → IsOver self.now }
+        ensures some { result ≡ false → 0 < self.now.cycles }
+    {
+        self.tables >= self.cycles
+            && self.outlets.iter().all(|it| it.is_over(self.cycles))
+            && self.inlets.iter().all(|it| it.upto >= self.cycles)
+    }
+
+    /// What the bridge has sent and dropped, taken away from it. `Memory` where a growth is refused.
+    pub fn take_reel(&mut self, alloc: Global) -> Result<Reel, Memory>
+        ensures tapes { IfOk result (λ reel. reel.tapes.items ≡ map (λ outlet. outlet.tape) self.old.outlets.items) }
+        ensures drops { IfOk result (λ reel. reel.drops ≡ self.old.edge.drops) }
+    {
+        let outlets = replace(&mut self.outlets, Vec::new(alloc));
+        let drops: Vec<Dropped> = replace(&mut self.edge.drops, Vec::new(alloc));
+        let mut tapes: Vec<Tape> = Vec::new(alloc);
+        for outlet in outlets {
+            tapes.push(outlet.into_tape())?;
+        }
+        Ok(Reel { tapes, drops })
+    }
+}

@@ -1,0 +1,41 @@
+//! How long a link takes for frames.
+ghost use Rattle.std.specs.Prelude.{◌≡◌, ◌<◌, ◌^◌, ◌*◌, ◌+◌};
+ghost use Rattle.cqf_relay.specs.Sending.{has_room_on, time_on};
+
+/// How long a link takes for frames, in nanoseconds.
+#[derive(Clone, Copy, Debug, PartialEq, Eq)]
+pub struct Wire {
+    /// For an octet.
+    pub octet_time: u32,
+    pub delay: u32,
+    /// How long a cycle is.
+    pub cycle_time: u32,
+    /// Whether it ends in another bridge.
+    pub onward: bool,
+}
+
+impl Wire {
+    /// How long a frame takes from its start until it is whole at the link's end.
+    pub(crate) fn time_of(&self, octets: u32) -> u64
+        requires { octets < 2 ^ 16 }
+        ensures { result ≡ time_on self.now octets }
+    {
+        u64::from(self.octet_time) * (u64::from(octets) + 8) + u64::from(self.delay)
+    }
+
+    /// Whether a frame is whole within a cycle, if it starts so long behind the cycle's beginning. What the gates of a run let pass always is.
+    pub(crate) fn has_room(&self, offset: u64, octets: u32) -> bool
+        requires { offset < 2 ^ 40 }
+        ensures { result ≡ has_room_on self.now offset octets }
+    {
+        octets <= u32::from(u16::MAX) && offset + self.time_of(octets) < u64::from(self.cycle_time)
+    }
+
+    /// How long a frame and the gap behind it take.
+    pub(crate) fn taken_by(&self, octets: u32) -> u64
+        requires { octets < 2 ^ 16 }
+        ensures { result ≡ self.now.octet_time * (octets + 20) }
+    {
+        u64::from(self.octet_time) * (u64::from(octets) + 20)
+    }
+}

@@ -1,0 +1,22 @@
+-- The text of a book's sums by link, told from a count of frames and a column of octets for each link (profile).
+use Rattle.std.specs.Prelude.{ℕ, ◌≡◌, List}
+use Rattle.cqf_model.specs.declared.frames.Background.{Background}
+use Rattle.cqf_model.specs.declared.frames.Offer.{Offer}
+use Rattle.cqf_model.specs.Book.{Contents}
+use Rattle.cqf_model.specs.Domain.{Domain, IsAccepted}
+use Rattle.cqf_model.specs.History.{IsLegalHistory, Recorded}
+use Rattle.cqf_model.specs.HistoryBook.{IsBookOfHistory}
+use Rattle.cqf_model.specs.Run.{AreBackground, AreOffers}
+use Rattle.cqf_model.specs.Traffic.{numbered}
+use Rattle.cqf_laws_coverage.specs.Judged.{StandInOrder, judged_of}
+use Rattle.cqf_laws_coverage.specs.Told.{AreToldSums}
+use Rattle.cqf_report.specs.Columns.{columns_text}
+use Rattle.cqf_report.specs.LinkSums.{links_text}
+
+-- where they are those of the hops of the covered offers, it is the text of the history's book
+abbrev pub ReportIsTold : Type 0
+ReportIsTold =
+    (d : Domain) (entries : List Recorded) (offers : List Offer) (background : List Background) (cycles : ℕ) (book : Contents)
+    (frames : ℕ → ℕ) (column : ℕ → List ℕ) → IsAccepted d → IsLegalHistory d entries → AreOffers d offers → AreBackground d background →
+    StandInOrder offers → IsBookOfHistory d entries offers background cycles book →
+    AreToldSums d cycles (judged_of d entries offers) (numbered offers) frames column → links_text d book ≡ columns_text d frames column

@@ -1,0 +1,167 @@
+-- The streams of a sketch, or the first fault of their text (profile).
+use Rattle.std.specs.Prelude.{ℕ, List, [], ◌∷◌, ◌++◌, ◌&&◌, ◌||◌, Bool, true, false, codes, if◌then◌else◌, find, is_none, is_some, length, map, nat_le, Option, Some, None, ok_or}
+use Rattle.std.specs.Prelude.{option_and_then, option_map, Result, Ok, Err, string_bytes}
+use Rattle.std.specs.Option.{option_or}
+use Rattle.toml.specs.Data.{Data, Items, no_items, item, Members, as_array, as_bool, as_str, as_table, get_member}
+use Rattle.cqf_lists.specs.Results.{and_then, refuse}
+use Rattle.cqf_topology.specs.declared.keys.Key.{Key}
+use Rattle.cqf_topology.specs.declared.keys.Key.TheVariants.{From, To, Streams, Name, Octets, Every, Phase, Path, Paths}
+use Rattle.cqf_topology.specs.declared.toml_faults.TomlFault.{TomlFault}
+use Rattle.cqf_topology.specs.declared.toml_faults.TomlFault.TheVariants as toml_fault
+use Rattle.cqf_topology.specs.Fields.{are_tables, each_from, first_absent, name_from, names_from, number_from, number_or, read_at, value_at, whole_document}
+use Rattle.cqf_topology.specs.DomainText.{first_taken}
+use Rattle.cqf_topology.specs.PlannedText.{deadline_from}
+use Rattle.cqf_topology.specs.StreamsText.{branches_from, streams_keys}
+use Rattle.cqf_traffic.specs.declared.faults.FlowsFault.{FlowsFault}
+use Rattle.cqf_traffic.specs.declared.faults.FlowsFault.TheVariants as flows_fault
+use Rattle.cqf_traffic.specs.FlowsText.{or_streams, traffic_or}
+use Rattle.cqf_traffic.specs.TrafficText.{TrafficText, first_owed, has_traffic}
+use Rattle.cqf_sketch.specs.declared.pacing.Pacing.{Pacing}
+use Rattle.cqf_sketch.specs.declared.pacing.Pacing.TheVariants.{Given, InStep}
+use Rattle.cqf_sketch.specs.declared.wanted.WantedWay.{WantedWay}
+use Rattle.cqf_sketch.specs.declared.wanted.WantedWay.TheVariants as wanted
+use Rattle.cqf_sketch.specs.declared.streams.Stream.{Stream}
+
+-- which way a stream is to go: along given branches, or from a talker or bridge to its listeners
+pub data WantedText : Type 0 where
+  Along : List (List (List ℕ)) → WantedText
+  Between : List ℕ → List (List ℕ) → WantedText
+
+-- a stream of a sketch: its name, its octets a cycle where the text says them, in which cycles it is offered, its way, its deadline and
+-- its traffic
+pub record StreamText : Type 0 where
+  pub name : List ℕ
+  pub octets : Option ℕ
+  pub pacing : Pacing
+  pub way : WantedText
+  pub deadline : Option ℕ
+  pub traffic : Option TrafficText
+
+abbrev pub wanted_text : WantedWay → WantedText
+wanted_text (wanted.Along paths) = Along (map (λ path. map string_bytes path.items) paths.items)
+wanted_text (wanted.Between from to) = Between from to.items
+
+abbrev pub stream_text : Stream → StreamText
+stream_text stream = record {
+  name = string_bytes stream.name;
+  octets = stream.octets;
+  pacing = stream.pacing;
+  way = wanted_text stream.way;
+  deadline = stream.deadline;
+  traffic = stream.traffic;
+}
+
+-- whether branches are given
+abbrev pub has_path : Members → Bool
+has_path table = is_some (value_at Path table) || is_some (value_at Paths table)
+
+-- the keys that a stream's table owes but for its traffic: its octets where there is no traffic, and its ends where no branches
+-- are given
+abbrev pub owed_keys : Members → List Key
+owed_keys table = Name ∷ ((if has_traffic table then [] else Octets ∷ []) ++ (if has_path table then [] else From ∷ To ∷ []))
+
+-- what it lacks first
+abbrev pub first_lack : Members → Option FlowsFault
+first_lack table =
+    option_or (option_map (λ key. flows_fault.Streams (toml_fault.Missing key)) (first_absent (owed_keys table) table))
+    (option_map flows_fault.Missing (first_owed table))
+
+-- the same over the elements of an array, in order, those that are tables
+abbrev pub first_lack_within : Items → Option FlowsFault
+first_lack_within no_items = None
+first_lack_within (item d ds) = option_or (option_and_then first_lack (as_table d)) (first_lack_within ds)
+
+abbrev pub first_lack_of : Members → Option FlowsFault
+first_lack_of table = option_and_then first_lack_within (option_and_then as_array (value_at Streams table))
+
+-- the octets of a stream, by what stands there
+abbrev pub octets_by : Option Data → Members → Result (Option ℕ) TomlFault
+octets_by None table = Ok None
+octets_by (Some d) table = and_then (read_at Octets (number_from 0 4294967295) table) (λ octets. Ok (Some octets))
+
+abbrev pub octets_from : Members → Result (Option ℕ) TomlFault
+octets_from table = octets_by (value_at Octets table) table
+
+-- whether a stream's talker is in step with the network, by what stands there
+abbrev pub in_step_by : Option Data → Result Bool FlowsFault
+in_step_by None = Ok false
+in_step_by (Some d) = ok_or (as_bool d) flows_fault.BadInStep
+
+abbrev pub in_step_at : Members → Result Bool FlowsFault
+in_step_at table = in_step_by (get_member (codes "in-step") table)
+
+-- the first key that stands there and says in which cycles it is offered
+abbrev pub first_given : Members → Option Key
+first_given table = find (λ key. is_some (value_at key table)) (Every ∷ Phase ∷ [])
+
+-- in which cycles it is offered: in one of so many, of which the first has this phase; or, where its talker is in step, in those that the
+-- plan says, and then no key may say it too
+abbrev pub pacing_by : ℕ → ℕ → Bool → Members → Result Pacing FlowsFault
+pacing_by every phase false table = Ok (Given every phase)
+pacing_by every phase true table = refuse (first_given table) (λ key. flows_fault.Streams (toml_fault.BadValue key)) (Ok InStep)
+
+abbrev pub pacing_from : Members → Result Pacing FlowsFault
+pacing_from table =
+    and_then (or_streams (number_or Every 1 table)) (λ every.
+    and_then (or_streams (number_or Phase 0 table)) (λ phase.
+    and_then (in_step_at table) (λ in_step.
+    pacing_by every phase in_step table)))
+
+-- the first end that stands there
+abbrev pub first_end : Members → Option Key
+first_end table = find (λ key. is_some (value_at key table)) (From ∷ To ∷ [])
+
+-- 1 to 64 listeners, all different
+abbrev pub if_listeners : List (List ℕ) → Result (List (List ℕ)) TomlFault
+if_listeners names =
+    if nat_le 1 (length names) && nat_le (length names) 64 && is_none (first_taken [] names) then Ok names else Err (toml_fault.BadValue To)
+
+-- the listeners that a value means: a name, or an array of them
+abbrev pub listeners_by : Option Items → Data → Result (List (List ℕ)) TomlFault
+listeners_by None d = and_then (ok_or (name_from d) (toml_fault.BadValue To)) (λ name. Ok (name ∷ []))
+listeners_by (Some items) d = and_then (names_from To items) if_listeners
+
+abbrev pub listeners_of : Option Data → Result (List (List ℕ)) TomlFault
+listeners_of None = Err (toml_fault.BadValue To)
+listeners_of (Some d) = listeners_by (as_array d) d
+
+-- the way of a stream's table: given branches, beside which no end may stand, or its ends
+abbrev pub along_from : Members → Result WantedText TomlFault
+along_from table = and_then (branches_from table) (λ paths. refuse (first_end table) toml_fault.BadValue (Ok (Along paths)))
+
+abbrev pub between_from : Members → Result WantedText TomlFault
+between_from table =
+    and_then (read_at From name_from table) (λ from.
+    and_then (listeners_of (value_at To table)) (λ to.
+    Ok (Between from to)))
+
+abbrev pub wanted_from : Members → Result WantedText TomlFault
+wanted_from table = if has_path table then along_from table else between_from table
+
+-- a stream's table: its traffic is read behind its other keys
+abbrev pub stream_from : Members → Result StreamText FlowsFault
+stream_from table =
+    and_then (or_streams (read_at Name as_str table)) (λ name.
+    and_then (or_streams (octets_from table)) (λ octets.
+    and_then (pacing_from table) (λ pacing.
+    and_then (or_streams (wanted_from table)) (λ way.
+    and_then (or_streams (deadline_from table)) (λ deadline.
+    and_then (traffic_or table) (λ traffic.
+    Ok (record { name = name; octets = octets; pacing = pacing; way = way; deadline = deadline; traffic = traffic })))))))
+
+-- the elements of the array of streams, each a table
+abbrev pub streams_from : Items → Result (List StreamText) FlowsFault
+streams_from items = each_from (λ d. and_then (ok_or (as_table d) (flows_fault.Streams (toml_fault.BadValue Streams))) stream_from) items
+
+abbrev pub streams_of_array : Items → Result (List StreamText) FlowsFault
+streams_of_array items = if are_tables items then streams_from items else Err (flows_fault.Streams (toml_fault.BadValue Streams))
+
+-- the streams of a document
+abbrev pub streams_in : Members → Result (List StreamText) FlowsFault
+streams_in table = and_then (or_streams (read_at Streams as_array table)) streams_of_array
+
+-- the streams of a sketch's text: where it is TOML and no key is missing, each is read
+abbrev pub sketch_streams_of_text : List ℕ → Result (List StreamText) FlowsFault
+sketch_streams_of_text text =
+    and_then (or_streams (whole_document streams_keys Streams [] text)) (λ table.
+    refuse (first_lack_of table) (λ fault. fault) (streams_in table))

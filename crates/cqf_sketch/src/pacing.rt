@@ -1,0 +1,81 @@
+//! In which cycles a stream of a sketch is to be offered.
+ghost use Rattle.std.specs.Prelude.{◌≡◌, codes, ok_or, option_map};
+ghost use Rattle.toml.specs.Data.{as_bool, get_member};
+ghost use Rattle.toml.specs.View.{table_view, view};
+ghost use Rattle.cqf_sketch.specs.StreamsText.{first_given, in_step_at, pacing_by, pacing_from};
+
+use cqf_topology::{Key, StreamsFault, number_or, value_at};
+use cqf_traffic::FlowsFault;
+use toml::{Table, Value};
+
+/// In which cycles a stream is to be offered.
+#[derive(Clone, Copy, Debug)]
+pub enum Pacing {
+    /// In one of `every` cycles, the first of which is `phase`.
+    Given { every: u32, phase: u32 },
+    /// Its talker is in step with the network, so the plan says in which.
+    InStep,
+}
+
+/// Whether a value means a talker in step.
+fn is_in_step(value: &Value) -> Result<bool, FlowsFault>
+    ensures { result ≡ ok_or (as_bool (view value.now)) FlowsFault.BadInStep }
+{
+    match value.as_bool() {
+        Some(in_step) => Ok(in_step),
+        None => Err(FlowsFault::BadInStep),
+    }
+}
+
+/// What stands at `in-step` of a stream's table.
+fn in_step_value(table: &Table) -> Option<&Value>
+    ensures { option_map (λ v. view v.now) result ≡ get_member (codes "in-step") (table_view table.now) }
+{
+    table.get("in-step")
+}
+
+/// Whether the talker of a stream's table is in step.
+fn read_in_step(table: &Table) -> Result<bool, FlowsFault>
+    ensures { result ≡ in_step_at (table_view table.now) }
+{
+    match in_step_value(table) {
+        Some(value) => is_in_step(value),
+        None => Ok(false),
+    }
+}
+
+/// The first key that stands in a stream's table and says in which cycles it is offered.
+fn first_given(table: &Table) -> Option<Key>
+    ensures { result ≡ first_given (table_view table.now) }
+{
+    if value_at(table, Key::Every).is_some() {
+        return Some(Key::Every);
+    }
+    if value_at(table, Key::Phase).is_some() {
+        return Some(Key::Phase);
+    }
+    None
+}
+
+/// The pacing of a stream's table with these cycles, whose talker may be in step.
+fn pacing_by(table: &Table, every: u32, phase: u32, in_step: bool) -> Result<Pacing, FlowsFault>
+    ensures { result ≡ pacing_by every phase in_step (table_view table.now) }
+{
+    if !in_step {
+        return Ok(Pacing::Given { every, phase });
+    }
+    match first_given(table) {
+        Some(key) => Err(FlowsFault::Streams(StreamsFault::BadValue(key))),
+        None => Ok(Pacing::InStep),
+    }
+}
+
+/// In which cycles the stream of a table is to be offered.
+pub(crate) fn read_pacing(table: &Table) -> Result<Pacing, FlowsFault>
+    ensures { result ≡ pacing_from (table_view table.now) }
+{
+    let every = number_or(table, Key::Every, 1)?;
+    let phase = number_or(table, Key::Phase, 0)?;
+    let in_step = read_in_step(table)?;
+    pacing_by(table, every, phase, in_step)
+}

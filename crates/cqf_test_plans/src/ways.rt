@@ -1,0 +1,108 @@
+//! The first ways through a small network, by hand.
+ghost use Rattle.std.specs.Prelude.{◌≡◌, ◌<◌, All, true};
+ghost use Rattle.cqf_model.specs.Limits.{most_bridges};
+
+use cqf_model::{Link, MOST_BRIDGES, Node};
+use cqf_sketch::{Room, WaysFault, first_short, first_way, first_ways};
+use cqf_units::Rate;
+use std::alloc::Global;
+
+/// A link of a network.
+const fn link(from: u16, to: Node) -> Link {
+    Link {
+        from,
+        to,
+        rate: Rate::Mb1000,
+        delay: 500,
+    }
+}
+
+/// From bridge 0 to 1 and to 2, from both of these to station 0, and from 2 to station 1.
+fn links() -> [Link; 5] {
+    [
+        link(0, Node::Bridge(1)),
+        link(0, Node::Bridge(2)),
+        link(1, Node::Station(0)),
+        link(2, Node::Station(0)),
+        link(2, Node::Station(1)),
+    ]
+}
+
+/// Whether each link leaves a bridge that may be.
+fn leave_bridges(links: &[Link]) -> bool
+    ensures { result ≡ true → All (λ link. link.from < most_bridges) links.now }
+{
+    links
+        .iter()
+        .all(|link| usize::from(link.from) < MOST_BRIDGES)
+}
+
+/// Whether the first way from bridge 0 to station 0 is this, where so much is left.
+fn goes(left: &[u32], wanted: Option<&[u16]>) -> bool {
+    let links = links();
+    if !leave_bridges(&links) {
+        return false;
+    }
+    let room = Room {
+        links: &links,
+        left,
+        cost: 100,
+    };
+    match first_way(room, 0, Node::Station(0)) {
+        Some(way) => match wanted {
+            Some(wanted) => way.as_slice() == wanted,
+            None => false,
+        },
+        None => wanted.is_none(),
+    }
+}
+
+/// The lower numbers count, room as much as the cost is enough, and where none is left there is no way.
+#[test]
+fn the_first_way_has_room(rt: HostRuntime) {
+    assert!(rt; goes(&[100, 100, 100, 100, 100], Some(&[0, 2])));
+    assert!(rt; goes(&[100, 100, 99, 100, 100], Some(&[1, 3])));
+    assert!(rt; goes(&[100, 100, 99, 99, 100], None));
+    assert!(rt; goes(&[99, 100, 100, 100, 100], Some(&[1, 3])));
+}
+
+/// Whether the first ways to stations 0 and 1 are these.
+fn goes_to_both(alloc: Global, left: &[u32], first: &[u16], second: &[u16]) -> bool {
+    let links = links();
+    if !leave_bridges(&links) {
+        return false;
+    }
+    let room = Room {
+        links: &links,
+        left,
+        cost: 100,
+    };
+    match first_ways(alloc, room, 0, &[0, 1]) {
+        Ok(ways) => {
+            ways.len() == 2
+                && ways.as_slice()[0].as_slice() == first
+                && ways.as_slice()[1].as_slice() == second
+        }
+        Err(_) => false,
+    }
+}
+
+/// Each station has its way, and the first without one is told.
+#[test]
+fn each_station_has_its_way(rt: HostRuntime) {
+    assert!(rt; goes_to_both(rt.alloc(), &[100, 100, 100, 100, 100], &[0, 2], &[1, 4]));
+    let links = links();
+    assert!(rt; leave_bridges(&links));
+    let left = [100, 99, 100, 100, 100];
+    let room = Room {
+        links: &links,
+        left: &left,
+        cost: 100,
+    };
+    match first_ways(rt.alloc(), room, 0, &[0, 1]) {
+        Ok(_) => assert!(rt; false),
+        Err(fault) => assert!(rt; fault == WaysFault::NoWay(1)),
+    }
+    assert!(rt; first_short(room, &[1, 4]) == Some(1));
+    assert!(rt; first_short(room, &[0, 2]).is_none());
+}

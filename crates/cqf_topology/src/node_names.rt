@@ -1,0 +1,54 @@
+//! The names of a domain's nodes and links, as texts have them (profile).
+
+ghost use Rattle.cqf_press.specs.Press.{Puts};
+ghost use Rattle.cqf_topology.specs.NodeNames.{ends_of_link, name_of_bridge, name_of_link, name_of_node};
+
+use crate::Domain;
+use cqf_model::{Link, Node};
+use cqf_press::{Press, Sink};
+
+/// Puts the name of a bridge. A bridge that the domain lacks has none.
+pub fn put_bridge<W: Sink>(press: &mut Press<'_, W>, domain: &Domain, bridge: u16)
+    ensures { Puts W.contents press.old press.new (name_of_bridge domain.now bridge) }
+{
+    if bridge < domain.bridges() {
+        press.put(domain.bridge_name(bridge).as_bytes());
+    }
+}
+
+/// Puts the name of a station. A station that the domain lacks has none.
+fn put_station<W: Sink>(press: &mut Press<'_, W>, domain: &Domain, station: u16)
+    ensures { Puts W.contents press.old press.new (name_of_node domain.now (Node.Station station)) }
+{
+    if station < domain.stations() {
+        press.put(domain.station_name(station).as_bytes());
+    }
+}
+
+/// Puts the name of a node. One that the domain lacks has none.
+pub fn put_node<W: Sink>(press: &mut Press<'_, W>, domain: &Domain, node: Node)
+    ensures { Puts W.contents press.old press.new (name_of_node domain.now node) }
+{
+    match node {
+        Node::Bridge(bridge) => put_bridge(press, domain, bridge),
+        Node::Station(station) => put_station(press, domain, station),
+    }
+}
+
+/// Puts a link by the names of its ends, as `FROM>TO`.
+pub fn put_ends<W: Sink>(press: &mut Press<'_, W>, domain: &Domain, link: Link)
+    ensures { Puts W.contents press.old press.new (ends_of_link domain.now link) }
+{
+    put_bridge(press, domain, link.from);
+    press.put_byte(b'>');
+    put_node(press, domain, link.to);
+}
+
+/// Puts a link by the names of its ends. A link that the domain lacks has none.
+pub fn put_link<W: Sink>(press: &mut Press<'_, W>, domain: &Domain, link: u16)
+    ensures { Puts W.contents press.old press.new (name_of_link domain.now link) }
+{
+    if link < domain.links() {
+        put_ends(press, domain, domain.link(link));
+    }
+}

@@ -1,0 +1,26 @@
+-- What streams offer so keeps their talkers' word.
+use Rattle.std.specs.Prelude.{ℕ, ◌≡◌, ◌+◌, ◌*◌, ◌/◌, ◌%◌, ◌<◌, List, Contains, Option, Some, slice_get}
+use Rattle.cqf_units.specs.Timing.{cycle_at}
+use Rattle.cqf_model.specs.declared.frames.Offer.{Offer}
+use Rattle.cqf_laws_timing.specs.Traffic.{Conforms, offers_named}
+use Rattle.cqf_traffic.specs.TrafficText.{IsTrafficText, TrafficText, promise_of}
+use Rattle.cqf_traffic.specs.declared.senders.TalkerStream.{TalkerStream}
+use Rattle.cqf_traffic.specs.Offering.{offers_before}
+
+-- no two streams have one name
+abbrev pub AreNamedApart : List TalkerStream → Type 0
+AreNamedApart senders = (i k : ℕ) (a b : TalkerStream) → i < k → slice_get senders i ≡ Some a → slice_get senders k ≡ Some b → a.name ≡ b.name → ⊥
+
+-- for every seed, and without one, all that is offered of a stream with traffic keeps its talker's word
+abbrev pub OffersConform : Type 0
+OffersConform = (until : ℕ) (seed : Option ℕ) (senders : List TalkerStream) (sender : TalkerStream) (t : TrafficText) → AreNamedApart senders →
+    Contains senders sender → sender.traffic ≡ Some t → IsTrafficText t → Conforms (promise_of t) (offers_named sender.name (offers_before until seed senders))
+
+-- where each interval is some times so many cycles long, and a frame that is as late as may be comes in the cycle in which it stands on the
+-- grid, all that is offered of a stream comes in one of so many cycles, those as far from one another as from that in which its offers begin
+abbrev pub OffersComeInTurns : Type 0
+OffersComeInTurns = (until : ℕ) (seed : Option ℕ) (senders : List TalkerStream) (sender : TalkerStream) (t : TrafficText) (cycle_time every : ℕ) →
+    AreNamedApart senders → Contains senders sender → sender.traffic ≡ Some t → 0 < cycle_time → 0 < every →
+    t.interval % (every * cycle_time) ≡ 0 → t.offset % cycle_time + t.jitter < cycle_time →
+    (x : Offer) → Contains (offers_named sender.name (offers_before until seed senders)) x →
+    cycle_at cycle_time x.at.0 % every ≡ t.offset / cycle_time % every

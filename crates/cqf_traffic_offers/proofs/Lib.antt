@@ -1,3 +1,0 @@
-mod Arranging
-mod Keeping
-mod Putting

@@ -1,6 +1,0 @@
-use Rattle.cqf_traffic_offers.specs.Offering.{words_of}
-use Rattle.cqf_traffic_offers.proofs.Putting.{ArePut}
-use Rattle.cqf_traffic_offers.proofs.making.put_blocks.Given as goal
-
-abbrev pub invariant-loop-block : goal.invariant-loop-block
-invariant-loop-block l = ArePut l.until.end.0 l.sender l.traffic (words_of l.until.seed l.number) l.initial.list.items l.block l.talker l.list.items

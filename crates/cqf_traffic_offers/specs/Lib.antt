@@ -1,2 +1,0 @@
-pub mod Offering
-pub mod Conforming

@@ -1,5 +1,0 @@
-pub mod Ways
-pub mod Steps
-pub mod Ends
-pub mod WayLaws
-pub mod Listeners

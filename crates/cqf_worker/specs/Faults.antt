@@ -1,0 +1,45 @@
+-- Why a run on threads gives no account (profile).
+use Rattle.std.specs.Prelude.{ℕ, ◌≡◌, ◌++◌, List, Bool, Option, Some, None, codes, decimal, false, if◌then◌else◌, nat_lt}
+use Rattle.cqf_bridge.specs.Faults.{text_of_fault}
+use Rattle.cqf_worker.specs.declared.faults.ConductFault.{ConductFault}
+use Rattle.cqf_worker.specs.declared.faults.ConductFault.TheVariants.{Memory, Bridge, DeskDisagrees, BookDisagrees, ChannelLost, Spawn}
+use Rattle.cqf_worker.specs.declared.faults.Faults.{Faults}
+
+-- the text of a fault: its name, and then its values
+abbrev pub conduct_fault_text : ConductFault → List ℕ
+conduct_fault_text Memory = codes "Memory"
+conduct_fault_text (Bridge bridge fault) = codes "Bridge " ++ (decimal bridge ++ (codes " " ++ text_of_fault fault))
+conduct_fault_text DeskDisagrees = codes "DeskDisagrees"
+conduct_fault_text BookDisagrees = codes "BookDisagrees"
+conduct_fault_text ChannelLost = codes "ChannelLost"
+conduct_fault_text Spawn = codes "Spawn"
+
+-- the order in which faults are told
+abbrev pub rank : ConductFault → ℕ
+rank Spawn = 0
+rank Memory = 1
+rank (Bridge bridge fault) = 2
+rank ChannelLost = 3
+rank DeskDisagrees = 4
+rank BookDisagrees = 5
+
+abbrev pub is_before : ConductFault → ConductFault → Bool
+is_before (Bridge one fault) (Bridge other reason) = nat_lt one other
+is_before one other = nat_lt (rank one) (rank other)
+
+-- which of two is told, where there was one before
+abbrev pub first_noted : Option ConductFault → ConductFault → ConductFault
+first_noted None fault = fault
+first_noted (Some first) fault = if is_before fault first then fault else first
+
+-- nothing has gone wrong
+abbrev pub IsClean : Faults → Type 0
+IsClean faults = (faults.first ≡ None) × (faults.is_stopped ≡ false)
+
+-- what is told: the first fault, and where there is none but a thread ended before its time, that an end of a pipe was lost
+abbrev pub told_of : Option ConductFault → Bool → Option ConductFault
+told_of (Some first) is_stopped = Some first
+told_of None is_stopped = if is_stopped then Some ChannelLost else None
+
+abbrev pub is_noted : Faults → Option ConductFault
+is_noted faults = told_of faults.first faults.is_stopped

@@ -1,0 +1,31 @@
+-- Which fault a run on threads may tell (profile).
+use Rattle.std.specs.Prelude.{ℕ, ◌<◌, ◌⊎◌, Contains, length}
+use Rattle.cqf_worker.specs.declared.faults.ConductFault.{ConductFault}
+use Rattle.cqf_worker.specs.declared.faults.ConductFault.TheVariants as conduct
+use Rattle.cqf_worker.specs.declared.threads.Administrator.{Administrator}
+use Rattle.cqf_worker.specs.declared.threads.ReadyRun.{ReadyRun}
+
+-- why a run doesn't begin: memory is refused, or not all of its threads are started
+abbrev pub IsStartFault : ConductFault → Type 0
+IsStartFault conduct.Memory = Unit {0}
+IsStartFault (conduct.Bridge bridge reason) = ⊥
+IsStartFault conduct.DeskDisagrees = ⊥
+IsStartFault conduct.BookDisagrees = ⊥
+IsStartFault conduct.ChannelLost = ⊥
+IsStartFault conduct.Spawn = Unit {0}
+
+-- one of the run's administrators has commands
+pub record OneCalls (r : ReadyRun) : Type 0 where
+  pub administrator : Administrator
+  pub there : Contains r.administrators.items administrator
+  pub some : 0 < length administrator.commands.items
+
+-- which fault may be told of a run: never that of a bridge; that the desk disagrees where cycles are to be closed, or an administrator has
+-- commands; never that the book does; and that an end of a pipe was lost where there are cycles to go through
+abbrev pub MayBeTold : ℕ → ReadyRun → ConductFault → Type 0
+MayBeTold cycles r conduct.Memory = Unit {0}
+MayBeTold cycles r (conduct.Bridge bridge reason) = ⊥
+MayBeTold cycles r conduct.DeskDisagrees = (0 < cycles) ⊎ OneCalls r
+MayBeTold cycles r conduct.BookDisagrees = ⊥
+MayBeTold cycles r conduct.ChannelLost = 0 < cycles
+MayBeTold cycles r conduct.Spawn = Unit {0}

@@ -1,0 +1,184 @@
+//! Closing the pipes of a run, when its threads have ended.
+ghost use Rattle.std.specs.Prelude.{◌≡◌, ◌==◌, ◌++◌, Contains, IfNone, IfOk, IfSome, IsErrOf, OnErr, OnOk, map};
+ghost use Rattle.std.specs.List.{flat_map, position};
+ghost use Rattle.cqf_worker.specs.Closing.{AreFedBy, AreGivenBy, ArePartsOf, HasLostOne, HaveMore, IsPartner, reel_at};
+ghost use Rattle.cqf_worker_loops.specs.Workers.{StretchPort};
+ghost use Rattle.cqf_worker.specs.Wires.{
+  AreFedByWires,
+  AreGiven,
+  AreOn,
+  AreWired,
+  LackEnds,
+  Wiring,
+  count_on,
+  ins_at,
+  outs_at,
+  pipe_of_tables,
+  tables_pipe,
+};
+
+use cqf_admission::Table;
+use cqf_relay::Stretch;
+use cqf_tape::Reel;
+use cqf_units::Memory;
+use cqf_worker_loops::{Carried, LinkEnd, PipeIn, PipeOut, Worker};
+use std::alloc::Global;
+
+/// Why the pipes of a run aren't closed (profile).
+#[derive(Clone, Copy, Debug, PartialEq, Eq, Drop)]
+pub enum ClosingFault {
+    /// A growth was refused.
+    Memory,
+    /// A taking end on a link lacks its putting end.
+    ChannelLost,
+}
+
+/// Want of memory, as a fault.
+impl From<Memory> for ClosingFault {
+    ghost use Rattle.cqf_worker.specs.declared.closing.ClosingFault.TheVariants as variant;
+
+    ghost from_gives = { λ _ fault. fault ≡ variant.Memory };
+
+    fn from(_refused: Memory) -> ClosingFault {
+        ClosingFault::Memory
+    }
+}
+
+/// What workers had, apart: their ends on links, worker by worker, and their table ends and reels, one a worker.
+#[derive(Drop)]
+struct Parts {
+    ins: Vec<LinkEnd<PipeOut<Carried<Stretch>>>>,
+    outs: Vec<LinkEnd<PipeIn<Carried<Stretch>>>>,
+    tables: Vec<PipeOut<Carried<Table>>>,
+    reels: Vec<Reel>,
+}
+
+/// Puts more at the end of a list.
+fn append<T: Drop>(list: &mut Vec<T>, more: Vec<T>) -> Result<(), Memory>
+    ensures { OnOk result (list.new.items ≡ list.old.items ++ more.items) }
+{
+    for item in more {
+        list.push(item)?;
+    }
+    Ok(())
+}
+
+/// Puts what a worker had behind the others' parts.
+fn add_parts(parts: &mut Parts, worker: Worker) -> Result<(), Memory>
+    ensures { OnOk result (HaveMore parts.old parts.new worker) }
+{
+    let Worker {
+        relay: _relay,
+        bell: _bell,
+        agenda: _agenda,
+        tables,
+        ins,
+        outs,
+        reel,
+    } = worker;
+    append(&mut parts.ins, ins)?;
+    append(&mut parts.outs, outs)?;
+    parts.tables.push(tables)?;
+    parts.reels.push(reel)?;
+    Ok(())
+}
+
+/// The parts of all workers, in their order.
+fn take_apart(alloc: Global, workers: Vec<Worker>) -> Result<Parts, Memory>
+    ensures { IfOk result (λ parts. ArePartsOf workers.items parts) }
+{
+    let mut parts = Parts {
+        ins: Vec::new(alloc),
+        outs: Vec::new(alloc),
+        tables: Vec::new(alloc),
+        reels: Vec::new(alloc),
+    };
+    for worker in workers {
+        add_parts(&mut parts, worker)?;
+    }
+    Ok(parts)
+}
+
+/// The place of the first putting end of a link.
+fn place_of(outs: &[LinkEnd<PipeIn<Carried<Stretch>>>], link: u16) -> Option<usize>
+    ensures { result ≡ position (λ (out : StretchPort). out.link == link) outs.now }
+{
+    outs.iter().position(|out| out.link == link)
+}
+
+/// Takes the first putting end of a link from among others.
+fn take_partner(
+    outs: &mut Vec<LinkEnd<PipeIn<Carried<Stretch>>>>,
+    link: u16,
+) -> Option<PipeIn<Carried<Stretch>>>
+    ensures some { IfSome result (λ end. IsPartner outs.old.items link end) }
+    ensures rest { (out : StretchPort) → Contains outs.new.items out → Contains outs.old.items out }
+    ensures one { IfSome result (λ end. HasLostOne link outs.old.items outs.new.items) }
+    ensures none { IfNone result (count_on link outs.old.items ≡ 0) }
+{
+    match place_of(outs.as_slice(), link) {
+        Some(place) => Some(outs.remove(place).pipe),
+        None => None,
+    }
+}
+
+/// Closes the pipes on links, each with its two ends.
+fn close_links(
+    ins: Vec<LinkEnd<PipeOut<Carried<Stretch>>>>,
+    outs: Vec<LinkEnd<PipeIn<Carried<Stretch>>>>,
+) -> Result<(), ClosingFault>
+    requires { (wiring : Wiring) × AreOn wiring ins.items × AreOn wiring outs.items }
+    ensures fed { OnOk result (AreFedBy outs.items ins.items) }
+    ensures lost { OnErr result (LackEnds ins.items outs.items) }
+{
+    let mut left = outs;
+    for taking in ins {
+        let Some(putting) = take_partner(&mut left, taking.link) else {
+            return Err(ClosingFault::ChannelLost);
+        };
+        let _under_way = putting.close(taking.pipe);
+    }
+    Ok(())
+}
+
+/// Closes the pipes of tables, place by place.
+fn close_tables(ins: Vec<PipeIn<Carried<Table>>>, outs: Vec<PipeOut<Carried<Table>>>)
+    requires { map pipe_of_tables ins.items ≡ map pipe_of_tables outs.items }
+    ensures { AreGivenBy ins.items outs.items }
+{
+    let mut others = outs.into_iter();
+    for putting in ins {
+        let Some(taking) = others.next() else {
+            unreachable!()
+        };
+        let _under_way = putting.close(taking);
+    }
+}
+
+/// Closes all pipes of a run when its threads have ended: those on links between bridges, whose ends the workers have, and those
+/// of tables, whose putting ends stand by number of worker. It gives back the workers' reels, by worker. `Memory` where a growth
+/// is refused, and `ChannelLost` where there are fewer putting than taking ends of a link; then the ends and reels are gone. The
+/// workers' ends are of the pipe on their link, and the ends for tables of the workers' pipes, as `lay` gives them. It waits for nobody.
+pub fn close_pipes(
+    alloc: Global,
+    tables: Vec<PipeIn<Carried<Table>>>,
+    workers: Vec<Worker>,
+) -> Result<Vec<Reel>, ClosingFault>
+    requires wired { (wiring : Wiring) × AreWired wiring workers.items }
+    requires tables { map pipe_of_tables tables.items ≡ map tables_pipe workers.items }
+    ensures fed { OnOk result (AreFedByWires workers.items) }
+    ensures given { OnOk result (AreGiven tables.items workers.items) }
+    ensures reels { IfOk result (λ reels. reels.items ≡ map reel_at workers.items) }
+    ensures lost { IsErrOf result ClosingFault.ChannelLost → LackEnds (flat_map ins_at workers.items) (flat_map outs_at workers.items) }
+{
+    let parts = take_apart(alloc, workers)?;
+    let Parts {
+        ins,
+        outs,
+        tables: takings,
+        reels,
+    } = parts;
+    close_links(ins, outs)?;
+    close_tables(tables, takings);
+    Ok(reels)
+}

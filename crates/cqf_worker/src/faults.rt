@@ -1,0 +1,143 @@
+//! Why a run on threads gives no account.
+ghost use Rattle.std.specs.Prelude.{◌≡◌, IfNone, Some, true};
+ghost use Rattle.cqf_worker.specs.Faults.{IsClean, conduct_fault_text, first_noted, is_before, is_noted, rank};
+
+use cqf_bridge::BridgeFault;
+use cqf_units::Memory;
+use std::alloc::AllocFailed;
+use std::fmt;
+use thiserror::Error;
+
+/// Why a run on threads gives no account. Of several causes that its threads note, or that closing it has, it tells the first in the
+/// order Spawn, Memory, Bridge, ChannelLost, DeskDisagrees, BookDisagrees (profile); a run that can't begin, or whose threads failed, is
+/// not closed. It prints as its name, and then its values.
+#[derive(Clone, Copy, Debug, PartialEq, Eq, Drop, Error)]
+pub enum ConductFault {
+    /// A growth was refused outside a bridge.
+    Memory,
+    /// This bridge refused a cycle, for this reason: of those that did, the one with the least number. No run tells it: a worker has no
+    /// bridge that refuses.
+    Bridge(u16, BridgeFault),
+    /// The desk's history isn't that of its seats, or had no room for a call or a Seal.
+    DeskDisagrees,
+    /// The book isn't that of its bridges. No run tells it: what a bridge sends and drops stands nowhere but on its own reel.
+    BookDisagrees,
+    /// An end of a pipe was gone, though no thread has failed.
+    ChannelLost,
+    /// A thread couldn't be started, or there are more administrators than a desk has seats for.
+    Spawn,
+}
+
+impl fmt::Display for ConductFault {
+    ghost output = { λ fault. Some (conduct_fault_text fault) };
+
+    fn fmt<W: fmt::Write>(&self, f: &mut fmt::Formatter<W>) -> fmt::Result {
+        match self {
+            ConductFault::Memory => f.write_str("Memory"),
+            ConductFault::Bridge(bridge, fault) => write!(f, "Bridge {bridge} {fault}"),
+            ConductFault::DeskDisagrees => f.write_str("DeskDisagrees"),
+            ConductFault::BookDisagrees => f.write_str("BookDisagrees"),
+            ConductFault::ChannelLost => f.write_str("ChannelLost"),
+            ConductFault::Spawn => f.write_str("Spawn"),
+        }
+    }
+}
+
+/// Want of memory, as a fault.
+impl From<Memory> for ConductFault {
+    ghost use Rattle.cqf_worker.specs.declared.faults.ConductFault.TheVariants as variant;
+
+    ghost from_gives = { λ _ fault. fault ≡ variant.Memory };
+
+    fn from(_refused: Memory) -> ConductFault {
+        ConductFault::Memory
+    }
+}
+
+/// Want of room for a value, likewise.
+impl<T: Drop> From<AllocFailed<T>> for ConductFault {
+    ghost use Rattle.cqf_worker.specs.declared.faults.ConductFault.TheVariants as variant;
+
+    ghost from_gives = { λ _ fault. fault ≡ variant.Memory };
+
+    fn from(_refused: AllocFailed<T>) -> ConductFault {
+        ConductFault::Memory
+    }
+}
+
+/// A fault's place in the order in which faults are told.
+fn place_of(fault: ConductFault) -> u8
+    ensures { result ≡ rank fault }
+{
+    match fault {
+        ConductFault::Spawn => 0,
+        ConductFault::Memory => 1,
+        ConductFault::Bridge(_, _) => 2,
+        ConductFault::ChannelLost => 3,
+        ConductFault::DeskDisagrees => 4,
+        ConductFault::BookDisagrees => 5,
+    }
+}
+
+/// Whether a fault is told before another: by its place, and of two bridges the one with the lesser number.
+fn comes_before(one: ConductFault, other: ConductFault) -> bool
+    ensures { result ≡ is_before one other }
+{
+    match (one, other) {
+        (ConductFault::Bridge(bridge, _), ConductFault::Bridge(another, _)) => bridge < another,
+        _ => place_of(one) < place_of(other),
+    }
+}
+
+/// What has gone wrong in a run so far.
+#[derive(Clone, Copy, Debug, Drop)]
+pub struct Faults {
+    /// The fault to be told first.
+    pub first: Option<ConductFault>,
+    /// Whether a thread ended before its time for no cause of its own.
+    pub is_stopped: bool,
+}
+
+impl Faults {
+    /// Nothing has gone wrong.
+    pub fn none() -> Faults
+        ensures { IsClean result }
+    {
+        Faults {
+            first: None,
+            is_stopped: false,
+        }
+    }
+
+    /// Notes a fault. Of it and the one noted before, the one that [`ConductFault`] tells first stays, and of two that stand alike
+    /// the one noted before.
+    pub fn note(&mut self, fault: ConductFault)
+        ensures first { self.new.first ≡ Some (first_noted self.old.first fault) }
+        ensures stopped { self.new.is_stopped ≡ self.old.is_stopped }
+    {
+        self.first = match self.first {
+            Some(first) if !comes_before(fault, first) => Some(first),
+            _ => Some(fault),
+        };
+    }
+
+    /// A thread has ended before its time for no cause of its own.
+    pub fn note_stop(&mut self)
+        ensures { self.new ≡ record self.old { is_stopped = true } }
+    {
+        self.is_stopped = true;
+    }
+
+    /// The fault that is told, if anything has gone wrong: where no thread failed, but one ended before its time, an end of a pipe
+    /// was lost.
+    pub fn told(self) -> Option<ConductFault>
+        ensures told { result ≡ is_noted self }
+        ensures clean { IfNone result (IsClean self) }
+    {
+        match self.first {
+            Some(first) => Some(first),
+            None if self.is_stopped => Some(ConductFault::ChannelLost),
+            None => None,
+        }
+    }
+}

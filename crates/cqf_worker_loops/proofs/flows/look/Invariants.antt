@@ -1,7 +1,0 @@
-use Rattle.std.proofs.Common.{◌≡◌, length}
-use Rattle.cqf_worker_loops.specs.Stepping.{GoesFurther}
-use Rattle.cqf_worker_loops.proofs.flows.look.Given as goal
-
--- it has gone on, of whatever traffic it was under way, with as many inlets
-abbrev pub invariant-loop-place : goal.invariant-loop-place
-invariant-loop-place g l = GoesFurther l.fn.worker l.worker × (l.place-end ≡ length l.worker.ins.items)

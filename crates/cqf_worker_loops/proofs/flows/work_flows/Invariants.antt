@@ -1,6 +1,0 @@
-use Rattle.cqf_worker_loops.specs.Stepping.{GoesFurther}
-use Rattle.cqf_worker_loops.proofs.flows.work_flows.Given as goal
-
--- it has gone on, of whatever traffic it was under way
-abbrev pub invariant-loop-round : goal.invariant-loop-round
-invariant-loop-round g l = GoesFurther l.fn.worker l.worker

@@ -1,0 +1,372 @@
+//! The two ends of a pipe.
+ghost use Rattle.std.specs.Prelude.{◌≡◌, ◌+◌, ◌<◌, ◌++◌, [], ◌∷◌, IfErr, IfNone, IfOk, IfSome, OnOk, length};
+ghost use Rattle.crossbeam_channel.specs.Claims.{IsSeatAt, view};
+ghost use Rattle.crossbeam_channel.specs.Ends.{receives_on};
+ghost use Rattle.cqf_worker_loops.specs.PipeEnds.{AreLeft, IsTaker, item_back, items_found};
+ghost use Rattle.cqf_worker_loops.specs.PipeRule.{IsTaken, most_items};
+
+use crate::bells::{Bell, Ringer};
+use crate::pipe_rule::{
+    Bundle, InOrder, PipeLog, PipeReceiver, PipeSender, Puts, Roles, Takes, Token, Total,
+};
+use cqf_units::Memory;
+use crossbeam_channel::{TryRecvError, TrySendError, bounded_with};
+use std::alloc::Global;
+use std::collections::VecDeque;
+use std::marker::Model;
+use std::sync::Wait;
+use std::thread;
+
+/// How many items wait in a pipe at most, those that were put at once as one.
+const CAPACITY: usize = 4;
+
+/// How often the taking end looks for an item before it waits. With more threads than processors the item has mostly come once
+/// others had their turn, and then nobody need be woken.
+const LOOKS: u32 = 32;
+
+/// The end of a pipe at which items are put. Contracts see which pipe it is, and the items that were put, in order.
+#[derive(Drop)]
+pub struct PipeIn<T: Drop> {
+    alloc: Global,
+    sender: PipeSender<T>,
+    pass: Token<T>,
+    puts: u64,
+    /// What is rung after each put, and when the end is gone: a field is let go of behind those before it.
+    bell: Option<Ringer>,
+}
+
+impl<T: Drop> Model for PipeIn<T> {
+    ghost use Rattle.std.specs.Prelude.{◌≡◌, ◌≤◌, length};
+    ghost use Rattle.crossbeam_channel.specs.Claims.{IsSeatAt};
+    ghost use Rattle.crossbeam_channel.specs.Ends.{sends_on};
+    ghost use Rattle.cqf_worker_loops.specs.PipeEnds.{End, IsPutter, pipe_of, put_by};
+    ghost use Rattle.cqf_worker_loops.specs.PipeRule.{most_items};
+
+    ghost Value = { End T };
+
+    ghost view = { λ s. record { pipe = pipe_of s.pass; items = put_by s.pass } };
+
+    ghost invariant = { λ s. IsSeatAt (sends_on s.sender) s.pass × IsPutter s.pass × (s.puts ≡ length (put_by s.pass)) × (s.puts ≤ most_items) };
+}
+
+/// The end of a pipe at which items are taken. Contracts see which pipe it is, and the items that were taken, in order.
+#[derive(Drop)]
+pub struct PipeOut<T: Drop> {
+    receiver: PipeReceiver<T>,
+    pass: Token<T>,
+    /// What was taken from the pipe with an item before it, and waits to be handed out.
+    waiting: VecDeque<T>,
+    takes: u64,
+    /// How many were taken since none was found, those that were put at once as one.
+    streak: usize,
+    /// What is rung when none is found behind so many that the pipe may have been full, since there is room again, and when the end is gone.
+    bell: Option<Ringer>,
+}
+
+impl<T: Drop> Model for PipeOut<T> {
+    ghost use Rattle.std.specs.Prelude.{◌≡◌, ◌≤◌, ◌++◌, length};
+    ghost use Rattle.crossbeam_channel.specs.Claims.{IsSeatAt};
+    ghost use Rattle.crossbeam_channel.specs.Ends.{receives_on};
+    ghost use Rattle.cqf_worker_loops.specs.PipeEnds.{End, IsTaker, handed_by, pipe_of, items_taken};
+    ghost use Rattle.cqf_worker_loops.specs.PipeRule.{most_items};
+
+    ghost Value = { End T };
+
+    ghost view = { λ s. record { pipe = pipe_of s.pass; items = handed_by s.pass s.waiting.items } };
+
+    ghost invariant = { λ s. IsSeatAt (receives_on s.receiver) s.pass × IsTaker s.pass × (length (items_taken s.pass) ≤ most_items)
+        × (items_taken s.pass ≡ handed_by s.pass s.waiting.items ++ s.waiting.items) × (s.takes ≡ length (handed_by s.pass s.waiting.items)) };
+}
+
+/// What a look at a pipe finds.
+#[derive(Drop)]
+pub enum FoundItem<T> {
+    /// The item that was put first of those that wait.
+    Item(T),
+    /// None waits.
+    Nothing,
+    /// None waits, and the other end is gone.
+    Gone,
+}
+
+/// Why an item wasn't put at once; it comes back.
+#[derive(Drop)]
+pub enum NotPut<T> {
+    /// The pipe was full.
+    Full(T),
+    /// The other end is gone.
+    Gone(T),
+}
+
+/// The two ends of a pipe, at which nothing was put or taken yet. Four items can wait in it, and items that were put at once
+/// count as one. `Memory` where a growth is refused.
+pub fn pipe<T: Drop + Send>(alloc: Global) -> Result<(PipeIn<T>, PipeOut<T>), Memory>
+    ensures pair { IfOk result (λ ends. ends.0.pipe ≡ ends.1.pipe) }
+    ensures nothing_put { IfOk result (λ ends. ends.0.items ≡ []) }
+    ensures nothing_taken { IfOk result (λ ends. ends.1.items ≡ []) }
+{
+    let ends = pipe_with(alloc, None, None)?;
+    Ok(ends)
+}
+
+/// The two ends of such a pipe to a thread that waits at a bell, which is rung after each put, and when the putting end is gone.
+pub fn pipe_to<T: Drop + Send>(
+    alloc: Global,
+    taker: &Bell,
+) -> Result<(PipeIn<T>, PipeOut<T>), Memory>
+    ensures pair { IfOk result (λ ends. ends.0.pipe ≡ ends.1.pipe) }
+    ensures nothing_put { IfOk result (λ ends. ends.0.items ≡ []) }
+    ensures nothing_taken { IfOk result (λ ends. ends.1.items ≡ []) }
+{
+    let ringer = taker.ringer()?;
+    let ends = pipe_with(alloc, Some(ringer), None)?;
+    Ok(ends)
+}
+
+/// The two ends of such a pipe between two threads that wait at bells: that of the taking one is rung likewise, and that of the putting one
+/// when there is room in the pipe again, and when the taking end is gone.
+pub fn pipe_between<T: Drop + Send>(
+    alloc: Global,
+    putter: &Bell,
+    taker: &Bell,
+) -> Result<(PipeIn<T>, PipeOut<T>), Memory>
+    ensures pair { IfOk result (λ ends. ends.0.pipe ≡ ends.1.pipe) }
+    ensures nothing_put { IfOk result (λ ends. ends.0.items ≡ []) }
+    ensures nothing_taken { IfOk result (λ ends. ends.1.items ≡ []) }
+{
+    let onward = taker.ringer()?;
+    let back = putter.ringer()?;
+    let ends = pipe_with(alloc, Some(onward), Some(back))?;
+    Ok(ends)
+}
+
+/// The two ends of such a pipe, with what is rung after each put, and when there is room again.
+fn pipe_with<T: Drop + Send>(
+    alloc: Global,
+    onward: Option<Ringer>,
+    back: Option<Ringer>,
+) -> Result<(PipeIn<T>, PipeOut<T>), Memory>
+    ensures pair { IfOk result (λ ends. ends.0.pipe ≡ ends.1.pipe) }
+    ensures nothing_put { IfOk result (λ ends. ends.0.items ≡ []) }
+    ensures nothing_taken { IfOk result (λ ends. ends.1.items ≡ []) }
+{
+    let (sender, receiver, mut pass) = bounded_with::<Bundle<T>, PipeLog<T>, InOrder, Global>(
+        alloc, CAPACITY,
+    )?;
+    let other = sender.another::<Roles>(&mut pass);
+    let into = PipeIn {
+        alloc,
+        sender,
+        pass,
+        puts: 0,
+        bell: onward,
+    };
+    let out = PipeOut {
+        receiver,
+        pass: other,
+        waiting: VecDeque::new(alloc),
+        takes: 0,
+        streak: 0,
+        bell: back,
+    };
+    Ok((into, out))
+}
+
+/// Rings a bell, where there is one.
+fn ring(bell: &Option<Ringer>) {
+    if let Some(ringer) = bell {
+        ringer.ring();
+    }
+}
+
+/// Takes the bundle that was put first of those in the channel. It looks for it, and lets other threads run before it looks again;
+/// then it waits while there is none, and answers none where the other end is gone too. It takes no memory.
+fn receive<T: Drop, R: Wait>(
+    rt: &R,
+    receiver: &PipeReceiver<T>,
+    pass: &mut Token<T>,
+) -> Option<Bundle<T>>
+    requires channel { IsSeatAt (receives_on receiver.now) pass.old }
+    requires taker { IsTaker pass.old }
+    ensures channel { IsSeatAt (receives_on receiver.now) pass.new × (pass.new.id ≡ pass.old.id) }
+    ensures some { IfSome result (λ bundle. IsTaken (view pass.old) bundle (view pass.new)) }
+    ensures none { IfNone result (view pass.new ≡ view pass.old) }
+{
+    for _ in 0..LOOKS {
+        if let Ok(bundle) = receiver.try_recv_as::<Takes, R>(rt, pass) {
+            return Some(bundle);
+        }
+        thread::yield_now();
+    }
+    match receiver.recv_as::<Takes, R>(rt, pass) {
+        Ok(bundle) => Some(bundle),
+        Err(_) => None,
+    }
+}
+
+impl<T: Drop> PipeIn<T> {
+    /// Puts an item in the pipe, up to a million in all. It waits while the pipe is full. Where the other end is gone the item
+    /// comes back, and nothing was put. It takes no memory.
+    pub fn put<R: Wait>(&mut self, rt: &R, item: T) -> Result<(), T>
+        requires room { length self.old.items < most_items }
+        ensures pipe { self.new.pipe ≡ self.old.pipe }
+        ensures ok { OnOk result (self.new.items ≡ self.old.items ++ item ∷ []) }
+        ensures err { IfErr result (λ back. self.new.items ≡ self.old.items) }
+        ensures back { IfErr result (λ back. back ≡ item) }
+    {
+        match self.put_with(rt, item, VecDeque::new(self.alloc)) {
+            Ok(()) => Ok(()),
+            Err((back, _none)) => Err(back),
+        }
+    }
+
+    /// Puts an item in the pipe, and others behind it at once, up to a million in all: they wait in the pipe as one. It waits
+    /// while the pipe is full. Where the other end is gone all come back, and nothing was put. It takes no memory.
+    pub fn put_with<R: Wait>(
+        &mut self,
+        rt: &R,
+        first: T,
+        behind: VecDeque<T>,
+    ) -> Result<(), (T, VecDeque<T>)>
+        requires room { length self.old.items + length behind.items < most_items }
+        ensures pipe { self.new.pipe ≡ self.old.pipe }
+        ensures ok { OnOk result (self.new.items ≡ self.old.items ++ first ∷ behind.items) }
+        ensures err { IfErr result (λ back. self.new.items ≡ self.old.items) }
+        ensures back { IfErr result (λ back. (back.0 ≡ first) × (back.1.items ≡ behind.items)) }
+    {
+        let count = behind.len() as u64 + 1;
+        let bundle = Bundle { first, behind };
+        match self.sender.send_as::<Puts, R>(rt, &mut self.pass, bundle) {
+            Ok(()) => {
+                self.puts += count;
+                ring(&self.bell);
+                Ok(())
+            }
+            Err(refused) => {
+                let Bundle { first, behind } = refused.into_inner();
+                Err((first, behind))
+            }
+        }
+    }
+
+    /// Puts an item in the pipe, up to a million in all, where there is room. Else it comes back, and nothing was put: `Full` where the pipe
+    /// was full, `Gone` where the other end is gone. It waits for nobody, and takes no memory.
+    pub fn try_put<R: Wait>(&mut self, rt: &R, item: T) -> Result<(), NotPut<T>>
+        requires room { length self.old.items < most_items }
+        ensures pipe { self.new.pipe ≡ self.old.pipe }
+        ensures ok { OnOk result (self.new.items ≡ self.old.items ++ item ∷ []) }
+        ensures err { IfErr result (λ back. self.new.items ≡ self.old.items) }
+        ensures back { IfErr result (λ back. item_back back ≡ item) }
+    {
+        let bundle = Bundle {
+            first: item,
+            behind: VecDeque::new(self.alloc),
+        };
+        match self
+            .sender
+            .try_send_as::<Puts, R>(rt, &mut self.pass, bundle)
+        {
+            Ok(()) => {
+                self.puts += 1;
+                ring(&self.bell);
+                Ok(())
+            }
+            Err(TrySendError::Full(back)) => {
+                let Bundle {
+                    first,
+                    behind: _none,
+                } = back;
+                Err(NotPut::Full(first))
+            }
+            Err(refused) => {
+                let Bundle {
+                    first,
+                    behind: _none,
+                } = refused.into_inner();
+                Err(NotPut::Gone(first))
+            }
+        }
+    }
+
+    /// How many items were put and not taken: these are gone then, and both ends. They are of one pipe. It waits for nobody
+    /// and takes no memory.
+    pub fn close(self, out: PipeOut<T>) -> u64
+        requires pair { self.pipe ≡ out.pipe }
+        ensures { AreLeft self.items out.items result }
+    {
+        let PipeIn {
+            alloc: _alloc,
+            sender,
+            mut pass,
+            puts,
+            bell: _onward,
+        } = self;
+        let PipeOut {
+            receiver: _receiver,
+            pass: other,
+            waiting: _waiting,
+            takes,
+            streak: _streak,
+            bell: _back,
+        } = out;
+        sender.absorb::<Roles>(&mut pass, other);
+        sender.learn_as::<Total>(&mut pass);
+        puts - takes
+    }
+}
+
+impl<T: Drop> PipeOut<T> {
+    /// Takes the item that was put first of those that wait, or says that none does, and whether the other end is gone. Where none waits, and
+    /// the pipe may have been full since that was so before, the bell of the other end's thread is rung: so whoever takes until none is left
+    /// leaves nobody waiting for room. It waits for nobody, and takes no memory.
+    pub fn look<R: Wait>(&mut self, rt: &R) -> FoundItem<T>
+        ensures pipe { self.new.pipe ≡ self.old.pipe }
+        ensures items { self.new.items ≡ self.old.items ++ items_found result }
+    {
+        if let Some(item) = self.waiting.pop_front() {
+            self.takes += 1;
+            return FoundItem::Item(item);
+        }
+        match self.receiver.try_recv_as::<Takes, R>(rt, &mut self.pass) {
+            Ok(bundle) => {
+                let Bundle { first, behind } = bundle;
+                self.waiting = behind;
+                self.takes += 1;
+                self.streak = self.streak.saturating_add(1);
+                FoundItem::Item(first)
+            }
+            Err(TryRecvError::Empty) => {
+                self.end_streak();
+                FoundItem::Nothing
+            }
+            Err(TryRecvError::Disconnected) => FoundItem::Gone,
+        }
+    }
+
+    /// Notes that none was found: where so many were taken before that the pipe may have been full, there is room again.
+    fn end_streak(&mut self)
+        ensures { self.new ≡ self.old }
+    {
+        if self.streak >= CAPACITY {
+            ring(&self.bell);
+        }
+        self.streak = 0;
+    }
+
+    /// Takes the item that was put first of those that wait. It waits while nothing waits in the pipe, and answers none where
+    /// the other end is gone too. It takes no memory.
+    pub fn take<R: Wait>(&mut self, rt: &R) -> Option<T>
+        ensures pipe { self.new.pipe ≡ self.old.pipe }
+        ensures some { IfSome result (λ item. self.new.items ≡ self.old.items ++ item ∷ []) }
+        ensures none { IfNone result (self.new.items ≡ self.old.items) }
+    {
+        if let Some(item) = self.waiting.pop_front() {
+            self.takes += 1;
+            return Some(item);
+        }
+        let Bundle { first, behind } = receive(rt, &self.receiver, &mut self.pass)?;
+        self.waiting = behind;
+        self.takes += 1;
+        Some(first)
+    }
+}

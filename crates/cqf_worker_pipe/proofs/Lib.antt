@@ -1,2 +1,0 @@
-mod PipeSteps
-mod Waiting

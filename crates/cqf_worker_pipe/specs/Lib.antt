@@ -1,2 +1,0 @@
-pub mod PipeRule
-pub mod PipeEnds

@@ -1,3 +1,0 @@
-mod Zipped
-mod Joining
-mod Notings

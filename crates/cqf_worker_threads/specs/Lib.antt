@@ -1,4 +1,0 @@
-pub mod Faults
-pub mod Noting
-pub mod Running
-pub mod Telling

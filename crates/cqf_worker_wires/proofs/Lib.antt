@@ -1,2 +1,0 @@
-mod Wiring
-mod Unwiring

@@ -1,3 +1,0 @@
-pub mod Wires
-pub mod Laying
-pub mod Closing
