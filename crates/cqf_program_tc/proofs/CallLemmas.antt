@@ -1,5 +1,5 @@
 -- The calls of a bridge's function are those that are due.
-use Rattle.std.proofs.Common.{ℕ, ◌≡◌, ◌<◌, ◌≤◌, ◌^◌, ◌++◌, ◌==◌, ◌∙◌, Bool, true, false, List, [], ◌∷◌, Contains, Option}
+use Rattle.std.proofs.Common.{ℕ, ◌≡◌, ◌<◌, ◌≤◌, ◌^◌, ◌++◌, ◌==◌, ◌∙◌, Bool, true, false, not, List, [], ◌∷◌, Contains, Option}
 use Rattle.std.proofs.Common.{Some, None, append-nil, ap, append_assoc}
 use Rattle.std.proofs.Common.{arith, codes, cond, decimal, filter, if◌then◌else◌, inl, inr, length, refl, slice_get, suc, subst, sym, take, zero, ◌+◌}
 use Rattle.std.specs.List.{flat_map, list_all}
@@ -8,6 +8,7 @@ use Rattle.std.specs.Str.Parse.{digits_value}
 use Rattle.std.proofs.lemmas.Bool.{and_from, cases_Bool, cases_lt, eqb-true}
 use Rattle.std.proofs.lemmas.Fmt.{digits_value-decimal}
 use Rattle.std.proofs.lemmas.List.{append_cancel_left, append_cancel_right}
+use Rattle.std.proofs.lemmas.List.Concat.{flat_map-append}
 use Rattle.std.proofs.lemmas.List.Elements.{filter-append}
 use Rattle.std.proofs.lemmas.List.Folds.{list_all-append}
 use Rattle.cqf_lists.specs.Lists.{each_below}
@@ -32,8 +33,12 @@ use Rattle.cqf_program_tc.specs.Words.{closed_words, entry_words, list_words, oc
 use Rattle.cqf_program_tc.specs.Bridge.{link_need, needs_by, out_need, stream_at, stream_clearing, stream_gates, stream_lines, stream_needs, way_at}
 use Rattle.cqf_program_tc.specs.Bridge.{way_clearing, way_in, way_need, way_out, ways_out}
 use Rattle.cqf_program_tc.specs.Calls.{ScriptsCallWhatIsDue, calls_at, calls_due, function_of_bridge, gate_calls, head_of, is_call, lines_before}
+use Rattle.cqf_program_tc.specs.Calls.{lines_of_function}
 use Rattle.cqf_program_tc.specs.Calls.{lines_behind, link_calls}
 use Rattle.cqf_program_tc.specs.Text.{choice_text, tc_text}
+use Rattle.cqf_program_tc.specs.Variables.{link_variable, stream_variable}
+use Rattle.cqf_program_tc.specs.Wanted.{text_up_to, wanted_at, wanted_by}
+use Rattle.cqf_program_tc.proofs.VariableLines.{is_no_space, link_all, link_variable_within, pass_space, stream_all, stream_variable_within}
 use Rattle.cqf_program_tc.proofs.Functions.{by_list_found, gate_found, link_found, to_bridges}
 use Rattle.cqf_program_tc.proofs.Lines.{AreWithin, IsWithin, Reads, both_true, bridge_within, decimal_within, end_within, link_within, name_within}
 use Rattle.cqf_program_tc.proofs.Lines.{begins, onto, reads_line, reads_none, reads_pieces, reads_then, within_onto, within_then}
@@ -42,82 +47,133 @@ use Rattle.cqf_program_tc.proofs.Lines.{begins, onto, reads_line, reads_none, re
 abbrev is_blank : ℕ → Bool
 is_blank byte = byte == 32
 
--- a text of lines that begin with a blank, and the calls among them
-record Says (text : List ℕ) (calls : List (List ℕ)) : Type 0 where
+-- a text of lines that begin with a blank, the calls among them, and the variables that they want
+record Says (text : List ℕ) (calls wants : List (List ℕ)) : Type 0 where
   pub lines : List (List ℕ)
   pub reads : Reads text lines
   pub inside : list_all (begins is_blank) lines ≡ true
   pub called : filter is_call lines ≡ calls
+  pub wanted : flat_map wanted_by lines ≡ wants
 
-says_none : Says [] []
-says_none = record { lines = []; reads = reads_none; inside = refl; called = refl }
+says_none : Says [] [] []
+says_none = record { lines = []; reads = reads_none; inside = refl; called = refl; wanted = refl }
 
-says_then : (a b : List ℕ) (x y : List (List ℕ)) → Says a x → Says b y → Says (a ++ b) (x ++ y)
-says_then a b x y of_a of_b = record {
+says_then : (a b : List ℕ) (x y u v : List (List ℕ)) → Says a x u → Says b y v → Says (a ++ b) (x ++ y) (u ++ v)
+says_then a b x y u v of_a of_b = record {
   lines = of_a.lines ++ of_b.lines;
   reads = reads_then a b of_a.lines of_b.lines of_a.reads of_b.reads;
   inside = list_all-append (begins is_blank) of_a.lines of_b.lines ∙ and_from _ _ of_a.inside of_b.inside;
   called = filter-append is_call of_a.lines of_b.lines ∙ ap (λ calls. calls ++ filter is_call of_b.lines) of_a.called ∙ ap (λ calls. x ++ calls) of_b.called;
+  wanted = flat_map-append wanted_by of_a.lines of_b.lines ∙ ap (λ wants. wants ++ flat_map wanted_by of_b.lines) of_a.wanted
+      ∙ ap (λ wants. u ++ wants) of_b.wanted;
 }
 
 -- a line that is no call, and one that is one
-says_line : (pieces : List (List ℕ)) (last behind : List ℕ) (calls : List (List ℕ)) → AreWithin pieces last →
-    begins is_blank (onto pieces last) ≡ true → is_call (onto pieces last) ≡ false → Says behind calls → Says (onto pieces (last ++ 10 ∷ behind)) calls
-says_line pieces last behind calls within blank other more = record {
+says_line : (pieces : List (List ℕ)) (last behind : List ℕ) (calls here wants : List (List ℕ)) → AreWithin pieces last →
+    begins is_blank (onto pieces last) ≡ true → is_call (onto pieces last) ≡ false → wanted_by (onto pieces last) ≡ here → Says behind calls wants →
+    Says (onto pieces (last ++ 10 ∷ behind)) calls (here ++ wants)
+says_line pieces last behind calls here wants within blank other is more = record {
   lines = onto pieces last ∷ more.lines;
   reads = reads_pieces pieces last behind more.lines within more.reads;
   inside = and_from _ _ blank more.inside;
   called = ap (λ (b : Bool). cond b (onto pieces last ∷ filter is_call more.lines) (filter is_call more.lines)) other ∙ more.called;
+  wanted = ap (λ (mine : List (List ℕ)). mine ++ flat_map wanted_by more.lines) is ∙ ap (λ (rest : List (List ℕ)). here ++ rest) more.wanted;
 }
 
-says_call : (line : List ℕ) → IsWithin line → begins is_blank line ≡ true → is_call line ≡ true → Says (line ++ 10 ∷ []) (line ∷ [])
-says_call line within blank call = record {
+says_call : (line : List ℕ) → IsWithin line → begins is_blank line ≡ true → is_call line ≡ true → wanted_by line ≡ [] → Says (line ++ 10 ∷ []) (line ∷ []) []
+says_call line within blank call none = record {
   lines = line ∷ [];
   reads = reads_line line [] [] within reads_none;
   inside = and_from _ true blank refl;
   called = ap (λ (b : Bool). cond b (line ∷ []) []) call;
+  wanted = ap (λ (mine : List (List ℕ)). mine ++ []) none;
 }
 
 -- one of two
-says_if : (b : Bool) (text : List ℕ) (calls : List (List ℕ)) → Says text calls → Says (if b then text else []) (if b then calls else [])
+says_if : (b : Bool) (text : List ℕ) (calls : List (List ℕ)) → Says text calls [] → Says (if b then text else []) (if b then calls else []) []
 says_if true text calls said = said
 says_if false text calls said = says_none
 
-says_some : (b : Bool) (text : List ℕ) → Says text [] → Says (if b then text else []) []
-says_some true text said = said
-says_some false text said = says_none
+says_some : (b : Bool) (text : List ℕ) (wants : List (List ℕ)) → Says text [] wants → Says (if b then text else []) [] (if b then wants else [])
+says_some true text wants said = said
+says_some false text wants said = says_none
 
 -- one behind the other
-says_below : (text : ℕ → List ℕ) (calls : ℕ → List (List ℕ)) (n : ℕ) → ((k : ℕ) → Says (text k) (calls k)) → Says (each_below text n) (each_below calls n)
+says_below : (text : ℕ → List ℕ) (calls : ℕ → List (List ℕ)) (n : ℕ) → ((k : ℕ) → Says (text k) (calls k) []) → Says (each_below text n) (each_below calls n) []
 says_below text calls zero each = says_none
 says_below text calls (suc n) each =
-    says_then (each_below text n) (text n) (each_below calls n) (calls n) (says_below text calls n each) (each n)
+    says_then (each_below text n) (text n) (each_below calls n) (calls n) [] [] (says_below text calls n each) (each n)
 
-says_nothing_below : (text : ℕ → List ℕ) (n : ℕ) → ((k : ℕ) → Says (text k) []) → Says (each_below text n) []
-says_nothing_below text zero each = says_none
-says_nothing_below text (suc n) each = says_then (each_below text n) (text n) [] [] (says_nothing_below text n each) (each n)
+says_nothing_below : (text : ℕ → List ℕ) (wants : ℕ → List (List ℕ)) (n : ℕ) → ((k : ℕ) → Says (text k) [] (wants k)) →
+    Says (each_below text n) [] (each_below wants n)
+says_nothing_below text wants zero each = says_none
+says_nothing_below text wants (suc n) each =
+    says_then (each_below text n) (text n) [] [] (each_below wants n) (wants n) (says_nothing_below text wants n each) (each n)
 
-says_each : (text : Row → List ℕ) (calls : Row → List (List ℕ)) (rows : List Row) → ((row : Row) → Contains rows row → Says (text row) (calls row)) →
-    Says (flat_map text rows) (flat_map calls rows)
+says_each : (text : Row → List ℕ) (calls : Row → List (List ℕ)) (rows : List Row) → ((row : Row) → Contains rows row → Says (text row) (calls row) []) →
+    Says (flat_map text rows) (flat_map calls rows) []
 says_each text calls [] each = says_none
 says_each text calls (row ∷ rows) each =
-    says_then (text row) (flat_map text rows) (calls row) (flat_map calls rows) (each row (contains_here row rows))
+    says_then (text row) (flat_map text rows) (calls row) (flat_map calls rows) [] [] (each row (contains_here row rows))
     (says_each text calls rows (λ other there. each other (contains_later row rows other there)))
+
+-- no variables
+abbrev no_variables : List (List ℕ)
+no_variables = []
+
+-- the variables that are wanted: of a link that leaves, of the way by which a stream comes where it's new, and of its frames
+abbrev pub link_wants : Domain → ℕ → ℕ → List (List ℕ)
+link_wants d bridge link = if leaves d link bridge then (codes "OUT_" ++ link_variable d link) ∷ [] else []
+
+abbrev pub frame_wants : List ℕ → List (List ℕ)
+frame_wants variable = (codes "MAC_" ++ variable) ∷ (codes "VLAN_" ++ variable) ∷ []
+
+abbrev pub wants_by : Domain → List ℕ → (Option ℕ × Bool) → List (List ℕ)
+wants_by d variable way = (if way.1 then way_in d variable way.0 ∷ [] else []) ++ frame_wants variable
+
+abbrev pub stream_wants : Domain → List Row → ℕ → List Row → Row → List (List ℕ)
+stream_wants d rows bridge before row = option_map_or (wants_by d (stream_variable rows row)) (way_at d bridge before row) []
+
+abbrev pub wants_at : (List Row → Row → List (List ℕ)) → List Row → ℕ → List (List ℕ)
+wants_at wants rows place = option_map_or (wants (take place rows)) (slice_get rows place) []
+
+abbrev pub wants_due : Domain → List Row → ℕ → List (List ℕ)
+wants_due d rows bridge =
+    each_below (link_wants d bridge) (length d.links) ++ each_below (wants_at (stream_wants d rows bridge) rows) (length rows)
+
+-- a text up to the first byte of a kind, where that is known
+not_true : (b : Bool) → not b ≡ true → b ≡ false
+not_true false h = refl
+not_true true h = absurd cc
+
+pub up_to : (byte : ℕ) (text rest : List ℕ) → list_all (λ (x : ℕ). not (x == byte)) text ≡ true → (byte == byte) ≡ true → text_up_to byte (text ++ byte ∷ rest) ≡ text
+up_to byte [] rest none same = ap (λ (b : Bool). if b then [] else byte ∷ text_up_to byte rest) same
+up_to byte (x ∷ text) rest none same =
+    let parts = both_true (not (x == byte)) (list_all (λ (y : ℕ). not (y == byte)) text) none in
+    ap (λ (b : Bool). if b then [] else x ∷ text_up_to byte (text ++ byte ∷ rest)) (not_true (x == byte) parts.0)
+    ∙ ap (λ (more : List ℕ). x ∷ more) (up_to byte text rest parts.1 same)
 
 -- of a bridge of a domain
 module _ (d : Domain) (domain : IsDomain d) (bridge : ℕ) where
-  says_out : (link : ℕ) → Says (out_need d bridge link) []
+  -- the variable of a link, in a line
+  link_named : (link : ℕ) → IsWithin (link_variable d link)
+  link_named link = link_variable_within d domain link
+
+  link_spaceless : (link : ℕ) → list_all is_no_space (link_variable d link) ≡ true
+  link_spaceless link = link_all is_no_space pass_space d domain link
+
+  says_out : (link : ℕ) → Says (out_need d bridge link) [] ((codes "OUT_" ++ link_variable d link) ∷ [])
   says_out link = says_line
-      (codes "    port OUT_" ∷ decimal link ∷ codes " \"${OUT_" ∷ decimal link ∷ codes ":-}\" " ∷ name_of_end d link ∷ codes " \"interface of "
-      ∷ name_of_bridge d bridge ∷ codes " to " ∷ name_of_end d link ∷ [])
-      (codes "\"") [] [] (
+      (codes "    port OUT_" ∷ link_variable d link ∷ codes " \"${OUT_" ∷ link_variable d link ∷ codes ":-}\" " ∷ name_of_end d link
+      ∷ codes " \"interface of " ∷ name_of_bridge d bridge ∷ codes " to " ∷ name_of_end d link ∷ [])
+      (codes "\"") [] [] ((codes "OUT_" ++ link_variable d link) ∷ []) [] (
         refl,
         (
-          decimal_within link,
+          link_named link,
           (
             refl,
             (
-              decimal_within link,
+              link_named link,
               (
                 refl,
                 (
@@ -134,22 +190,22 @@ module _ (d : Domain) (domain : IsDomain d) (bridge : ℕ) where
             ),
           ),
         ),
-      ) refl refl says_none
+      ) refl refl (ap (λ (v : List ℕ). (codes "OUT_" ++ v) ∷ []) (up_to 32 (link_variable d link) _ (link_spaceless link) refl)) says_none
 
-  says_in : (link : ℕ) → Says (link_need d bridge link) []
+  says_in : (link : ℕ) → Says (link_need d bridge link) [] ((codes "IN_" ++ link_variable d link) ∷ [])
   says_in link =
       let from = bridge_within d domain (bridge_of d link) in
       says_line
-      (codes "    port IN_" ∷ decimal link ∷ codes " \"${IN_" ∷ decimal link ∷ codes ":-}\" " ∷ name_of_bridge d (bridge_of d link)
+      (codes "    port IN_" ∷ link_variable d link ∷ codes " \"${IN_" ∷ link_variable d link ∷ codes ":-}\" " ∷ name_of_bridge d (bridge_of d link)
       ∷ codes " \"interface of " ∷ name_of_bridge d bridge ∷ codes " to " ∷ name_of_bridge d (bridge_of d link) ∷ [])
-      (codes "\"") [] [] (
+      (codes "\"") [] [] ((codes "IN_" ++ link_variable d link) ∷ []) [] (
         refl,
         (
-          decimal_within link,
+          link_named link,
           (
             refl,
             (
-              decimal_within link,
+              link_named link,
               (
                 refl,
                 (
@@ -166,85 +222,47 @@ module _ (d : Domain) (domain : IsDomain d) (bridge : ℕ) where
             ),
           ),
         ),
-      ) refl refl says_none
+      ) refl refl (ap (λ (v : List ℕ). (codes "IN_" ++ v) ∷ []) (up_to 32 (link_variable d link) _ (link_spaceless link) refl)) says_none
 
-  says_way : (row : Row) → IsWithin row.name → (way : Option ℕ) → Says (way_need d bridge row way) []
-  says_way row named None = says_line
-      (codes "    port TALKER_" ∷ decimal row.no ∷ codes " \"${TALKER_" ∷ decimal row.no ∷ codes ":-}\" \"\" \"interface of "
-      ∷ name_of_bridge d bridge ∷ codes " to the talker of " ∷ row.name ∷ [])
-      (codes "\"") [] []
-      (refl, (decimal_within row.no, (refl, (decimal_within row.no, (refl, (bridge_within d domain bridge, (refl, (named, refl)))))))) refl refl says_none
-  says_way row named (Some link) = says_in link
-
-  says_frames : (row : Row) → IsWithin row.name → Says (frame_needs row) []
-  says_frames row named = says_line
-      (codes "    frames " ∷ decimal row.no ∷ codes " \"${MAC_" ∷ decimal row.no ∷ codes ":-}\" \"${VLAN_" ∷ decimal row.no ∷ codes ":-}\" " ∷ row.name ∷ [])
-      [] [] []
-      (refl, (decimal_within row.no, (refl, (decimal_within row.no, (refl, (decimal_within row.no, (refl, (named, refl)))))))) refl refl says_none
-
-  says_needs : (row : Row) → IsWithin row.name → (way : Option (Option ℕ × Bool)) → Says (option_map_or (needs_by d bridge row) way []) []
-  says_needs row named None = says_none
-  says_needs row named (Some way) =
-      says_then (if way.1 then way_need d bridge row way.0 else []) (frame_needs row) [] []
-      (says_some way.1 (way_need d bridge row way.0) (says_way row named way.0)) (says_frames row named)
-
-  -- the way of a stream, in a line
-  way_within : (row : Row) (way : Option ℕ) → IsWithin (way_in row way)
-  way_within row None = decimal_within row.no
-  way_within row (Some link) = decimal_within link
-
-  says_clearing : (row : Row) (way : Option (Option ℕ × Bool)) → Says (option_map_or (clearing_by row) way []) []
-  says_clearing row None = says_none
-  says_clearing row (Some way) = says_some way.1 (way_clearing row way.0)
-      (says_line (codes "    no_gates \"$" ∷ way_in row way.0 ∷ []) (codes "\"") [] [] (refl, (way_within row way.0, refl)) refl refl says_none)
+  -- the lines of a link
+  says_link : (link : ℕ) → Says (if_left d bridge (link_lines d) link) (link_calls d bridge link) []
+  says_link link =
+      let call : IsWithin (link_call d link) =
+      within_onto (codes "    link \"$OUT_" ∷ link_variable d link ∷ []) (codes "\"") (refl, (link_named link, refl)) in
+      says_if (leaves d link bridge) (link_lines d link) (link_call d link ∷ [])
+      (says_line (codes "    # link " ∷ decimal link ∷ codes " " ∷ name_of_link d link ∷ []) [] (link_call d link ++ 10 ∷ []) (link_call d link ∷ []) [] []
+      (refl, (decimal_within link, (refl, (link_within d domain link, refl)))) refl refl refl (says_call (link_call d link) call refl refl refl))
 
   -- a text for each stream, none of which is a call
-  says_streams : (text : List Row → Row → List ℕ) (rows : List Row) → ((before : List Row) (row : Row) → Contains rows row → Says (text before row) []) →
-      Says (each_stream text rows) []
-  says_streams text rows each = says_nothing_below (stream_at text rows) (length rows) (λ k. at k (slice_get rows k) refl)
+  says_streams : (text : List Row → Row → List ℕ) (wants : List Row → Row → List (List ℕ)) (rows : List Row) →
+      ((before : List Row) (row : Row) → Contains rows row → Says (text before row) [] (wants before row)) →
+      Says (each_stream text rows) [] (each_below (wants_at wants rows) (length rows))
+  says_streams text wants rows each =
+      says_nothing_below (stream_at text rows) (wants_at wants rows) (length rows) (λ k. at k (slice_get rows k) refl)
     where
-      at : (k : ℕ) (found : Option Row) → slice_get rows k ≡ found → Says (option_map_or (text (take k rows)) found []) []
+      at : (k : ℕ) (found : Option Row) → slice_get rows k ≡ found →
+          Says (option_map_or (text (take k rows)) found []) [] (option_map_or (wants (take k rows)) found [])
       at k None is = says_none
       at k (Some row) is = each (take k rows) row (contains_at rows k row is)
 
-  -- the lines of a link, and of a stream
-  says_link : (link : ℕ) → Says (if_left d bridge (link_lines d) link) (link_calls d bridge link)
-  says_link link =
-      let call : IsWithin (link_call link) = within_onto (codes "    link \"$OUT_" ∷ decimal link ∷ []) (codes "\"") (refl, (decimal_within link, refl)) in
-      says_if (leaves d link bridge) (link_lines d link) (link_call link ∷ [])
-      (says_line (codes "    # link " ∷ decimal link ∷ codes " " ∷ name_of_link d link ∷ []) [] (link_call link ++ 10 ∷ []) (link_call link ∷ [])
-      (refl, (decimal_within link, (refl, (link_within d domain link, refl)))) refl refl (says_call (link_call link) call refl refl))
+  -- where each wants nothing, they do
+  nothing_wanted : (n : ℕ) (rows : List Row) → each_below (wants_at (λ before row. []) rows) n ≡ []
+  nothing_wanted zero rows = refl
+  nothing_wanted (suc n) rows =
+      ap (λ (wants : List (List ℕ)). wants ++ wants_at (λ before row. []) rows n) (nothing_wanted n rows) ∙ none (slice_get rows n)
+    where
+      none : (found : Option Row) → option_map_or (λ (row : Row). no_variables) found no_variables ≡ no_variables
+      none None = refl
+      none (Some row) = refl
 
   ways_within : (row : Row) (hops : List Hop) → IsWithin (flat_map (way_out d bridge) hops)
   ways_within row [] = refl
   ways_within row (hop ∷ hops) =
       within_then (way_out d bridge hop) (flat_map (way_out d bridge) hops) (of_hop (leaves d hop.link bridge)) (ways_within row hops)
     where
-      of_hop : (b : Bool) → IsWithin (if b then codes " OUT_" ++ decimal hop.link else [])
-      of_hop true = decimal_within hop.link
+      of_hop : (b : Bool) → IsWithin (if b then codes " OUT_" ++ link_variable d hop.link else [])
+      of_hop true = link_named hop.link
       of_hop false = refl
-
-  target_within : (row : Row) (way : Option ℕ) → IsWithin (gate_target row way)
-  target_within row way = within_onto
-      (way_in row way ∷ codes "\" " ∷ decimal (row.no + 1) ∷ codes " \"$MAC_" ∷ decimal row.no ∷ codes "\" \"$VLAN_" ∷ decimal row.no ∷ []) (codes "\"") (
-        way_within row way,
-        (
-          refl,
-          (
-            decimal_within (row.no + 1),
-            (
-              refl,
-              (
-                decimal_within row.no,
-                (refl, (decimal_within row.no, refl)),
-              ),
-            ),
-          ),
-        ),
-      )
-
-  plain_within : (row : Row) (way : Option ℕ) → IsWithin (plain_call row way)
-  plain_within row way = within_then (gate_target row way) (codes " " ++ decimal row.octets) (target_within row way) (decimal_within row.octets)
 
   octets_within : (most : Option ℕ) → IsWithin (octets_word most)
   octets_within None = refl
@@ -263,51 +281,110 @@ module _ (d : Domain) (domain : IsDomain d) (bridge : ℕ) where
   entries_within [] = refl
   entries_within (entry ∷ entries) = within_then (entry_words entry) (list_words entries) (entry_within entry) (entries_within entries)
 
-  list_within : (row : Row) (way : Option ℕ) → IsWithin (list_call d bridge row way)
-  list_within row way =
-      within_then (gate_target row way) (list_words (gate_at d row bridge)) (target_within row way) (entries_within (gate_at d row bridge))
+  -- of a stream whose name and variable stand in a line, and whose gate has an index
+  module _ (variable : List ℕ) (gate : ℕ) (row : Row) (bare : IsWithin variable) (named : IsWithin row.name)
+      (spaceless : list_all is_no_space variable ≡ true) where
+    says_way : (way : Option ℕ) → Says (way_need d bridge variable row way) [] (way_in d variable way ∷ [])
+    says_way None = says_line
+        (codes "    port TALKER_" ∷ variable ∷ codes " \"${TALKER_" ∷ variable ∷ codes ":-}\" \"\" \"interface of "
+        ∷ name_of_bridge d bridge ∷ codes " to the talker of " ∷ row.name ∷ [])
+        (codes "\"") [] [] ((codes "TALKER_" ++ variable) ∷ []) []
+        (refl, (bare, (refl, (bare, (refl, (bridge_within d domain bridge, (refl, (named, refl)))))))) refl refl
+        (ap (λ (v : List ℕ). (codes "TALKER_" ++ v) ∷ []) (up_to 32 variable _ spaceless refl)) says_none
+    says_way (Some link) = says_in link
 
-  -- the call, by whether the stream pauses
-  says_gate : (row : Row) (way : Option ℕ) (b : Bool) →
-      Says ((if b then list_call d bridge row way else plain_call row way) ++ 10 ∷ []) ((if b then list_call d bridge row way else plain_call row way) ∷ [])
-  says_gate row way true = says_call (list_call d bridge row way) (list_within row way) refl refl
-  says_gate row way false = says_call (plain_call row way) (plain_within row way) refl refl
+    says_frames : Says (frame_needs variable gate row) [] (frame_wants variable)
+    says_frames = says_line
+        (codes "    frames " ∷ variable ∷ codes " \"${MAC_" ∷ variable ∷ codes ":-}\" \"${VLAN_" ∷ variable ∷ codes ":-}\" " ∷ row.name ∷ codes " "
+        ∷ decimal gate ∷ [])
+        [] [] [] (frame_wants variable) []
+        (refl, (bare, (refl, (bare, (refl, (bare, (refl, (named, (refl, (decimal_within gate, refl)))))))))) refl refl
+        (ap frame_wants (up_to 32 variable _ spaceless refl)) says_none
 
-  says_stream : (row : Row) → IsWithin row.name → (hop : Option Hop) → Says (option_map_or (λ (hop : Hop). stream_lines d bridge row hop.from) hop [])
-      (option_map_or (λ (hop : Hop). gate_call d bridge row hop.from ∷ []) hop [])
-  says_stream row named None = says_none
-  says_stream row named (Some hop) =
-      says_line (codes "    # stream " ∷ decimal row.no ∷ codes " " ∷ row.name ∷ codes ", leaves by" ∷ ways_out d bridge row ∷ []) []
-      (gate_call d bridge row hop.from ++ 10 ∷ []) (gate_call d bridge row hop.from ∷ [])
-      (refl, (decimal_within row.no, (refl, (named, (refl, (ways_within row row.tree.items, refl)))))) refl refl
-      (says_gate row hop.from (pauses row))
+    says_needs : (way : Option (Option ℕ × Bool)) →
+        Says (option_map_or (needs_by d bridge variable gate row) way []) [] (option_map_or (wants_by d variable) way [])
+    says_needs None = says_none
+    says_needs (Some way) =
+        says_then (if way.1 then way_need d bridge variable row way.0 else []) (frame_needs variable gate row) [] []
+        (if way.1 then way_in d variable way.0 ∷ [] else []) (frame_wants variable)
+        (says_some way.1 (way_need d bridge variable row way.0) (way_in d variable way.0 ∷ []) (says_way way.0)) says_frames
+
+    -- the way of the stream, in a line
+    way_within : (way : Option ℕ) → IsWithin (way_in d variable way)
+    way_within None = bare
+    way_within (Some link) = link_named link
+
+    says_clearing : (way : Option (Option ℕ × Bool)) → Says (option_map_or (clearing_by d variable) way []) [] []
+    says_clearing None = says_none
+    says_clearing (Some way) = by way.1
+      where
+        line : Says (way_clearing d variable way.0) [] []
+        line = says_line (codes "    no_gates \"$" ∷ way_in d variable way.0 ∷ []) (codes "\"") [] [] [] [] (refl, (way_within way.0, refl)) refl refl refl
+            says_none
+
+        by : (b : Bool) → Says (if b then way_clearing d variable way.0 else []) [] []
+        by true = line
+        by false = says_none
+
+    target_within : (way : Option ℕ) → IsWithin (gate_target d variable gate way)
+    target_within way = within_onto
+        (way_in d variable way ∷ codes "\" " ∷ decimal gate ∷ codes " \"$MAC_" ∷ variable ∷ codes "\" \"$VLAN_" ∷ variable ∷ []) (codes "\"")
+        (way_within way, (refl, (decimal_within gate, (refl, (bare, (refl, (bare, refl)))))))
+
+    plain_within : (way : Option ℕ) → IsWithin (plain_call d variable gate row way)
+    plain_within way = within_then (gate_target d variable gate way) (codes " " ++ decimal row.octets) (target_within way) (decimal_within row.octets)
+
+    list_within : (way : Option ℕ) → IsWithin (list_call d bridge variable gate row way)
+    list_within way =
+        within_then (gate_target d variable gate way) (list_words (gate_at d row bridge)) (target_within way) (entries_within (gate_at d row bridge))
+
+    -- the call, by whether the stream pauses
+    says_gate : (way : Option ℕ) (b : Bool) →
+        Says ((if b then list_call d bridge variable gate row way else plain_call d variable gate row way) ++ 10 ∷ [])
+        ((if b then list_call d bridge variable gate row way else plain_call d variable gate row way) ∷ []) []
+    says_gate way true = says_call (list_call d bridge variable gate row way) (list_within way) refl refl refl
+    says_gate way false = says_call (plain_call d variable gate row way) (plain_within way) refl refl refl
+
+    says_stream : (hop : Option Hop) → Says (option_map_or (λ (hop : Hop). stream_lines d bridge variable gate row hop.from) hop [])
+        (option_map_or (λ (hop : Hop). gate_call d bridge variable gate row hop.from ∷ []) hop []) []
+    says_stream None = says_none
+    says_stream (Some hop) =
+        says_line (codes "    # stream " ∷ decimal row.no ∷ codes " " ∷ row.name ∷ codes ", leaves by" ∷ ways_out d bridge row ∷ []) []
+        (gate_call d bridge variable gate row hop.from ++ 10 ∷ []) (gate_call d bridge variable gate row hop.from ∷ []) [] []
+        (refl, (decimal_within row.no, (refl, (named, (refl, (ways_within row row.tree.items, refl)))))) refl refl refl
+        (says_gate hop.from (pauses row))
 
 -- a text whose lines end with `}`
-record Ends (text : List ℕ) (calls : List (List ℕ)) : Type 0 where
+record Ends (text : List ℕ) (calls wants : List (List ℕ)) : Type 0 where
   pub lines : List (List ℕ)
   pub reads : Reads text (lines ++ codes "}" ∷ [])
   pub inside : list_all (begins is_blank) lines ≡ true
   pub called : filter is_call lines ≡ calls
+  pub wanted : flat_map wanted_by lines ≡ wants
 
-ends_here : Ends (codes "}\n") []
-ends_here = record { lines = []; reads = reads_line (codes "}") [] [] refl reads_none; inside = refl; called = refl }
+ends_here : Ends (codes "}\n") [] []
+ends_here = record { lines = []; reads = reads_line (codes "}") [] [] refl reads_none; inside = refl; called = refl; wanted = refl }
 
-ends_then : (a b : List ℕ) (x y : List (List ℕ)) → Says a x → Ends b y → Ends (a ++ b) (x ++ y)
-ends_then a b x y of_a of_b = record {
+ends_then : (a b : List ℕ) (x y u v : List (List ℕ)) → Says a x u → Ends b y v → Ends (a ++ b) (x ++ y) (u ++ v)
+ends_then a b x y u v of_a of_b = record {
   lines = of_a.lines ++ of_b.lines;
   reads = subst (λ (lines : List (List ℕ)). Reads (a ++ b) lines) (sym (append_assoc of_a.lines of_b.lines (codes "}" ∷ [])))
       (reads_then a b of_a.lines (of_b.lines ++ codes "}" ∷ []) of_a.reads of_b.reads);
   inside = list_all-append (begins is_blank) of_a.lines of_b.lines ∙ and_from _ _ of_a.inside of_b.inside;
   called = filter-append is_call of_a.lines of_b.lines ∙ ap (λ calls. calls ++ filter is_call of_b.lines) of_a.called ∙ ap (λ calls. x ++ calls) of_b.called;
+  wanted = flat_map-append wanted_by of_a.lines of_b.lines ∙ ap (λ wants. wants ++ flat_map wanted_by of_b.lines) of_a.wanted
+      ∙ ap (λ wants. u ++ wants) of_b.wanted;
 }
 
-ends_line : (pieces : List (List ℕ)) (last behind : List ℕ) (calls : List (List ℕ)) → AreWithin pieces last →
-    begins is_blank (onto pieces last) ≡ true → is_call (onto pieces last) ≡ false → Ends behind calls → Ends (onto pieces (last ++ 10 ∷ behind)) calls
-ends_line pieces last behind calls within blank other more = record {
+ends_line : (pieces : List (List ℕ)) (last behind : List ℕ) (calls wants : List (List ℕ)) → AreWithin pieces last →
+    begins is_blank (onto pieces last) ≡ true → is_call (onto pieces last) ≡ false → wanted_by (onto pieces last) ≡ [] → Ends behind calls wants →
+    Ends (onto pieces (last ++ 10 ∷ behind)) calls wants
+ends_line pieces last behind calls wants within blank other none more = record {
   lines = onto pieces last ∷ more.lines;
   reads = reads_pieces pieces last behind (more.lines ++ codes "}" ∷ []) within more.reads;
   inside = and_from _ _ blank more.inside;
   called = ap (λ (b : Bool). cond b (onto pieces last ∷ filter is_call more.lines) (filter is_call more.lines)) other ∙ more.called;
+  wanted = ap (λ (mine : List (List ℕ)). mine ++ flat_map wanted_by more.lines) none ∙ more.wanted;
 }
 
 -- the head of a bridge's function, as the reading has it
@@ -315,59 +392,79 @@ abbrev head_bridge : ℕ → List ℕ
 head_bridge bridge = head_of (function_of_bridge bridge)
 
 -- the function of a bridge: its head, lines that begin with a blank, and `}`
-record IsFunction (d : Domain) (rows : List Row) (bridge : ℕ) : Type 0 where
+record IsFunction (d : Domain) (gates : ℕ → ℕ) (rows : List Row) (bridge : ℕ) : Type 0 where
   pub lines : List (List ℕ)
-  pub reads : Reads (bridge_text d rows bridge) (head_bridge bridge ∷ (lines ++ codes "}" ∷ []))
+  pub reads : Reads (bridge_text d gates rows bridge) (head_bridge bridge ∷ (lines ++ codes "}" ∷ []))
   pub inside : list_all (begins is_blank) lines ≡ true
-  pub called : filter is_call lines ≡ calls_due d rows bridge
+  pub called : filter is_call lines ≡ calls_due d gates rows bridge
+  pub wanted : flat_map wanted_by lines ≡ wants_due d rows bridge
 
-module _ (d : Domain) (rows : List Row) (domain : IsDomain d) (names : HaveNames rows) where
+module _ (d : Domain) (gates : ℕ → ℕ) (rows : List Row) (domain : IsDomain d) (names : HaveNames rows) where
   named : (row : Row) → Contains rows row → IsWithin row.name
   named row there = name_within row.name (names row there)
 
-  is_function : (bridge : ℕ) → IsFunction d rows bridge
+  bare : (row : Row) → Contains rows row → IsWithin (stream_variable rows row)
+  bare row there = stream_variable_within rows row (names row there)
+
+  spaceless : (row : Row) → Contains rows row → list_all is_no_space (stream_variable rows row) ≡ true
+  spaceless row there = stream_all is_no_space pass_space rows row (names row there)
+
+  is_function : (bridge : ℕ) → IsFunction d gates rows bridge
   is_function bridge =
       let links = each_link d bridge (link_lines d) in
-      let streams = flat_map (stream_gates d bridge) rows in
+      let streams = flat_map (stream_gates d gates rows bridge) rows in
       let last = codes "}\n" in
-      let clearings = each_stream (stream_clearing d bridge) rows in
-      let needs = each_stream (stream_needs d bridge) rows in
+      let clearings = each_stream (stream_clearing d rows bridge) rows in
+      let needs = each_stream (stream_needs d gates rows bridge) rows in
       let outs = each_link d bridge (out_need d bridge) in
       let due_links : List (List ℕ) = each_below (link_calls d bridge) (length d.links) in
-      let due_gates : List (List ℕ) = flat_map (gate_calls d bridge) rows in
-      let at_streams : Ends (streams ++ last) (due_gates ++ []) =
-      ends_then streams last due_gates [] (says_each (stream_gates d bridge) (gate_calls d bridge) rows
-      (λ row there. says_stream d domain bridge row (named row there) (first_hop d bridge row))) ends_here in
-      let at_links : Ends (links ++ (streams ++ last)) (due_links ++ (due_gates ++ [])) =
-      ends_then links (streams ++ last) due_links (due_gates ++ [])
+      let due_gates : List (List ℕ) = flat_map (gate_calls d gates rows bridge) rows in
+      let wanted_links : List (List ℕ) = each_below (link_wants d bridge) (length d.links) in
+      let wanted_streams : List (List ℕ) = each_below (wants_at (stream_wants d rows bridge) rows) (length rows) in
+      let nothing : List (List ℕ) = each_below (wants_at (λ before row. []) rows) (length rows) in
+      let at_streams : Ends (streams ++ last) (due_gates ++ []) [] =
+      ends_then streams last due_gates [] [] [] (says_each (stream_gates d gates rows bridge) (gate_calls d gates rows bridge) rows
+      (λ row there. says_stream d domain bridge (stream_variable rows row) (gates row.no) row (bare row there) (named row there) (spaceless row there)
+      (first_hop d bridge row))) ends_here in
+      let at_links : Ends (links ++ (streams ++ last)) (due_links ++ (due_gates ++ [])) [] =
+      ends_then links (streams ++ last) due_links (due_gates ++ []) [] []
       (says_below (if_left d bridge (link_lines d)) (link_calls d bridge) (length d.links) (says_link d domain bridge)) at_streams in
       let calls : List (List ℕ) = due_links ++ (due_gates ++ []) in
       let behind_links = links ++ (streams ++ last) in
-      let at_clearings : Ends (clearings ++ behind_links) calls =
-      ends_then clearings behind_links [] calls
-      (says_streams d domain bridge (stream_clearing d bridge) rows
-      (λ before row there. says_clearing d domain bridge row (way_at d bridge before row))) at_links in
-      let at_ready : Ends (codes "    ready\n" ++ (clearings ++ behind_links)) calls =
-      ends_line [] (codes "    ready") (clearings ++ behind_links) calls refl refl refl at_clearings in
+      let at_clearings : Ends (clearings ++ behind_links) calls (nothing ++ []) =
+      ends_then clearings behind_links [] calls nothing []
+      (says_streams d domain bridge (stream_clearing d rows bridge) (λ before row. []) rows
+      (λ before row there. says_clearing d domain bridge (stream_variable rows row) (gates row.no) row (bare row there) (named row there)
+      (spaceless row there) (way_at d bridge before row))) at_links in
+      let at_ready : Ends (codes "    ready\n" ++ (clearings ++ behind_links)) calls (nothing ++ []) =
+      ends_line [] (codes "    ready") (clearings ++ behind_links) calls (nothing ++ []) refl refl refl refl at_clearings in
       let behind_ready = codes "    ready\n" ++ (clearings ++ behind_links) in
-      let at_needs : Ends (needs ++ behind_ready) calls =
-      ends_then needs behind_ready [] calls
-      (says_streams d domain bridge (stream_needs d bridge) rows
-      (λ before row there. says_needs d domain bridge row (named row there) (way_at d bridge before row))) at_ready in
-      let at_outs : Ends (outs ++ (needs ++ behind_ready)) calls =
-      ends_then outs (needs ++ behind_ready) [] calls
-      (says_nothing_below (if_left d bridge (out_need d bridge)) (length d.links)
-      (λ link. says_some (leaves d link bridge) (out_need d bridge link) (says_out d domain bridge link))) at_needs in
+      let at_needs : Ends (needs ++ behind_ready) calls (wanted_streams ++ (nothing ++ [])) =
+      ends_then needs behind_ready [] calls wanted_streams (nothing ++ [])
+      (says_streams d domain bridge (stream_needs d gates rows bridge) (stream_wants d rows bridge) rows
+      (λ before row there. says_needs d domain bridge (stream_variable rows row) (gates row.no) row (bare row there) (named row there)
+      (spaceless row there) (way_at d bridge before row))) at_ready in
+      let wants : List (List ℕ) = wanted_links ++ (wanted_streams ++ (nothing ++ [])) in
+      let at_outs : Ends (outs ++ (needs ++ behind_ready)) calls wants =
+      ends_then outs (needs ++ behind_ready) [] calls wanted_links (wanted_streams ++ (nothing ++ []))
+      (says_nothing_below (if_left d bridge (out_need d bridge)) (link_wants d bridge) (length d.links)
+      (λ link. says_some (leaves d link bridge) (out_need d bridge link) ((codes "OUT_" ++ link_variable d link) ∷ []) (says_out d domain bridge link)))
+      at_needs in
       let behind_name = outs ++ (needs ++ behind_ready) in
-      let whole : Ends (codes "    # " ++ (name_of_bridge d bridge ++ 10 ∷ behind_name)) calls =
-      ends_line (codes "    # " ∷ name_of_bridge d bridge ∷ []) [] behind_name calls (refl, (bridge_within d domain bridge, refl)) refl refl at_outs in
-      let due : calls ≡ calls_due d rows bridge = ap (λ (gates : List (List ℕ)). due_links ++ gates) (append-nil due_gates) in
+      let whole : Ends (codes "    # " ++ (name_of_bridge d bridge ++ 10 ∷ behind_name)) calls wants =
+      ends_line (codes "    # " ∷ name_of_bridge d bridge ∷ []) [] behind_name calls wants (refl, (bridge_within d domain bridge, refl)) refl refl refl
+      at_outs in
+      let due : calls ≡ calls_due d gates rows bridge = ap (λ (others : List (List ℕ)). due_links ++ others) (append-nil due_gates) in
+      let all : wants ≡ wants_due d rows bridge =
+      ap (λ (others : List (List ℕ)). wanted_links ++ (wanted_streams ++ (others ++ []))) (nothing_wanted d domain bridge (length rows) rows)
+      ∙ ap (λ (others : List (List ℕ)). wanted_links ++ others) (append-nil wanted_streams) in
       record {
         lines = whole.lines;
         reads = reads_pieces (codes "bridge_" ∷ decimal bridge ∷ []) (codes "() {") (codes "    # " ++ (name_of_bridge d bridge ++ 10 ∷ behind_name))
             (whole.lines ++ codes "}" ∷ []) (refl, (decimal_within bridge, refl)) whole.reads;
         inside = whole.inside;
         called = ◌∙◌ {a = filter is_call whole.lines} whole.called due;
+        wanted = ◌∙◌ {a = flat_map wanted_by whole.lines} whole.wanted all;
       }
 
   -- the head of another bridge's function is another
@@ -406,7 +503,7 @@ module _ (d : Domain) (rows : List Row) (domain : IsDomain d) (names : HaveNames
 
   -- the functions of other bridges are passed over
   function_passed : (bridge other : ℕ) (rest : List ℕ) → bridge < 2 ^ 64 → other < 2 ^ 64 → (other ≡ bridge → ⊥) →
-      lines_behind (head_bridge bridge) (lines_of (bridge_text d rows other ++ rest)) ≡ lines_behind (head_bridge bridge) (lines_of rest)
+      lines_behind (head_bridge bridge) (lines_of (bridge_text d gates rows other ++ rest)) ≡ lines_behind (head_bridge bridge) (lines_of rest)
   function_passed bridge other rest small_bridge small_other apart =
       let function = is_function other in
       let behind : List (List ℕ) = (function.lines ++ codes "}" ∷ []) ++ lines_of rest in
@@ -416,50 +513,59 @@ module _ (d : Domain) (rows : List Row) (domain : IsDomain d) (names : HaveNames
       ∙ blanks_passed (codes "ridge_" ++ (decimal bridge ++ codes "() {")) function.lines (codes "}" ∷ lines_of rest) function.inside
 
   functions_passed : (bridge count : ℕ) (rest : List ℕ) → count ≤ bridge → bridge < 2 ^ 64 →
-      lines_behind (head_bridge bridge) (lines_of (each_below (bridge_text d rows) count ++ rest)) ≡ lines_behind (head_bridge bridge) (lines_of rest)
+      lines_behind (head_bridge bridge) (lines_of (each_below (bridge_text d gates rows) count ++ rest)) ≡ lines_behind (head_bridge bridge) (lines_of rest)
   functions_passed bridge zero rest few small = refl
   functions_passed bridge (suc count) rest few small =
-      ap (λ text. lines_behind (head_bridge bridge) (lines_of text)) (append_assoc (each_below (bridge_text d rows) count) (bridge_text d rows count) rest)
-      ∙ functions_passed bridge count (bridge_text d rows count ++ rest) (omega (arith, few)) small
+      ap (λ text. lines_behind (head_bridge bridge) (lines_of text)) (append_assoc (each_below (bridge_text d gates rows) count) (bridge_text d gates rows count) rest)
+      ∙ functions_passed bridge count (bridge_text d gates rows count ++ rest) (omega (arith, few)) small
       ∙ function_passed bridge count rest small (omega (arith, few, small)) (λ same. absurd (omega (arith, few, same)))
 
   -- behind its head the lines of a bridge's function are found
   function_found : (bridge count : ℕ) (rest : List ℕ) → bridge < count → bridge < 2 ^ 64 →
-      lines_before (codes "}") (lines_behind (head_bridge bridge) (lines_of (each_below (bridge_text d rows) count ++ rest))) ≡ (is_function bridge).lines
+      lines_before (codes "}") (lines_behind (head_bridge bridge) (lines_of (each_below (bridge_text d gates rows) count ++ rest))) ≡ (is_function bridge).lines
   function_found bridge zero rest inside small = absurd (omega (arith, inside))
   function_found bridge (suc count) rest inside small =
       ap (λ text. lines_before (codes "}") (lines_behind (head_bridge bridge) (lines_of text)))
-      (append_assoc (each_below (bridge_text d rows) count) (bridge_text d rows count) rest)
+      (append_assoc (each_below (bridge_text d gates rows) count) (bridge_text d gates rows count) rest)
       ∙ elim (cases_lt bridge count) [
-        | inl less ↦ function_found bridge count (bridge_text d rows count ++ rest) less small
+        | inl less ↦ function_found bridge count (bridge_text d gates rows count ++ rest) less small
         | inr more ↦ at_last (omega (arith, inside, more))
       ]
     where
       at_last : count ≡ bridge → lines_before (codes "}") (lines_behind (head_bridge bridge)
-          (lines_of (each_below (bridge_text d rows) count ++ (bridge_text d rows count ++ rest)))) ≡ (is_function bridge).lines
+          (lines_of (each_below (bridge_text d gates rows) count ++ (bridge_text d gates rows count ++ rest)))) ≡ (is_function bridge).lines
       at_last same =
           let function = is_function bridge in
           let behind : List (List ℕ) = (function.lines ++ codes "}" ∷ []) ++ lines_of rest in
           ap (λ (n : ℕ). lines_before (codes "}") (lines_behind (head_bridge bridge)
-          (lines_of (each_below (bridge_text d rows) n ++ (bridge_text d rows n ++ rest))))) same
-          ∙ ap (lines_before (codes "}")) (functions_passed bridge bridge (bridge_text d rows bridge ++ rest) (omega arith) small
+          (lines_of (each_below (bridge_text d gates rows) n ++ (bridge_text d gates rows n ++ rest))))) same
+          ∙ ap (lines_before (codes "}")) (functions_passed bridge bridge (bridge_text d gates rows bridge ++ rest) (omega arith) small
           ∙ ap (lines_behind (head_bridge bridge)) (function.reads rest)
           ∙ ap (λ (b : Bool). cond b behind (lines_behind (head_bridge bridge) behind)) (is_text_itself (head_bridge bridge)))
           ∙ before_end function.lines (lines_of rest) function.inside
 
-  called : (bridge : ℕ) → bridge < length d.bridges → calls_at bridge (tc_text d rows) ≡ calls_due d rows bridge
-  called bridge inside =
+  -- its lines are those of the function
+  function_lines : (software : Bool) (bridge : ℕ) → bridge < length d.bridges →
+      lines_of_function (function_of_bridge bridge) (tc_text d software gates rows) ≡ (is_function bridge).lines
+  function_lines software bridge inside =
       let few = few_bridges d domain.accepted in
       let small : bridge < 2 ^ 64 = omega (arith, inside, few) in
-      ap (λ lines. filter is_call (lines_before (codes "}") lines)) (to_bridges d rows (codes "ridge_" ++ (decimal bridge ++ codes "() {")) domain)
-      ∙ ap (filter is_call) (function_found bridge (length d.bridges) (choice_text d) inside small)
-      ∙ (is_function bridge).called
+      ap (lines_before (codes "}")) (to_bridges d software gates rows (codes "ridge_" ++ (decimal bridge ++ codes "() {")) domain)
+      ∙ function_found bridge (length d.bridges) (choice_text d software) inside small
+
+  called : (software : Bool) (bridge : ℕ) → bridge < length d.bridges → calls_at bridge (tc_text d software gates rows) ≡ calls_due d gates rows bridge
+  called software bridge inside = ap (filter is_call) (function_lines software bridge inside) ∙ (is_function bridge).called
+
+  -- and so are the variables that it wants
+  pub wanted_are_due : (software : Bool) (bridge : ℕ) → bridge < length d.bridges →
+      wanted_at bridge (tc_text d software gates rows) ≡ wants_due d rows bridge
+  wanted_are_due software bridge inside = ap (flat_map wanted_by) (function_lines software bridge inside) ∙ (is_function bridge).wanted
 
 -- each bridge's calls are those that are due
 pub calls_are_due : ScriptsCallWhatIsDue
-calls_are_due d rows domain names = record {
-  list = link_found d rows domain;
-  gate = gate_found d rows domain;
-  by_list = by_list_found d rows domain;
-  calls = called d rows domain names;
+calls_are_due d software gates rows domain names = record {
+  list = link_found d software gates rows domain;
+  gate = gate_found d software gates rows domain;
+  by_list = by_list_found d software gates rows domain;
+  calls = called d gates rows domain names software;
 }

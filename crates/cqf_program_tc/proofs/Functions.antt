@@ -1,6 +1,6 @@
 -- The lines of the script before the functions of bridges, and what is found among them.
-use Rattle.std.proofs.Common.{ℕ, ◌≡◌, ◌++◌, ◌==◌, ◌∙◌, ◌||◌, ◌/◌, ◌%◌, Bool, true, false, not, List, [], ◌∷◌, append_assoc, ap, codes, cond, decimal}
-use Rattle.std.proofs.Common.{arith, length, nat_le, refl, suc, zero}
+use Rattle.std.proofs.Common.{ℕ, ◌≡◌, ◌++◌, ◌==◌, ◌∙◌, ◌||◌, ◌/◌, ◌%◌, ◌+◌, Bool, true, false, not, List, [], ◌∷◌, append_assoc, ap, codes, cond, decimal}
+use Rattle.std.proofs.Common.{arith, length, nat_le, refl, subst, suc, zero}
 use Rattle.std.specs.List.{list_all, list_any}
 use Rattle.std.specs.Prelude.{if◌then◌else◌}
 use Rattle.std.proofs.lemmas.Bool.{and_from}
@@ -16,12 +16,13 @@ use Rattle.cqf_topology.specs.DomainText.{IsDomain}
 use Rattle.cqf_program_tc.specs.Bridge.{pauses}
 use Rattle.cqf_program_tc.specs.Calls.{head_of, lines_behind, lines_before, lines_of_function}
 use Rattle.cqf_program_tc.specs.Checks.{checks_text}
-use Rattle.cqf_program_tc.specs.Text.{bridges_text, by_list_lines, by_list_text, choice_text, list_gates_text}
-use Rattle.cqf_program_tc.specs.Text.{gate_command, given_text, last_gate, link_text, list_command, multiple, name_text}
+use Rattle.cqf_program_tc.specs.Program.{object_end, object_text, octal, octal_word, program_text}
+use Rattle.cqf_program_tc.specs.Text.{bridges_text, by_list_command, by_list_lines, by_list_text, choice_text, class_words, filter_words, list_gates_text}
+use Rattle.cqf_program_tc.specs.Text.{gate_command, given_text, last_gate, link_text, list_command, multiple, name_text, notes_text, port_end}
 use Rattle.cqf_program_tc.specs.Text.{names_text, no_gates_text, old_gates_text, opening_text, tc_gate_text, tc_text, undo_gate, undo_list, usage_text}
-use Rattle.cqf_program_tc.specs.Words.{tx_words}
+use Rattle.cqf_program_tc.specs.Words.{gate_words, tx_words}
 use Rattle.cqf_program_tc.proofs.Lines.{IsWithin, Reads, Skips, begins, behind_within, bridge_within, decimal_within, is_within, none_within}
-use Rattle.cqf_program_tc.proofs.Lines.{both_true, reads_joined, skips, within_then}
+use Rattle.cqf_program_tc.proofs.Lines.{both_true, joined, reads_joined, skips, within_then}
 
 -- the functions that are looked for begin with one of these bytes
 abbrev pub is_head_byte : ℕ → Bool
@@ -63,6 +64,10 @@ usage_skipped : (d : Domain) (rows : List Row) → Skips is_head_byte (usage_tex
 usage_skipped d rows = skips is_head_byte (usage_text d rows) (none_within is_head_byte (multiple d rows) _ (multiple_within d rows) refl)
     (behind_within (multiple d rows) _ (multiple_within d rows) refl)
 
+notes_skipped : (software : Bool) → Skips is_head_byte (notes_text software)
+notes_skipped true = skips is_head_byte (notes_text true) refl refl
+notes_skipped false = skips is_head_byte (notes_text false) refl refl
+
 opening_skipped : (d : Domain) → IsDomain d → Skips is_head_byte (opening_text d)
 opening_skipped d domain = skips is_head_byte (opening_text d) (none_within is_head_byte (names_text d) _ (names_within d domain (length d.bridges)) refl)
     (behind_within (names_text d) _ (names_within d domain (length d.bridges)) refl)
@@ -76,6 +81,33 @@ given_skipped d rows =
 
 checks_skipped : Skips is_head_byte checks_text
 checks_skipped = skips is_head_byte checks_text refl refl
+
+-- the digits of an octet stand in one line
+digit_within : (n : ℕ) → is_within (48 + n) ≡ true
+digit_within n = grind (arith, nat_tests)
+
+octal_within : (octet : ℕ) → IsWithin (octal octet)
+octal_within octet =
+    and_from (is_within (48 + octet / 64)) _ (digit_within (octet / 64))
+    (and_from (is_within (48 + octet / 8 % 8)) _ (digit_within (octet / 8 % 8)) (and_from (is_within (48 + octet % 8)) true (digit_within (octet % 8)) refl))
+
+word_within : (n : ℕ) → IsWithin (octal_word n)
+word_within n =
+    within_then (octal (n % 256)) (octal (n / 256 % 256) ++ (octal (n / 65536 % 256) ++ octal (n / 16777216 % 256))) (octal_within (n % 256))
+    (within_then (octal (n / 256 % 256)) (octal (n / 65536 % 256) ++ octal (n / 16777216 % 256)) (octal_within (n / 256 % 256))
+    (within_then (octal (n / 65536 % 256)) (octal (n / 16777216 % 256)) (octal_within (n / 65536 % 256)) (octal_within (n / 16777216 % 256))))
+
+object_skipped : (n : ℕ) → Skips is_head_byte (object_text n)
+object_skipped n =
+    skips is_head_byte (object_text n) (none_within is_head_byte (octal_word n) object_end (word_within n) refl)
+    (behind_within (octal_word n) object_end (word_within n) refl)
+
+nothing_skipped : Skips is_head_byte []
+nothing_skipped = skips is_head_byte [] refl refl
+
+program_skipped : (d : Domain) (software : Bool) → Skips is_head_byte (program_text d software)
+program_skipped d true = object_skipped d.cycle_time
+program_skipped d false = nothing_skipped
 
 old_gates_by : (few : Bool) → Skips is_head_byte (old_gates_text (if few then codes "1024" else codes "16384"))
 old_gates_by true = skips is_head_byte (old_gates_text (codes "1024")) refl refl
@@ -99,116 +131,161 @@ tx_within (entry ∷ entries) =
     (and_from (is_within (hex_digit (entry.0 % 16))) _ (hex_within (entry.0 % 16)) (decimal_within entry.1)) in
     within_then (line_of_gates entry) (tx_words entries) line (tx_within entries)
 
-list_within : (d : Domain) → IsWithin (list_command d)
-list_within d = within_then (tx_words (port_list d.cycle_time d.guard)) (codes " flags 0x2") (tx_within (port_list d.cycle_time d.guard)) refl
+list_within : (d : Domain) (software : Bool) → IsWithin (list_command d software)
+list_within d software =
+    within_then (tx_words (port_list d.cycle_time d.guard)) (port_end software) (tx_within (port_list d.cycle_time d.guard)) (end_of_port software)
+  where
+    end_of_port : (b : Bool) → IsWithin (port_end b)
+    end_of_port true = refl
+    end_of_port false = refl
 
-gate_within : (d : Domain) → IsWithin (gate_command d)
-gate_within d =
-    within_then (decimal d.cycle_time) _ (decimal_within d.cycle_time)
-    (within_then (decimal d.cycle_time) (codes " 7 \"$5\"") (decimal_within d.cycle_time) refl)
+-- the words of a filter do
+filter_within : (software : Bool) → IsWithin (filter_words software)
+filter_within true = refl
+filter_within false = refl
+
+class_within : (software : Bool) → IsWithin (class_words software)
+class_within true = refl
+class_within false = refl
+
+words_within : (n : ℕ) → IsWithin (gate_words n)
+words_within n = within_then (decimal n) _ (decimal_within n) (within_then (decimal n) (codes " 7 \"$5\"") (decimal_within n) refl)
+
+gate_within : (d : Domain) (software : Bool) → IsWithin (gate_command d software)
+gate_within d software =
+    within_then (filter_words software) _ (filter_within software)
+    (within_then (class_words software) _ (class_within software) (words_within d.cycle_time))
+
+by_list_within : (software : Bool) → IsWithin (by_list_command software)
+by_list_within true = refl
+by_list_within false = refl
 
 -- the lines of the two functions
-abbrev lines_of_link : Domain → List (List ℕ)
-lines_of_link d =
-    codes "# the transmission gates of the interface $1" ∷ codes "link() {" ∷ list_command d ∷ undo_list ∷ codes "}" ∷ [] ∷ []
+abbrev lines_of_link : Domain → Bool → List (List ℕ)
+lines_of_link d software =
+    codes "# the transmission gates of the interface $1" ∷ codes "link() {" ∷ list_command d software ∷ undo_list ∷ codes "}" ∷ [] ∷ []
 
-link_reads : (d : Domain) → Reads (link_text d) (lines_of_link d)
-link_reads d = reads_joined (lines_of_link d) (refl, (refl, (list_within d, (refl, (refl, (refl, tt))))))
+link_reads : (d : Domain) (software : Bool) → Reads (link_text d software) (lines_of_link d software)
+link_reads d software = reads_joined (lines_of_link d software) (refl, (refl, (list_within d software, (refl, (refl, (refl, tt))))))
 
-abbrev lines_of_gate : Domain → List (List ℕ)
-lines_of_gate d =
-    codes "# stream gate $2 at the interface $1: address $3, VLAN $4, at most $5 octets a cycle" ∷ codes "gate() {" ∷ gate_command d ∷ undo_gate
+abbrev lines_of_gate : Domain → Bool → List (List ℕ)
+lines_of_gate d software =
+    codes "# stream gate $2 at the interface $1: address $3, VLAN $4, at most $5 octets a cycle" ∷ codes "gate() {" ∷ gate_command d software ∷ undo_gate
     ∷ codes "}" ∷ [] ∷ []
 
-gate_reads : (d : Domain) → Reads (tc_gate_text d) (lines_of_gate d)
-gate_reads d = reads_joined (lines_of_gate d) (refl, (refl, (gate_within d, (refl, (refl, (refl, tt))))))
+gate_reads : (d : Domain) (software : Bool) → Reads (tc_gate_text d software) (lines_of_gate d software)
+gate_reads d software =
+    subst (λ (text : List ℕ). Reads text (lines_of_gate d software)) same
+    (reads_joined (lines_of_gate d software) (refl, (refl, (gate_within d software, (refl, (refl, (refl, tt)))))))
+  where
+    -- however the command's pieces are joined
+    same : joined (lines_of_gate d software) ≡ tc_gate_text d software
+    same = by software
+      where
+        by : (b : Bool) → joined (lines_of_gate d b) ≡ tc_gate_text d b
+        by true = refl
+        by false = refl
 
 -- behind the head of a function in the script are the lines behind it among those of the functions
-abbrev last_of : Domain → List Row → List ℕ
-last_of d rows = bridges_text d rows ++ choice_text d
+abbrev last_of : Domain → Bool → (ℕ → ℕ) → List Row → List ℕ
+last_of d software gates rows = bridges_text d gates rows ++ choice_text d software
 
-abbrev rest_of : Domain → List Row → List ℕ
-rest_of d rows = list_gates_text rows ++ last_of d rows
+abbrev rest_of : Domain → Bool → (ℕ → ℕ) → List Row → List ℕ
+rest_of d software gates rows = list_gates_text software rows ++ last_of d software gates rows
 
-to_functions : (d : Domain) (rows : List Row) (y : ℕ) (head : List ℕ) → IsDomain d → is_head_byte y ≡ true →
-    lines_behind (y ∷ head) (lines_of (tc_text d rows)) ≡ lines_behind (y ∷ head)
-    (lines_of (link_text d ++ ((old_gates_text (last_gate d)) ++ (no_gates_text ++ (tc_gate_text d ++ rest_of d rows)))))
-to_functions d rows y head domain of_head =
-    let rest = rest_of d rows in
-    let tail = last_of d rows in
-    let gates = tc_gate_text d ++ list_gates_text rows in
-    let last = no_gates_text ++ gates in
-    let behind_link = (old_gates_text (last_gate d)) ++ last in
-    let behind_checks = link_text d ++ behind_link in
-    let one : (checks_text ++ behind_checks) ++ tail ≡ checks_text ++ (link_text d ++ ((old_gates_text (last_gate d)) ++ (no_gates_text ++ (tc_gate_text d ++ rest)))) =
-    append_assoc checks_text behind_checks tail
-    ∙ ap (λ text. checks_text ++ text) (append_assoc (link_text d) behind_link tail
-    ∙ ap (λ text. link_text d ++ text) (append_assoc (old_gates_text (last_gate d)) last tail
-    ∙ ap (λ text. (old_gates_text (last_gate d)) ++ text) (append_assoc no_gates_text gates tail
-    ∙ ap (λ text. no_gates_text ++ text) (append_assoc (tc_gate_text d) (list_gates_text rows) tail)))) in
-    text_passed y head (usage_text d rows) _ of_head (usage_skipped d rows)
-    ∙ text_passed y head (opening_text d) _ of_head (opening_skipped d domain)
-    ∙ text_passed y head (given_text d rows) _ of_head (given_skipped d rows)
-    ∙ ap (λ text. lines_behind (y ∷ head) (lines_of text)) one
-    ∙ text_passed y head checks_text (link_text d ++ ((old_gates_text (last_gate d)) ++ (no_gates_text ++ (tc_gate_text d ++ rest)))) of_head checks_skipped
+module _ (d : Domain) (software : Bool) (gates : ℕ → ℕ) (rows : List Row) where
+  to_functions : (y : ℕ) (head : List ℕ) → IsDomain d → is_head_byte y ≡ true →
+      lines_behind (y ∷ head) (lines_of (tc_text d software gates rows)) ≡ lines_behind (y ∷ head)
+      (lines_of (link_text d software ++ ((old_gates_text (last_gate d)) ++ (no_gates_text ++ (tc_gate_text d software ++ rest_of d software gates rows)))))
+  to_functions y head domain of_head =
+      let rest = rest_of d software gates rows in
+      let tail = last_of d software gates rows in
+      let own_gates = tc_gate_text d software ++ list_gates_text software rows in
+      let last = no_gates_text ++ own_gates in
+      let behind_link = (old_gates_text (last_gate d)) ++ last in
+      let behind_program = link_text d software ++ behind_link in
+      let behind_checks = program_text d software ++ behind_program in
+      let functions = link_text d software ++ ((old_gates_text (last_gate d)) ++ (no_gates_text ++ (tc_gate_text d software ++ rest))) in
+      let one : (checks_text ++ behind_checks) ++ tail ≡ checks_text ++ (program_text d software ++ functions) =
+      append_assoc checks_text behind_checks tail
+      ∙ ap (λ text. checks_text ++ text) (append_assoc (program_text d software) behind_program tail
+      ∙ ap (λ text. program_text d software ++ text) (append_assoc (link_text d software) behind_link tail
+      ∙ ap (λ text. link_text d software ++ text) (append_assoc (old_gates_text (last_gate d)) last tail
+      ∙ ap (λ text. (old_gates_text (last_gate d)) ++ text) (append_assoc no_gates_text own_gates tail
+      ∙ ap (λ text. no_gates_text ++ text) (append_assoc (tc_gate_text d software) (list_gates_text software rows) tail))))) in
+      text_passed y head (usage_text d rows) _ of_head (usage_skipped d rows)
+      ∙ text_passed y head (notes_text software) _ of_head (notes_skipped software)
+      ∙ text_passed y head (opening_text d) _ of_head (opening_skipped d domain)
+      ∙ text_passed y head (given_text d rows) _ of_head (given_skipped d rows)
+      ∙ ap (λ text. lines_behind (y ∷ head) (lines_of text)) one
+      ∙ text_passed y head checks_text (program_text d software ++ functions) of_head checks_skipped
+      ∙ text_passed y head (program_text d software) functions of_head (program_skipped d software)
 
--- the function of a link is read
-pub link_found : (d : Domain) (rows : List Row) → IsDomain d → lines_of_function (codes "link") (tc_text d rows) ≡ list_command d ∷ undo_list ∷ []
-link_found d rows domain =
-    ap (lines_before (codes "}")) (to_functions d rows 108 (codes "ink() {") domain refl
-    ∙ ap (lines_behind (head_of (codes "link"))) (link_reads d ((old_gates_text (last_gate d)) ++ (no_gates_text ++ (tc_gate_text d ++ rest_of d rows)))))
+  -- the function of a link is read
+  pub link_found : IsDomain d → lines_of_function (codes "link") (tc_text d software gates rows) ≡ list_command d software ∷ undo_list ∷ []
+  link_found domain =
+      ap (lines_before (codes "}")) (to_functions 108 (codes "ink() {") domain refl
+      ∙ ap (lines_behind (head_of (codes "link")))
+      (link_reads d software ((old_gates_text (last_gate d)) ++ (no_gates_text ++ (tc_gate_text d software ++ rest_of d software gates rows)))))
 
--- behind that of a link, other functions are looked for among those of gates and of bridges
-to_gate : (d : Domain) (rows : List Row) (y : ℕ) (head : List ℕ) → IsDomain d → is_head_byte y ≡ true → is_text (codes "link() {") (y ∷ head) ≡ false →
-    lines_behind (y ∷ head) (lines_of (tc_text d rows)) ≡ lines_behind (y ∷ head) (lines_of (tc_gate_text d ++ rest_of d rows))
-to_gate d rows y head domain of_head other =
-    let behind = (old_gates_text (last_gate d)) ++ (no_gates_text ++ (tc_gate_text d ++ rest_of d rows)) in
-    let more = list_command d ∷ undo_list ∷ codes "}" ∷ [] ∷ lines_of behind in
-    to_functions d rows y head domain of_head
-    ∙ ap (lines_behind (y ∷ head)) (link_reads d behind)
-    ∙ passed_over y head (codes "# the transmission gates of the interface $1" ∷ []) (codes "link() {" ∷ more) of_head refl
-    ∙ ap (λ (b : Bool). cond b more (lines_behind (y ∷ head) more)) other
-    ∙ passed_over y head (list_command d ∷ undo_list ∷ codes "}" ∷ [] ∷ []) (lines_of behind) of_head refl
-    ∙ text_passed y head (old_gates_text (last_gate d)) (no_gates_text ++ (tc_gate_text d ++ rest_of d rows)) of_head (old_gates_skipped d)
-    ∙ text_passed y head no_gates_text (tc_gate_text d ++ rest_of d rows) of_head no_gates_skipped
+  -- behind that of a link, other functions are looked for among those of gates and of bridges
+  to_gate : (y : ℕ) (head : List ℕ) → IsDomain d → is_head_byte y ≡ true → is_text (codes "link() {") (y ∷ head) ≡ false →
+      lines_behind (y ∷ head) (lines_of (tc_text d software gates rows))
+      ≡ lines_behind (y ∷ head) (lines_of (tc_gate_text d software ++ rest_of d software gates rows))
+  to_gate y head domain of_head other =
+      let behind = (old_gates_text (last_gate d)) ++ (no_gates_text ++ (tc_gate_text d software ++ rest_of d software gates rows)) in
+      let more = list_command d software ∷ undo_list ∷ codes "}" ∷ [] ∷ lines_of behind in
+      to_functions y head domain of_head
+      ∙ ap (lines_behind (y ∷ head)) (link_reads d software behind)
+      ∙ passed_over y head (codes "# the transmission gates of the interface $1" ∷ []) (codes "link() {" ∷ more) of_head refl
+      ∙ ap (λ (b : Bool). cond b more (lines_behind (y ∷ head) more)) other
+      ∙ passed_over y head (list_command d software ∷ undo_list ∷ codes "}" ∷ [] ∷ []) (lines_of behind) of_head refl
+      ∙ text_passed y head (old_gates_text (last_gate d)) (no_gates_text ++ (tc_gate_text d software ++ rest_of d software gates rows)) of_head
+      (old_gates_skipped d)
+      ∙ text_passed y head no_gates_text (tc_gate_text d software ++ rest_of d software gates rows) of_head no_gates_skipped
 
--- the function of a gate is read
-pub gate_found : (d : Domain) (rows : List Row) → IsDomain d → lines_of_function (codes "gate") (tc_text d rows) ≡ gate_command d ∷ undo_gate ∷ []
-gate_found d rows domain =
-    ap (lines_before (codes "}")) (to_gate d rows 103 (codes "ate() {") domain refl refl
-    ∙ ap (lines_behind (head_of (codes "gate"))) (gate_reads d (rest_of d rows)))
+  -- the function of a gate is read
+  pub gate_found : IsDomain d → lines_of_function (codes "gate") (tc_text d software gates rows) ≡ gate_command d software ∷ undo_gate ∷ []
+  gate_found domain =
+      ap (lines_before (codes "}")) (to_gate 103 (codes "ate() {") domain refl refl
+      ∙ ap (lines_behind (head_of (codes "gate"))) (gate_reads d software (rest_of d software gates rows)))
 
 -- the lines of the function of lists
-abbrev lines_of_by_list : List (List ℕ)
-lines_of_by_list =
+abbrev lines_of_by_list : Bool → List (List ℕ)
+lines_of_by_list software =
     codes "# stream gate $2 at the interface $1: address $3, VLAN $4, and behind these the entries of its list" ∷ codes "gate_by_list() {"
-    ∷ (by_list_lines ++ (codes "}" ∷ [] ∷ []))
+    ∷ (by_list_lines software ++ (codes "}" ∷ [] ∷ []))
 
-by_list_reads : Reads by_list_text lines_of_by_list
-by_list_reads = reads_joined lines_of_by_list (refl, (refl, (refl, (refl, (refl, (refl, (refl, (refl, tt))))))))
+by_list_reads : (software : Bool) → Reads (by_list_text software) (lines_of_by_list software)
+by_list_reads true = reads_joined (lines_of_by_list true) (refl, (refl, (refl, (refl, (by_list_within true, (refl, (refl, (refl, tt))))))))
+by_list_reads false = reads_joined (lines_of_by_list false) (refl, (refl, (refl, (refl, (by_list_within false, (refl, (refl, (refl, tt))))))))
 
--- it is read where a stream pauses
-pub by_list_found : (d : Domain) (rows : List Row) → IsDomain d → list_any pauses rows ≡ true →
-    lines_of_function (codes "gate_by_list") (tc_text d rows) ≡ by_list_lines
-by_list_found d rows domain some =
-    let head = head_of (codes "gate_by_list") in
-    ap (lines_before (codes "}")) (to_gate d rows 103 (codes "ate_by_list() {") domain refl refl
-    ∙ ap (lines_behind head) (gate_reads d (rest_of d rows))
-    ∙ ap (λ (b : Bool). lines_behind head (lines_of ((if b then by_list_text else []) ++ last_of d rows))) some
-    ∙ ap (lines_behind head) (by_list_reads (last_of d rows)))
+module _ (d : Domain) (software : Bool) (gates : ℕ → ℕ) (rows : List Row) where
+  -- it is read where a stream pauses
+  pub by_list_found : IsDomain d → list_any pauses rows ≡ true →
+      lines_of_function (codes "gate_by_list") (tc_text d software gates rows) ≡ by_list_lines software
+  by_list_found domain some =
+      let head = head_of (codes "gate_by_list") in
+      let tail = last_of d software gates rows in
+      ap (lines_before (codes "}")) (to_gate d software gates rows 103 (codes "ate_by_list() {") domain refl refl
+      ∙ ap (lines_behind head) (gate_reads d software (rest_of d software gates rows))
+      ∙ ap (λ (b : Bool). lines_behind head (lines_of ((if b then by_list_text software else []) ++ tail))) some
+      ∙ ap (lines_behind head) (by_list_reads software tail))
 
--- and passed over where another is looked for
-lists_passed : (d : Domain) (rows : List Row) (head : List ℕ) →
-    lines_behind (98 ∷ head) (lines_of (rest_of d rows)) ≡ lines_behind (98 ∷ head) (lines_of (last_of d rows))
-lists_passed d rows head = by_test (list_any pauses rows)
-  where
-    by_test : (b : Bool) → lines_behind (98 ∷ head) (lines_of ((if b then by_list_text else []) ++ last_of d rows))
-        ≡ lines_behind (98 ∷ head) (lines_of (last_of d rows))
-    by_test true = ap (lines_behind (98 ∷ head)) (by_list_reads (last_of d rows))
-    by_test false = refl
+  -- and passed over where another is looked for
+  lists_passed : (head : List ℕ) →
+      lines_behind (98 ∷ head) (lines_of (rest_of d software gates rows)) ≡ lines_behind (98 ∷ head) (lines_of (last_of d software gates rows))
+  lists_passed head = by_test (list_any pauses rows)
+    where
+      by_test : (b : Bool) → lines_behind (98 ∷ head) (lines_of ((if b then by_list_text software else []) ++ last_of d software gates rows))
+          ≡ lines_behind (98 ∷ head) (lines_of (last_of d software gates rows))
+      by_test true = ap (lines_behind (98 ∷ head)) (by_list_reads software (last_of d software gates rows))
+      by_test false = refl
 
--- and those of bridges are looked for behind it
-pub to_bridges : (d : Domain) (rows : List Row) (head : List ℕ) → IsDomain d →
-    lines_behind (98 ∷ head) (lines_of (tc_text d rows)) ≡ lines_behind (98 ∷ head) (lines_of (bridges_text d rows ++ choice_text d))
-to_bridges d rows head domain =
-    to_gate d rows 98 head domain refl refl ∙ ap (lines_behind (98 ∷ head)) (gate_reads d (rest_of d rows)) ∙ lists_passed d rows head
+  -- and those of bridges are looked for behind it
+  pub to_bridges : (head : List ℕ) → IsDomain d →
+      lines_behind (98 ∷ head) (lines_of (tc_text d software gates rows))
+      ≡ lines_behind (98 ∷ head) (lines_of (bridges_text d gates rows ++ choice_text d software))
+  to_bridges head domain =
+      to_gate d software gates rows 98 head domain refl refl ∙ ap (lines_behind (98 ∷ head)) (gate_reads d software (rest_of d software gates rows))
+      ∙ lists_passed head

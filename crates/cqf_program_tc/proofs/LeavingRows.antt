@@ -9,6 +9,8 @@ use Rattle.std.proofs.lemmas.List.Concat.{flat_map-append}
 use Rattle.std.specs.List.{flat_map}
 use Rattle.std.proofs.lemmas.List.Elements.{Contains-get_or}
 use Rattle.std.proofs.lemmas.Option.{slice_get_cases}
+use Rattle.cqf_addressing.specs.declared.links.LinkInterfaces.{LinkInterfaces}
+use Rattle.cqf_addressing.specs.declared.streams.StreamAddress.{StreamAddress}
 use Rattle.cqf_lists.specs.Lists.{each_below}
 use Rattle.cqf_lists.proofs.Numbers.{kept_number}
 use Rattle.cqf_model.specs.declared.topology.Hop.{Hop}
@@ -16,7 +18,9 @@ use Rattle.cqf_model.specs.declared.topology.Row.{Row}
 use Rattle.cqf_model.specs.Domain.{Domain}
 use Rattle.cqf_compile.specs.BridgeGates.{first_hop}
 use Rattle.cqf_program_tc.specs.Bridge.{clearing_by, is_new, needs_by, stream_at, stream_clearing, stream_gates, stream_lines, stream_needs}
+use Rattle.cqf_program_tc.specs.Env.{lines_by, stream_env}
 use Rattle.cqf_program_tc.specs.Rows.{leaves_bridge, places_at}
+use Rattle.cqf_program_tc.specs.Variables.{stream_variable}
 use Rattle.cqf_program_tc.specs.Ways.{IsSeenWay}
 use Rattle.cqf_program_tc.proofs.NextKept.{behind, to_next}
 use Rattle.cqf_program_tc.proofs.Streams.{row_at, seen_same, stream_more}
@@ -29,14 +33,21 @@ none_from (Some hop) e = absurd (true≢false e)
 abbrev pub IsSilent : Domain → ℕ → (List Row → Row → List ℕ) → Type 0
 IsSilent d bridge text = (before : List Row) (row : Row) → first_hop d bridge row ≡ None → text before row ≡ []
 
-pub needs_silent : (d : Domain) (bridge : ℕ) → IsSilent d bridge (stream_needs d bridge)
-needs_silent d bridge before row none =
-    ap (λ (found : Option Hop). option_map_or (needs_by d bridge row) (option_map (λ (hop : Hop). (hop.from, is_new d bridge before hop.from)) found) [])
-    none
+pub needs_silent : (d : Domain) (gates : ℕ → ℕ) (rows : List Row) (bridge : ℕ) → IsSilent d bridge (stream_needs d gates rows bridge)
+needs_silent d gates rows bridge before row none =
+    ap (λ (found : Option Hop). option_map_or (needs_by d bridge (stream_variable rows row) (gates row.no) row)
+    (option_map (λ (hop : Hop). (hop.from, is_new d bridge before hop.from)) found) []) none
 
-pub clearing_silent : (d : Domain) (bridge : ℕ) → IsSilent d bridge (stream_clearing d bridge)
-clearing_silent d bridge before row none =
-    ap (λ (found : Option Hop). option_map_or (clearing_by row) (option_map (λ (hop : Hop). (hop.from, is_new d bridge before hop.from)) found) []) none
+pub clearing_silent : (d : Domain) (rows : List Row) (bridge : ℕ) → IsSilent d bridge (stream_clearing d rows bridge)
+clearing_silent d rows bridge before row none =
+    ap (λ (found : Option Hop). option_map_or (clearing_by d (stream_variable rows row))
+    (option_map (λ (hop : Hop). (hop.from, is_new d bridge before hop.from)) found) []) none
+
+pub env_silent : (d : Domain) (interfaces : List LinkInterfaces) (addresses : List StreamAddress) (rows : List Row) (bridge : ℕ) →
+    IsSilent d bridge (stream_env d interfaces addresses rows bridge)
+env_silent d interfaces addresses rows bridge before row none =
+    ap (λ (found : Option Hop). option_map_or (lines_by d interfaces addresses bridge (stream_variable rows row) row)
+    (option_map (λ (hop : Hop). (hop.from, is_new d bridge before hop.from)) found) []) none
 
 -- the texts of the rows so far are written, and it is noted by which links their streams came
 pub record AreSoFar (Written : List ℕ → Type 0) (text : List Row → Row → List ℕ) (d : Domain) (bridge : ℕ) (rows : List Row) (seen : List Bool)
@@ -125,40 +136,41 @@ module _ (d : Domain) (bridge : ℕ) (rows : List Row) where
   so_far_all Written text seen places i past so_far =
       (subst (AreSoFar Written text d bridge rows seen) (get_or_past places i (length rows) past) so_far).put
 
-  -- the lines of the streams so far, where they are put without what is noted
+-- the lines of the streams so far, where they are put without what is noted
+module _ (d : Domain) (bridge : ℕ) (rows : List Row) (gates : ℕ → ℕ) where
   abbrev lines : ℕ → List ℕ
-  lines count = flat_map (stream_gates d bridge) (take count rows)
+  lines count = flat_map (stream_gates d gates rows bridge) (take count rows)
 
-  lines_more : (k : ℕ) (row : Row) → take (suc k) rows ≡ take k rows ++ row ∷ [] → lines (suc k) ≡ lines k ++ stream_gates d bridge row
+  lines_more : (k : ℕ) (row : Row) → take (suc k) rows ≡ take k rows ++ row ∷ [] → lines (suc k) ≡ lines k ++ stream_gates d gates rows bridge row
   lines_more k row more =
-      let gates = stream_gates d bridge in
+      let gates = stream_gates d gates rows bridge in
       ap (flat_map gates) more ∙ flat_map-append gates (take k rows) (row ∷ []) ∙ ap (λ (z : List ℕ). lines k ++ z) (append-nil (gates row))
 
   module _ (Written : List ℕ → Type 0) where
     lines_same : (k : ℕ) (row : Row) → slice_get rows k ≡ Some row → take (suc k) rows ≡ take k rows ++ row ∷ [] → first_hop d bridge row ≡ None →
         Written (lines k) → Written (lines (suc k))
     lines_same k row there more none put =
-        let silent : stream_gates d bridge row ≡ [] =
-        ap (λ (found : Option Hop). option_map_or (λ (hop : Hop). stream_lines d bridge row hop.from) found []) none in
+        let silent : stream_gates d gates rows bridge row ≡ [] =
+        ap (λ (found : Option Hop). option_map_or (λ (hop : Hop). stream_lines d bridge (stream_variable rows row) (gates row.no) row hop.from) found []) none in
         subst Written (sym (lines_more k row more ∙ ap (λ (z : List ℕ). lines k ++ z) silent ∙ append-nil (lines k))) put
 
     pub lines_none : (places : List ℕ) → places ≡ places_at d rows bridge → Written [] →
-        Written (flat_map (stream_gates d bridge) (take (get_or places 0 (length rows)) rows))
-    lines_none places are put = to_next_place (λ k. Written (lines k)) places 0 are lines_same (omega arith) put
+        Written (flat_map (stream_gates d gates rows bridge) (take (get_or places 0 (length rows)) rows))
+    lines_none places are put = to_next_place d bridge rows (λ k. Written (lines k)) places 0 are lines_same (omega arith) put
 
     pub lines_next : (places : List ℕ) (i : ℕ) (row : Row) → places ≡ places_at d rows bridge → i < length places →
         take (get_or places i 0 + 1) rows ≡ take (get_or places i 0) rows ++ row ∷ [] →
-        Written (flat_map (stream_gates d bridge) (take (get_or places i 0) rows) ++ stream_gates d bridge row) →
-        Written (flat_map (stream_gates d bridge) (take (get_or places (i + 1) (length rows)) rows))
+        Written (flat_map (stream_gates d gates rows bridge) (take (get_or places i 0) rows) ++ stream_gates d gates rows bridge row) →
+        Written (flat_map (stream_gates d gates rows bridge) (take (get_or places (i + 1) (length rows)) rows))
     lines_next places i row are inside more put =
         let place = get_or places i 0 in
         let next : take (suc place) rows ≡ take place rows ++ row ∷ [] = ap (λ (n : ℕ). take n rows) (sym (add-one place)) ∙ more in
         subst (λ (n : ℕ). Written (lines (get_or places n (length rows)))) (sym (add-one i))
-        (to_next_place (λ k. Written (lines k)) places (suc i) are lines_same (omega (arith, inside)) (subst Written (sym (lines_more place row next)) put))
+        (to_next_place d bridge rows (λ k. Written (lines k)) places (suc i) are lines_same (omega (arith, inside)) (subst Written (sym (lines_more place row next)) put))
 
     pub lines_all : (places : List ℕ) (i : ℕ) → length places ≤ i →
-        Written (flat_map (stream_gates d bridge) (take (get_or places i (length rows)) rows)) → Written (flat_map (stream_gates d bridge) rows)
+        Written (flat_map (stream_gates d gates rows bridge) (take (get_or places i (length rows)) rows)) → Written (flat_map (stream_gates d gates rows bridge) rows)
     lines_all places i past put =
         let all : take (get_or places i (length rows)) rows ≡ rows =
         ap (λ (n : ℕ). take n rows) (get_or_past places i (length rows) past) ∙ take_all (length rows) rows (omega arith) in
-        subst (λ (rs : List Row). Written (flat_map (stream_gates d bridge) rs)) all put
+        subst (λ (rs : List Row). Written (flat_map (stream_gates d gates rows bridge) rs)) all put

@@ -1,9 +1,14 @@
 mod WordLemmas
 mod Lines
+mod VariableLines
+mod Apart
+mod Naming
 mod Functions
 mod CallLemmas
+mod EnvLemmas
 mod Streams
 mod NextKept
-mod LeavingRows
-mod NotedRows
+pub mod LeavingRows
+pub mod NotedRows
 mod Rounds
+mod Ready

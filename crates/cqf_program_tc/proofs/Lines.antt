@@ -253,7 +253,7 @@ named_at names named place = elim (cases_lt place (length names)) [
 pub bridge_within : (d : Domain) → IsDomain d → (bridge : ℕ) → IsWithin (name_of_bridge d bridge)
 bridge_within d domain bridge = named_at d.bridges domain.bridges_named bridge
 
-node_within : (d : Domain) → IsDomain d → (node : Node) → IsWithin (name_of_node d node)
+pub node_within : (d : Domain) → IsDomain d → (node : Node) → IsWithin (name_of_node d node)
 node_within d domain (Bridge bridge) = bridge_within d domain bridge
 node_within d domain (Station station) = named_at d.stations domain.stations_named station
 

@@ -1,5 +1,5 @@
 -- The cycles after which all lists of a script begin anew.
-use Rattle.std.proofs.Common.{◌≡◌, ◌∙◌, ◌+◌, ◌%◌, ◌<◌, ◌≤◌, ◌==◌, ◌&&◌, ◌||◌, ℕ, Bool, true, false, zero, suc, List, ap, arith, eqb-true, inl, inr, refl, subst, sym}
+use Rattle.std.proofs.Common.{◌≡◌, ◌∙◌, ◌+◌, ◌-◌, ◌*◌, ◌/◌, ◌%◌, ◌<◌, ◌≤◌, ◌==◌, ◌&&◌, ◌||◌, ℕ, mod-lt, Bool, true, false, zero, suc, List, ap, arith, eqb-true, inl, inr, refl, subst, sym}
 use Rattle.std.specs.Prelude.{Contains, not}
 use Rattle.std.specs.List.{list_any}
 use Rattle.std.proofs.lemmas.Bool.{and_parts, cases_Bool, cases_eq, cond-false, cond-true}
@@ -10,7 +10,9 @@ use Rattle.cqf_model.specs.declared.topology.Row.{Row}
 use Rattle.cqf_model.specs.Limits.{most_every}
 use Rattle.cqf_model.specs.StreamGate.{gate_cycles}
 use Rattle.cqf_program_tc.specs.Bridge.{pauses}
-use Rattle.cqf_program_tc.specs.Laws.{ListsBeginAnew}
+use Rattle.std.specs.Prelude.{if◌then◌else◌}
+use Rattle.std.proofs.Math.Nat.{add-mod-mod, div-add-mod, mod_self, mul-add-mod_self_left}
+use Rattle.cqf_program_tc.specs.Laws.{InstantsFit, IsNextMultiple, ListsBeginAnew, begins_from}
 use Rattle.cqf_program_tc.specs.Text.{rounds_in}
 
 -- the cycles of a gate whose stream pauses so long go into 80, unless those of its pace don't
@@ -73,3 +75,33 @@ begin_anew rows good = elim (cases_Bool (list_any pauses rows)) [
         ports = ap (λ (n : ℕ). n % 2) two;
       }
 ]
+
+-- the next multiple from an instant on
+whole_rounds : (base round multiple rest : ℕ) → multiple + rest ≡ base → rest < round → base + (round - rest) ≡ multiple + round
+whole_rounds base round multiple rest is low = omega (arith, is, low)
+
+next_is : (round base : ℕ) → 0 < round → begins_from round base % round ≡ 0
+next_is round base some =
+    let rest : ℕ = base % round in
+    let ahead : ℕ = round - rest in
+    add-mod-mod base ahead round
+    ∙ ap (λ (n : ℕ). n % round) (whole_rounds base round (round * (base / round)) rest (div-add-mod base round) (mod-lt base some))
+    ∙ mul-add-mod_self_left round (base / round) round
+    ∙ mod_self round
+
+next_multiple : (round base : ℕ) → 0 < round → round ≤ 80 * 1000000000 → base < 9000000000000000000 → IsNextMultiple round base
+next_multiple round base some short early =
+    let ahead : (round - base % round) % round < round = mod-lt (round - base % round) some in
+    record {
+      multiple = next_is round base some;
+      since = omega arith;
+      soon = omega (arith, ahead);
+      fits = omega (arith, ahead, short, early);
+    }
+
+pub fit : InstantsFit
+fit d rows base accepted early = by (list_any pauses rows)
+  where
+    by : (b : Bool) → IsNextMultiple ((if b then most_every else 2) * d.cycle_time) base
+    by true = next_multiple (80 * d.cycle_time) base (omega (arith, accepted.cycle_least)) (omega (arith, accepted.cycle_most)) early
+    by false = next_multiple (2 * d.cycle_time) base (omega (arith, accepted.cycle_least)) (omega (arith, accepted.cycle_most)) early

@@ -1,6 +1,5 @@
--- What a bridge does in the script, line by line (profile). Links and streams go by their numbers in variables, since a name may
--- hold `-`.
-use Rattle.std.specs.Prelude.{ℕ, ◌+◌, ◌++◌, ◌==◌, List, [], Bool, true, false, Option, Some, None, codes, decimal}
+-- What a bridge does in the script, line by line (profile).
+use Rattle.std.specs.Prelude.{ℕ, ◌++◌, ◌==◌, List, [], Bool, true, false, Option, Some, None, codes, decimal}
 use Rattle.std.specs.Prelude.{if◌then◌else◌, length, not, option_map, slice_get, take}
 use Rattle.std.specs.Option.{option_map_or}
 use Rattle.std.specs.List.{flat_map, list_any}
@@ -12,12 +11,13 @@ use Rattle.cqf_model.specs.Table.{same_way}
 use Rattle.cqf_topology.specs.NodeNames.{name_of_bridge, name_of_link}
 use Rattle.cqf_compile.specs.BridgeGates.{first_hop, gate_at}
 use Rattle.cqf_program_plans.specs.EndNames.{name_of_end}
+use Rattle.cqf_program_tc.specs.Variables.{link_variable, stream_variable}
 use Rattle.cqf_program_tc.specs.Words.{list_words}
 
--- the variable of the interface by which it comes
-abbrev pub way_in : Row → Option ℕ → List ℕ
-way_in row None = codes "TALKER_" ++ decimal row.no
-way_in row (Some link) = codes "IN_" ++ decimal link
+-- the variable of the interface by which a stream comes, where the stream's own variable is given
+abbrev pub way_in : Domain → List ℕ → Option ℕ → List ℕ
+way_in d variable None = codes "TALKER_" ++ variable
+way_in d variable (Some link) = codes "IN_" ++ link_variable d link
 
 -- whether a stream comes to a bridge by a link
 abbrev pub comes_by : Domain → ℕ → ℕ → Row → Bool
@@ -37,9 +37,9 @@ way_at d bridge before row = option_map (λ (hop : Hop). (hop.from, is_new d bri
 abbrev pub out_need : Domain → ℕ → ℕ → List ℕ
 out_need d bridge link =
     codes "    port OUT_"
-    ++ (decimal link
+    ++ (link_variable d link
     ++ (codes " \"${OUT_"
-    ++ (decimal link
+    ++ (link_variable d link
     ++ (codes ":-}\" "
     ++ (name_of_end d link
     ++ (codes " \"interface of " ++ (name_of_bridge d bridge ++ (codes " to " ++ (name_of_end d link ++ codes "\"\n")))))))))
@@ -47,43 +47,45 @@ out_need d bridge link =
 abbrev pub link_need : Domain → ℕ → ℕ → List ℕ
 link_need d bridge link =
     codes "    port IN_"
-    ++ (decimal link
+    ++ (link_variable d link
     ++ (codes " \"${IN_"
-    ++ (decimal link
+    ++ (link_variable d link
     ++ (codes ":-}\" "
     ++ (name_of_bridge d (bridge_of d link)
     ++ (codes " \"interface of " ++ (name_of_bridge d bridge ++ (codes " to " ++ (name_of_bridge d (bridge_of d link) ++ codes "\"\n")))))))))
 
-abbrev pub way_need : Domain → ℕ → Row → Option ℕ → List ℕ
-way_need d bridge row None =
+abbrev pub way_need : Domain → ℕ → List ℕ → Row → Option ℕ → List ℕ
+way_need d bridge variable row None =
     codes "    port TALKER_"
-    ++ (decimal row.no
+    ++ (variable
     ++ (codes " \"${TALKER_"
-    ++ (decimal row.no
+    ++ (variable
     ++ (codes ":-}\" \"\" \"interface of " ++ (name_of_bridge d bridge ++ (codes " to the talker of " ++ (row.name ++ codes "\"\n")))))))
-way_need d bridge row (Some link) = link_need d bridge link
+way_need d bridge variable row (Some link) = link_need d bridge link
 
-abbrev pub frame_needs : Row → List ℕ
-frame_needs row =
+-- likewise for the frames of a stream whose gate has this index
+abbrev pub frame_needs : List ℕ → ℕ → Row → List ℕ
+frame_needs variable gate row =
     codes "    frames "
-    ++ (decimal row.no
-    ++ (codes " \"${MAC_" ++ (decimal row.no ++ (codes ":-}\" \"${VLAN_" ++ (decimal row.no ++ (codes ":-}\" " ++ (row.name ++ codes "\n")))))))
+    ++ (variable
+    ++ (codes " \"${MAC_"
+    ++ (variable ++ (codes ":-}\" \"${VLAN_" ++ (variable ++ (codes ":-}\" " ++ (row.name ++ (codes " " ++ (decimal gate ++ codes "\n")))))))))
 
 -- the line that takes the gates of an earlier plan off the interface by which a stream comes
-abbrev pub way_clearing : Row → Option ℕ → List ℕ
-way_clearing row way = codes "    no_gates \"$" ++ (way_in row way ++ codes "\"\n")
+abbrev pub way_clearing : Domain → List ℕ → Option ℕ → List ℕ
+way_clearing d variable way = codes "    no_gates \"$" ++ (way_in d variable way ++ codes "\"\n")
 
 -- the call that sets the list of a link that leaves the bridge
-abbrev pub link_call : ℕ → List ℕ
-link_call link = codes "    link \"$OUT_" ++ (decimal link ++ codes "\"")
+abbrev pub link_call : Domain → ℕ → List ℕ
+link_call d link = codes "    link \"$OUT_" ++ (link_variable d link ++ codes "\"")
 
 -- the lines of the link
 abbrev pub link_lines : Domain → ℕ → List ℕ
-link_lines d link = codes "    # link " ++ (decimal link ++ (codes " " ++ (name_of_link d link ++ (codes "\n" ++ (link_call link ++ codes "\n")))))
+link_lines d link = codes "    # link " ++ (decimal link ++ (codes " " ++ (name_of_link d link ++ (codes "\n" ++ (link_call d link ++ codes "\n")))))
 
 -- the interfaces by which a stream leaves the bridge, in the order of its tree
 abbrev pub way_out : Domain → ℕ → Hop → List ℕ
-way_out d bridge hop = if leaves d hop.link bridge then codes " OUT_" ++ decimal hop.link else []
+way_out d bridge hop = if leaves d hop.link bridge then codes " OUT_" ++ link_variable d hop.link else []
 
 abbrev pub ways_out : Domain → ℕ → Row → List ℕ
 ways_out d bridge row = flat_map (way_out d bridge) row.tree.items
@@ -93,30 +95,28 @@ abbrev pub pauses : Row → Bool
 pauses row = not (row.pace.pause == 0)
 
 -- what a call says of a stream's gate before its list: the interface by which the stream comes, the gate's index, and the frames
-abbrev pub gate_target : Row → Option ℕ → List ℕ
-gate_target row way =
-    way_in row way
-    ++ (codes "\" "
-    ++ (decimal (row.no + 1)
-    ++ (codes " \"$MAC_" ++ (decimal row.no ++ (codes "\" \"$VLAN_" ++ (decimal row.no ++ codes "\""))))))
+abbrev pub gate_target : Domain → List ℕ → ℕ → Option ℕ → List ℕ
+gate_target d variable gate way =
+    way_in d variable way
+    ++ (codes "\" " ++ (decimal gate ++ (codes " \"$MAC_" ++ (variable ++ (codes "\" \"$VLAN_" ++ (variable ++ codes "\""))))))
 
 -- the call that sets the gate of a stream that is offered in each cycle and comes this way, with the octets of its reservation
-abbrev pub plain_call : Row → Option ℕ → List ℕ
-plain_call row way = codes "    gate \"$" ++ (gate_target row way ++ (codes " " ++ decimal row.octets))
+abbrev pub plain_call : Domain → List ℕ → ℕ → Row → Option ℕ → List ℕ
+plain_call d variable gate row way = codes "    gate \"$" ++ (gate_target d variable gate way ++ (codes " " ++ decimal row.octets))
 
 -- and of one that pauses, with its gate's list at the bridge
-abbrev pub list_call : Domain → ℕ → Row → Option ℕ → List ℕ
-list_call d bridge row way = codes "    gate_by_list \"$" ++ (gate_target row way ++ list_words (gate_at d row bridge))
+abbrev pub list_call : Domain → ℕ → List ℕ → ℕ → Row → Option ℕ → List ℕ
+list_call d bridge variable gate row way = codes "    gate_by_list \"$" ++ (gate_target d variable gate way ++ list_words (gate_at d row bridge))
 
-abbrev pub gate_call : Domain → ℕ → Row → Option ℕ → List ℕ
-gate_call d bridge row way = if pauses row then list_call d bridge row way else plain_call row way
+abbrev pub gate_call : Domain → ℕ → List ℕ → ℕ → Row → Option ℕ → List ℕ
+gate_call d bridge variable gate row way = if pauses row then list_call d bridge variable gate row way else plain_call d variable gate row way
 
 -- the lines of the stream: by which interfaces it leaves, and its gate
-abbrev pub stream_lines : Domain → ℕ → Row → Option ℕ → List ℕ
-stream_lines d bridge row way =
+abbrev pub stream_lines : Domain → ℕ → List ℕ → ℕ → Row → Option ℕ → List ℕ
+stream_lines d bridge variable gate row way =
     codes "    # stream "
     ++ (decimal row.no
-    ++ (codes " " ++ (row.name ++ (codes ", leaves by" ++ (ways_out d bridge row ++ (codes "\n" ++ (gate_call d bridge row way ++ codes "\n")))))))
+    ++ (codes " " ++ (row.name ++ (codes ", leaves by" ++ (ways_out d bridge row ++ (codes "\n" ++ (gate_call d bridge variable gate row way ++ codes "\n")))))))
 
 -- a text for each link that leaves the bridge, by number
 abbrev pub if_left : Domain → ℕ → (ℕ → List ℕ) → ℕ → List ℕ
@@ -133,34 +133,37 @@ abbrev pub each_stream : (List Row → Row → List ℕ) → List Row → List �
 each_stream text rows = each_below (stream_at text rows) (length rows)
 
 -- what a stream needs that isn't needed before it: the interface by which it comes, its frames' destination address and their VLAN
-abbrev pub needs_by : Domain → ℕ → Row → (Option ℕ × Bool) → List ℕ
-needs_by d bridge row way = (if way.1 then way_need d bridge row way.0 else []) ++ frame_needs row
+abbrev pub needs_by : Domain → ℕ → List ℕ → ℕ → Row → (Option ℕ × Bool) → List ℕ
+needs_by d bridge variable gate row way = (if way.1 then way_need d bridge variable row way.0 else []) ++ frame_needs variable gate row
 
-abbrev pub stream_needs : Domain → ℕ → List Row → Row → List ℕ
-stream_needs d bridge before row = option_map_or (needs_by d bridge row) (way_at d bridge before row) []
+-- of all streams these are the rows, and these the indexes of their gates, by number
+abbrev pub stream_needs : Domain → (ℕ → ℕ) → List Row → ℕ → List Row → Row → List ℕ
+stream_needs d gates rows bridge before row =
+    option_map_or (needs_by d bridge (stream_variable rows row) (gates row.no) row) (way_at d bridge before row) []
 
 -- the interface by which it comes is cleared once
-abbrev pub clearing_by : Row → (Option ℕ × Bool) → List ℕ
-clearing_by row way = if way.1 then way_clearing row way.0 else []
+abbrev pub clearing_by : Domain → List ℕ → (Option ℕ × Bool) → List ℕ
+clearing_by d variable way = if way.1 then way_clearing d variable way.0 else []
 
-abbrev pub stream_clearing : Domain → ℕ → List Row → Row → List ℕ
-stream_clearing d bridge before row = option_map_or (clearing_by row) (way_at d bridge before row) []
+abbrev pub stream_clearing : Domain → List Row → ℕ → List Row → Row → List ℕ
+stream_clearing d rows bridge before row = option_map_or (clearing_by d (stream_variable rows row)) (way_at d bridge before row) []
 
 -- its lines
-abbrev pub stream_gates : Domain → ℕ → Row → List ℕ
-stream_gates d bridge row = option_map_or (λ (hop : Hop). stream_lines d bridge row hop.from) (first_hop d bridge row) []
+abbrev pub stream_gates : Domain → (ℕ → ℕ) → List Row → ℕ → Row → List ℕ
+stream_gates d gates rows bridge row =
+    option_map_or (λ (hop : Hop). stream_lines d bridge (stream_variable rows row) (gates row.no) row hop.from) (first_hop d bridge row) []
 
 -- the function of a bridge: each variable once, in the order in which it uses them first, so that a bridge that lacks one is left as
 -- it was; the end of what is checked; the interfaces by which streams come, cleared; its links; its streams
-abbrev pub bridge_text : Domain → List Row → ℕ → List ℕ
-bridge_text d rows bridge =
+abbrev pub bridge_text : Domain → (ℕ → ℕ) → List Row → ℕ → List ℕ
+bridge_text d gates rows bridge =
     codes "bridge_"
     ++ (decimal bridge
     ++ (codes "() {\n    # "
     ++ (name_of_bridge d bridge
     ++ (codes "\n"
     ++ (each_link d bridge (out_need d bridge)
-    ++ (each_stream (stream_needs d bridge) rows
+    ++ (each_stream (stream_needs d gates rows bridge) rows
     ++ (codes "    ready\n"
-    ++ (each_stream (stream_clearing d bridge) rows
-    ++ (each_link d bridge (link_lines d) ++ (flat_map (stream_gates d bridge) rows ++ codes "}\n"))))))))))
+    ++ (each_stream (stream_clearing d rows bridge) rows
+    ++ (each_link d bridge (link_lines d) ++ (flat_map (stream_gates d gates rows bridge) rows ++ codes "}\n"))))))))))

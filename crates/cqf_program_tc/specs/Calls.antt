@@ -11,6 +11,7 @@ use Rattle.cqf_topology.specs.DomainText.{IsDomain}
 use Rattle.cqf_admission.specs.Grants.{HaveNames}
 use Rattle.cqf_compile.specs.BridgeGates.{first_hop}
 use Rattle.cqf_program_tc.specs.Bridge.{gate_call, link_call, pauses}
+use Rattle.cqf_program_tc.specs.Variables.{stream_variable}
 use Rattle.cqf_program_tc.specs.Text.{by_list_lines, gate_command, list_command, tc_text, undo_gate, undo_list}
 
 -- the lines behind the first that is this one
@@ -45,24 +46,27 @@ abbrev pub calls_at : ℕ → List ℕ → List (List ℕ)
 calls_at bridge script = filter is_call (lines_of_function (function_of_bridge bridge) script)
 
 -- what is due there: one call for each link that leaves the bridge, by number, and behind these one for each stream that leaves it,
--- with the way by which it comes
+-- with the way by which it comes, and the index that its gate is to have
 abbrev pub link_calls : Domain → ℕ → ℕ → List (List ℕ)
-link_calls d bridge link = if leaves d link bridge then link_call link ∷ [] else []
+link_calls d bridge link = if leaves d link bridge then link_call d link ∷ [] else []
 
-abbrev pub gate_calls : Domain → ℕ → Row → List (List ℕ)
-gate_calls d bridge row = option_map_or (λ (hop : Hop). gate_call d bridge row hop.from ∷ []) (first_hop d bridge row) []
+abbrev pub gate_calls : Domain → (ℕ → ℕ) → List Row → ℕ → Row → List (List ℕ)
+gate_calls d gates rows bridge row =
+    option_map_or (λ (hop : Hop). gate_call d bridge (stream_variable rows row) (gates row.no) row hop.from ∷ []) (first_hop d bridge row) []
 
-abbrev pub calls_due : Domain → List Row → ℕ → List (List ℕ)
-calls_due d rows bridge = each_below (link_calls d bridge) (length d.links) ++ flat_map (gate_calls d bridge) rows
+abbrev pub calls_due : Domain → (ℕ → ℕ) → List Row → ℕ → List (List ℕ)
+calls_due d gates rows bridge = each_below (link_calls d bridge) (length d.links) ++ flat_map (gate_calls d gates rows bridge) rows
 
 -- the script sets at each bridge what is due there and nothing else; what it calls sets the list that each port is compiled to, and
 -- the gate's list with the octets of the call, or, where a stream pauses, the list of the call
-pub record IsScriptOf (d : Domain) (rows : List Row) (script : List ℕ) : Type 0 where
-  pub list : lines_of_function (codes "link") script ≡ list_command d ∷ undo_list ∷ []
-  pub gate : lines_of_function (codes "gate") script ≡ gate_command d ∷ undo_gate ∷ []
-  pub by_list : list_any pauses rows ≡ true → lines_of_function (codes "gate_by_list") script ≡ by_list_lines
-  pub calls : (bridge : ℕ) → bridge < length d.bridges → calls_at bridge script ≡ calls_due d rows bridge
+pub record IsScriptOf (d : Domain) (software : Bool) (gates : ℕ → ℕ) (rows : List Row) (script : List ℕ) : Type 0 where
+  pub list : lines_of_function (codes "link") script ≡ list_command d software ∷ undo_list ∷ []
+  pub gate : lines_of_function (codes "gate") script ≡ gate_command d software ∷ undo_gate ∷ []
+  pub by_list : list_any pauses rows ≡ true → lines_of_function (codes "gate_by_list") script ≡ by_list_lines software
+  pub calls : (bridge : ℕ) → bridge < length d.bridges → calls_at bridge script ≡ calls_due d gates rows bridge
 
 -- the names of nodes and streams have the form of names, so that none is read as a line
 abbrev pub ScriptsCallWhatIsDue : Type 0
-ScriptsCallWhatIsDue = (d : Domain) (rows : List Row) → IsDomain d → HaveNames rows → IsScriptOf d rows (tc_text d rows)
+ScriptsCallWhatIsDue =
+    (d : Domain) (software : Bool) (gates : ℕ → ℕ) (rows : List Row) → IsDomain d → HaveNames rows →
+    IsScriptOf d software gates rows (tc_text d software gates rows)

@@ -1,5 +1,5 @@
 -- The lists of the script are those that are compiled, and begin anew together.
-use Rattle.std.specs.Prelude.{ℕ, ◌≡◌, ◌%◌, ◌≤◌, ◌<◌, Contains, List, Some, Ok}
+use Rattle.std.specs.Prelude.{ℕ, ◌≡◌, ◌+◌, ◌-◌, ◌*◌, ◌%◌, ◌^◌, ◌≤◌, ◌<◌, Contains, List, Some, Ok}
 use Rattle.cqf_compile.specs.BridgeGates.{gate_at}
 use Rattle.cqf_admission.specs.Turns.{AreOfGoodPaces, IsGoodPace}
 use Rattle.cqf_gates.specs.ReservedSpans.{reserved_spans}
@@ -33,3 +33,17 @@ pub record AllBeginAnew (rows : List Row) : Type 0 where
 
 abbrev pub ListsBeginAnew : Type 0
 ListsBeginAnew = (rows : List Row) → AreOfGoodPaces rows → AllBeginAnew rows
+
+-- what a script makes of BASE, where its lists begin anew after so many nanoseconds
+abbrev pub begins_from : ℕ → ℕ → ℕ
+begins_from round base = base + (round - base % round) % round
+
+-- it is a multiple, not before BASE and less than one round behind it; and it is below 2^63
+pub record IsNextMultiple (round base : ℕ) : Type 0 where
+  pub multiple : begins_from round base % round ≡ 0
+  pub since : base ≤ begins_from round base
+  pub soon : begins_from round base < base + round
+  pub fits : begins_from round base < 2 ^ 63
+
+abbrev pub InstantsFit : Type 0
+InstantsFit = (d : Domain) (rows : List Row) (base : ℕ) → IsAccepted d → base < 9000000000000000000 → IsNextMultiple (rounds_in rows * d.cycle_time) base

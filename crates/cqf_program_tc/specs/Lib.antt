@@ -1,9 +1,14 @@
 pub mod Words
+pub mod Variables
+pub mod Taken
 pub mod Bridge
 pub mod Checks
+pub mod Program
+pub mod Env
 pub mod Text
 pub mod Output
 pub mod Rows
 pub mod Calls
+pub mod Wanted
 pub mod Laws
 pub mod Ways

@@ -1,6 +1,6 @@
 //! The script's functions that check all before anything is changed, and that take back what was set.
 ghost use Rattle.cqf_press.specs.Press.{Puts};
-ghost use Rattle.cqf_program_tc.specs.Checks.{agree_text, checks_text, frames_text, port_text, ready_text, take_back_text};
+ghost use Rattle.cqf_program_tc.specs.Checks.{agree_text, checks_text, frames_text, jump_text, port_text, ready_text, take_back_text};
 
 use cqf_press::{Press, Sink};
 
@@ -15,6 +15,22 @@ fn put_agree<W: Sink>(press: &mut Press<'_, W>)
         b"    [ \"$1\" != \"$2\" ] || return 0\n    case $bridges in\n    *\" $1 \"* | *\" $2 \"*) return 1 ;;\n    esac\n",
     );
     press.put(b"    [ -z \"$1\" ] || [ -z \"$2\" ]\n}\n\n");
+}
+
+/// Puts the function that wants a jump to the gates' chain.
+fn put_jump<W: Sink>(press: &mut Press<'_, W>)
+    ensures { Puts W.contents press.old press.new jump_text }
+{
+    press.put(
+        b"# where CHAIN isn't 0, a filter of chain 0 at the interface $2, which is $1, has to go on to it\njump() {\n",
+    );
+    press.put(b"    if [ \"$chain\" = 0 ] || [ \"$tc\" = echo ]; then return 0; fi\n");
+    press.put(
+        b"    $tc filter show dev \"$2\" ingress chain 0 2>/dev/null | grep -Eq \"goto chain $chain( |\\$)\" ||\n",
+    );
+    press.put(
+        b"        refuse \"$1: no filter of chain 0 at $2 has goto chain $chain, so no frame would come to a gate: add one\"\n}\n\n",
+    );
 }
 
 /// Puts the function that wants an interface.
@@ -37,9 +53,12 @@ fn put_port<W: Sink>(press: &mut Press<'_, W>)
         b"        \"$at/\"*) agree \"${use##*/}\" \"$3\" || { use=${use#*/}; refuse \"$1: $2 is ${use%/*}'s interface, and leads to another node\"; }",
     );
     press.put(
-        b" ;;\n        esac\n    done\n    used=\"$used $at/$1/$3\"\n    case $1/$ways in\n    OUT_* | *\" $at \"*) ;;\n",
+        b" ;;\n        esac\n    done\n    used=\"$used $at/$1/$3\"\n    case $1/$ways in\n    OUT_* | *\" $at \"*) ;;\n    *)\n",
     );
-    press.put(b"    *) ways=\"$ways $at \" old=\"$old\n$(old_gates \"$2\")\" ;;\n    esac\n}\n\n");
+    press.put(
+        b"        jump \"$1\" \"$2\"\n        ways=\"$ways $at \" old=\"$old\n$(old_gates \"$2\")\"\n",
+    );
+    press.put(b"        ;;\n    esac\n}\n\n");
 }
 
 /// Puts the function that wants the address and the VLAN of a stream's frames.
@@ -47,8 +66,9 @@ fn put_frames<W: Sink>(press: &mut Press<'_, W>)
     ensures { Puts W.contents press.old press.new frames_text }
 {
     press.put(
-        b"# the frames of stream $1 have to have an address $2 and a VLAN $3, which no other stream has both: $4\nframes() {\n",
+        b"# the frames of stream $4 have to have an address MAC_$1, $2, and a VLAN VLAN_$1, $3, which no other stream has both. Their gate is $5\n",
     );
+    press.put(b"frames() {\n");
     press.put(
         b"    [ -n \"$2\" ] || refuse \"MAC_$1 isn't set: destination address of $4\"\n    [ -n \"$3\" ] || refuse \"VLAN_$1 isn't set: VLAN of $4\"\n",
     );
@@ -70,7 +90,7 @@ fn put_frames<W: Sink>(press: &mut Press<'_, W>)
     press.put(
         b"    *\" $both \"*) refuse \"MAC_$1 and VLAN_$1 are another stream's too: $2 and $3\" ;;\n    esac\n",
     );
-    press.put(b"    streams=\"$streams $both \" gates=\"$gates $(($1 + 1))\"\n}\n\n");
+    press.put(b"    streams=\"$streams $both \" gates=\"$gates $5\"\n}\n\n");
 }
 
 /// Puts the function that ends the checks.
@@ -90,7 +110,7 @@ fn put_ready<W: Sink>(press: &mut Press<'_, W>)
         b"        [ \"${shown%% *}\" = \"$(printf '%s\\n' \"$old\" | grep -c \"^pref $index \")\" ] || refuse \"gate $index belongs to another",
     );
     press.put(
-        b" filter\"\n    done\n    trap take_back EXIT\n    trap 'exit 1' HUP INT TERM\n}\n\n",
+        b" filter\"\n    done\n    echo \"# BASE is $BASE\"\n    trap take_back EXIT\n    trap 'exit 1' HUP INT TERM\n}\n\n",
     );
 }
 
@@ -108,7 +128,7 @@ fn put_take_back<W: Sink>(press: &mut Press<'_, W>)
         b"        # shellcheck disable=SC2086\n        $tc ${undo%%/*} || end=\"not all that this run had set is taken back\"\n",
     );
     press.put(
-        b"        undo=${undo#*/}\n    done\n    echo \"failed: $end\" >&2\n    exit 1\n}\n\n",
+        b"        undo=${undo#*/}\n    done\n    [ -z \"$object\" ] || rm -f \"$object\"\n    echo \"failed: $end\" >&2\n    exit 1\n}\n\n",
     );
 }
 
@@ -117,6 +137,7 @@ pub(crate) fn put_checks<W: Sink>(press: &mut Press<'_, W>)
     ensures { Puts W.contents press.old press.new checks_text }
 {
     put_agree(press);
+    put_jump(press);
     put_port(press);
     put_frames(press);
     put_ready(press);

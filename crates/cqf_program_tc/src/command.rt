@@ -1,66 +1,277 @@
-//! The command `compile --format tc`: the script for a domain and its streams.
-ghost use Rattle.std.specs.Prelude.{◌≡◌, Ok, IfOk, IfErr, map};
+//! The commands `compile --format tc` and `compile --format env`: the script for a domain and its streams, and the file of a bridge.
+ghost use Rattle.std.specs.Prelude.{◌≡◌, ◌<◌, AllPairs, Ok, IfOk, IfErr, length, map, string_bytes};
 ghost use Rattle.cqf_admission.specs.Asking.{asked_paced};
 ghost use Rattle.cqf_admission.specs.Turns.{AreOfGoodPaces};
-ghost use Rattle.cqf_program_plans.specs.Compile.Output.{compiled_input, configuration_of};
-ghost use Rattle.cqf_press.specs.Stops.{IsRefused};
-ghost use Rattle.cqf_program_tc.specs.Output.{tc_of, tc_of_input, text_of_tc};
+ghost use Rattle.cqf_model.specs.declared.topology.Row.{Row as ARow};
+ghost use Rattle.cqf_press.specs.Stops.{EndsWith, IsRefused};
+ghost use Rattle.cqf_program_tc.specs.Output.{IsReadyPlan, addressed_input, bridge_named, env_of, env_of_input};
+ghost use Rattle.cqf_program_tc.specs.Output.{keys_of, rows_of, tc_of, tc_of_input, text_of_env, text_of_tc, unknown_bridge};
+ghost use Rattle.cqf_program_tc.specs.Rows.{places_in};
 
-use crate::outputs::TcOutput;
+use crate::outputs::{EnvOutput, ReadyPlan, TcOutput};
 use crate::rows::places_by_bridge;
+use crate::variables::{link_variables, stream_variables};
 use crate::words::{write_gate_words, write_tx_words};
+use cqf_addressing::{LinkInterfaces, StreamAddress, addresses_part, interfaces_part};
 use cqf_gates::compiled_list;
-use cqf_model::{Limits, Row};
-use cqf_press::{Sheet, Stop};
+use cqf_model::{Limits, Node, Row};
+use cqf_press::{REFUSED, Sheet, Stop};
 use cqf_program_plans::{read_plan, rows_of_cycle_0};
+use cqf_program_scenario::two_parts;
 use cqf_topology::{Domain, PacedRequest};
 use cqf_units::Memory;
-use std::alloc::Global;
+use std::alloc::{AllocError, Global};
 
-/// The script of a domain with the streams of these rows, ready to be told.
-fn script_ready(alloc: Global, domain: Domain, rows: Vec<Row>) -> Result<TcOutput, Memory>
-    requires { AreOfGoodPaces rows.items }
-    ensures { IfOk result (λ output. output ≡ record { domain = domain; rows = rows.items }) }
+/// What is read of an input: a domain, the streams that are asked for, and what is said of links and streams in real bridges.
+#[derive(Drop)]
+struct Found {
+    domain: Domain,
+    requests: Vec<PacedRequest>,
+    interfaces: Vec<LinkInterfaces>,
+    addresses: Vec<StreamAddress>,
+}
+
+/// What two parts say of links and of streams.
+fn read_keys(
+    alloc: Global,
+    limits: Limits,
+    domain_text: &[u8],
+    streams_text: &[u8],
+) -> Result<(Vec<LinkInterfaces>, Vec<StreamAddress>), Stop>
+    ensures ok { IfOk result (λ keys. keys_of limits (domain_text.now, streams_text.now) ≡ Ok (keys.0.items, keys.1.items)) }
+    ensures err { IfErr result (IsRefused (keys_of limits (domain_text.now, streams_text.now))) }
 {
-    let port_list = compiled_list(domain.cycle_time(), domain.guard());
-    let port_words = write_tx_words(alloc, &port_list)?;
-    let gate_words = write_gate_words(alloc, domain.cycle_time().0 as u32)?;
-    let places = places_by_bridge(alloc, &domain, rows.as_slice())?;
-    let sheet = Sheet::new(alloc)?;
-    Ok(TcOutput {
+    let interfaces = interfaces_part(alloc, domain_text)?;
+    let addresses = addresses_part(alloc, limits, streams_text)?;
+    Ok((interfaces, addresses))
+}
+
+/// What an input says that is read within some limits.
+fn read_input(alloc: Global, limits: Limits, input: &[u8]) -> Result<Found, Stop>
+    ensures ok { IfOk result (λ found. addressed_input limits input.now ≡ Ok (record {
+      domain = found.domain;
+      streams = map asked_paced found.requests.items;
+      interfaces = found.interfaces.items;
+      addresses = found.addresses.items;
+    })) }
+    ensures err { IfErr result (IsRefused (addressed_input limits input.now)) }
+{
+    let (domain, requests) = read_plan(alloc, limits, input)?;
+    let (domain_text, streams_text) = two_parts(alloc, input)?;
+    let (interfaces, addresses) = read_keys(alloc, limits, domain_text, streams_text)?;
+    Ok(Found {
+        domain,
+        requests,
+        interfaces,
+        addresses,
+    })
+}
+
+/// What was found, with the rows of its streams, ready for either output.
+fn plan_ready(alloc: Global, found: Found, rows: Vec<Row>) -> Result<ReadyPlan, Memory>
+    requires paced { AreOfGoodPaces rows.items }
+    requires numbers { AllPairs (λ (a b : ARow). a.no < b.no) rows.items }
+    ensures domain { IfOk result (λ plan. plan.domain ≡ found.domain) }
+    ensures rows { IfOk result (λ plan. plan.rows.items ≡ rows.items) }
+    ensures interfaces { IfOk result (λ plan. plan.interfaces.items ≡ found.interfaces.items) }
+    ensures addresses { IfOk result (λ plan. plan.addresses.items ≡ found.addresses.items) }
+    ensures ready { IfOk result (λ plan. IsReadyPlan plan.domain plan.rows.items (places_in plan.places.items) plan.links.items plan.streams.items) }
+{
+    let places = places_by_bridge(alloc, &found.domain, rows.as_slice())?;
+    let links = link_variables(alloc, &found.domain)?;
+    let streams = stream_variables(alloc, rows.as_slice())?;
+    let Found {
+        domain,
+        requests: _,
+        interfaces,
+        addresses,
+    } = found;
+    Ok(ReadyPlan {
         domain,
         rows,
+        interfaces,
+        addresses,
         places,
+        links,
+        streams,
+    })
+}
+
+/// The script of a plan, ready to be told.
+fn script_ready(alloc: Global, software: bool, plan: ReadyPlan) -> Result<TcOutput, Memory>
+    requires { IsReadyPlan plan.domain plan.rows.items (places_in plan.places.items) plan.links.items plan.streams.items }
+    ensures { IfOk result (λ output. output ≡ record {
+      domain = plan.domain;
+      rows = plan.rows.items;
+      addresses = plan.addresses.items;
+      software = software;
+    }) }
+{
+    let port_list = compiled_list(plan.domain.cycle_time(), plan.domain.guard());
+    let port_words = write_tx_words(alloc, &port_list)?;
+    let gate_words = write_gate_words(alloc, plan.domain.cycle_time().0 as u32)?;
+    let sheet = Sheet::new(alloc)?;
+    Ok(TcOutput {
+        plan,
         port_words,
         gate_words,
+        software,
         sheet,
     })
 }
 
-/// The script of a domain with these streams, ready to be told.
-fn script_of(alloc: Global, domain: Domain, requests: &[PacedRequest]) -> Result<TcOutput, Stop>
-    ensures ok { IfOk result (λ output. tc_of domain (map asked_paced requests.now) ≡ Ok (text_of_tc output)) }
-    ensures err { IfErr result (IsRefused (tc_of domain (map asked_paced requests.now))) }
-    ensures as_compile { IfErr result (IsRefused (configuration_of domain (map asked_paced requests.now))) }
+/// The plan of what was found, where all of its streams are admitted before cycle 0.
+fn plan_of(alloc: Global, found: Found) -> Result<ReadyPlan, Stop>
+    ensures ok { IfOk result (λ plan. rows_of (record {
+      domain = found.domain;
+      streams = map asked_paced found.requests.items;
+      interfaces = found.interfaces.items;
+      addresses = found.addresses.items;
+    }) ≡ Ok plan.rows.items) }
+    ensures err { IfErr result (IsRefused (rows_of (record {
+      domain = found.domain;
+      streams = map asked_paced found.requests.items;
+      interfaces = found.interfaces.items;
+      addresses = found.addresses.items;
+    }))) }
+    ensures domain { IfOk result (λ plan. plan.domain ≡ found.domain) }
+    ensures interfaces { IfOk result (λ plan. plan.interfaces.items ≡ found.interfaces.items) }
+    ensures addresses { IfOk result (λ plan. plan.addresses.items ≡ found.addresses.items) }
+    ensures ready { IfOk result (λ plan. IsReadyPlan plan.domain plan.rows.items (places_in plan.places.items) plan.links.items plan.streams.items) }
 {
-    let rows = rows_of_cycle_0(alloc, &domain, requests)?;
-    match script_ready(alloc, domain, rows) {
+    let rows = rows_of_cycle_0(alloc, &found.domain, found.requests.as_slice())?;
+    match plan_ready(alloc, found, rows) {
+        Ok(plan) => Ok(plan),
+        Err(_) => Err(Stop::memory(alloc)),
+    }
+}
+
+/// The script of what was found, ready to be told.
+fn script_of(alloc: Global, software: bool, found: Found) -> Result<TcOutput, Stop>
+    ensures ok { IfOk result (λ output. tc_of software (record {
+      domain = found.domain;
+      streams = map asked_paced found.requests.items;
+      interfaces = found.interfaces.items;
+      addresses = found.addresses.items;
+    }) ≡ Ok (text_of_tc output)) }
+    ensures err { IfErr result (IsRefused (tc_of software (record {
+      domain = found.domain;
+      streams = map asked_paced found.requests.items;
+      interfaces = found.interfaces.items;
+      addresses = found.addresses.items;
+    }))) }
+{
+    let plan = plan_of(alloc, found)?;
+    match script_ready(alloc, software, plan) {
         Ok(output) => Ok(output),
         Err(_) => Err(Stop::memory(alloc)),
     }
 }
 
 /// The output of `compile --format tc` for an input that is read within some limits, ready to be told: the script for the domain and its
-/// streams (profile).
+/// streams (profile), with gates in hardware, or in software where that is asked.
 ///
 /// # Errors
-/// Those of `cqf_program_plans::compile_output`: with status 1 and the line of the first fault of the input, of its parts, of the
-/// domain, of the streams, or of the first stream that isn't admitted; and with status 3 for want of memory.
-pub fn tc_output(alloc: Global, limits: Limits, input: &[u8]) -> Result<TcOutput, Stop>
-    ensures ok { IfOk result (λ output. tc_of_input limits input.now ≡ Ok (text_of_tc output)) }
-    ensures err { IfErr result (IsRefused (tc_of_input limits input.now)) }
-    ensures as_compile { IfErr result (IsRefused (compiled_input limits input.now)) }
+/// Those of `cqf_program_plans::compile_output`, with status 1 and the line of the first fault of the input, of its parts, of the
+/// domain, of the streams, then of the keys that say how the plan is put into real bridges ([`cqf_addressing`]), or of the first stream that
+/// isn't admitted; and with status 3 for want of memory.
+pub fn tc_output(
+    alloc: Global,
+    limits: Limits,
+    software: bool,
+    input: &[u8],
+) -> Result<TcOutput, Stop>
+    ensures ok { IfOk result (λ output. tc_of_input limits software input.now ≡ Ok (text_of_tc output)) }
+    ensures err { IfErr result (IsRefused (tc_of_input limits software input.now)) }
 {
-    let (domain, requests) = read_plan(alloc, limits, input)?;
-    script_of(alloc, domain, requests.as_slice())
+    let found = read_input(alloc, limits, input)?;
+    script_of(alloc, software, found)
+}
+
+/// The line where a domain lacks a bridge.
+fn unknown_line(alloc: Global, name: &str) -> Result<String, AllocError>
+    ensures { IfOk result (λ line. string_bytes line ≡ unknown_bridge name.now) }
+{
+    let line = format!(in alloc; "cqf: compile: UnknownBridge {name}\n")?;
+    Ok(line)
+}
+
+/// The end where a domain lacks a bridge.
+fn unknown_stop(alloc: Global, name: &str) -> Stop
+    ensures { EndsWith 1 (unknown_bridge name.now) result }
+{
+    Stop::with_text(alloc, REFUSED, unknown_line(alloc, name))
+}
+
+/// The number of the bridge of a name.
+fn bridge_of_name(alloc: Global, domain: &Domain, name: &str) -> Result<u16, Stop>
+    ensures ok { IfOk result (λ bridge. bridge_named domain.now name.now ≡ Ok bridge) }
+    ensures inside { IfOk result (λ bridge. bridge < length domain.now.bridges) }
+    ensures err { IfErr result (IsRefused (bridge_named domain.now name.now)) }
+{
+    match domain.find(name) {
+        Some(Node::Bridge(bridge)) => Ok(bridge),
+        _ => Err(unknown_stop(alloc, name)),
+    }
+}
+
+/// The file of a bridge of a plan, ready to be told.
+fn file_ready(alloc: Global, plan: ReadyPlan, bridge: u16) -> Result<EnvOutput, Memory>
+    requires ready { IsReadyPlan plan.domain plan.rows.items (places_in plan.places.items) plan.links.items plan.streams.items }
+    requires inside { bridge < length plan.domain.bridges }
+    ensures { IfOk result (λ output. output ≡ record {
+      domain = plan.domain;
+      rows = plan.rows.items;
+      interfaces = plan.interfaces.items;
+      addresses = plan.addresses.items;
+      bridge = bridge;
+    }) }
+{
+    let sheet = Sheet::new(alloc)?;
+    Ok(EnvOutput {
+        plan,
+        bridge,
+        sheet,
+    })
+}
+
+/// The file of a bridge, ready to be told.
+fn file_of(alloc: Global, name: &str, found: Found) -> Result<EnvOutput, Stop>
+    ensures ok { IfOk result (λ output. env_of name.now (record {
+      domain = found.domain;
+      streams = map asked_paced found.requests.items;
+      interfaces = found.interfaces.items;
+      addresses = found.addresses.items;
+    }) ≡ Ok (text_of_env output)) }
+    ensures err { IfErr result (IsRefused (env_of name.now (record {
+      domain = found.domain;
+      streams = map asked_paced found.requests.items;
+      interfaces = found.interfaces.items;
+      addresses = found.addresses.items;
+    }))) }
+{
+    let plan = plan_of(alloc, found)?;
+    let bridge = bridge_of_name(alloc, &plan.domain, name)?;
+    match file_ready(alloc, plan, bridge) {
+        Ok(output) => Ok(output),
+        Err(_) => Err(Stop::memory(alloc)),
+    }
+}
+
+/// The output of `compile --format env` for an input that is read within some limits, ready to be told: the file of the variables of the
+/// bridge of a name (profile).
+///
+/// # Errors
+/// Those of [`tc_output`]; and with status 1 and the line `cqf: compile: UnknownBridge NAME` where the domain has no bridge of the name.
+pub fn env_output(
+    alloc: Global,
+    limits: Limits,
+    bridge: &str,
+    input: &[u8],
+) -> Result<EnvOutput, Stop>
+    ensures ok { IfOk result (λ output. env_of_input limits bridge.now input.now ≡ Ok (text_of_env output)) }
+    ensures err { IfErr result (IsRefused (env_of_input limits bridge.now input.now)) }
+{
+    let found = read_input(alloc, limits, input)?;
+    file_of(alloc, bridge, found)
 }

@@ -1,14 +1,15 @@
 //! The script's parts that are the same for each bridge.
-ghost use Rattle.std.specs.Prelude.{◌≡◌, length};
+ghost use Rattle.std.specs.Prelude.{◌≡◌, if◌then◌else◌, length};
 ghost use Rattle.cqf_lists.specs.Lists.{each_below};
 ghost use Rattle.cqf_model.specs.GateList.{port_list};
 ghost use Rattle.cqf_press.specs.Press.{Puts};
 ghost use Rattle.cqf_program_tc.specs.Text.{choice_line, choice_text, gate_command, given_text, link_text, list_command};
-ghost use Rattle.cqf_program_tc.specs.Text.{last_gate, multiple, name_text, names_text, no_gates_text, old_gates_text, opening_text};
-ghost use Rattle.cqf_program_tc.specs.Text.{tc_gate_text, usage_text};
+ghost use Rattle.cqf_program_tc.specs.Text.{making_text, offload_notes, port_end, removing_text, software_notes};
+ghost use Rattle.cqf_program_tc.specs.Text.{last_gate, multiple, name_text, names_text, no_gates_text, notes_text, old_gates_text};
+ghost use Rattle.cqf_program_tc.specs.Text.{opening_text, tc_gate_text, usage_text};
 ghost use Rattle.cqf_program_tc.specs.Words.{gate_words, tx_words};
 
-use crate::lists::rounds_in;
+use crate::lists::{class_words, filter_words, rounds_in};
 use cqf_model::Row;
 use cqf_press::{Press, Sink};
 use cqf_topology::{Domain, put_bridge};
@@ -29,7 +30,7 @@ pub(crate) fn put_usage<W: Sink>(press: &mut Press<'_, W>, domain: &Domain, rows
     );
     press.put(b"# its clock in step with the others'.\n");
     press.put(
-        b"#   OUT_L     the interface by which link L leaves that bridge, and IN_L the one by which it comes there\n",
+        b"#   OUT_A_B   the interface by which the link from A to B leaves A, and IN_A_B the one by which it comes to B\n",
     );
     press.put(
         b"#   TALKER_S  the interface at which stream S comes from its talker, where it begins at that bridge\n",
@@ -38,27 +39,81 @@ pub(crate) fn put_usage<W: Sink>(press: &mut Press<'_, W>, domain: &Domain, rows
         b"#   MAC_S and VLAN_S   the destination address and the VLAN of the frames of stream S, which the talker has to tag\n",
     );
     press.put(
-        b"#   BASE      the instant of the PTP clock in ns at which an even cycle begins, a multiple of ",
+        b"#   BASE      an instant of the PTP clock in ns, the same at each bridge: the lists begin at the first multiple of ",
     );
     put_multiple(press, domain, rows);
+    press.put(b" at or\n#             after it, which is told. An even cycle begins there\n");
     press.put(
-        b"\n#   TC, IP and CHAIN   may be set: commands in place of tc and ip, the filter chain of the gates. TC=echo shows what would be\n",
+        b"#   TC, IP and CHAIN   may be set: commands in place of tc and ip, the filter chain of the gates. TC=echo shows what would be\n",
     );
     press.put(b"#             done, and interfaces are then looked for only where IP is set\n");
     press.put(
-        b"# An interface has one neighbour. So OUT_L and IN_K may be the same where link K is the way back of link L, TALKER_R and\n",
+        b"# A variable has _ for each - of a name. Where an earlier link or stream has the same, _N and the own number follow, as in\n",
     );
+    press.put(b"# OUT_A_B_N7; each variable is explained where it is used.\n");
     press.put(
-        b"# TALKER_S where one talker has both streams, OUT_L and TALKER_S where link L ends in the talker; no others may.\n",
+        b"# An interface has one neighbour. So OUT_A_B and IN_B_A may be the same, TALKER_R and TALKER_S where one talker has both\n",
     );
+    press.put(b"# streams, OUT_A_B and TALKER_S where B is the talker of S; no others may.\n");
     press.put(
         b"# All of this is checked before anything is changed. Where a command fails then, what this run has set is taken back; what it\n",
     );
     press.put(
         b"# replaced is gone.\n# Forwarding is yours: a stream may leave a bridge by the interfaces that its line here names, and by no others.\n",
     );
+}
+
+/// Puts what is to be known of gates in hardware.
+fn put_offload_notes<W: Sink>(press: &mut Press<'_, W>)
+    ensures { Puts W.contents press.old press.new offload_notes }
+{
     press.put(
-        b"# Octets of a gate are those of whole frames, from the destination address to the FCS; see what your bridge counts.\n",
+        b"# A gate in software doesn't give frames the class in its list (IPV), so the filters are for hardware alone (skip_sw). Where\n",
+    );
+    press.put(
+        b"# an interface can't offload taprio, the script fails, and nothing that it has set is left behind.\n",
+    );
+}
+
+/// Puts what is to be known of gates in software.
+fn put_software_notes<W: Sink>(press: &mut Press<'_, W>)
+    ensures { Puts W.contents press.old press.new software_notes }
+{
+    press.put(
+        b"# A gate in software doesn't give frames the class in its list (IPV), so a program in front of each gate does, by the cycle. It\n",
+    );
+    press.put(
+        b"# needs Linux 6.1, a little-endian machine and a tc with libbpf, and the interfaces need eight transmit queues.\n",
+    );
+}
+
+/// Puts what is to be known of gates of this kind.
+fn put_kind_notes<W: Sink>(press: &mut Press<'_, W>, software: bool)
+    ensures { Puts W.contents press.old press.new (if software then software_notes else offload_notes) }
+{
+    if software {
+        put_software_notes(press);
+    } else {
+        put_offload_notes(press);
+    }
+}
+
+/// Puts what is to be known of the gates of Linux.
+pub(crate) fn put_notes<W: Sink>(press: &mut Press<'_, W>, software: bool)
+    ensures { Puts W.contents press.old press.new (notes_text software) }
+{
+    press.put(
+        b"# Octets of a gate are those of whole frames, from the destination address to the FCS. Linux counts 22 fewer a frame, without\n",
+    );
+    press.put(
+        b"# the header's 14, the tag's 4 and the FCS's 4: frames of 1500, 1500 and 64 octets pass a gate of 3000. One that it drops counts.\n",
+    );
+    put_kind_notes(press, software);
+    press.put(
+        b"# What the bridge itself sends, as IPv6 neighbour discovery and MLD, may have class 7: keep it off these interfaces.\n",
+    );
+    press.put(
+        b"# Where CHAIN isn't 0, only a filter of yours in chain 0 with goto chain CHAIN leads frames to the gates.\n",
     );
 }
 
@@ -86,56 +141,74 @@ pub(crate) fn put_opening<W: Sink>(press: &mut Press<'_, W>, domain: &Domain)
     press.put(b"set -euf\nexport LC_ALL=C\ntc=${TC:-tc} ip=${IP:-} chain=${CHAIN:-0} bridges=\"");
     put_names(press, domain);
     press.put(
-        b" \"\nused=\"\" ways=\"\" old=\"\" streams=\"\" gates=\"\" undo=\"\"\n\n# ends the script where nothing is changed yet\nrefuse() {\n",
+        b" \"\nused=\"\" ways=\"\" old=\"\" streams=\"\" gates=\"\" undo=\"\" object=\"\"\n\n# ends the script where nothing is changed yet\nrefuse() {\n",
     );
     press.put(b"    printf '%s\\n' \"$*\" >&2\n    exit 1\n}\n\n");
 }
 
-/// Puts what ends the script where a bridge or the instant isn't given, or the instant is no such multiple.
+/// Puts what ends the script where a bridge or an instant isn't given, and takes the next multiple of all lists from the instant on.
 pub(crate) fn put_given<W: Sink>(press: &mut Press<'_, W>, domain: &Domain, rows: &[Row])
     ensures { Puts W.contents press.old press.new (given_text domain.now rows.now) }
 {
     press.put(b"[ \"$#\" -eq 1 ] || refuse \"name one bridge:$bridges\"\ncase ${BASE:=} in\n");
     press.put(
-        b"\"\" | *[!0-9]* | 0?* | 9?????????????????? | ????????????????????*) refuse \"BASE: '$BASE' is no multiple of ",
+        b"\"\" | *[!0-9]* | 0?* | 9?????????????????? | ????????????????????*) refuse \"BASE: '$BASE' is no instant in ns",
     );
+    press.put(b" below 9000000000000000000\" ;;\nesac\nBASE=$((BASE + (");
     put_multiple(press, domain, rows);
-    press.put(b" below 9000000000000000000\" ;;\nesac\n[ \"$((BASE % ");
+    press.put(b" - BASE % ");
     put_multiple(press, domain, rows);
-    press.put(b"))\" -eq 0 ] || refuse \"BASE: $BASE is no multiple of ");
+    press.put(b") % ");
     put_multiple(press, domain, rows);
     press.put(
-        b"\"\ncase $chain in\n*[!0-9]* | 0?* | ??????????*) refuse \"CHAIN: '$chain' is no number of a chain\" ;;\nesac\n",
+        b"))\ncase $chain in\n*[!0-9]* | 0?* | ??????????*) refuse \"CHAIN: '$chain' is no number of a chain\" ;;\nesac\n",
     );
     press.put(b"[ -n \"$ip\" ] || if [ \"$tc\" = echo ]; then ip=:; else ip=ip; fi\n");
     press.put(b"command -v \"${tc%% *}\" >/dev/null || refuse \"TC: there is no command $tc\"\n");
     press.put(b"command -v \"${ip%% *}\" >/dev/null || refuse \"IP: there is no command $ip\"\n\n");
 }
 
+/// The words behind a port's list.
+fn port_end(software: bool) -> &'static [u8]
+    ensures { result.now ≡ port_end software }
+{
+    if software {
+        b" clockid CLOCK_TAI".as_slice()
+    } else {
+        b" flags 0x2".as_slice()
+    }
+}
+
 /// Puts the command that sets the transmission gates of an interface.
-fn put_list_command<W: Sink>(press: &mut Press<'_, W>, domain: &Domain, port_words: &[u8])
+fn put_list_command<W: Sink>(
+    press: &mut Press<'_, W>,
+    domain: &Domain,
+    software: bool,
+    port_words: &[u8],
+)
     requires { port_words.now ≡ tx_words (port_list domain.now.cycle_time domain.now.guard) }
-    ensures { Puts W.contents press.old press.new (list_command domain.now) }
+    ensures { Puts W.contents press.old press.new (list_command domain.now software) }
 {
     press.put(
         b"    $tc qdisc replace dev \"$1\" parent root handle 100: taprio num_tc 8 map 0 1 2 3 4 5 6 7 0 0 0 0 0 0 0 0",
     );
     press.put(b" queues 1@0 1@1 1@2 1@3 1@4 1@5 1@6 1@7 base-time \"$BASE\"");
     press.put(port_words);
-    press.put(b" flags 0x2");
+    press.put(port_end(software));
 }
 
 /// Puts the function that sets the transmission gates of an interface.
 pub(crate) fn put_link_function<W: Sink>(
     press: &mut Press<'_, W>,
     domain: &Domain,
+    software: bool,
     port_words: &[u8],
 )
     requires { port_words.now ≡ tx_words (port_list domain.now.cycle_time domain.now.guard) }
-    ensures { Puts W.contents press.old press.new (link_text domain.now) }
+    ensures { Puts W.contents press.old press.new (link_text domain.now software) }
 {
     press.put(b"# the transmission gates of the interface $1\nlink() {\n");
-    put_list_command(press, domain, port_words);
+    put_list_command(press, domain, software, port_words);
     press.put(b"\n");
     press.put(b"    undo=\"qdisc del dev $1 root/$undo\"");
     press.put(b"\n}\n\n");
@@ -158,16 +231,16 @@ pub(crate) fn put_old_gates_function<W: Sink>(press: &mut Press<'_, W>, domain: 
 {
     let last = last_gate(domain);
     press.put(
-        b"# the stream gates of an earlier plan at the interface $1, a line each, in words of tc: the filters whose only action is a gate,\n",
+        b"# the stream gates of an earlier plan at the interface $1, a line each, in words of tc: the filters whose action is a gate, alone or\n",
     );
-    press.put(b"# and whose pref is the gate's index, 1 to ");
+    press.put(b"# behind a program of bpf, and whose pref is the gate's index, 1 to ");
     press.put(last);
     press.put(b"\nold_gates() {\n");
     press.put(
         b"    $tc filter show dev \"$1\" ingress chain \"$chain\" 2>/dev/null | awk '\n        function tell() {\n",
     );
     press.put(
-        b"            if (actions == 1 && kind == \"gate\" && pref == number && pref >= 1 && pref <= ",
+        b"            if ((actions == 1 || actions == 2 && first == \"bpf\") && kind == \"gate\" && pref == number && pref >= 1 && pref <= ",
     );
     press.put(last);
     press.put(b" && handle != \"\")\n");
@@ -184,9 +257,12 @@ pub(crate) fn put_old_gates_function<W: Sink>(press: &mut Press<'_, W>, domain: 
         b"                if ($i == \"handle\") handle = $(i + 1)\n            }\n        }\n",
     );
     press.put(
-        b"        $1 == \"action\" && $2 == \"order\" { actions++; kind = $4 }\n        $1 == \"index\" { number = $2 }\n        END { tell() }'\n}\n",
+        b"        $1 == \"action\" && $2 == \"order\" { actions++; first = kind; kind = $4 }\n",
     );
-    press.put(b"\n");
+    press.put(
+        b"        $1 == \"number\" && kind == \"\" && /gate-state/ { kind = \"gate\" }\n        $1 == \"index\" { number = $2 }\n",
+    );
+    press.put(b"        END { tell() }'\n}\n\n");
 }
 
 /// Puts the function that takes the gates of an earlier plan off an interface.
@@ -206,26 +282,39 @@ pub(crate) fn put_no_gates_function<W: Sink>(press: &mut Press<'_, W>)
 }
 
 /// Puts the command that sets a stream's gate at an interface.
-fn put_gate_command<W: Sink>(press: &mut Press<'_, W>, domain: &Domain, words: &[u8])
+fn put_gate_command<W: Sink>(
+    press: &mut Press<'_, W>,
+    domain: &Domain,
+    software: bool,
+    words: &[u8],
+)
     requires { words.now ≡ gate_words domain.now.cycle_time }
-    ensures { Puts W.contents press.old press.new (gate_command domain.now) }
+    ensures { Puts W.contents press.old press.new (gate_command domain.now software) }
 {
     press.put(
-        b"    $tc filter add dev \"$1\" ingress chain \"$chain\" protocol 802.1Q pref \"$2\" handle \"$2\" flower skip_sw dst_mac \"$3\"",
+        b"    $tc filter add dev \"$1\" ingress chain \"$chain\" protocol 802.1Q pref \"$2\" handle \"$2\" flower",
     );
-    press.put(b" vlan_id \"$4\" action gate index \"$2\" base-time \"$BASE\"");
+    press.put(filter_words(software));
+    press.put(b" dst_mac \"$3\" vlan_id \"$4\"");
+    press.put(class_words(software));
+    press.put(b" action gate index \"$2\" base-time \"$BASE\"");
     press.put(words);
 }
 
 /// Puts the function that sets a stream's gate at an interface.
-pub(crate) fn put_gate_function<W: Sink>(press: &mut Press<'_, W>, domain: &Domain, words: &[u8])
+pub(crate) fn put_gate_function<W: Sink>(
+    press: &mut Press<'_, W>,
+    domain: &Domain,
+    software: bool,
+    words: &[u8],
+)
     requires { words.now ≡ gate_words domain.now.cycle_time }
-    ensures { Puts W.contents press.old press.new (tc_gate_text domain.now) }
+    ensures { Puts W.contents press.old press.new (tc_gate_text domain.now software) }
 {
     press.put(
         b"# stream gate $2 at the interface $1: address $3, VLAN $4, at most $5 octets a cycle\ngate() {\n",
     );
-    put_gate_command(press, domain, words);
+    put_gate_command(press, domain, software, words);
     press.put(b"\n");
     press.put(
         b"    undo=\"filter del dev $1 ingress chain $chain protocol 802.1Q pref $2 handle $2 flower/$undo\"",
@@ -253,11 +342,36 @@ fn put_choice_lines<W: Sink>(press: &mut Press<'_, W>, domain: &Domain)
     }
 }
 
-/// Puts the choice of a bridge by the name given.
-pub(crate) fn put_choice<W: Sink>(press: &mut Press<'_, W>, domain: &Domain)
-    ensures { Puts W.contents press.old press.new (choice_text domain.now) }
+/// The lines that put the program of bpf into a file, where gates are in software.
+fn making_text(software: bool) -> &'static [u8]
+    ensures { result.now ≡ making_text software }
 {
+    if software {
+        b"\nobject=$(mktemp)\ntrap 'rm -f \"$object\"' EXIT\nprogram >\"$object\"\n".as_slice()
+    } else {
+        b"".as_slice()
+    }
+}
+
+/// The line that takes the file away again.
+fn removing_text(software: bool) -> &'static [u8]
+    ensures { result.now ≡ removing_text software }
+{
+    if software {
+        b"rm -f \"$object\"\n".as_slice()
+    } else {
+        b"".as_slice()
+    }
+}
+
+/// Puts the choice of a bridge by the name given.
+pub(crate) fn put_choice<W: Sink>(press: &mut Press<'_, W>, domain: &Domain, software: bool)
+    ensures { Puts W.contents press.old press.new (choice_text domain.now software) }
+{
+    press.put(making_text(software));
     press.put(b"\ncase \"$1\" in\n");
     put_choice_lines(press, domain);
-    press.put(b"*) refuse \"there is no bridge $1:$bridges\" ;;\nesac\ntrap - EXIT\n");
+    press.put(b"*) refuse \"there is no bridge $1:$bridges\" ;;\nesac\n");
+    press.put(removing_text(software));
+    press.put(b"trap - EXIT\n");
 }

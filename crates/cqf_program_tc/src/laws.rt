@@ -1,6 +1,8 @@
 //! The lists of a script are those that are compiled, and are set where they are due.
 ghost use Rattle.cqf_program_tc.specs.Calls.{ScriptsCallWhatIsDue};
-ghost use Rattle.cqf_program_tc.specs.Laws.{ListsBeginAnew, ScriptsHoldTheLists};
+ghost use Rattle.cqf_program_tc.specs.Laws.{InstantsFit, ListsBeginAnew, ScriptsHoldTheLists};
+ghost use Rattle.cqf_program_tc.specs.Variables.{VariablesAreApart};
+ghost use Rattle.cqf_program_tc.specs.Wanted.{EnvHasWhatTheScriptWants};
 
 /// The words of a script's lists, read back, are the compiled ones: those of a port the list of each port of the domain, those of
 /// a stream's gate, with the octets of a reservation as their parameter, the list of the gate of a stream that is offered in each
@@ -23,4 +25,22 @@ pub fn scripts_call_what_is_due()
 /// of, each stream's gate has gone through its list some times in whole, and so has each port (profile).
 pub fn lists_begin_anew()
     ensures { ListsBeginAnew }
+{}
+
+/// In a script no two links of a domain have one variable, and no two of the streams whose names have the form of names: where an earlier one
+/// has the word of a name already, the number stands behind it, after a capital, which no name has (profile).
+pub fn variables_are_apart()
+    ensures { VariablesAreApart }
+{}
+
+/// The file of a bridge, read line by line, sets just those variables that the script's function of the bridge wants, in the order of their
+/// lines there, behind the two that go for all of the script (profile). Interfaces have names of their form, as a reader gives them.
+pub fn env_has_what_the_script_wants()
+    ensures { EnvHasWhatTheScriptWants }
+{}
+
+/// From each instant that a script takes for BASE on, the next multiple of what its lists go round in is at most as far as that from it, and
+/// below 2^63, so that the numbers of a shell have it, and those by which it's found (profile).
+pub fn instants_fit()
+    ensures { InstantsFit }
 {}

@@ -1,39 +1,58 @@
-//! The command `compile --format tc`: the compiled gates as scripts for Linux, by `tc`.
+//! The commands `compile --format tc` and `compile --format env`: the compiled gates as scripts for Linux, by `tc`, and the variables that
+//! such a script wants of a bridge.
 //!
-//! - [`tc_output`]: a POSIX shell script that sets the compiled gates on each bridge by `tc` ([`TcOutput`]). `write_tx_words` and
-//!   `write_gate_words` have gate lists as words of `tc`, and [`scripts_hold_the_lists`] says that the words of each script
-//!   are read as the lists that are compiled. [`scripts_call_what_is_due`] reads the script's lines back: each bridge sets these
-//!   lists at each of its links, and the gate of each stream with its octets, and no others.
+//! - [`tc_output`]: a POSIX shell script that sets the compiled gates on each bridge by `tc` ([`TcOutput`]), by the hardware of its interfaces
+//!   or in software. `write_tx_words` and `write_gate_words` have gate lists as words of `tc`, and [`scripts_hold_the_lists`] says that the
+//!   words of each script are read as the lists that are compiled. [`scripts_call_what_is_due`] reads the script's lines back: each bridge
+//!   sets these lists at each of its links, and the gate of each stream with its index and its octets, and no others.
+//! - [`env_output`]: the file of a bridge's variables, with the values that the input gives ([`EnvOutput`]). It has just those that the
+//!   script wants ([`env_has_what_the_script_wants`]).
+//! - Variables go by the names of links and streams, and no two by one ([`variables_are_apart`]).
+//! - The lists begin at the first multiple of the cycles in which all of them begin anew ([`lists_begin_anew`]) from an instant on; it is
+//!   below 2^63 ([`instants_fit`]).
+//! - [`places_by_bridge`] says which streams leave each bridge.
 //!
-//! `specs/` has the value of an input (`Output`), and what an output tells (`Text` with `Checks`, `Bridge` and `Words`).
+//! `specs/` has the values of an input (`Output`), what the outputs tell (`Text` with `Checks`, `Bridge`, `Program` and `Words`, and `Env`), the
+//! variables (`Variables`), and how a script and a file are read back (`Calls`, `Wanted`).
 //!
-//! Of `b"..\nlinks = [{ from = \"a\", to = \"s\", rate = 1000, delay = 500 }]\n%%\nstreams = []\n"`, where a cycle is 125,000 ns
-//! and the guard 5,000:
+//! Of `b"..\nlinks = [{ from = \"a-1\", to = \"s\", rate = 1000, delay = 500, interface = \"eth1\" }]\n%%\nstreams = []\n"`, where a cycle is
+//! 125,000 ns and the guard 5,000:
 //!
 //! ```text
 //! tc_output tells a script with the lines
 //!     bridge_0() {
-//!         # a
-//!         port OUT_0 "${OUT_0:-}" s "interface of a to s"
+//!         # a-1
+//!         port OUT_a_1_s "${OUT_a_1_s:-}" s "interface of a-1 to s"
 //!         ready
-//!         # link 0 a>s
-//!         link "$OUT_0"
+//!         # link 0 a-1>s
+//!         link "$OUT_a_1_s"
 //!     }
+//! env_output of a-1 tells a file with the lines
+//!     # interface of a-1 to s
+//!     OUT_a_1_s=eth1
 //! ```
 #![tactic(auto)]
 
 mod bridges;
 mod checks;
 mod command;
+mod env;
 mod frame;
 mod laws;
 mod lists;
 mod outputs;
+mod plan;
+mod program;
 mod rows;
 mod told;
+mod variables;
 mod ways;
 mod words;
 
-pub use command::tc_output;
-pub use laws::{lists_begin_anew, scripts_call_what_is_due, scripts_hold_the_lists};
-pub use outputs::TcOutput;
+pub use command::{env_output, tc_output};
+pub use laws::{
+    env_has_what_the_script_wants, instants_fit, lists_begin_anew, scripts_call_what_is_due,
+    scripts_hold_the_lists, variables_are_apart,
+};
+pub use outputs::{EnvOutput, TcOutput};
+pub use rows::places_by_bridge;

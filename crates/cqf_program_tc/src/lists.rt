@@ -3,7 +3,7 @@ ghost use Rattle.std.specs.Prelude.{◌≡◌, ◌<◌};
 ghost use Rattle.std.specs.List.{list_any};
 ghost use Rattle.cqf_press.specs.Press.{Puts};
 ghost use Rattle.cqf_program_tc.specs.Bridge.{pauses};
-ghost use Rattle.cqf_program_tc.specs.Text.{by_list_text, list_gates_text, rounds_in};
+ghost use Rattle.cqf_program_tc.specs.Text.{by_list_command, by_list_text, class_words, filter_words, list_gates_text, rounds_in};
 ghost use Rattle.cqf_program_tc.specs.Words.{closed_words, entry_words, list_words, octets_word, open_words};
 
 use cqf_gates::{StreamEntry, StreamList, is_shut};
@@ -90,30 +90,60 @@ pub(crate) fn put_list_words<W: Sink>(press: &mut Press<'_, W>, gate: &StreamLis
     }
 }
 
+/// The words of a filter between its kind and its keys.
+pub(crate) fn filter_words(software: bool) -> &'static [u8]
+    ensures { result.now ≡ filter_words software }
+{
+    if software {
+        b"".as_slice()
+    } else {
+        b" skip_sw".as_slice()
+    }
+}
+
+/// The words of a filter's action before its gate.
+pub(crate) fn class_words(software: bool) -> &'static [u8]
+    ensures { result.now ≡ class_words software }
+{
+    if software {
+        b" action bpf object-file \"$object\" section tc pipe".as_slice()
+    } else {
+        b"".as_slice()
+    }
+}
+
+/// Puts the command that sets a stream's gate by the list that its function is given.
+fn put_by_list_command<W: Sink>(press: &mut Press<'_, W>, software: bool)
+    ensures { Puts W.contents press.old press.new (by_list_command software) }
+{
+    press.put(
+        b"    $tc filter add dev \"$gate_at\" ingress chain \"$chain\" protocol 802.1Q pref \"$gate_no\" handle \"$gate_no\" flower",
+    );
+    press.put(filter_words(software));
+    press.put(b" dst_mac \"$gate_mac\" vlan_id \"$gate_vlan\"");
+    press.put(class_words(software));
+    press.put(b" action gate index \"$gate_no\" base-time \"$BASE\" \"$@\"");
+}
+
 /// Puts the function that sets a stream's gate by the list that it is given.
-fn put_by_list<W: Sink>(press: &mut Press<'_, W>)
-    ensures { Puts W.contents press.old press.new by_list_text }
+fn put_by_list<W: Sink>(press: &mut Press<'_, W>, software: bool)
+    ensures { Puts W.contents press.old press.new (by_list_text software) }
 {
     press.put(
         b"# stream gate $2 at the interface $1: address $3, VLAN $4, and behind these the entries of its list\ngate_by_list() {\n",
     );
     press.put(b"    gate_at=$1 gate_no=$2 gate_mac=$3 gate_vlan=$4\n    shift 4\n");
+    put_by_list_command(press, software);
     press.put(
-        b"    $tc filter add dev \"$gate_at\" ingress chain \"$chain\" protocol 802.1Q pref \"$gate_no\" handle \"$gate_no\" flower skip_sw",
-    );
-    press.put(
-        b" dst_mac \"$gate_mac\" vlan_id \"$gate_vlan\" action gate index \"$gate_no\" base-time \"$BASE\" \"$@\"\n",
-    );
-    press.put(
-        b"    undo=\"filter del dev $gate_at ingress chain $chain protocol 802.1Q pref $gate_no handle $gate_no flower/$undo\"\n}\n\n",
+        b"\n    undo=\"filter del dev $gate_at ingress chain $chain protocol 802.1Q pref $gate_no handle $gate_no flower/$undo\"\n}\n\n",
     );
 }
 
 /// Puts it where a stream pauses.
-pub(crate) fn put_list_gates<W: Sink>(press: &mut Press<'_, W>, rows: &[Row])
-    ensures { Puts W.contents press.old press.new (list_gates_text rows.now) }
+pub(crate) fn put_list_gates<W: Sink>(press: &mut Press<'_, W>, software: bool, rows: &[Row])
+    ensures { Puts W.contents press.old press.new (list_gates_text software rows.now) }
 {
     if some_pauses(rows) {
-        put_by_list(press);
+        put_by_list(press, software);
     }
 }

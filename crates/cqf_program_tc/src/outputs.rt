@@ -1,30 +1,91 @@
-//! The output of `compile --format tc`, before it is told.
+//! The outputs of `compile --format tc` and `compile --format env`, before they are told.
+ghost use Rattle.std.specs.Prelude.{◌≡◌};
 
+use crate::plan::Plan;
+use cqf_addressing::{LinkInterfaces, StreamAddress};
 use cqf_model::Row;
 use cqf_press::Sheet;
 use cqf_topology::Domain;
 use std::marker::Model;
 
-/// What the output of `compile --format tc` is told from: a domain, the rows of its streams by number, for each bridge the places of the rows
-/// whose streams leave it, the words of the list that each port has and of the list that each stream's gate has, and a sheet.
+/// What both are told from: a domain, the rows of its streams by number, what its text says of links and streams in real bridges, for each
+/// bridge the places of the rows whose streams leave it, and the variables of links and of streams.
+#[derive(Drop)]
+pub(crate) struct ReadyPlan {
+    pub domain: Domain,
+    pub rows: Vec<Row>,
+    pub interfaces: Vec<LinkInterfaces>,
+    pub addresses: Vec<StreamAddress>,
+    pub places: Vec<Vec<usize>>,
+    pub links: Vec<Vec<u8>>,
+    pub streams: Vec<Vec<u8>>,
+}
+
+impl ReadyPlan {
+    /// The plan, as the parts of a text take it.
+    pub(crate) fn as_plan(&self) -> Plan<'_>
+        ensures domain { result.domain.now ≡ self.now.domain }
+        ensures rows { result.rows.now ≡ self.now.rows.items }
+        ensures addresses { result.addresses.now ≡ self.now.addresses.items }
+        ensures links { result.links.now ≡ self.now.links.items }
+        ensures streams { result.streams.now ≡ self.now.streams.items }
+    {
+        Plan {
+            domain: &self.domain,
+            rows: self.rows.as_slice(),
+            addresses: self.addresses.as_slice(),
+            links: self.links.as_slice(),
+            streams: self.streams.as_slice(),
+        }
+    }
+}
+
+/// What the output of `compile --format tc` is told from: a plan, the words of the list that each port has and of the list that each stream's
+/// gate has, whether the gates are to be in software, and a sheet.
 #[derive(Drop)]
 pub struct TcOutput {
-    pub(crate) domain: Domain,
-    pub(crate) rows: Vec<Row>,
-    pub(crate) places: Vec<Vec<usize>>,
+    pub(crate) plan: ReadyPlan,
     pub(crate) port_words: Vec<u8>,
     pub(crate) gate_words: Vec<u8>,
+    pub(crate) software: bool,
     pub(crate) sheet: Sheet,
 }
 
 impl Model for TcOutput {
-    ghost use Rattle.cqf_program_plans.specs.Compile.Told.{ConfiguredPlan};
-    ghost use Rattle.cqf_program_tc.specs.Output.{IsReadyScript};
+    ghost use Rattle.cqf_program_tc.specs.Output.{IsReadyScript, TcScript};
     ghost use Rattle.cqf_program_tc.specs.Rows.{places_in};
 
-    ghost Value = { ConfiguredPlan };
+    ghost Value = { TcScript };
 
-    ghost view = { λ o. record { domain = o.domain; rows = o.rows.items } };
+    ghost view = { λ o. record { domain = o.plan.domain; rows = o.plan.rows.items; addresses = o.plan.addresses.items; software = o.software } };
 
-    ghost invariant = { λ o. IsReadyScript o.domain o.rows.items (places_in o.places.items) o.port_words.items o.gate_words.items };
+    ghost invariant = { λ o. IsReadyScript o.plan.domain o.plan.rows.items (places_in o.plan.places.items) o.plan.links.items o.plan.streams.items
+        o.port_words.items o.gate_words.items };
+}
+
+/// What the output of `compile --format env` is told from: a plan, the number of a bridge, and a sheet.
+#[derive(Drop)]
+pub struct EnvOutput {
+    pub(crate) plan: ReadyPlan,
+    pub(crate) bridge: u16,
+    pub(crate) sheet: Sheet,
+}
+
+impl Model for EnvOutput {
+    ghost use Rattle.std.specs.Prelude.{◌<◌, length};
+    ghost use Rattle.cqf_program_tc.specs.Output.{EnvFile, IsReadyFile};
+    ghost use Rattle.cqf_program_tc.specs.Rows.{places_in};
+
+    ghost Value = { EnvFile };
+
+    ghost view = { λ o. record {
+      domain = o.plan.domain;
+      rows = o.plan.rows.items;
+      interfaces = o.plan.interfaces.items;
+      addresses = o.plan.addresses.items;
+      bridge = o.bridge;
+    } };
+
+    ghost invariant = { λ o. IsReadyFile o.plan.domain o.plan.rows.items (places_in o.plan.places.items) o.plan.links.items o.plan.streams.items
+        o.bridge };
 }

@@ -91,7 +91,7 @@ fn note_row(
 
 /// For each bridge of a domain, by number, the places of the rows whose streams leave it, in their order. The time grows with the hops of
 /// all rows.
-pub(crate) fn places_by_bridge(
+pub fn places_by_bridge(
     alloc: Global,
     domain: &Domain,
     rows: &[Row],

@@ -1,37 +1,34 @@
 //! The script, told line by line.
-ghost use Rattle.cqf_admission.specs.Turns.{AreOfGoodPaces};
+ghost use Rattle.cqf_addressing.specs.Streams.{gate_index};
 ghost use Rattle.cqf_press.specs.Edge.{HasTold, writing};
 ghost use Rattle.cqf_press.specs.Press.{Puts};
-ghost use Rattle.cqf_program_tc.specs.Output.{AreWordsOf, IsReadyScript, text_of_tc};
-ghost use Rattle.cqf_program_tc.specs.Rows.{AreByBridge, places_in};
+ghost use Rattle.cqf_program_tc.specs.Output.{AreWordsOf, IsReadyPlan, text_of_tc};
+ghost use Rattle.cqf_program_tc.specs.Rows.{places_in};
 ghost use Rattle.cqf_program_tc.specs.Text.{bridges_text, functions_text, tc_text};
 
 use crate::bridges::put_bridge_function;
 use crate::checks::put_checks;
 use crate::frame::{
-    put_choice, put_gate_function, put_given, put_link_function, put_no_gates_function,
+    put_choice, put_gate_function, put_given, put_link_function, put_no_gates_function, put_notes,
     put_old_gates_function, put_opening, put_usage,
 };
 use crate::lists::put_list_gates;
 use crate::outputs::TcOutput;
+use crate::plan::Plan;
+use crate::program::put_program;
 use cqf_model::Row;
 use cqf_press::{Press, Sink, Told};
 use cqf_topology::Domain;
 
 /// Puts a function a bridge.
-fn put_bridges<W: Sink>(
-    press: &mut Press<'_, W>,
-    domain: &Domain,
-    rows: &[Row],
-    places: &[Vec<usize>],
-)
-    requires paced { AreOfGoodPaces rows.now }
-    requires by_bridge { AreByBridge domain.now rows.now (places_in places.now) }
-    ensures { Puts W.contents press.old press.new (bridges_text domain.now rows.now) }
+fn put_bridges<W: Sink>(press: &mut Press<'_, W>, plan: Plan<'_>, places: &[Vec<usize>])
+    requires { IsReadyPlan plan.domain.now plan.rows.now (places_in places.now) plan.links.now plan.streams.now }
+    ensures { Puts W.contents press.old press.new
+        (bridges_text plan.entry.domain.now (gate_index plan.entry.addresses.now) plan.entry.rows.now) }
 {
-    for bridge in 0..domain.bridges() {
+    for bridge in 0..plan.domain.bridges() {
         let here = places[usize::from(bridge)].as_slice();
-        put_bridge_function(press, domain, bridge, rows, here);
+        put_bridge_function(press, plan, bridge, here);
     }
 }
 
@@ -39,40 +36,51 @@ fn put_bridges<W: Sink>(
 fn put_functions<W: Sink>(
     press: &mut Press<'_, W>,
     domain: &Domain,
+    software: bool,
     rows: &[Row],
     port_words: &[u8],
     gate_words: &[u8],
 )
     requires { AreWordsOf domain.now port_words.now gate_words.now }
-    ensures { Puts W.contents press.old press.new (functions_text domain.now rows.now) }
+    ensures { Puts W.contents press.old press.new (functions_text domain.now software rows.now) }
 {
     put_checks(press);
-    put_link_function(press, domain, port_words);
+    put_program(press, domain, software);
+    put_link_function(press, domain, software, port_words);
     put_old_gates_function(press, domain);
     put_no_gates_function(press);
-    put_gate_function(press, domain, gate_words);
-    put_list_gates(press, rows);
+    put_gate_function(press, domain, software, gate_words);
+    put_list_gates(press, software, rows);
 }
 
-/// Puts the script of a domain and the rows of its streams, of which it is known which leave a bridge, with the words of the lists of ports
-/// and of gates.
+/// Puts the script of a plan, of which it is known which streams leave a bridge, with the words of the lists of ports and of gates.
 fn put_script<W: Sink>(
     press: &mut Press<'_, W>,
-    domain: &Domain,
-    rows: &[Row],
+    plan: Plan<'_>,
+    software: bool,
     places: &[Vec<usize>],
     port_words: &[u8],
     gate_words: &[u8],
 )
-    requires { IsReadyScript domain.now rows.now (places_in places.now) port_words.now gate_words.now }
-    ensures { Puts W.contents press.old press.new (tc_text domain.now rows.now) }
+    requires ready { IsReadyPlan plan.domain.now plan.rows.now (places_in places.now) plan.links.now plan.streams.now }
+    requires words { AreWordsOf plan.domain.now port_words.now gate_words.now }
+    ensures { Puts W.contents press.old press.new
+        (tc_text plan.entry.domain.now software (gate_index plan.entry.addresses.now) plan.entry.rows.now) }
 {
-    put_usage(press, domain, rows);
-    put_opening(press, domain);
-    put_given(press, domain, rows);
-    put_functions(press, domain, rows, port_words, gate_words);
-    put_bridges(press, domain, rows, places);
-    put_choice(press, domain);
+    put_usage(press, plan.domain, plan.rows);
+    put_notes(press, software);
+    put_opening(press, plan.domain);
+    put_given(press, plan.domain, plan.rows);
+    put_functions(
+        press,
+        plan.domain,
+        software,
+        plan.rows,
+        port_words,
+        gate_words,
+    );
+    put_bridges(press, plan, places);
+    put_choice(press, plan.domain, software);
 }
 
 impl TcOutput {
@@ -81,19 +89,18 @@ impl TcOutput {
         ensures { HasTold (writing W.contents told.old told.new) (text_of_tc self) }
     {
         let TcOutput {
-            domain,
-            rows,
-            places,
+            plan,
             port_words,
             gate_words,
+            software,
             sheet,
         } = self;
         let mut press = Press::new(told, sheet);
         put_script(
             &mut press,
-            &domain,
-            rows.as_slice(),
-            places.as_slice(),
+            plan.as_plan(),
+            software,
+            plan.places.as_slice(),
             port_words.as_slice(),
             gate_words.as_slice(),
         );

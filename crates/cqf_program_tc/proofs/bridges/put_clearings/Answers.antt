@@ -1,49 +1,51 @@
-use Rattle.std.proofs.Common.{◌≡◌, ◌<◌, [], ap, arith, get_or, length, take}
+use Rattle.std.proofs.Common.{◌≡◌, ◌∙◌, ◌<◌, ℕ, List, [], ap, arith, get_or, length, sym, take}
 use Rattle.std.specs.Option.{option_map_or}
+use Rattle.cqf_addressing.specs.Streams.{gate_index}
 use Rattle.cqf_lists.specs.Lists.{each_below}
 use Rattle.cqf_press.specs.Press.{Puts}
 use Rattle.cqf_press.proofs.PressLemmas.{Puts-as, Puts-nil, Puts-then}
 use Rattle.cqf_program_tc.proofs.LeavingRows.{clearing_silent, place_inside, so_far_all, so_far_here, so_far_more, so_far_none}
 use Rattle.cqf_program_tc.proofs.Streams.{row_at, seen_none}
 use Rattle.cqf_program_tc.specs.Bridge.{clearing_by, stream_at, stream_clearing, way_at}
+use Rattle.cqf_program_tc.specs.Variables.{stream_variable}
 use Rattle.cqf_program_tc.proofs.bridges.put_clearings.Goals as goal
 
 pub loop-place-init : goal.loop-place-init
 loop-place-init g c =
-    let d = c.args.domain.now in
-    so_far_none d c.args.bridge c.args.rows.now (λ text. Puts g.W.Write.contents c.args.press.now c.args.press.now text) (stream_clearing d c.args.bridge) _ (clearing_silent d c.args.bridge) c.args.places.now c.requires (Puts-nil _ _)
+    let d = c.args.plan.domain.now in
+    let rows = c.args.plan.rows.now in
+    so_far_none d c.args.bridge rows (λ text. Puts g.W.Write.contents c.args.press.now c.args.press.now text) (stream_clearing c.args.plan.domain.now c.args.plan.rows.now c.args.bridge) _ (clearing_silent c.args.plan.domain.now c.args.plan.rows.now c.args.bridge) c.args.places.now c.requires.at (Puts-nil _ _)
     (seen_none d c.args.bridge)
 
-pub offset_bounds-rows-place : goal.offset_bounds-rows-place
-offset_bounds-rows-place g c =
-    let i = c.loop-place.place-index in
-    let inside : get_or c.args.places.now i 0 < length c.args.rows.now =
-    place_inside c.args.domain.now c.args.bridge c.args.rows.now c.args.places.now i c.requires c.loop-place-test.true in
-    omega arith
-
-pub bounds-rows-place : goal.bounds-rows-place
-bounds-rows-place g c =
-    place_inside c.args.domain.now c.args.bridge c.args.rows.now c.args.places.now c.loop-place.place-index c.requires c.loop-place-test.true
+pub stream_at-stream-requires-clause-inside : goal.stream_at-stream-requires-clause-inside
+stream_at-stream-requires-clause-inside g c =
+    place_inside c.args.plan.domain.now c.args.bridge c.args.plan.rows.now c.args.places.now c.loop-place.place-index c.requires.at c.loop-place-test.true
 
 pub loop-place-preserved : goal.loop-place-preserved
 loop-place-preserved g c =
-    let d = c.args.domain.now in
+    let d = c.args.plan.domain.now in
     let bridge = c.args.bridge in
-    let rows = c.args.rows.now in
+    let rows = c.args.plan.rows.now in
     let places = c.args.places.now in
     let i = c.loop-place.place-index in
     let place = get_or places i 0 in
-    let row = c.index-rows-place.result in
-    let at = row_at rows place row (place_inside d bridge rows places i c.requires c.loop-place-test.true) c.index-rows-place.is in
+    let stream = c.stream_at-stream.result in
+    let row = stream.row.now in
+    let at = row_at rows place row (place_inside d bridge rows places i c.requires.at c.loop-place-test.true) c.stream_at-stream.ensures.row in
     let so_far = so_far_here d bridge rows places i c.loop-place-test.true c.loop-place.invariant in
     let way : c.way_of-way.result ≡ way_at d bridge (take place rows) row = c.way_of-way.ensures.way (take place rows) so_far.noted in
-    let put = Puts-as (option_map_or (clearing_by row) c.way_of-way.result []) (stream_clearing d bridge (take place rows) row)
-    (ap (λ found. option_map_or (clearing_by row) found []) way) c.put_clearing_of.ensures in
-    so_far_more d bridge rows (λ text. Puts g.W.Write.contents c.args.press.now c.put_clearing_of.new.press text) (stream_clearing d bridge) c.way_of-way.new.seen
-    (clearing_silent d bridge) places i row c.requires c.loop-place-test.true at.0 at.1 (Puts-then (each_below (stream_at (stream_clearing d bridge) rows) place) (stream_clearing d bridge (take place rows) row) so_far.put put)
+    let put = Puts-as (option_map_or (clearing_by d stream.variable.now) c.way_of-way.result []) (stream_clearing c.args.plan.domain.now c.args.plan.rows.now c.args.bridge (take place rows) row)
+    (ap (λ (variable : List ℕ). option_map_or (clearing_by d variable) c.way_of-way.result []) c.stream_at-stream.ensures.variable
+    ∙ ap (λ found. option_map_or (clearing_by d (stream_variable rows row)) found []) way) c.put_clearing_of.ensures in
+    so_far_more d bridge rows (λ text. Puts g.W.Write.contents c.args.press.now c.put_clearing_of.new.press text) (stream_clearing c.args.plan.domain.now c.args.plan.rows.now c.args.bridge) c.way_of-way.new.seen
+    (clearing_silent c.args.plan.domain.now c.args.plan.rows.now c.args.bridge) places i row c.requires.at c.loop-place-test.true at.0 at.1
+    (Puts-then (each_below (stream_at (stream_clearing c.args.plan.domain.now c.args.plan.rows.now c.args.bridge) rows) place) (stream_clearing c.args.plan.domain.now c.args.plan.rows.now c.args.bridge (take place rows) row) so_far.put put)
     (c.way_of-way.ensures.noted (take place rows) so_far.noted)
 
 pub returns : goal.returns
 returns g c =
-    so_far_all c.args.domain.now c.args.bridge c.args.rows.now (λ text. Puts g.W.Write.contents c.args.press.now c.loop-place.press text)
-    (stream_clearing c.args.domain.now c.args.bridge) c.loop-place.seen c.args.places.now c.loop-place.place-index c.loop-place-test.false c.loop-place.invariant
+    let d = c.args.plan.domain.now in
+    let bridge = c.args.bridge in
+    let rows = c.args.plan.rows.now in
+    so_far_all d bridge rows (λ text. Puts g.W.Write.contents c.args.press.now c.loop-place.press text)
+    (stream_clearing c.args.plan.domain.now c.args.plan.rows.now c.args.bridge) c.loop-place.seen c.args.places.now c.loop-place.place-index c.loop-place-test.false c.loop-place.invariant

@@ -3,11 +3,13 @@ use Rattle.cqf_program_tc.proofs.bridges.put_frame_needs.Goals as goal
 
 pub returns : goal.returns
 returns g c = Puts-then _ _ c.put.ensures
-    (Puts-then _ _ c.put_number.ensures
     (Puts-then _ _ c.put-2.ensures
-    (Puts-then _ _ c.put_number-2.ensures
     (Puts-then _ _ c.put-3.ensures
-    (Puts-then _ _ c.put_number-3.ensures
     (Puts-then _ _ c.put-4.ensures
-    (Puts-then _ _ (rw c.as_bytes.ensures.value at c.put-5.ensures)
-    c.put-6.ensures)))))))
+    (Puts-then _ _ c.put-5.ensures
+    (Puts-then _ _ c.put-6.ensures
+    (Puts-then _ _ c.put-7.ensures
+    (Puts-then _ _ (rw c.as_bytes.ensures.value at c.put-8.ensures)
+    (Puts-then _ _ c.put-9.ensures
+    (Puts-then _ _ c.put_number.ensures
+    (c.put-10.ensures))))))))))

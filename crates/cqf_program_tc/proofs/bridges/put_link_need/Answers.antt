@@ -3,13 +3,13 @@ use Rattle.cqf_program_tc.proofs.bridges.put_link_need.Goals as goal
 
 pub returns : goal.returns
 returns g c = Puts-then _ _ c.put.ensures
-    (Puts-then _ _ c.put_number.ensures
+    (Puts-then _ _ c.put_link_variable.ensures
     (Puts-then _ _ c.put-2.ensures
-    (Puts-then _ _ c.put_number-2.ensures
+    (Puts-then _ _ c.put_link_variable-2.ensures
     (Puts-then _ _ c.put-3.ensures
     (Puts-then _ _ (rw c.bridge_of-from.ensures at c.put_bridge.ensures)
     (Puts-then _ _ c.put-4.ensures
     (Puts-then _ _ c.put_bridge-2.ensures
     (Puts-then _ _ c.put-5.ensures
     (Puts-then _ _ (rw c.bridge_of-from.ensures at c.put_bridge-3.ensures)
-    c.put-6.ensures)))))))))
+    (c.put-6.ensures))))))))))

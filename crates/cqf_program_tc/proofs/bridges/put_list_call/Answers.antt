@@ -7,5 +7,5 @@ use Rattle.cqf_program_tc.proofs.bridges.put_list_call.Goals as goal
 pub returns : goal.returns
 returns g c = Puts-then _ _ c.put.ensures
     (Puts-then _ _ c.put_gate_target.ensures
-    (Puts-as (list_words c.gate_of.result) (list_words (gate_at c.args.domain.now c.args.row.now c.args.bridge)) (ap list_words c.gate_of.ensures)
+    (Puts-as (list_words c.gate_of.result) (list_words (gate_at c.args.plan.domain.now c.args.stream.row.now c.args.bridge)) (ap list_words c.gate_of.ensures)
     c.put_list_words.ensures))

@@ -6,6 +6,6 @@ use Rattle.cqf_program_tc.proofs.bridges.put_out_needs.Goals as goal
 
 pub loop-link-preserved : goal.loop-link-preserved
 loop-link-preserved g c =
-    let text = if_left c.args.domain.now c.args.bridge (out_need c.args.domain.now c.args.bridge) in
+    let text = if_left c.args.plan.domain.now c.args.bridge (out_need c.args.plan.domain.now c.args.bridge) in
     let link = c.loop-link.link in
     Puts-as _ _ (sym (ap (each_below text) (add-one link))) (Puts-then (each_below text link) (text link) c.loop-link.invariant c.put_out_need_of.ensures)

@@ -5,4 +5,4 @@ use Rattle.cqf_program_tc.specs.Bridge.{if_left, out_need}
 use Rattle.cqf_program_tc.proofs.bridges.put_out_needs.Given as goal
 
 abbrev pub invariant-loop-link : goal.invariant-loop-link
-invariant-loop-link g l = Puts g.W.Write.contents l.initial.press l.press (each_below (if_left l.domain l.bridge (out_need l.domain l.bridge)) l.link)
+invariant-loop-link g l = Puts g.W.Write.contents l.initial.press l.press (each_below (if_left l.plan.domain.now l.bridge (out_need l.plan.domain.now l.bridge)) l.link)

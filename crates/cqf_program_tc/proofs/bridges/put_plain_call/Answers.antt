@@ -5,4 +5,4 @@ pub returns : goal.returns
 returns g c = Puts-then _ _ c.put.ensures
     (Puts-then _ _ c.put_gate_target.ensures
     (Puts-then _ _ c.put-2.ensures
-    c.put_number.ensures))
+    (c.put_number.ensures)))

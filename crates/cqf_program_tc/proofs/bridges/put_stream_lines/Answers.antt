@@ -10,4 +10,4 @@ returns g c = Puts-then _ _ c.put.ensures
     (Puts-then _ _ c.put_ways_out.ensures
     (Puts-then _ _ c.put-5.ensures
     (Puts-then _ _ c.put_gate_call.ensures
-    c.put-6.ensures)))))))
+    (c.put-6.ensures))))))))

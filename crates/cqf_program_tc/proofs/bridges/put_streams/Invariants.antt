@@ -1,6 +1,7 @@
 -- The lines of the streams up to the next place are put.
 use Rattle.std.proofs.Common.{get_or, length, take}
 use Rattle.std.specs.List.{flat_map}
+use Rattle.cqf_addressing.specs.Streams.{gate_index}
 use Rattle.cqf_press.specs.Press.{Puts}
 use Rattle.cqf_program_tc.specs.Bridge.{stream_gates}
 use Rattle.cqf_program_tc.proofs.bridges.put_streams.Given as goal
@@ -8,4 +9,4 @@ use Rattle.cqf_program_tc.proofs.bridges.put_streams.Given as goal
 abbrev pub invariant-loop-place : goal.invariant-loop-place
 invariant-loop-place g l =
     Puts g.W.Write.contents l.initial.press l.press
-    (flat_map (stream_gates l.domain l.bridge) (take (get_or l.places l.place-index (length l.rows)) l.rows))
+    (flat_map (stream_gates l.plan.domain.now (gate_index l.plan.addresses.now) l.plan.rows.now l.bridge) (take (get_or l.places l.place-index (length l.plan.rows.now)) l.plan.rows.now))

@@ -8,5 +8,5 @@ use Rattle.cqf_program_tc.proofs.bridges.put_ways_out.Goals as goal
 pub loop-hop-preserved : goal.loop-hop-preserved
 loop-hop-preserved g c =
     let puts = Puts-then _ _ c.loop-hop.invariant c.put_way_out.ensures in
-    Puts-as _ (flat_map (way_out c.args.domain.now c.args.bridge) (take (c.loop-hop.hop-index + 1) c.as_slice-hop-items.result.now))
+    Puts-as _ (flat_map (way_out c.args.plan.domain.now c.args.bridge) (take (c.loop-hop.hop-index + 1) c.as_slice-hop-items.result.now))
     (grind (arith, common_steps)) puts

@@ -6,4 +6,4 @@ use Rattle.cqf_program_tc.specs.Bridge.{way_out}
 use Rattle.cqf_program_tc.proofs.bridges.put_ways_out.Given as goal
 
 abbrev pub invariant-loop-hop : goal.invariant-loop-hop
-invariant-loop-hop g l = Puts g.W.Write.contents l.initial.press l.press (flat_map (way_out l.domain l.bridge) (take l.hop-index l.hop-items))
+invariant-loop-hop g l = Puts g.W.Write.contents l.initial.press l.press (flat_map (way_out l.plan.domain.now l.bridge) (take l.hop-index l.hop-items))

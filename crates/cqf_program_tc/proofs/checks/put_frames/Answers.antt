@@ -10,4 +10,5 @@ returns g c = Puts-then _ _ c.put.ensures
     (Puts-then _ _ c.put-6.ensures
     (Puts-then _ _ c.put-7.ensures
     (Puts-then _ _ c.put-8.ensures
-    c.put-9.ensures)))))))
+    (Puts-then _ _ c.put-9.ensures
+    (c.put-10.ensures)))))))))

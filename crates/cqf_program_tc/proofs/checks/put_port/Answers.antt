@@ -8,4 +8,5 @@ returns g c = Puts-then _ _ c.put.ensures
     (Puts-then _ _ c.put-4.ensures
     (Puts-then _ _ c.put-5.ensures
     (Puts-then _ _ c.put-6.ensures
-    c.put-7.ensures)))))
+    (Puts-then _ _ c.put-7.ensures
+    (c.put-8.ensures)))))))

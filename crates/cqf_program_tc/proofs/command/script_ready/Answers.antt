@@ -1,16 +1,13 @@
-use Rattle.std.proofs.Common.{ℕ, ◌∙◌, List, ap, subst}
-use Rattle.cqf_model.specs.declared.topology.Row.{Row}
+use Rattle.std.proofs.Common.{ℕ, ◌∙◌, ap}
 use Rattle.cqf_model.specs.GateList.{port_list}
-use Rattle.cqf_program_tc.specs.Rows.{AreByBridge, places_in}
 use Rattle.cqf_program_tc.specs.Words.{gate_words, tx_words}
 use Rattle.cqf_program_tc.proofs.command.script_ready.Goals as goal
 
 pub invariant_of-result : goal.invariant_of-result
 invariant_of-result c =
-    let d = c.args.domain in
+    let d = c.args.plan.domain in
     record {
-      paced = c.requires;
-      by_bridge = subst (λ (rows : List Row). AreByBridge d rows (places_in c.in_ok-places.places.items)) c.as_slice.ensures.value c.in_ok-places.ensures;
+      plan = c.requires;
       words = record {
         of_ports = c.in_ok-port_words.ensures.words
             ∙ ap tx_words

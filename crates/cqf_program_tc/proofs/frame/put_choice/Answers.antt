@@ -2,6 +2,9 @@ use Rattle.cqf_press.proofs.PressLemmas.{Puts-then}
 use Rattle.cqf_program_tc.proofs.frame.put_choice.Goals as goal
 
 pub returns : goal.returns
-returns g c = Puts-then _ _ c.put.ensures
+returns g c = Puts-then _ _ (rw c.making_text.ensures at c.put.ensures)
+    (Puts-then _ _ c.put-2.ensures
     (Puts-then _ _ c.put_choice_lines.ensures
-    c.put-2.ensures)
+    (Puts-then _ _ c.put-3.ensures
+    (Puts-then _ _ (rw c.removing_text.ensures at c.put-4.ensures)
+    (c.put-5.ensures)))))

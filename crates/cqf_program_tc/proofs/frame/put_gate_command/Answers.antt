@@ -3,5 +3,8 @@ use Rattle.cqf_program_tc.proofs.frame.put_gate_command.Goals as goal
 
 pub returns : goal.returns
 returns g c = Puts-then _ _ c.put.ensures
-    (Puts-then _ _ c.put-2.ensures
-    (rw c.requires at c.put-3.ensures))
+    (Puts-then _ _ (rw c.filter_words.ensures at c.put-2.ensures)
+    (Puts-then _ _ c.put-3.ensures
+    (Puts-then _ _ (rw c.class_words.ensures at c.put-4.ensures)
+    (Puts-then _ _ c.put-5.ensures
+    ((rw c.requires at c.put-6.ensures))))))

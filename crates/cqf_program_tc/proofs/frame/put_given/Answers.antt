@@ -4,12 +4,13 @@ use Rattle.cqf_program_tc.proofs.frame.put_given.Goals as goal
 pub returns : goal.returns
 returns g c = Puts-then _ _ c.put.ensures
     (Puts-then _ _ c.put-2.ensures
-    (Puts-then _ _ c.put_multiple.ensures
     (Puts-then _ _ c.put-3.ensures
-    (Puts-then _ _ c.put_multiple-2.ensures
+    (Puts-then _ _ c.put_multiple.ensures
     (Puts-then _ _ c.put-4.ensures
-    (Puts-then _ _ c.put_multiple-3.ensures
+    (Puts-then _ _ c.put_multiple-2.ensures
     (Puts-then _ _ c.put-5.ensures
+    (Puts-then _ _ c.put_multiple-3.ensures
     (Puts-then _ _ c.put-6.ensures
     (Puts-then _ _ c.put-7.ensures
-    c.put-8.ensures)))))))))
+    (Puts-then _ _ c.put-8.ensures
+    (c.put-9.ensures)))))))))))

@@ -5,4 +5,4 @@ pub returns : goal.returns
 returns g c = Puts-then _ _ c.put.ensures
     (Puts-then _ _ c.put-2.ensures
     (Puts-then _ _ (rw c.requires at c.put-3.ensures)
-    c.put-4.ensures))
+    ((rw c.port_end.ensures at c.put-4.ensures))))

@@ -6,7 +6,7 @@ use Rattle.cqf_program_tc.proofs.frame.put_old_gates_function.Goals as goal
 
 pub returns : goal.returns
 returns g c =
-    subst (λ (last : List ℕ). Puts g.W.Write.contents c.args.press.now c.put-14.new.self (old_gates_text last)) c.last_gate-last.ensures
+    subst (λ (last : List ℕ). Puts g.W.Write.contents c.args.press.now c.put-15.new.self (old_gates_text last)) c.last_gate-last.ensures
     (Puts-then _ _ c.put.ensures
     (Puts-then _ _ c.put-2.ensures
     (Puts-then _ _ c.put-3.ensures
@@ -20,4 +20,5 @@ returns g c =
     (Puts-then _ _ c.put-11.ensures
     (Puts-then _ _ c.put-12.ensures
     (Puts-then _ _ c.put-13.ensures
-    c.put-14.ensures)))))))))))))
+    (Puts-then _ _ c.put-14.ensures
+    c.put-15.ensures))))))))))))))

@@ -15,4 +15,6 @@ returns g c = Puts-then _ _ c.put.ensures
     (Puts-then _ _ c.put-10.ensures
     (Puts-then _ _ c.put-11.ensures
     (Puts-then _ _ c.put-12.ensures
-    c.put-13.ensures))))))))))))
+    (Puts-then _ _ c.put-13.ensures
+    (Puts-then _ _ c.put-14.ensures
+    (c.put-15.ensures)))))))))))))))

@@ -4,6 +4,5 @@ use Rattle.cqf_program_tc.proofs.lists.put_by_list.Goals as goal
 pub returns : goal.returns
 returns g c = Puts-then _ _ c.put.ensures
     (Puts-then _ _ c.put-2.ensures
-    (Puts-then _ _ c.put-3.ensures
-    (Puts-then _ _ c.put-4.ensures
-    c.put-5.ensures)))
+    (Puts-then _ _ c.put_by_list_command.ensures
+    (c.put-3.ensures)))

@@ -1,4 +1,5 @@
 use Rattle.std.proofs.Common.{◌∙◌, ◌<◌, [], add-one, ap, arith, length, sym}
+use Rattle.cqf_addressing.specs.Streams.{gate_index}
 use Rattle.cqf_lists.specs.Lists.{each_below}
 use Rattle.cqf_press.proofs.PressLemmas.{Puts-as, Puts-then}
 use Rattle.cqf_program_tc.specs.Bridge.{bridge_text}
@@ -7,7 +8,7 @@ use Rattle.cqf_program_tc.proofs.told.put_bridges.Goals as goal
 
 pub loop-bridge-preserved : goal.loop-bridge-preserved
 loop-bridge-preserved g c =
-    let text = bridge_text c.args.domain.now c.args.rows.now in
+    let text = bridge_text c.args.plan.domain.now (gate_index c.args.plan.addresses.now) c.args.plan.rows.now in
     let bridge = c.loop-bridge.bridge in
     Puts-as _ _ (sym (ap (each_below text) (add-one bridge))) (Puts-then (each_below text bridge) (text bridge) c.loop-bridge.invariant
     c.put_bridge_function.ensures)
@@ -16,7 +17,7 @@ pub put_bridge_function-requires-clause-at : goal.put_bridge_function-requires-c
 put_bridge_function-requires-clause-at g c =
     let places = c.args.places.now in
     let bridge = c.loop-bridge.bridge in
-    let low : bridge < length c.args.domain.now.bridges = omega (arith, c.loop-bridge-test.true, c.bridges-bridge-end.ensures) in
+    let low : bridge < length c.args.plan.domain.now.bridges = omega (arith, c.loop-bridge-test.true, c.bridges-bridge-end.ensures) in
     let inside : c.from.result < length places = omega (arith, low, c.from.ensures, c.requires.by_bridge.one_each, length-places places) in
     c.as_slice-here.ensures.value
     ∙ sym (list_at places c.from.result bridge c.index-places-from.result _ c.from.ensures inside c.index-places-from.is [])

@@ -1,14 +1,42 @@
-use Rattle.std.proofs.Common.{◌∙◌, ap, arith}
+use Rattle.std.proofs.Common.{◌≡◌, ◌∙◌, List, ap, arith, sym}
+use Rattle.cqf_addressing.specs.Streams.{gate_index}
+use Rattle.cqf_addressing.specs.declared.streams.StreamAddress.{StreamAddress}
+use Rattle.cqf_model.specs.declared.topology.Row.{Row}
+use Rattle.cqf_model.specs.Domain.{Domain}
 use Rattle.cqf_press.specs.Edge.{HasTold, writing}
 use Rattle.cqf_press.proofs.PressLemmas.{HasTold-pressed, Puts-as}
 use Rattle.cqf_program_tc.specs.Output.{text_of_tc}
+use Rattle.cqf_program_tc.specs.Rows.{places_in}
 use Rattle.cqf_program_tc.specs.Text.{tc_text}
+use Rattle.cqf_program_tc.proofs.Ready.{ready_as, words_as}
 use Rattle.cqf_program_tc.proofs.outputs.TcOutput.tell.Goals as goal
+
+pub put_script-requires-clause-ready : goal.put_script-requires-clause-ready
+put_script-requires-clause-ready g c =
+    let plan = c.self.inside.plan in
+    let lent = c.as_plan.result in
+    ready_as plan.domain lent.domain.now plan.rows.items lent.rows.now (places_in plan.places.items) (places_in c.as_slice.result.now)
+    plan.links.items lent.links.now plan.streams.items lent.streams.now
+    c.as_plan.ensures.domain c.as_plan.ensures.rows (ap places_in c.as_slice.ensures.value) c.as_plan.ensures.links c.as_plan.ensures.streams
+    c.self.invariant.plan
+
+pub put_script-requires-clause-words : goal.put_script-requires-clause-words
+put_script-requires-clause-words g c =
+    words_as c.self.inside.plan.domain c.as_plan.result.domain.now c.self.inside.port_words.items c.as_slice-2.result.now
+    c.self.inside.gate_words.items c.as_slice-3.result.now c.as_plan.ensures.domain c.as_slice-2.ensures.value c.as_slice-3.ensures.value
+    c.self.invariant.words
 
 pub returns : goal.returns
 returns g c =
-    let put = Puts-as (tc_text c.self.inside.domain c.as_slice.result.now) (text_of_tc c.args.self)
-    (ap (tc_text c.self.inside.domain) c.as_slice.ensures.value ∙ ap text_of_tc c.self.view_is) c.put_script.ensures in
+    let plan = c.self.inside.plan in
+    let lent = c.as_plan.result in
+    let software = c.self.inside.software in
+    let same : tc_text lent.domain.now software (gate_index lent.addresses.now) lent.rows.now ≡ text_of_tc c.args.self =
+    ap (λ (d : Domain). tc_text d software (gate_index lent.addresses.now) lent.rows.now) c.as_plan.ensures.domain
+    ∙ ap (λ (addresses : List StreamAddress). tc_text plan.domain software (gate_index addresses) lent.rows.now) c.as_plan.ensures.addresses
+    ∙ ap (λ (rows : List Row). tc_text plan.domain software (gate_index plan.addresses.items) rows) c.as_plan.ensures.rows
+    ∙ ap text_of_tc c.self.view_is in
+    let put = Puts-as (tc_text lent.domain.now software (gate_index lent.addresses.now) lent.rows.now) (text_of_tc c.args.self) same c.put_script.ensures in
     let done : HasTold (writing g.W.Write.contents c.args.told.now c.close-told.result.now) (text_of_tc c.args.self) =
     HasTold-pressed g.W.Write.contents c.args.told.now c.new-press.result c.put_script.new.press c.close-told.result.now _
     c.new-press.ensures.opens put c.close-told.ensures.closes in

@@ -1,0 +1,3 @@
+pub mod Seen
+mod Apart
+mod MacLemmas

@@ -1,0 +1,51 @@
+//! How a plan is put into real bridges, read from the TOML texts of its domain and of its streams: by which interfaces links go, and by
+//! which address, VLAN and gate index the frames of streams are known. Each of these keys may be absent.
+//!
+//! - **Values.** A [`MacAddress`] is the destination address of a stream's frames, a [`VlanId`] their VLAN, an [`InterfaceName`] the name
+//!   of an interface of a bridge.
+//! - **Read.** [`read_stream_addresses`] gives a [`StreamAddress`] for each stream of a text, [`read_link_interfaces`] a [`LinkInterfaces`] for
+//!   each link; or an [`AddressingFault`], the first thing wrong, at an [`AddressKey`]. [`interfaces_part`] and [`addresses_part`] do so for the parts
+//!   of a command's input, and end with the line of the fault.
+//! - **By number.** [`gate_index`] is the index of a stream's gate, [`mac_of_stream`] and [`vlan_of_stream`] are its frames' address and VLAN;
+//!   [`near_interface`] is the interface by which a link leaves its bridge, and [`far_interface`] that by which it comes to its far end.
+//! - **Written.** [`put_mac`] and [`put_interface`] put an address and a name as texts.
+//! - **Laws**, functions that do nothing: no two streams have one gate index ([`gate_indexes_are_apart`]), and an address that is put reads
+//!   back ([`macs_read_back`]).
+//!
+//! ```text
+//! [[streams]]
+//! name = "mic"
+//! octets = 704
+//! path = ["stage", "mixer"]
+//! mac = "01:00:5E:00:00:2a"
+//! vlan = 10
+//! x-gate = 7
+//! ```
+//!
+//! is a stream whose frames go to 01:00:5e:00:00:2a in VLAN 10, and whose gate has the index 7. With `vlan = 4095` the text is refused:
+//! `BadValue vlan`. Where the seventh stream has no `x-gate` it is refused too: `GateTwice 7 7`.
+#![tactic(auto)]
+
+mod faults;
+mod interfaces;
+mod keys;
+mod laws;
+mod links;
+mod macs;
+mod parts;
+mod streams;
+mod twice;
+mod values;
+mod vlans;
+
+pub use faults::AddressingFault;
+pub use interfaces::{InterfaceName, put_interface};
+pub use keys::AddressKey;
+pub use laws::{gate_indexes_are_apart, macs_read_back};
+pub use links::{LinkInterfaces, far_interface, near_interface, read_link_interfaces};
+pub use macs::{MacAddress, put_mac};
+pub use parts::{addresses_part, interfaces_part};
+pub use streams::{
+    StreamAddress, gate_index, mac_of_stream, read_stream_addresses, vlan_of_stream,
+};
+pub use vlans::VlanId;

@@ -1,0 +1,58 @@
+//! The keys of addressing of an input's parts, or the line of the first fault.
+ghost use Rattle.std.specs.Prelude.{◌≡◌, ◌≢◌, [], Ok, IfOk, IfErr};
+ghost use Rattle.cqf_topology.specs.declared.toml_faults.TomlFault.TheVariants as toml;
+ghost use Rattle.cqf_press.specs.Stops.{EndsWith, IsRefused, fault_line, or_line};
+ghost use Rattle.cqf_addressing.specs.Faults.{addressing_fault_text, interfaces_line, stream_addresses_line};
+ghost use Rattle.cqf_addressing.specs.Links.{interfaces_of_text};
+ghost use Rattle.cqf_addressing.specs.Streams.{addresses_of_text};
+
+use crate::{
+    AddressingFault, LinkInterfaces, StreamAddress, read_link_interfaces, read_stream_addresses,
+};
+use cqf_model::Limits;
+use cqf_press::Stop;
+use cqf_topology::TomlFault;
+use std::alloc::Global;
+
+/// The end where a part is refused for its keys of addressing.
+fn addressing_stop(alloc: Global, part: &str, fault: AddressingFault) -> Stop
+    ensures refused { fault ≢ AddressingFault.Text toml.Memory → EndsWith 1 (fault_line part.now (addressing_fault_text fault)) result }
+    ensures memory { fault ≡ AddressingFault.Text toml.Memory → EndsWith 3 [] result }
+{
+    match fault {
+        AddressingFault::Text(TomlFault::Memory) => Stop::memory(alloc),
+        _ => Stop::refused(alloc, part, &fault),
+    }
+}
+
+/// The interfaces of the links of a domain part.
+///
+/// # Errors
+/// With status 1 and the line of the part's first fault ([`read_link_interfaces`]); and with status 3 for want of memory.
+pub fn interfaces_part(alloc: Global, text: &[u8]) -> Result<Vec<LinkInterfaces>, Stop>
+    ensures ok { IfOk result (λ links. interfaces_of_text text.now ≡ Ok links.items) }
+    ensures err { IfErr result (IsRefused (or_line interfaces_line (interfaces_of_text text.now))) }
+{
+    match read_link_interfaces(alloc, text) {
+        Ok(links) => Ok(links),
+        Err(fault) => Err(addressing_stop(alloc, "domain", fault)),
+    }
+}
+
+/// The addresses of the streams of a streams part, read within some limits.
+///
+/// # Errors
+/// With status 1 and the line of the part's first fault ([`read_stream_addresses`]); and with status 3 for want of memory.
+pub fn addresses_part(
+    alloc: Global,
+    limits: Limits,
+    text: &[u8],
+) -> Result<Vec<StreamAddress>, Stop>
+    ensures ok { IfOk result (λ addresses. addresses_of_text limits text.now ≡ Ok addresses.items) }
+    ensures err { IfErr result (IsRefused (or_line stream_addresses_line (addresses_of_text limits text.now))) }
+{
+    match read_stream_addresses(alloc, limits, text) {
+        Ok(addresses) => Ok(addresses),
+        Err(fault) => Err(addressing_stop(alloc, "streams", fault)),
+    }
+}

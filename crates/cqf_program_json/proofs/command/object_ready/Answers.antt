@@ -1,0 +1,10 @@
+use Rattle.std.proofs.Common.{List, subst}
+use Rattle.cqf_model.specs.declared.topology.Row.{Row}
+use Rattle.cqf_program_tc.specs.Rows.{AreByBridge, places_in}
+use Rattle.cqf_program_json.proofs.command.object_ready.Goals as goal
+
+pub invariant_of-result : goal.invariant_of-result
+invariant_of-result c = record {
+  paced = c.requires;
+  by_bridge = subst (λ (rows : List Row). AreByBridge c.args.domain rows (places_in c.in_ok-places.places.items)) c.as_slice.ensures.value c.in_ok-places.ensures;
+}

@@ -1,0 +1,9 @@
+use Rattle.std.proofs.Common.{ap, decimal}
+use Rattle.cqf_press.proofs.PressLemmas.{Puts-as, Puts-then}
+use Rattle.cqf_program_json.proofs.ports.put_port_round.Goals as goal
+
+pub returns : goal.returns
+returns g c = Puts-then _ _ c.put.ensures
+    (Puts-then _ _ (Puts-as _ _ (ap decimal c.round.ensures.value) c.put_number.ensures)
+    (Puts-then _ _ c.put-2.ensures
+    c.put-3.ensures))

@@ -1,0 +1,11 @@
+use Rattle.cqf_press.proofs.PressLemmas.{Puts-then}
+use Rattle.cqf_program_json.proofs.streams.put_open_entry.Goals as goal
+
+pub returns : goal.returns
+returns g c = Puts-then _ _ c.put.ensures
+    (Puts-then _ _ c.put_number.ensures
+    (Puts-then _ _ c.put-2.ensures
+    (Puts-then _ _ c.put_number-2.ensures
+    (Puts-then _ _ c.put-3.ensures
+    (Puts-then _ _ c.put_number_or_null.ensures
+    (c.put-4.ensures))))))

@@ -1,0 +1,4 @@
+pub mod Arrays
+pub mod Text
+pub mod Output
+pub mod Items

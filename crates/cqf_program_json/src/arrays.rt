@@ -1,0 +1,60 @@
+//! The pieces of which arrays and members are put.
+ghost use Rattle.std.specs.Prelude.{◌≡◌, option_map};
+ghost use Rattle.cqf_press.specs.Press.{Puts};
+ghost use Rattle.cqf_program_json.specs.Arrays.{end_text, front_text, name_or_null, number_or_null, quoted};
+
+use cqf_addressing::{InterfaceName, put_interface};
+use cqf_press::{Press, Sink};
+
+/// Puts what stands before an element: the end of the line before, and a comma where that is another element's.
+pub(crate) fn put_front<W: Sink>(press: &mut Press<'_, W>, is_first: bool)
+    ensures { Puts W.contents press.old press.new (front_text is_first) }
+{
+    if is_first {
+        press.put(b"\n");
+    } else {
+        press.put(b",\n");
+    }
+}
+
+/// Puts the end of an array, behind so many blanks on a line of its own where the array has elements.
+pub(crate) fn put_end<W: Sink>(press: &mut Press<'_, W>, is_empty: bool, blanks: &[u8])
+    ensures { Puts W.contents press.old press.new (end_text blanks.now is_empty) }
+{
+    if is_empty {
+        press.put(b"]");
+    } else {
+        press.put(b"\n");
+        press.put(blanks);
+        press.put(b"]");
+    }
+}
+
+/// Puts the name of an interface in quotation marks. It has no byte that JSON escapes.
+fn put_quoted<W: Sink>(press: &mut Press<'_, W>, name: &InterfaceName)
+    ensures { Puts W.contents press.old press.new (quoted name.now) }
+{
+    press.put(b"\"");
+    put_interface(press, name);
+    press.put(b"\"");
+}
+
+/// Puts the name of an interface, or `null` where there is none.
+pub(crate) fn put_name_or_null<W: Sink>(press: &mut Press<'_, W>, name: Option<&InterfaceName>)
+    ensures { Puts W.contents press.old press.new (name_or_null (option_map (λ name. name.now) name.entry)) }
+{
+    match name {
+        Some(name) => put_quoted(press, name),
+        None => press.put(b"null"),
+    }
+}
+
+/// Puts a number, or `null` where there is none.
+pub(crate) fn put_number_or_null<W: Sink>(press: &mut Press<'_, W>, number: Option<u32>)
+    ensures { Puts W.contents press.old press.new (number_or_null number) }
+{
+    match number {
+        Some(number) => press.put_number(number),
+        None => press.put(b"null"),
+    }
+}

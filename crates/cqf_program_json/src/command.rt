@@ -1,0 +1,99 @@
+//! The command `compile --format json`: the object for a domain and its streams.
+ghost use Rattle.std.specs.Prelude.{◌≡◌, Ok, IfOk, IfErr, map};
+ghost use Rattle.cqf_admission.specs.Asking.{asked_paced};
+ghost use Rattle.cqf_admission.specs.Turns.{AreOfGoodPaces};
+ghost use Rattle.cqf_press.specs.Stops.{IsRefused};
+ghost use Rattle.cqf_program_json.specs.Output.{addressing_of, json_of, json_of_input, text_of_json};
+
+use crate::outputs::JsonOutput;
+use cqf_addressing::{LinkInterfaces, StreamAddress, addresses_part, interfaces_part};
+use cqf_model::{Limits, Row};
+use cqf_press::{Sheet, Stop};
+use cqf_program_plans::{read_plan, rows_of_cycle_0};
+use cqf_program_scenario::two_parts;
+use cqf_program_tc::places_by_bridge;
+use cqf_topology::{Domain, PacedRequest};
+use cqf_units::Memory;
+use std::alloc::Global;
+
+/// The interfaces of the links and the addresses of the streams of an input's parts.
+fn read_addressing(
+    alloc: Global,
+    limits: Limits,
+    domain_text: &[u8],
+    streams_text: &[u8],
+) -> Result<(Vec<LinkInterfaces>, Vec<StreamAddress>), Stop>
+    ensures ok { IfOk result (λ found. addressing_of limits domain_text.now streams_text.now ≡ Ok (found.0.items, found.1.items)) }
+    ensures err { IfErr result (IsRefused (addressing_of limits domain_text.now streams_text.now)) }
+{
+    let links = interfaces_part(alloc, domain_text)?;
+    let addresses = addresses_part(alloc, limits, streams_text)?;
+    Ok((links, addresses))
+}
+
+/// The object of a domain with the streams of these rows, ready to be told.
+fn object_ready(
+    alloc: Global,
+    domain: Domain,
+    rows: Vec<Row>,
+    links: Vec<LinkInterfaces>,
+    addresses: Vec<StreamAddress>,
+) -> Result<JsonOutput, Memory>
+    requires { AreOfGoodPaces rows.items }
+    ensures { IfOk result (λ output. output ≡ record { domain = domain; rows = rows.items; addresses = addresses.items; links = links.items }) }
+{
+    let places = places_by_bridge(alloc, &domain, rows.as_slice())?;
+    let sheet = Sheet::new(alloc)?;
+    Ok(JsonOutput {
+        domain,
+        rows,
+        places,
+        addresses,
+        links,
+        sheet,
+    })
+}
+
+/// The object of a domain with these streams, ready to be told, with the addressing of these texts.
+fn object_of(
+    alloc: Global,
+    limits: Limits,
+    domain: Domain,
+    requests: &[PacedRequest],
+    domain_text: &[u8],
+    streams_text: &[u8],
+) -> Result<JsonOutput, Stop>
+    ensures ok { IfOk result (λ output.
+        json_of limits domain (map asked_paced requests.now) domain_text.now streams_text.now ≡ Ok (text_of_json output)) }
+    ensures err { IfErr result (IsRefused (json_of limits domain (map asked_paced requests.now) domain_text.now streams_text.now)) }
+{
+    let rows = rows_of_cycle_0(alloc, &domain, requests)?;
+    let (links, addresses) = read_addressing(alloc, limits, domain_text, streams_text)?;
+    match object_ready(alloc, domain, rows, links, addresses) {
+        Ok(output) => Ok(output),
+        Err(_) => Err(Stop::memory(alloc)),
+    }
+}
+
+/// The output of `compile --format json` for an input that is read within some limits, ready to be told: the object for the domain and its
+/// streams (profile).
+///
+/// # Errors
+/// With status 1 and the line of the first fault: those of `cqf_program_plans::compile_output`, then those of the interfaces of the domain's
+/// links (`cqf_addressing::read_link_interfaces`), then those of the addresses of the streams (`cqf_addressing::read_stream_addresses`); and with
+/// status 3 for want of memory.
+pub fn json_output(alloc: Global, limits: Limits, input: &[u8]) -> Result<JsonOutput, Stop>
+    ensures ok { IfOk result (λ output. json_of_input limits input.now ≡ Ok (text_of_json output)) }
+    ensures err { IfErr result (IsRefused (json_of_input limits input.now)) }
+{
+    let (domain_text, streams_text) = two_parts(alloc, input)?;
+    let (domain, requests) = read_plan(alloc, limits, input)?;
+    object_of(
+        alloc,
+        limits,
+        domain,
+        requests.as_slice(),
+        domain_text,
+        streams_text,
+    )
+}

@@ -1,0 +1,32 @@
+//! The object, told line by line.
+ghost use Rattle.cqf_press.specs.Edge.{HasTold, writing};
+ghost use Rattle.cqf_program_json.specs.Output.{text_of_json};
+
+use crate::bridges::put_object;
+use crate::outputs::JsonOutput;
+use crate::wired::Wired;
+use cqf_press::{Press, Sink, Told};
+
+impl JsonOutput {
+    /// Tells the output: the object (profile). It asks for no memory.
+    pub fn tell<W: Sink>(self, told: &mut Told<W>)
+        ensures { HasTold (writing W.contents told.old told.new) (text_of_json self) }
+    {
+        let JsonOutput {
+            domain,
+            rows,
+            places,
+            addresses,
+            links,
+            sheet,
+        } = self;
+        let mut press = Press::new(told, sheet);
+        let wired = Wired {
+            domain: &domain,
+            addresses: addresses.as_slice(),
+            links: links.as_slice(),
+        };
+        put_object(&mut press, wired, rows.as_slice(), places.as_slice());
+        let _told = press.close();
+    }
+}

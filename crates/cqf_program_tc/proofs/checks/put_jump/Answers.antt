@@ -1,0 +1,8 @@
+use Rattle.cqf_press.proofs.PressLemmas.{Puts-then}
+use Rattle.cqf_program_tc.proofs.checks.put_jump.Goals as goal
+
+pub returns : goal.returns
+returns g c = Puts-then _ _ c.put.ensures
+    (Puts-then _ _ c.put-2.ensures
+    (Puts-then _ _ c.put-3.ensures
+    (c.put-4.ensures)))

@@ -1,0 +1,17 @@
+use Rattle.cqf_press.proofs.PressLemmas.{Puts-then}
+use Rattle.cqf_program_tc.proofs.env.put_frame_lines.Goals as goal
+
+pub returns : goal.returns
+returns g c = Puts-then _ _ c.put.ensures
+    (Puts-then _ _ (rw c.as_bytes.ensures.value at c.put-2.ensures)
+    (Puts-then _ _ c.put-3.ensures
+    (Puts-then _ _ c.put-4.ensures
+    (Puts-then _ _ c.put-5.ensures
+    (Puts-then _ _ c.put_mac_of.ensures
+    (Puts-then _ _ c.put-6.ensures
+    (Puts-then _ _ (rw c.as_bytes-2.ensures.value at c.put-7.ensures)
+    (Puts-then _ _ c.put-8.ensures
+    (Puts-then _ _ c.put-9.ensures
+    (Puts-then _ _ c.put-10.ensures
+    (Puts-then _ _ c.put_vlan_of.ensures
+    (c.put-11.ensures))))))))))))

@@ -1,0 +1,6 @@
+use Rattle.cqf_press.proofs.PressLemmas.{Puts-then}
+use Rattle.cqf_program_tc.proofs.env.put_lines_by.Goals as goal
+
+pub returns : goal.returns
+returns g c = Puts-then _ _ c.put_new_lines.ensures
+    (c.put_frame_lines.ensures)

@@ -1,0 +1,9 @@
+use Rattle.cqf_press.proofs.PressLemmas.{Puts-then}
+use Rattle.cqf_program_tc.proofs.frame.put_notes.Goals as goal
+
+pub returns : goal.returns
+returns g c = Puts-then _ _ c.put.ensures
+    (Puts-then _ _ c.put-2.ensures
+    (Puts-then _ _ c.put_kind_notes.ensures
+    (Puts-then _ _ c.put-3.ensures
+    (c.put-4.ensures))))

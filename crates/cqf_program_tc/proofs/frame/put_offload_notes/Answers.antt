@@ -1,0 +1,6 @@
+use Rattle.cqf_press.proofs.PressLemmas.{Puts-then}
+use Rattle.cqf_program_tc.proofs.frame.put_offload_notes.Goals as goal
+
+pub returns : goal.returns
+returns g c = Puts-then _ _ c.put.ensures
+    (c.put-2.ensures)

@@ -1,0 +1,9 @@
+use Rattle.cqf_press.proofs.PressLemmas.{Puts-then}
+use Rattle.cqf_program_tc.proofs.lists.put_by_list_command.Goals as goal
+
+pub returns : goal.returns
+returns g c = Puts-then _ _ c.put.ensures
+    (Puts-then _ _ (rw c.filter_words.ensures at c.put-2.ensures)
+    (Puts-then _ _ c.put-3.ensures
+    (Puts-then _ _ (rw c.class_words.ensures at c.put-4.ensures)
+    (c.put-5.ensures))))

@@ -1,0 +1,64 @@
+//! What a script is told from, as its parts take it.
+ghost use Rattle.std.specs.Prelude.{◌≡◌, ◌<◌, length, slice_index_or};
+ghost use Rattle.cqf_addressing.specs.Streams.{gate_index};
+ghost use Rattle.cqf_press.specs.Press.{Puts};
+ghost use Rattle.cqf_program_tc.specs.Variables.{AreNamed, link_variable, stream_variable};
+
+use cqf_addressing::{StreamAddress, gate_index};
+use cqf_model::Row;
+use cqf_press::{Press, Sink};
+use cqf_topology::Domain;
+
+/// A domain, the rows of its streams, their addresses by number, and the variables of its links by number and of its rows by place.
+#[derive(Clone, Copy)]
+pub(crate) struct Plan<'r> {
+    pub domain: &'r Domain,
+    pub rows: &'r [Row],
+    pub addresses: &'r [StreamAddress],
+    pub links: &'r [Vec<u8>],
+    pub streams: &'r [Vec<u8>],
+}
+
+/// A stream as the script has it: its row, its variable, and the index of its gate.
+#[derive(Clone, Copy)]
+pub(crate) struct Stream<'r> {
+    pub row: &'r Row,
+    pub variable: &'r [u8],
+    pub gate: u64,
+}
+
+/// The variable of a link. A link that the domain lacks has none.
+fn link_variable<'r>(plan: Plan<'r>, link: u16) -> &'r [u8]
+    requires { AreNamed plan.domain.now plan.rows.now plan.links.now plan.streams.now }
+    ensures { result.now ≡ link_variable plan.entry.domain.now link }
+{
+    if link < plan.domain.links() {
+        plan.links[usize::from(link)].as_slice()
+    } else {
+        b"".as_slice()
+    }
+}
+
+/// Puts the variable of a link, without what it begins with. A link that the domain lacks has none.
+pub(crate) fn put_link_variable<W: Sink>(press: &mut Press<'_, W>, plan: Plan<'_>, link: u16)
+    requires { AreNamed plan.domain.now plan.rows.now plan.links.now plan.streams.now }
+    ensures { Puts W.contents press.old press.new (link_variable plan.entry.domain.now link) }
+{
+    press.put(link_variable(plan, link));
+}
+
+/// The stream of the row at a place.
+pub(crate) fn stream_at<'r>(plan: Plan<'r>, place: usize) -> Stream<'r>
+    requires named { AreNamed plan.domain.now plan.rows.now plan.links.now plan.streams.now }
+    requires inside { place < length plan.rows.now }
+    ensures row { result.row.now ≡ slice_index_or plan.entry.rows.now place result.row.now }
+    ensures variable { result.variable.now ≡ stream_variable plan.entry.rows.now result.row.now }
+    ensures gate { result.gate ≡ gate_index plan.entry.addresses.now result.row.now.no }
+{
+    let row = &plan.rows[place];
+    Stream {
+        row,
+        variable: plan.streams[place].as_slice(),
+        gate: gate_index(plan.addresses, row.no),
+    }
+}

@@ -1,0 +1,182 @@
+//! The variables of a script, made before it is told.
+ghost use Rattle.std.specs.Prelude.{◌≡◌, ◌<◌, ◌++◌, AllPairs, IfOk, OnOk, codes, decimal, length, map};
+ghost use Rattle.cqf_lists.specs.ByNumber.{AreListsBy, lists_of};
+ghost use Rattle.cqf_model.specs.declared.topology.Row.{Row as ARow};
+ghost use Rattle.cqf_program_tc.specs.Taken.{AreTaken};
+ghost use Rattle.cqf_program_tc.specs.Variables.{link_variable, numbered, variable_at, word_byte, word_of, word_of_link, word_of_stream};
+ghost use Rattle.cqf_topology.specs.NodeNames.{name_of_bridge, name_of_node};
+
+use cqf_model::{Link, Node, Row};
+use cqf_topology::Domain;
+use cqf_units::Memory;
+use std::alloc::Global;
+use std::collections::BTreeMap;
+
+/// A byte of a name as it stands in a variable.
+fn word_byte(byte: u8) -> u8
+    ensures { result ≡ word_byte byte }
+{
+    if byte == b'-' { b'_' } else { byte }
+}
+
+/// Puts a name behind a word, as it stands in a variable.
+fn push_word(word: &mut Vec<u8>, name: &[u8]) -> Result<(), Memory>
+    ensures { OnOk result (word.new.items ≡ word.old.items ++ word_of name.now) }
+{
+    for byte in name {
+        word.push(word_byte(*byte))?;
+    }
+    Ok(())
+}
+
+/// Puts the name of a bridge behind a word, likewise. A bridge that the domain lacks has none.
+fn push_bridge(word: &mut Vec<u8>, domain: &Domain, bridge: u16) -> Result<(), Memory>
+    ensures { OnOk result (word.new.items ≡ word.old.items ++ word_of (name_of_bridge domain.now bridge)) }
+{
+    if bridge < domain.bridges() {
+        push_word(word, domain.bridge_name(bridge).as_bytes())?;
+    }
+    Ok(())
+}
+
+/// Puts the name of a station behind a word, likewise.
+fn push_station(word: &mut Vec<u8>, domain: &Domain, station: u16) -> Result<(), Memory>
+    ensures { OnOk result (word.new.items ≡ word.old.items ++ word_of (name_of_node domain.now (Node.Station station))) }
+{
+    if station < domain.stations() {
+        push_word(word, domain.station_name(station).as_bytes())?;
+    }
+    Ok(())
+}
+
+/// Puts the name of a node behind a word, likewise.
+fn push_node(word: &mut Vec<u8>, domain: &Domain, node: Node) -> Result<(), Memory>
+    ensures { OnOk result (word.new.items ≡ word.old.items ++ word_of (name_of_node domain.now node)) }
+{
+    match node {
+        Node::Bridge(bridge) => push_bridge(word, domain, bridge)?,
+        Node::Station(station) => push_station(word, domain, station)?,
+    }
+    Ok(())
+}
+
+/// The word of a link.
+fn link_word(alloc: Global, domain: &Domain, link: Link) -> Result<Vec<u8>, Memory>
+    ensures { IfOk result (λ word. word.items ≡ word_of_link domain.now link) }
+{
+    let mut word = Vec::new(alloc);
+    push_bridge(&mut word, domain, link.from)?;
+    word.push(b'_')?;
+    push_node(&mut word, domain, link.to)?;
+    Ok(word)
+}
+
+/// The words of a domain's links, by number.
+fn link_words(alloc: Global, domain: &Domain) -> Result<Vec<Vec<u8>>, Memory>
+    ensures { IfOk result (λ words. lists_of words.items ≡ map (word_of_link domain.now) domain.now.links) }
+{
+    let mut words = Vec::new(alloc);
+    for link in 0..domain.links() {
+        let word = link_word(alloc, domain, domain.link(link))?;
+        words.push(word)?;
+    }
+    Ok(words)
+}
+
+/// The word of a stream.
+fn stream_word(alloc: Global, row: &Row) -> Result<Vec<u8>, Memory>
+    ensures { IfOk result (λ word. word.items ≡ word_of row.now.name) }
+{
+    let mut word = Vec::new(alloc);
+    push_word(&mut word, row.name.as_bytes())?;
+    Ok(word)
+}
+
+/// The words of rows' streams, by place.
+fn stream_words(alloc: Global, rows: &[Row]) -> Result<Vec<Vec<u8>>, Memory>
+    ensures { IfOk result (λ words. lists_of words.items ≡ map word_of_stream rows.now) }
+{
+    let mut words = Vec::new(alloc);
+    for place in 0..rows.len() {
+        let word = stream_word(alloc, &rows[place])?;
+        words.push(word)?;
+    }
+    Ok(words)
+}
+
+/// Which of some words stand among those before them. Words are found by their order, whichever they are.
+fn are_taken(alloc: Global, words: &[Vec<u8>]) -> Result<Vec<bool>, Memory>
+    ensures { IfOk result (λ taken. AreTaken (lists_of words.now) taken.items) }
+{
+    let mut places = BTreeMap::new(alloc);
+    let mut taken = Vec::new(alloc);
+    for place in 0..words.len() {
+        let word = words[place].as_slice();
+        if places.contains_key(word) {
+            taken.push(true)?;
+            continue;
+        }
+        places.insert(word, place)?;
+        taken.push(false)?;
+    }
+    Ok(taken)
+}
+
+/// Puts a number behind a word.
+fn push_number(alloc: Global, word: &mut Vec<u8>, number: u32) -> Result<(), Memory>
+    ensures { OnOk result (word.new.items ≡ word.old.items ++ (codes "_N" ++ decimal number)) }
+{
+    let end = format!(in alloc; "_N{number}")?;
+    word.extend_from_slice(end.as_bytes())?;
+    Ok(())
+}
+
+/// A word as a variable, with its number behind it where it is taken.
+fn numbered(alloc: Global, word: &[u8], is_taken: bool, number: u32) -> Result<Vec<u8>, Memory>
+    ensures { IfOk result (λ variable. variable.items ≡ numbered word.now is_taken number) }
+{
+    let mut variable = Vec::from_slice(alloc, word)?;
+    if is_taken {
+        push_number(alloc, &mut variable, number)?;
+    }
+    Ok(variable)
+}
+
+/// The variables of a domain's links by number, in a time that grows with the links and with the logarithm of how many there are.
+pub(crate) fn link_variables(alloc: Global, domain: &Domain) -> Result<Vec<Vec<u8>>, Memory>
+    ensures { IfOk result (λ variables. AreListsBy (link_variable domain.now) (length domain.now.links) (lists_of variables.items)) }
+{
+    let made = link_words(alloc, domain)?;
+    let words = made.as_slice();
+    let noted = are_taken(alloc, words)?;
+    let taken = noted.as_slice();
+    let mut variables = Vec::new(alloc);
+    for link in 0..domain.links() {
+        let place = usize::from(link);
+        let variable = numbered(
+            alloc,
+            words[place].as_slice(),
+            taken[place],
+            u32::from(link),
+        )?;
+        variables.push(variable)?;
+    }
+    Ok(variables)
+}
+
+/// The variables of the streams of rows by place, whose numbers ascend, likewise.
+pub(crate) fn stream_variables(alloc: Global, rows: &[Row]) -> Result<Vec<Vec<u8>>, Memory>
+    requires { AllPairs (λ (a b : ARow). a.no < b.no) rows.now }
+    ensures { IfOk result (λ variables. AreListsBy (variable_at rows.now) (length rows.now) (lists_of variables.items)) }
+{
+    let made = stream_words(alloc, rows)?;
+    let words = made.as_slice();
+    let noted = are_taken(alloc, words)?;
+    let taken = noted.as_slice();
+    let mut variables = Vec::new(alloc);
+    for place in 0..rows.len() {
+        let variable = numbered(alloc, words[place].as_slice(), taken[place], rows[place].no)?;
+        variables.push(variable)?;
+    }
+    Ok(variables)
+}
