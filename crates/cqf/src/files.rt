@@ -4,9 +4,9 @@ ghost use Rattle.std.specs.Prelude.{◌≤◌, ◌<◌, ◌^◌, OnOk, length};
 
 use crate::terminal::hint;
 use cqf_model::Limits;
-use cqf_press::{FAULT, REFUSED, Stop, Told, write_out};
+use cqf_press::{DONE, FAULT, REFUSED, Sink, Stop, Told, write_out};
 use cqf_program_engine::{Heard, Texts, engine, most_bytes, tell};
-use cqf_program_explanations::{NamedFile, explanation};
+use cqf_program_explanations::{NamedFile, explanation, notes};
 use cqf_program_files::{Front, cycles_of, front_of, renumbered};
 use cqf_program_offers::made_input;
 use cqf_program_words::{
@@ -14,7 +14,8 @@ use cqf_program_words::{
 };
 use std::alloc::{AllocError, Global};
 use std::fs::File;
-use std::io::{ErrorKind, Write};
+use std::io;
+use std::io::{ErrorKind, Read, Write};
 use std::process::ExitCode;
 use std::sync::Wait;
 use std::thread::Threads;
@@ -32,6 +33,26 @@ struct FilesInput<'g> {
     texts: &'g [&'g [u8]],
 }
 
+/// The end where the file of a name can't be read, with the words that the system has for the error; or for want of memory, which the error
+/// may be.
+fn stop_of_error(alloc: Global, name: &str, error: &io::Error) -> Stop {
+    if error.kind() == ErrorKind::OutOfMemory {
+        return Stop::memory(alloc);
+    }
+    match format!(in alloc; "{error}") {
+        Ok(cause) => stop_of_file(alloc, name, cause.as_str()),
+        Err(_) => Stop::memory(alloc),
+    }
+}
+
+/// The end where a read of the file of a name failed: the next tells why, if it fails too.
+fn stop_of_read(alloc: Global, name: &str, file: &mut File) -> Stop {
+    match file.read(&mut [0]) {
+        Ok(_) => stop_of_file(alloc, name, "a read failed"),
+        Err(error) => stop_of_error(alloc, name, &error),
+    }
+}
+
 /// Reads the file of a name, as one text more. `Err` with status 4 where it can't be opened or read.
 fn read_file(
     rt: &HostRuntime,
@@ -46,12 +67,11 @@ fn read_file(
 {
     let mut file = match File::open(rt, name) {
         Ok(file) => file,
-        Err(error) if error.kind() == ErrorKind::OutOfMemory => return Err(Stop::memory(alloc)),
-        Err(_) => return Err(stop_of_file(alloc, name)),
+        Err(error) => return Err(stop_of_error(alloc, name, &error)),
     };
     match texts.read(alloc, most, &mut file) {
         Ok(()) => Ok(()),
-        Err(stop) if stop.status == FAULT => Err(stop_of_file(alloc, name)),
+        Err(stop) if stop.status == FAULT => Err(stop_of_read(alloc, name, &mut file)),
         Err(stop) => Err(stop),
     }
 }
@@ -132,6 +152,50 @@ fn explain(rt: &HostRuntime, given: &FilesInput<'_>, line: &[u8]) {
     }
 }
 
+/// Writes what explains the line `cqf: parts` of a standard input that is empty, of words that name no files.
+pub(crate) fn explain_nothing<F: Sink>(alloc: Global, words: &[&str], faults: &mut Told<F>) {
+    let Some(command) = words.first() else {
+        return;
+    };
+    // its input has one part, which may be empty
+    if *command == "line" {
+        return;
+    }
+    let source = NamedFile {
+        name: STANDARD,
+        text: b"",
+    };
+    let limits = limits_of(words);
+    if let Ok(text) = explanation(alloc, command, None, limits, &[source], b"cqf: parts\n") {
+        write_out(faults, text.as_slice());
+    }
+}
+
+/// The notes on a plant, if the run doesn't refuse it; none if memory lacks. They are made before the run, which asks for no memory once its
+/// output has begun.
+fn notes_of(given: &FilesInput<'_>) -> Option<Vec<u8>> {
+    let command = given.operands.words().first()?;
+    let Ok(sources) = sources_of(given.alloc, given.operands.files(), given.texts) else {
+        return None;
+    };
+    match notes(given.alloc, command, given.limits, sources.as_slice(), b"") {
+        Ok(text) => Some(text),
+        Err(_) => None,
+    }
+}
+
+/// Whether a run that ended with this status and line has accepted its plant: it was done, or says how deliveries or latencies are.
+fn has_accepted(status: u8, line: &[u8]) -> bool {
+    status == DONE || line.starts_with(b"cqf: check: ") || line.starts_with(b"cqf: latency: ")
+}
+
+/// Writes notes, if there are any.
+fn write_notes(rt: &HostRuntime, notes: &Option<Vec<u8>>) {
+    if let Some(text) = notes {
+        write_out(&mut Told::new(rt.stderr()), text.as_slice());
+    }
+}
+
 /// The engine's run of what the files came to, and the line that it tells of a fault. The error is want of memory before it has begun.
 fn run(
     rt: &HostRuntime,
@@ -170,6 +234,7 @@ fn run_front(
     front: &Front,
 ) -> ExitCode {
     let alloc = given.alloc;
+    let notes = notes_of(given);
     let Ok((status, told)) = run(
         rt,
         threads,
@@ -186,6 +251,9 @@ fn run_front(
     write_out(&mut Told::new(rt.stderr()), line.as_slice());
     if status == REFUSED {
         explain(rt, given, line.as_slice());
+    }
+    if has_accepted(status, line.as_slice()) {
+        write_notes(rt, &notes);
     }
     ExitCode::from(status)
 }

@@ -27,17 +27,17 @@
 mod files;
 mod terminal;
 
-use cqf_press::Stop;
+use cqf_press::{REFUSED, Stop};
 use cqf_program_engine::{Heard, Told, engine};
 use cqf_program_words::operands_of;
-use files::{end, run_files};
+use files::{end, explain_nothing, run_files};
 use std::alloc::Global;
 use std::env::{Env, FillError};
 use std::io;
 use std::process::ExitCode;
 use std::sync::Wait;
 use std::thread::Threads;
-use terminal::hint_of_words;
+use terminal::{hint_of_words, words_at};
 
 /// The environment with the words behind the program's name alone. The name may be anything, bytes that are no text too, since
 /// nobody looks at it.
@@ -72,17 +72,22 @@ fn arguments<R: Env>(rt: &R, alloc: Global) -> io::Result<Vec<String>> {
     Ok(words)
 }
 
-/// The run of words that name no files.
+/// Runs the command that words without files name. Without any word, at a terminal, the program shows its help.
 fn run(
     rt: &HostRuntime,
     threads: &(impl Threads + Wait + Sync),
     alloc: Global,
-    words: &[&str],
+    given: &[&str],
 ) -> ExitCode {
     let mut faults = Told::new(rt.stderr());
+    let words = words_at(given, &rt.stdin());
     hint_of_words(alloc, words, &rt.stdin(), &mut faults);
     let (mut input, mut output) = (Heard::new(alloc, rt.stdin()), Told::new(rt.stdout()));
-    ExitCode::from(engine(threads, alloc, words, &mut input, &mut output, &mut faults))
+    let status = engine(threads, alloc, words, &mut input, &mut output, &mut faults);
+    if status == REFUSED && input.bytes().is_empty() {
+        explain_nothing(alloc, words, &mut faults);
+    }
+    ExitCode::from(status)
 }
 
 fn main(rt: HostRuntime) -> ExitCode {

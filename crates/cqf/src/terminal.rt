@@ -12,14 +12,23 @@ pub(crate) fn hint<I: IsTerminal, F: Sink>(input: &I, faults: &mut Told<F>) {
     }
 }
 
-/// The same before words without files are run, if they are none, or mean a job: else nothing is read.
+/// The words that are run without files: at a terminal one that is empty, where none are given, since nobody means to type the input then.
+pub(crate) fn words_at<'w, I: IsTerminal>(words: &'w [&'w str], input: &I) -> &'w [&'w str] {
+    if words.is_empty() && input.is_terminal() {
+        &[""]
+    } else {
+        words
+    }
+}
+
+/// The same before words without files are run, if they mean a job: else nothing is read.
 pub(crate) fn hint_of_words<I: IsTerminal, F: Sink>(
     alloc: Global,
     words: &[&str],
     input: &I,
     faults: &mut Told<F>,
 ) {
-    if words.is_empty() || read_words(alloc, words).is_ok() {
+    if read_words(alloc, words).is_ok() {
         hint(input, faults);
     }
 }

@@ -16,7 +16,7 @@ use Rattle.cqf_press.specs.Kinds.{NoKind, SomeKind}
 use Rattle.cqf_program_engine.specs.Run.{first_line, input_of, version_line, words_of, AskForVersion, Ends}
 use Rattle.cqf_program_engine.specs.Run.{EndsByStatus, EndsFaulty, EndsInput, EndsRead, HandsOver, HasCause, HasFault}
 use Rattle.cqf_program_engine.specs.Run.{HasRun, HasWords, most_line, IsBehindWords, IsDone, IsEnd, IsFailure, IsOutput}
-use Rattle.cqf_program_engine.specs.Run.{IsFailedRun, IsMisuse, IsRefusedRun, TellsCandidates}
+use Rattle.cqf_program_engine.specs.Run.{IsFailedRun, IsMisuse, IsRefusedRun, TellsPlainly}
 use Rattle.cqf_program_engine.specs.Run.{IsRefusal, IsStopped, StopsWithAnswer, IsToldOutput, IsTooLong, IsWithin, most_bytes}
 use Rattle.cqf_program_engine.specs.Run.{FaultIsOfThreads, FaultIsOfThreadsOrOutput, TellsStop, TellsFaultAlone}
 use Rattle.cqf_program_threads.specs.ThreadsOutput.{EndsThreads, IsThreadsOutput}
@@ -24,12 +24,13 @@ use Rattle.cqf_press.proofs.EdgeLemmas.{Appends-whole}
 use Rattle.cqf_press.specs.declared.stops.Stop.{Stop}
 use Rattle.cqf_program_engine.specs.declared.heard.ReadFailure.{ReadFailure}
 use Rattle.cqf_program_engine.specs.declared.heard.ReadFailure.TheVariants.{Memory, Fault}
+use Rattle.cqf_program_words.specs.declared.words.Format.TheVariants as form
 use Rattle.cqf_program_words.specs.declared.words.Job.{Job}
 use Rattle.cqf_program_words.specs.declared.words.Job.TheVariants.{Check, Compile, Deliveries, Hops, Latency, Line, Load, Offers, Plan, Port, Report, Run, Summary}
 
 -- words that are given and mean no job stop the run before anything is read
 pub IsStopped-by_words : (words : List (List ℕ)) (input : Reading) (stop : Stop) → words ≢ [] → input.failed ≡ false → EndsWords words stop
-    → ¬ AskForVersion words → ShowsWords words stop → TellsCandidates words stop → IsStopped words input stop
+    → ¬ AskForVersion words → ShowsWords words stop → TellsPlainly words stop → IsStopped words input stop
 IsStopped-by_words [] input stop some sound e no_version shows tells = absurd (some refl)
 IsStopped-by_words (word ∷ words) input stop some sound e no_version shows tells = elim e.statuses [
   | inl zero_is ↦ inl (zero_is, record { answered = inl (e.help zero_is); at_end = λ none. absurd (some none); sound = sound })
@@ -59,7 +60,7 @@ no_words_ask (inr same) = (cc)
 
 -- words of the first line that mean no job stop it too
 pub HasCause-by_line : (bytes : List ℕ) (stop : Stop) → length bytes ≤ most_bytes [] → HasWords bytes → EndsWords (words_of [] bytes) stop
-    → ShowsLine (first_line bytes) stop → (is_shown_whole (first_line bytes) ≡ true → TellsCandidates (words_of [] bytes) stop) → HasCause [] bytes stop
+    → ShowsLine (first_line bytes) stop → (is_shown_whole (first_line bytes) ≡ true → TellsPlainly (words_of [] bytes) stop) → HasCause [] bytes stop
 HasCause-by_line bytes stop short text e shows tells = elim e.statuses [
   | inl zero_is ↦ inl (zero_is, inl (e.help zero_is))
   | inr (inl two) ↦
@@ -68,11 +69,11 @@ HasCause-by_line bytes stop short text e shows tells = elim e.statuses [
 ]
 
 -- what is told of words that a line has, of the line and the words by their other names
-pub TellsCandidates-of : {line first : List ℕ} {words taken : List (List ℕ)} (stop : Stop) → line ≡ first → words ≡ taken →
-    (is_shown_whole line ≡ true → TellsCandidates words stop) → is_shown_whole first ≡ true → TellsCandidates taken stop
-TellsCandidates-of {line} {first} {words} {taken} stop same_line same_words tells =
-    subst (λ (text : List ℕ). is_shown_whole text ≡ true → TellsCandidates taken stop) same_line
-    (subst (λ (those : List (List ℕ)). is_shown_whole line ≡ true → TellsCandidates those stop) same_words tells)
+pub TellsPlainly-of : {line first : List ℕ} {words taken : List (List ℕ)} (stop : Stop) → line ≡ first → words ≡ taken →
+    (is_shown_whole line ≡ true → TellsPlainly words stop) → is_shown_whole first ≡ true → TellsPlainly taken stop
+TellsPlainly-of {line} {first} {words} {taken} stop same_line same_words tells =
+    subst (λ (text : List ℕ). is_shown_whole text ≡ true → TellsPlainly taken stop) same_line
+    (subst (λ (those : List (List ℕ)). is_shown_whole line ≡ true → TellsPlainly those stop) same_words tells)
 
 -- a first line that isn't text stops it
 pub HasCause-by_bytes : (bytes : List ℕ) (stop : Stop) → length bytes ≤ most_bytes [] → ¬ IsUtf8 (first_line bytes)
@@ -136,7 +137,10 @@ IsStopped-by_cause words input stop sound at_end (inr (inr (inr (inr e)))) = inr
 refusal_statuses : (limits : Limits) (job : Job) (input : List ℕ) (stop : Stop) → IsRefusal limits job input stop → (stop.status ≡ 1) ⊎ (stop.status ≡ 3)
 refusal_statuses limits (Port until rate) input stop h = h.statuses
 refusal_statuses limits (Line cycles) input stop h = h.statuses
-refusal_statuses limits (Compile format) input stop h = h.statuses
+refusal_statuses limits (Compile form.List) input stop h = h.statuses
+refusal_statuses limits (Compile (form.Tc is_software)) input stop h = h.statuses
+refusal_statuses limits (Compile (form.Env bridge)) input stop h = h.statuses
+refusal_statuses limits (Compile form.Json) input stop h = h.statuses
 refusal_statuses limits Load input stop h = h.statuses
 refusal_statuses limits (Latency strict) input stop h = h.statuses
 refusal_statuses limits (Run cycles threads) input stop h = h.statuses
@@ -152,7 +156,10 @@ refusal_statuses limits (Plan table given) input stop h = h.statuses
 refusal_memory : (limits : Limits) (job : Job) (input : List ℕ) (stop : Stop) → IsRefusal limits job input stop → stop.status ≡ 3 → stop.text.items ≡ []
 refusal_memory limits (Port until rate) input stop h = h.memory
 refusal_memory limits (Line cycles) input stop h = h.memory
-refusal_memory limits (Compile format) input stop h = h.memory
+refusal_memory limits (Compile form.List) input stop h = h.memory
+refusal_memory limits (Compile (form.Tc is_software)) input stop h = h.memory
+refusal_memory limits (Compile (form.Env bridge)) input stop h = h.memory
+refusal_memory limits (Compile form.Json) input stop h = h.memory
 refusal_memory limits Load input stop h = h.memory
 refusal_memory limits (Latency strict) input stop h = h.memory
 refusal_memory limits (Run cycles threads) input stop h = h.memory

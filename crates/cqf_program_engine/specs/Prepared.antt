@@ -1,9 +1,11 @@
 -- What an output tells.
 use Rattle.std.specs.Prelude.{ℕ, ◌≡◌, List}
 use Rattle.cqf_program_engine.specs.declared.prepared.PreparedOutput.{PreparedOutput}
-use Rattle.cqf_program_engine.specs.declared.prepared.PreparedOutput.TheVariants.{Account, Config, Deliveries, Hops, Latency, Line, Load, Port, Run, Script, Summary, Text}
+use Rattle.cqf_program_engine.specs.declared.prepared.PreparedOutput.TheVariants.{Account, Config, Deliveries, Hops, Latency, Line, Load, Object}
+use Rattle.cqf_program_engine.specs.declared.prepared.PreparedOutput.TheVariants.{Port, Run, Script, Summary, Text, Variables}
+use Rattle.cqf_program_json.specs.Output.{text_of_json}
 use Rattle.cqf_program_plans.specs.Compile.Told.{text_of_config}
-use Rattle.cqf_program_summary.specs.Hops.Text.{text_of_legs}
+use Rattle.cqf_program_summary.specs.Hops.Rounds.{IsToldText}
 use Rattle.cqf_program_runs.specs.Deliveries.Following.{AreDeliveriesTold}
 use Rattle.cqf_program_summary.specs.Summary.Text.{text_of_summary}
 use Rattle.cqf_program_plans.specs.Latency.Text.{text_of_latency}
@@ -11,7 +13,7 @@ use Rattle.cqf_program_runs.specs.Line.Told.{IsLineTold}
 use Rattle.cqf_program_plans.specs.Load.Text.{text_of_load}
 use Rattle.cqf_program_plans.specs.Port.Told.{text_of_port}
 use Rattle.cqf_program_runs.specs.Run.Told.{IsRunTold}
-use Rattle.cqf_program_tc.specs.Output.{text_of_tc}
+use Rattle.cqf_program_tc.specs.Output.{text_of_env, text_of_tc}
 use Rattle.cqf_program_threads.specs.AccountTold.{text_of_account}
 
 -- the text is one that the output tells
@@ -21,13 +23,15 @@ IsTextOf (Port output) text = text ≡ text_of_port output
 IsTextOf (Line output) text = IsLineTold output text
 IsTextOf (Config output) text = text ≡ text_of_config output
 IsTextOf (Script output) text = text ≡ text_of_tc output
+IsTextOf (Variables output) text = text ≡ text_of_env output
+IsTextOf (Object output) text = text ≡ text_of_json output
 IsTextOf (Load output) text = text ≡ text_of_load output
 IsTextOf (Latency output) text = text ≡ text_of_latency output
 IsTextOf (Run output) text = IsRunTold output text
 IsTextOf (Account output) text = text ≡ text_of_account output
 IsTextOf (Deliveries output) text = AreDeliveriesTold output text
 IsTextOf (Summary output) text = text ≡ text_of_summary output
-IsTextOf (Hops output) text = text ≡ text_of_legs output.domain output.offers output.legs
+IsTextOf (Hops output) text = IsToldText output text
 
 -- the output tells a text, of which this holds
 abbrev pub HasText : (List ℕ → Type 0) → PreparedOutput → Type 0

@@ -15,12 +15,13 @@ use Rattle.cqf_program_scenario.specs.Scenario.{scenario_input}
 use Rattle.std.specs.declared.alloc.Global.{Global}
 use Rattle.cqf_model.specs.declared.limits.Limits.{Limits}
 use Rattle.cqf_model.specs.Limits.{last_until, most_cycles}
+use Rattle.cqf_program_json.specs.Output.{json_of_input}
 use Rattle.cqf_program_offers.specs.OffersOutput.{offered_input}
 use Rattle.cqf_program_plans.specs.Compile.Output.{compiled_input}
 use Rattle.cqf_program_plans.specs.Latency.Input.{latency_of_input}
 use Rattle.cqf_program_plans.specs.Load.Output.{loaded_input}
 use Rattle.cqf_program_plans.specs.Port.Output.{IsPortOutput, port_input}
-use Rattle.cqf_program_tc.specs.Output.{tc_of_input}
+use Rattle.cqf_program_tc.specs.Output.{env_of_input, tc_of_input}
 use Rattle.cqf_press.specs.declared.stops.Stop.{Stop}
 use Rattle.cqf_program_runs.specs.Check.Output.{IsChecked, IsCheckRefusal}
 use Rattle.cqf_program_runs.specs.Deliveries.Output.{IsDeliveriesOutput}
@@ -29,6 +30,7 @@ use Rattle.cqf_program_runs.specs.Deliveries.PlannedScenario.{planned_scenario}
 use Rattle.cqf_program_runs.specs.Report.Output.{IsReportOutput}
 use Rattle.cqf_program_runs.specs.Run.Output.{IsRunOutput}
 use Rattle.cqf_program_sketch.specs.PlanOutput.{IsPlanOf, IsPlanRefusal}
+use Rattle.cqf_program_summary.specs.Hops.Known.{wanted_scenario}
 use Rattle.cqf_program_summary.specs.Hops.Output.{IsHopsOutput}
 use Rattle.cqf_program_summary.specs.Hops.Legs.{Wanted}
 use Rattle.cqf_program_summary.specs.Summary.Output.{IsSummaryOutput}
@@ -38,7 +40,7 @@ use Rattle.cqf_program_words.specs.declared.words.Format.TheVariants as form
 use Rattle.cqf_program_words.specs.declared.words.Job.{Job}
 use Rattle.cqf_program_words.specs.declared.words.Job.TheVariants.{Check, Compile, Deliveries, Hops, Latency, Line, Load, Offers, Plan, Port, Report, Run, Summary}
 use Rattle.cqf_program_words.specs.Shown.{ShowsBehind, ShowsLine, ShowsWords, are_printable, is_shown_whole, no_command}
-use Rattle.cqf_program_words.specs.Words.{AreMistaken, AskForHelp, Mean, TellsNoCandidates, ask_for_large, limits_of}
+use Rattle.cqf_program_words.specs.Words.{AreMistaken, AskForHelp, Mean, TellsMistake, ask_for_large, limits_of}
 use Rattle.cqf_program_engine.specs.declared.runs.TheConstants.{VERSION}
 
 -- the job's numbers aren't above their limits
@@ -71,7 +73,9 @@ abbrev pub IsOutput : Limits → Job → List ℕ → List ℕ → Type 0
 IsOutput limits (Port until rate) input output = IsPortOutput until rate input output
 IsOutput limits (Line cycles) input output = IsLineOutput cycles input output
 IsOutput limits (Compile form.List) input output = compiled_input limits input ≡ Ok output
-IsOutput limits (Compile form.Tc) input output = tc_of_input limits input ≡ Ok output
+IsOutput limits (Compile (form.Tc is_software)) input output = tc_of_input limits is_software input ≡ Ok output
+IsOutput limits (Compile (form.Env bridge)) input output = env_of_input limits bridge input ≡ Ok output
+IsOutput limits (Compile form.Json) input output = json_of_input limits input ≡ Ok output
 IsOutput limits Load input output = loaded_input limits input ≡ Ok output
 IsOutput limits (Latency strict) input output = latency_of_input limits strict input ≡ Ok output
 IsOutput limits (Run cycles false) input output = IsRunOutput limits cycles input output
@@ -85,12 +89,14 @@ IsOutput limits (Hops cycles stream frame) input output = IsHopsOutput limits cy
 IsOutput limits (Plan table given) input output = IsPlanOf limits table (option_map times_of given) input (Ok output)
 
 -- the input of a job, which is read within some limits, is refused, with the line of its first fault; or of a deadline that isn't kept
--- for sure, where that is strict, or of what isn't well, where that is checked; or no candidate for the cycle time is good. `compile`
--- refuses the same whatever its format
+-- for sure, where that is strict, or of what isn't well, where that is checked; or no candidate for the cycle time is good
 abbrev pub IsRefusal : Limits → Job → List ℕ → Stop → Type 0
 IsRefusal limits (Port until rate) input stop = IsRefused (port_input input) stop
 IsRefusal limits (Line cycles) input stop = IsRefused (line_input input) stop
-IsRefusal limits (Compile format) input stop = IsRefused (compiled_input limits input) stop
+IsRefusal limits (Compile form.List) input stop = IsRefused (compiled_input limits input) stop
+IsRefusal limits (Compile (form.Tc is_software)) input stop = IsRefused (tc_of_input limits is_software input) stop
+IsRefusal limits (Compile (form.Env bridge)) input stop = IsRefused (env_of_input limits bridge input) stop
+IsRefusal limits (Compile form.Json) input stop = IsRefused (json_of_input limits input) stop
 IsRefusal limits Load input stop = IsRefused (loaded_input limits input) stop
 IsRefusal limits (Latency strict) input stop = IsRefused (latency_of_input limits strict input) stop
 IsRefusal limits (Run cycles threads) input stop = IsRefused (scenario_input limits cycles input) stop
@@ -99,7 +105,7 @@ IsRefusal limits (Deliveries cycles) input stop = IsRefused (planned_scenario li
 IsRefusal limits (Check cycles) input stop = IsCheckRefusal limits cycles input stop
 IsRefusal limits (Offers cycles seed) input stop = IsRefused (offered_input limits cycles seed input) stop
 IsRefusal limits (Summary cycles) input stop = IsRefused (planned_scenario limits cycles input) stop
-IsRefusal limits (Hops cycles stream frame) input stop = IsRefused (scenario_input limits cycles input) stop
+IsRefusal limits (Hops cycles stream frame) input stop = IsRefused (wanted_scenario limits cycles (wanted_of stream frame) input) stop
 IsRefusal limits (Plan table given) input stop = IsPlanRefusal limits table (option_map times_of given) input stop
 
 -- a run on threads fails, with the line of its fault: its input isn't refused. No other job fails
@@ -171,15 +177,15 @@ pub record IsRefusedRun (words : List (List ℕ)) (bytes : List ℕ) (stop : Sto
 abbrev pub AskForVersion : List (List ℕ) → Type 0
 AskForVersion words = (words ≡ codes "--version" ∷ []) ⊎ (words ≡ codes "-V" ∷ [])
 
--- where a mistake in words that are all printable is that a word for candidates names none, it is told by a line of the program's own
-abbrev pub TellsCandidates : List (List ℕ) → Stop → Type 0
-TellsCandidates words stop = are_printable words ≡ true → TellsNoCandidates words stop
+-- where clap takes words that are all printable, a mistake in them is told by a line of the program's own, which says what is wanted
+abbrev pub TellsPlainly : List (List ℕ) → Stop → Type 0
+TellsPlainly words stop = are_printable words ≡ true → TellsMistake words stop
 
 -- how a mistake is told: by a line of the program's own where words that are given aren't all printable, where a first line that has the
--- words isn't shown as it is, and where candidates are named by a word that names none. Of other words the text is clap's
+-- words isn't shown as it is, and where clap takes the words. Of other words the text is clap's
 abbrev pub ShowsMistake : List (List ℕ) → List ℕ → Stop → Type 0
-ShowsMistake [] bytes stop = ShowsLine (first_line bytes) stop × (is_shown_whole (first_line bytes) ≡ true → TellsCandidates (words_of [] bytes) stop)
-ShowsMistake (word ∷ words) bytes stop = ShowsWords (word ∷ words) stop × TellsCandidates (word ∷ words) stop
+ShowsMistake [] bytes stop = ShowsLine (first_line bytes) stop × (is_shown_whole (first_line bytes) ≡ true → TellsPlainly (words_of [] bytes) stop)
+ShowsMistake (word ∷ words) bytes stop = ShowsWords (word ∷ words) stop × TellsPlainly (word ∷ words) stop
 
 -- the words mean no job: those of the first line aren't text; it is too long to have words; or they are a mistake, and don't ask for the
 -- version. The stop has status 2

@@ -4,10 +4,11 @@ ghost use Rattle.cqf_program_engine.specs.Prepared.{IsTextOf};
 ghost use Rattle.cqf_press.specs.Edge.{HasTold, writing};
 
 use cqf_press::{Sink, Told, write_out};
+use cqf_program_json::JsonOutput;
 use cqf_program_plans::{ConfigOutput, LatencyOutput, LoadOutput, PortOutput};
 use cqf_program_runs::{DeliveriesOutput, LineOutput, RunOutput};
 use cqf_program_summary::{HopsOutput, SummaryOutput};
-use cqf_program_tc::TcOutput;
+use cqf_program_tc::{EnvOutput, TcOutput};
 use cqf_program_threads::ThreadsOutput;
 
 /// What an output is told from, with all the memory that its telling needs.
@@ -23,6 +24,10 @@ pub enum PreparedOutput {
     Config(ConfigOutput),
     /// That of `compile --format tc`: the same, for a script.
     Script(TcOutput),
+    /// That of `compile --format env`: the same, for what the script reads at a bridge.
+    Variables(EnvOutput),
+    /// That of `compile --format json`: the same, for an object.
+    Object(JsonOutput),
     /// That of `load`: a domain and its streams.
     Load(LoadOutput),
     /// That of `latency`: a domain, its streams and their deadlines.
@@ -50,6 +55,8 @@ impl PreparedOutput {
             PreparedOutput::Line(output) => output.tell(told),
             PreparedOutput::Config(output) => output.tell(told),
             PreparedOutput::Script(output) => output.tell(told),
+            PreparedOutput::Variables(output) => output.tell(told),
+            PreparedOutput::Object(output) => output.tell(told),
             PreparedOutput::Load(output) => output.tell(told),
             PreparedOutput::Latency(output) => output.tell(told),
             PreparedOutput::Run(output) => output.tell(told),

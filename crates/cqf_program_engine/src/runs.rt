@@ -7,15 +7,16 @@ ghost use Rattle.cqf_press.specs.Edge.{writing};
 ghost use Rattle.cqf_program_threads.specs.ThreadsOutput.{EndsThreads, IsThreadsOutput};
 ghost use Rattle.cqf_program_words.specs.Shown.{ShowsLine, is_shown_whole};
 ghost use Rattle.cqf_program_words.specs.Words.{EndsWords, Mean};
+ghost use Rattle.cqf_program_summary.specs.Hops.Known.{wanted_scenario};
 ghost use Rattle.cqf_program_summary.specs.Hops.Output.{IsHopsOutput};
 ghost use Rattle.cqf_program_sketch.specs.PlanOutput.{IsPlanOf, IsPlanRefusal};
 ghost use Rattle.cqf_program_words.specs.Candidates.{times_of};
 ghost use Rattle.cqf_sketch.specs.SketchDomain.{AreCandidates};
-ghost use Rattle.cqf_program_scenario.specs.Scenario.{scenario_input};
 ghost use Rattle.cqf_press.specs.Stops.{EndsWith, IsRefused};
+ghost use Rattle.cqf_program_tc.specs.Output.{env_of_input};
 ghost use Rattle.cqf_program_engine.specs.Run.{version_line, IsAsking, IsVersionWord, IsWithin, IsOutput, IsEnd};
 ghost use Rattle.cqf_program_engine.specs.Run.{IsRefusal, IsBehindWords, Ends, EndsTold, HandsOver, HasCause, HasRun};
-ghost use Rattle.cqf_program_engine.specs.Run.{IsDone, IsStopped, TellsCandidates, TellsStop, is_space, is_threaded, first_line, wanted_of};
+ghost use Rattle.cqf_program_engine.specs.Run.{IsDone, IsStopped, TellsPlainly, TellsStop, is_space, is_threaded, first_line, wanted_of};
 ghost use Rattle.cqf_program_engine.specs.Run.{behind_first_line, most_bytes};
 ghost use Rattle.cqf_model.specs.Limits.{most_cycles};
 
@@ -25,35 +26,53 @@ use crate::prepared::PreparedOutput;
 use crate::sources::Source;
 use cqf_model::Limits;
 use cqf_press::{DONE, FAULT, NO_MEMORY, Sink, Stop, Told, USAGE, told_text, write_out};
+use cqf_program_json::json_output;
 use cqf_program_offers::offers_output;
 use cqf_program_plans::{compile_output, latency_output, load_output, port_output};
 use cqf_program_runs::{check_output, deliveries_output, line_output, report_output, run_output};
 use cqf_program_sketch::plan_output;
 use cqf_program_summary::{FrameFilter, hops_output, summary_output};
-use cqf_program_tc::tc_output;
+use cqf_program_tc::{env_output, tc_output};
 use cqf_program_threads::threads_output;
 use cqf_program_words::{
     Candidates, Format, Job, limits_of, read_words, stop_of_line, stop_of_long_line,
 };
 use cqf_text::split_line;
-use cqf_units::Memory;
+use cqf_units::{Memory, Name};
 use std::alloc::Global;
 use std::sync::Wait;
 use std::thread::Threads;
+
+/// The output of `compile --format env` for the bridge of a name, ready to be told. `Err` as [`prepare`] has it.
+fn prepare_variables(
+    alloc: Global,
+    limits: Limits,
+    bridge: &Name,
+    input: &[u8],
+) -> Result<PreparedOutput, Stop>
+    ensures ok { IfOk result (HasText (λ output. env_of_input limits bridge.now input.now ≡ Ok output)) }
+    ensures err { IfErr result (IsRefused (env_of_input limits bridge.now input.now)) }
+{
+    Ok(PreparedOutput::Variables(env_output(alloc, limits, bridge.as_str(), input)?))
+}
 
 /// The output of `compile` in a format, for an input that is read within some limits, ready to be told. `Err` as [`prepare`] has it.
 fn prepare_compiled(
     alloc: Global,
     limits: Limits,
-    format: Format,
+    format: &Format,
     input: &[u8],
 ) -> Result<PreparedOutput, Stop>
-    ensures ok { IfOk result (HasText (IsOutput limits (Job.Compile format) input.now)) }
-    ensures err { IfErr result (IsRefusal limits (Job.Compile format) input.now) }
+    ensures ok { IfOk result (HasText (IsOutput limits (Job.Compile format.now) input.now)) }
+    ensures err { IfErr result (IsRefusal limits (Job.Compile format.now) input.now) }
 {
-    match format {
+    match *format {
         Format::List => Ok(PreparedOutput::Config(compile_output(alloc, limits, input)?)),
-        Format::Tc => Ok(PreparedOutput::Script(tc_output(alloc, limits, input)?)),
+        Format::Tc { is_software } => {
+            Ok(PreparedOutput::Script(tc_output(alloc, limits, is_software, input)?))
+        }
+        Format::Env { ref bridge } => prepare_variables(alloc, limits, bridge, input),
+        Format::Json => Ok(PreparedOutput::Object(json_output(alloc, limits, input)?)),
     }
 }
 
@@ -79,7 +98,7 @@ fn prepare_hops(
 ) -> Result<PreparedOutput, Stop>
     requires { cycles ≤ most_cycles }
     ensures ok { IfOk result (HasText (IsHopsOutput limits cycles (wanted_of stream.now frame) input.now)) }
-    ensures err { IfErr result (IsRefused (scenario_input limits cycles input.now)) }
+    ensures err { IfErr result (IsRefused (wanted_scenario limits cycles (wanted_of stream.now frame) input.now)) }
 {
     let choice = FrameFilter {
         stream: name_of(stream),
@@ -139,7 +158,7 @@ fn prepare(
             alloc, until, rate, input,
         )?)),
         Job::Line { cycles } => Ok(PreparedOutput::Line(line_output(alloc, cycles, input)?)),
-        Job::Compile { format } => prepare_compiled(alloc, limits, format, input),
+        Job::Compile { ref format } => prepare_compiled(alloc, limits, format, input),
         Job::Load => Ok(PreparedOutput::Load(load_output(alloc, limits, input)?)),
         Job::Latency { strict } => Ok(PreparedOutput::Latency(latency_output(
             alloc, limits, strict, input,
@@ -352,7 +371,7 @@ fn read_line(alloc: Global, line: &str, words: &[&str]) -> Result<Job, Stop>
     ensures ok { IfOk result (Mean (map (λ word. word.now) words.now)) }
     ensures err { IfErr result (EndsWords (map (λ word. word.now) words.now)) }
     ensures shows { IfErr result (ShowsLine line.now) }
-    ensures tells { IfErr result (λ stop. is_shown_whole line.now ≡ true → TellsCandidates (map (λ word. word.now) words.now) stop) }
+    ensures tells { IfErr result (λ stop. is_shown_whole line.now ≡ true → TellsPlainly (map (λ word. word.now) words.now) stop) }
 {
     match read_words(alloc, words) {
         Ok(job) => Ok(job),

@@ -2,17 +2,17 @@
 use Rattle.std.proofs.Common.{◌≡◌, ℕ, ◌≤◌, ◌++◌, List, [], ◌∷◌, length, arith}
 use Rattle.std.specs.List.{flat_map}
 use Rattle.std.proofs.lemmas.Grind.{common_steps, flat_map-append}
-use Rattle.cqf_program_explanations.specs.Explanations.{IsExplanation, told_line}
+use Rattle.cqf_program_explanations.specs.Explanations.{AreToldLines, told_line}
 
--- twenty lines or fewer are an explanation
-pub few_lines : (lines : List (List ℕ)) (text : List ℕ) → length lines ≤ 20 → text ≡ flat_map told_line lines → IsExplanation text
-few_lines lines text few is = record { lines = lines; few = omega arith; text_is = is }
+-- twenty lines or fewer are told
+pub few_lines : (start : List ℕ) (lines : List (List ℕ)) (text : List ℕ) → length lines ≤ 20 → text ≡ flat_map (told_line start) lines → AreToldLines 21 start text
+few_lines start lines text few is = record { lines = lines; few = omega arith; text_is = is }
 
 -- and so they are with one line more
-pub one_more : (lines : List (List ℕ)) (line text : List ℕ) → length lines ≤ 20 → text ≡ flat_map told_line lines ++ told_line line →
-    IsExplanation text
-one_more lines line text few is = record {
+pub one_more : (start : List ℕ) (lines : List (List ℕ)) (line text : List ℕ) → length lines ≤ 20 → text ≡ flat_map (told_line start) lines ++ told_line start line →
+    AreToldLines 21 start text
+one_more start lines line text few is = record {
   lines = lines ++ line ∷ [];
   few = grind (arith, common_steps);
-  text_is = grind (arith, common_steps, flat_map-append told_line lines (line ∷ []));
+  text_is = grind (arith, common_steps, flat_map-append (told_line start) lines (line ∷ []));
 }

@@ -1,17 +1,25 @@
--- The form of an explanation (profile).
-use Rattle.std.specs.Prelude.{ℕ, ◌≡◌, ◌++◌, ◌≤◌, ◌==◌, ◌||◌, List, [], ◌∷◌, if◌then◌else◌, codes, length, map, nat_lt}
+-- The form of explanations and of notes (profile).
+use Rattle.std.specs.Prelude.{ℕ, ◌≡◌, ◌++◌, ◌≤◌, ◌||◌, List, [], ◌∷◌, if◌then◌else◌, codes, length, map, nat_lt}
 use Rattle.std.specs.List.{flat_map}
 
--- a byte as it is told: a question mark stands for one that isn't printable
+-- a byte as it is told: a question mark stands for one that isn't a printable one of ASCII. Texts are escaped before, so that none comes
 abbrev pub printable : ℕ → ℕ
-printable byte = if nat_lt byte 32 || byte == 127 then 63 else byte
+printable byte = if nat_lt byte 32 || nat_lt 126 byte then 63 else byte
 
--- a line as it is told: behind two blanks, with its line feed
-abbrev pub told_line : List ℕ → List ℕ
-told_line line = codes "  " ++ (map printable line ++ 10 ∷ [])
+-- a line as it is told: behind its start, with its line feed
+abbrev pub told_line : List ℕ → List ℕ → List ℕ
+told_line start line = start ++ (map printable line ++ 10 ∷ [])
 
--- an explanation: no line, or up to 21
-pub record IsExplanation (text : List ℕ) : Type 0 where
+-- no line, or up to so many, each with this start and with printable characters of ASCII alone
+pub record AreToldLines (most : ℕ) (start text : List ℕ) : Type 0 where
   pub lines : List (List ℕ)
-  pub few : length lines ≤ 21
-  pub text_is : text ≡ flat_map told_line lines
+  pub few : length lines ≤ most
+  pub text_is : text ≡ flat_map (told_line start) lines
+
+-- an explanation: no line, or up to 21, each behind two blanks
+abbrev pub IsExplanation : List ℕ → Type 0
+IsExplanation text = AreToldLines 21 (codes "  ") text
+
+-- notes: no line, or up to 21
+abbrev pub AreNotes : List ℕ → Type 0
+AreNotes text = AreToldLines 21 (codes "note: ") text

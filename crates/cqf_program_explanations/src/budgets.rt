@@ -6,6 +6,7 @@ use crate::places::Grouped;
 use crate::plant::WrittenItem;
 use crate::stream_faults::{MOST_EVERY, WrittenPace, WrittenStream, streams_of};
 use crate::told::ToldLines;
+use cqf_model::LARGE;
 use std::alloc::{AllocError, Global};
 use std::collections::BTreeMap;
 
@@ -29,6 +30,8 @@ struct Placed<'p> {
     network: Network<'p>,
     streams: BTreeMap<&'p str, WrittenItem<'p>>,
     held: Vec<u64>,
+    /// Whether streams for which a link has too little left aren't placed.
+    is_bounded: bool,
 }
 
 /// A link of a stream's tree, and how many links lead to it there.
@@ -122,6 +125,15 @@ impl<'p> Placed<'p> {
             }
         }
         None
+    }
+
+    /// The same where streams have to be within budgets.
+    fn short_within(&self, tree: &[TreeLink], pace: WrittenPace, cost: u64) -> Option<Short> {
+        if self.is_bounded {
+            self.short_link(tree, pace, cost)
+        } else {
+            None
+        }
     }
 
     /// Adds a cost in those cycles in which a stream's frames are on a link.
@@ -242,7 +254,10 @@ fn tell_beyond(
 ) -> Result<(), AllocError> {
     let (place, label) = (asked.item.place(), asked.item.counted(given.alloc)?);
     let most = Grouped(given.limits.streams_within() as u64);
-    told.tell(format!(in given.alloc; "{place}: {label}: at most {most} streams are held at once")?)
+    let larger = given.larger(LARGE.streams_within() as u64)?;
+    told.tell(format!(in given.alloc;
+        "{place}: {label}: at most {most} streams are held at once{larger}"
+    )?)
 }
 
 /// Tries a stream behind those placed: places it, or tells why it doesn't go where that is asked for.
@@ -253,21 +268,21 @@ fn try_stream<'p>(
     asked: &WrittenStream<'p>,
     wanted: TriedStreams,
 ) -> Result<(), AllocError> {
-    if asked.form_fault(&placed.network).is_some() {
+    if asked.form_fault(given.alloc, &placed.network)?.is_some() {
         return Ok(());
     }
     let cost = cost_of(asked.octets);
     let tree = tree_of(given.alloc, &placed.network, asked)?;
     if let Some(first) = placed.streams.get(asked.name) {
-        if wanted == TriedStreams::NameHeld {
+        if wanted == TriedStreams::NameHeld && !told.is_counted() {
             tell_held(given, told, asked, first)?;
         }
     } else if placed.streams.len() >= given.limits.streams_within() {
-        if wanted == TriedStreams::TooManyStreams {
+        if wanted == TriedStreams::TooManyStreams && !told.is_counted() {
             tell_beyond(given, told, asked)?;
         }
-    } else if let Some(short) = placed.short_link(tree.as_slice(), asked.pace, cost) {
-        if wanted == TriedStreams::BudgetShort {
+    } else if let Some(short) = placed.short_within(tree.as_slice(), asked.pace, cost) {
+        if wanted == TriedStreams::BudgetShort && !told.is_counted() {
             tell_short(given, told, placed, asked, tree.as_slice(), short)?;
         }
     } else {
@@ -276,11 +291,26 @@ fn try_stream<'p>(
     Ok(())
 }
 
-/// Tells of each stream that is refused beside those that stand before it, for what is asked for.
+/// Tells of each stream that is refused beside those that stand before it, for what is asked for. Where none is, streams are tried without
+/// budgets, as `load` and `offers` do.
 pub(crate) fn tell_refused(
     given: &CommandInput<'_>,
     told: &mut ToldLines,
     wanted: TriedStreams,
+) -> Result<(), AllocError> {
+    tell_refused_by(given, told, wanted, true)?;
+    if told.is_empty() {
+        tell_refused_by(given, told, wanted, false)?;
+    }
+    Ok(())
+}
+
+/// The same, with budgets or without.
+fn tell_refused_by(
+    given: &CommandInput<'_>,
+    told: &mut ToldLines,
+    wanted: TriedStreams,
+    is_bounded: bool,
 ) -> Result<(), AllocError> {
     let streams = streams_of(&*given)?;
     let network = given.network()?;
@@ -294,6 +324,7 @@ pub(crate) fn tell_refused(
         network,
         streams: BTreeMap::new(given.alloc),
         held,
+        is_bounded,
     };
     for asked in &streams {
         try_stream(given, told, &mut placed, asked, wanted)?;

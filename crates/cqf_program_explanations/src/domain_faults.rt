@@ -1,12 +1,14 @@
 //! Domains that no network can be like.
 
 use crate::given::CommandInput;
+use crate::hints::{is_open, plan_hint};
 use crate::network::{Network, WrittenLink};
 use crate::places::{Grouped, Place};
 use crate::plant::{FoundKey, KeyOwner, WrittenItem};
 use crate::sketch::{candidates_of, is_duplex, is_of_plant, reads_sketch, talker_of};
 use crate::told::ToldLines;
 use crate::words::shortened;
+use cqf_model::{LARGE, Limits};
 use std::alloc::{AllocError, Global};
 use std::collections::BTreeMap;
 
@@ -29,6 +31,9 @@ fn tell_taken<'p>(
             continue;
         };
         if let Some(first) = firsts.get(name) {
+            if told.is_counted() {
+                continue;
+            }
             let (place, shown) = (found.place, shortened(given.alloc, name)?);
             told.tell(format!(in given.alloc;
                 "{place}: {key}: {shown} stands at {first} already"
@@ -79,10 +84,54 @@ fn tell_talkers_end(
     if network.is_bridge(link.from) || !network.is_node(link.from) || network.is_bridge(link.to) {
         return Ok(());
     }
+    if told.is_counted() {
+        return Ok(());
+    }
     let (place, label) = (link.item.place_of("to"), link.item.label(given.alloc)?);
     let shown = shortened(given.alloc, link.to)?;
     told.tell(format!(in given.alloc;
         "{place}: {label}: to: {shown} is a station: a link from a station leads to a bridge"
+    )?)
+}
+
+/// Tells of a link that begins where none may begin.
+fn tell_beginning(
+    given: &CommandInput<'_>,
+    told: &mut ToldLines,
+    network: &Network<'_>,
+    link: &WrittenLink<'_>,
+) -> Result<(), AllocError> {
+    if may_begin(given, network, link) || told.is_counted() {
+        return Ok(());
+    }
+    let (alloc, label) = (given.alloc, link.item.label(given.alloc)?);
+    let place = link.item.place_of("from");
+    let why = no_beginning(alloc, network, link.from)?;
+    let hint = if network.is_node(link.from) && is_open(given)? {
+        plan_hint(given)?
+    } else {
+        String::new(alloc)
+    };
+    told.tell(format!(in alloc; "{place}: {label}: from: {why}{hint}")?)
+}
+
+/// Tells of a link that ends at what is no node.
+fn tell_no_end(
+    given: &CommandInput<'_>,
+    told: &mut ToldLines,
+    network: &Network<'_>,
+    link: &WrittenLink<'_>,
+) -> Result<(), AllocError> {
+    if told.is_counted() {
+        return Ok(());
+    }
+    let (place, label) = (link.item.place_of("to"), link.item.label(given.alloc)?);
+    let (shown, question) = (
+        shortened(given.alloc, link.to)?,
+        network.node_question(given.alloc, link.to)?,
+    );
+    told.tell(format!(in given.alloc;
+        "{place}: {label}: to: no bridge or station {shown}{question}"
     )?)
 }
 
@@ -93,31 +142,24 @@ fn tell_ends(
     network: &Network<'_>,
     link: &WrittenLink<'_>,
 ) -> Result<(), AllocError> {
-    let (alloc, label) = (given.alloc, link.item.label(given.alloc)?);
-    if !may_begin(given, network, link) {
-        let (place, why) = (
-            link.item.place_of("from"),
-            no_beginning(alloc, network, link.from)?,
-        );
-        told.tell(format!(in alloc; "{place}: {label}: from: {why}")?)?;
-    }
-    let place = link.item.place_of("to");
+    tell_beginning(given, told, network, link)?;
     if !network.is_node(link.to) {
-        let (shown, question) = (
-            shortened(alloc, link.to)?,
-            network.node_question(alloc, link.to)?,
-        );
-        told.tell(format!(in alloc;
-            "{place}: {label}: to: no bridge or station {shown}{question}"
-        )?)?;
-    } else if link.from == link.to {
-        told.tell(format!(in alloc;
-            "{place}: {label}: to: a link leads to another node than its from"
-        )?)?;
-    } else if reads_sketch(given) {
-        tell_talkers_end(given, told, network, link)?;
+        return tell_no_end(given, told, network, link);
     }
-    Ok(())
+    if link.from != link.to {
+        return if reads_sketch(given) {
+            tell_talkers_end(given, told, network, link)
+        } else {
+            Ok(())
+        };
+    }
+    if told.is_counted() {
+        return Ok(());
+    }
+    let (place, label) = (link.item.place_of("to"), link.item.label(given.alloc)?);
+    told.tell(format!(in given.alloc;
+        "{place}: {label}: to: a link leads to another node than its from"
+    )?)
 }
 
 /// Tells of each end of a link that is no node which may stand there.
@@ -132,22 +174,59 @@ pub(crate) fn tell_unknown_names(
     Ok(())
 }
 
+/// How a link is called that may stand for two: by its number and its ends, there and back.
+fn both_ways(given: &CommandInput<'_>, link: &WrittenLink<'_>) -> Result<String, AllocError> {
+    let label = link.item.label(given.alloc)?;
+    if !reads_sketch(given) || !is_duplex(link) {
+        return Ok(label);
+    }
+    let (from, to) = (
+        shortened(given.alloc, link.from)?,
+        shortened(given.alloc, link.to)?,
+    );
+    format!(in given.alloc; "{label} and {to}>{from}")
+}
+
+/// Tells of a link of whose ends, there or back, an earlier one has some.
+fn tell_twice(
+    given: &CommandInput<'_>,
+    told: &mut ToldLines,
+    first: &WrittenLink<'_>,
+    link: &WrittenLink<'_>,
+    ends: (&str, &str),
+) -> Result<(), AllocError> {
+    if told.is_counted() {
+        return Ok(());
+    }
+    let (place, label) = (link.item.place(), both_ways(given, link)?);
+    let (number, first_place) = (first.item.number, first.item.place());
+    if !reads_sketch(given) || !is_duplex(link) && !is_duplex(first) {
+        return told.tell(format!(in given.alloc;
+            "{place}: {label}: link {number} at {first_place} has these ends already"
+        )?);
+    }
+    let (from, to) = (
+        shortened(given.alloc, ends.0)?,
+        shortened(given.alloc, ends.1)?,
+    );
+    let earlier = both_ways(given, first)?;
+    told.tell(format!(in given.alloc;
+        "{place}: {label}: {from}>{to} is one of {earlier} at {first_place} already"
+    )?)
+}
+
 /// Tells of a link whose ends an earlier one has, there or back; keeps where others stand.
 fn tell_if_twice<'p>(
     given: &CommandInput<'_>,
     told: &mut ToldLines,
-    firsts: &mut BTreeMap<(&'p str, &'p str), WrittenItem<'p>>,
+    firsts: &mut BTreeMap<(&'p str, &'p str), WrittenLink<'p>>,
     link: &WrittenLink<'p>,
     ends: (&'p str, &'p str),
 ) -> Result<(), AllocError> {
     if let Some(first) = firsts.get(&ends) {
-        let (place, label) = (link.item.place(), link.item.label(given.alloc)?);
-        let (number, first) = (first.number, first.place());
-        return told.tell(format!(in given.alloc;
-            "{place}: {label}: link {number} at {first} has these ends already"
-        )?);
+        return tell_twice(given, told, first, link, ends);
     }
-    firsts.insert(ends, link.item)?;
+    firsts.insert(ends, *link)?;
     Ok(())
 }
 
@@ -157,7 +236,7 @@ pub(crate) fn tell_links_twice(
     told: &mut ToldLines,
 ) -> Result<(), AllocError> {
     let network = given.network()?;
-    let mut firsts: BTreeMap<(&str, &str), WrittenItem<'_>> = BTreeMap::new(given.alloc);
+    let mut firsts: BTreeMap<(&str, &str), WrittenLink<'_>> = BTreeMap::new(given.alloc);
     for link in &network.links {
         tell_if_twice(given, told, &mut firsts, link, (link.from, link.to))?;
         if reads_sketch(given) && is_duplex(link) {
@@ -179,6 +258,9 @@ pub(crate) fn tell_two_talkers(
             continue;
         };
         if let Some(first) = firsts.get(station) {
+            if told.is_counted() {
+                continue;
+            }
             let (place, label) = (link.item.place(), link.item.label(given.alloc)?);
             let (number, first) = (first.number, first.place());
             told.tell(format!(in given.alloc;
@@ -243,7 +325,8 @@ pub(crate) fn tell_delays(
 ) -> Result<(), AllocError> {
     let network = given.network()?;
     for link in &network.links {
-        if link.delay >= network.guard && is_checked(given, &network, link) {
+        let is_long = link.delay >= network.guard && is_checked(given, &network, link);
+        if is_long && !told.is_counted() {
             let (place, label) = (link.item.place_of("delay"), link.item.label(given.alloc)?);
             let (delay, guard) = (Grouped(link.delay), Grouped(network.guard));
             told.tell(format!(in given.alloc;
@@ -259,7 +342,8 @@ pub(crate) fn tell_gaps(given: &CommandInput<'_>, told: &mut ToldLines) -> Resul
     let network = given.network()?;
     for link in &network.links {
         let gap = link.octet_time().saturating_mul(GAP_OCTETS);
-        if gap > network.guard && is_checked(given, &network, link) {
+        let is_long = gap > network.guard && is_checked(given, &network, link);
+        if is_long && !told.is_counted() {
             let (place, label) = (link.item.place_of("rate"), link.item.label(given.alloc)?);
             let (rate, gap, guard) = (link.rate, Grouped(gap), Grouped(network.guard));
             told.tell(format!(in given.alloc;
@@ -295,12 +379,12 @@ fn count_of(given: &CommandInput<'_>, key: &str) -> Result<u64, AllocError> {
     Ok(count as u64)
 }
 
-/// How many there may be of what stands at a key.
-fn most_of(given: &CommandInput<'_>, key: &str) -> usize {
+/// How many there may be within some limits of what stands at a key.
+fn most_of(limits: Limits, key: &str) -> usize {
     match key {
-        "bridges" => given.limits.bridges_within(),
-        "stations" => given.limits.stations_within(),
-        _ => given.limits.links_within(),
+        "bridges" => limits.bridges_within(),
+        "stations" => limits.stations_within(),
+        _ => limits.links_within(),
     }
 }
 
@@ -310,12 +394,13 @@ pub(crate) fn tell_too_many(
     told: &mut ToldLines,
 ) -> Result<(), AllocError> {
     for key in &COUNTED {
-        let (count, most) = (count_of(given, key)?, most_of(given, key) as u64);
+        let (count, most) = (count_of(given, key)?, most_of(given.limits, key) as u64);
         if count > most {
             if let Some(found) = given.plant.top(key) {
                 let (place, count, most) = (found.place, Grouped(count), Grouped(most));
+                let larger = given.larger(most_of(LARGE, key) as u64)?;
                 told.tell(format!(in given.alloc;
-                    "{place}: {count} {key}: a domain has at most {most}"
+                    "{place}: {count} {key}: a domain has at most {most}{larger}"
                 )?)?;
             }
         }

@@ -15,7 +15,7 @@ use crate::refusal::{Refusal, refusal_of};
 use crate::script_faults::{
     tell_bad_lines, tell_too_many_lines, tell_unknown_offer, tell_unknown_streams,
 };
-use crate::stream_faults::{form_fault_of, tell_form_faults};
+use crate::stream_faults::{form_fault_of, tell_form_faults, tell_gates_twice};
 use crate::table_faults::{InputTable, tell_table};
 use crate::told::ToldLines;
 use crate::toml_faults::{tell_bad_value, tell_missing, tell_not_toml};
@@ -42,6 +42,7 @@ fn tell_text(
         "NameTaken" => tell_name_taken(given, told),
         "UnknownName" => tell_unknown_names(given, told),
         "LinkTwice" => tell_links_twice(given, told),
+        "GateTwice" => tell_gates_twice(given, told),
         "TwoTalkerLinks" => tell_two_talkers(given, told),
         "GuardTooLong" => tell_guard(given, told),
         "DelayTooLong" => tell_delays(given, told),
@@ -138,8 +139,8 @@ fn tell_refusal(
 }
 
 /// What stands behind the line of a refusal: for each thing that is wrong in this way a line, at most 20 of them, in the order of the
-/// texts, and behind these `and N more` where there are more. Each line begins with two blanks and ends with LF, and has no other byte
-/// below 32. It is empty where there is nothing to say: the line is no refusal that is known, or says all by itself, or no file is named.
+/// texts, and behind these `and N more` where there are more. Each line begins with two blanks and ends with LF, and has printable
+/// characters of ASCII alone: another is told as `\u{..}`, with its number in hexadecimal digits. It is empty where there is nothing to say: the line is no refusal that is known, or says all by itself, or no file is named.
 ///
 /// `command` is the command's word, such as `run`. `cycles` is how many cycles are run, where the words say it. `limits` are those within
 /// which a plant is read. `sources` are the files that the words name, in their order. `line` is the line of the refusal with its line feed.
@@ -159,9 +160,9 @@ pub fn explanation(
     let mut told = ToldLines::new(alloc);
     if let Some(refusal) = refusal_of(line) {
         if !sources.is_empty() {
-            let given = given_of(alloc, command, cycles, limits, sources)?;
+            let given = given_of(alloc, command, cycles, limits, sources, refusal.fault)?;
             tell_refusal(&given, &mut told, refusal)?;
         }
     }
-    told.text()
+    told.text("  ")
 }

@@ -3,6 +3,7 @@
 use crate::lexer::before_comment;
 use crate::plant::{FoundKey, KeyOwner};
 use crate::words::{shortened, shown};
+use cqf_model::{Limits, PROFILE};
 use cqf_units::Name;
 use std::alloc::{AllocError, Global};
 use toml::Value;
@@ -25,6 +26,14 @@ pub(crate) const EVERY_FORM: &str =
 pub(crate) const PHASE_FORM: &str =
     "phase is the first of the cycles in which its frames are offered: a whole number below every";
 
+/// The form of a destination address, in words.
+const MAC_FORM: &str =
+    "a mac is six pairs of hexadecimal digits, as 01:00:5e:00:00:07, and one to which bridges forward: not 01:80:c2:00:00:00 to 0f, nor all 0";
+
+/// The form of what a bridge's port is called, in words.
+const INTERFACE_FORM: &str =
+    "an interface is 1 to 15 of letters, digits and . _ - @, a letter or a digit first";
+
 /// The form of the cycle times of a sketch, in words.
 pub(crate) const CYCLES_FORM: &str =
     "a cycle time is a whole number, 10,000 to 10,000,000 ns, and a sketch may have an array of 1 to 1,000 of them";
@@ -45,6 +54,10 @@ pub(crate) enum Form {
     Path,
     Paths,
     Boolean,
+    /// An address of six pairs of hexadecimal digits.
+    Mac,
+    /// What a port of a bridge is called in its system.
+    Interface,
     /// An array of names.
     Names,
     /// An array of tables.
@@ -95,6 +108,7 @@ fn form_of_link(key: &str) -> Option<(Form, &'static str)> {
             "a delay is a whole number, 0 to 10,000,000 ns",
         )),
         "duplex" => Some((Form::Boolean, "duplex is true or false")),
+        "interface" | "far-interface" => Some((Form::Interface, INTERFACE_FORM)),
         _ => None,
     }
 }
@@ -121,7 +135,27 @@ fn form_of_stream(key: &str) -> Option<(Form, &'static str)> {
             Form::Ends,
             "to is a name, or an array of 1 to 64 names, all different",
         )),
+        "mac" => Some((Form::Mac, MAC_FORM)),
+        "vlan" => Some((
+            Form::Number(1, 4094),
+            "a vlan is a whole number, 1 to 4,094",
+        )),
         _ => form_of_traffic(key),
+    }
+}
+
+/// The form of the number of a stream gate, which hangs on the limits, and the same in words.
+pub(crate) fn form_of_gate(limits: Limits) -> (Form, &'static str) {
+    if limits == PROFILE {
+        (
+            Form::Number(1, 1024),
+            "x-gate is a whole number, 1 to 1,024, and with --large to 16,384",
+        )
+    } else {
+        (
+            Form::Number(1, 16_384),
+            "x-gate is a whole number, 1 to 16,384",
+        )
     }
 }
 
@@ -236,6 +270,51 @@ fn are_cycles(value: &Value) -> bool {
     }
 }
 
+/// Whether a byte may stand in the name of an interface.
+fn is_of_interface(byte: u8) -> bool {
+    byte.is_ascii_alphanumeric() || matches!(byte, b'.' | b'_' | b'-' | b'@')
+}
+
+/// Whether the value is a text that may be the name of an interface.
+fn is_interface(value: &Value) -> bool {
+    match value.as_str() {
+        Some(text) => match *text.as_bytes() {
+            [first, ref more @ ..] => {
+                let are_good = more.iter().all(|byte| is_of_interface(*byte));
+                first.is_ascii_alphanumeric() && more.len() < 15 && are_good
+            }
+            [] => false,
+        },
+        None => false,
+    }
+}
+
+/// Whether bytes are two hexadecimal digits.
+fn is_pair(pair: &[u8]) -> bool {
+    matches!(*pair, [a, b] if a.is_ascii_hexdigit() && b.is_ascii_hexdigit())
+}
+
+/// Whether the value is an address that bridges forward (IEEE 802.1Q, reserved addresses).
+fn is_mac(value: &Value) -> bool {
+    let Some(text) = value.as_str() else {
+        return false;
+    };
+    let bytes = text.as_bytes();
+    let is_reserved = match bytes.split_last() {
+        Some((_, front)) => front.eq_ignore_ascii_case(b"01:80:c2:00:00:0"),
+        None => false,
+    };
+    let is_nobody = bytes == b"00:00:00:00:00:00".as_slice();
+    let mut pairs: usize = 0;
+    for pair in bytes.split(|byte| *byte == b':') {
+        if !is_pair(pair) {
+            return false;
+        }
+        pairs = pairs.saturating_add(1);
+    }
+    pairs == 6 && !is_reserved && !is_nobody
+}
+
 /// Whether the value has the form.
 pub(crate) fn fits(form: Form, value: &Value) -> bool {
     match form {
@@ -248,6 +327,8 @@ pub(crate) fn fits(form: Form, value: &Value) -> bool {
         Form::Path => are_texts(value),
         Form::Paths => are_paths(value),
         Form::Boolean => value.is_bool(),
+        Form::Mac => is_mac(value),
+        Form::Interface => is_interface(value),
         Form::Names => are_names(value),
         Form::Tables => are_tables(value),
     }

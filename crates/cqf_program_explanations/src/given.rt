@@ -1,6 +1,7 @@
 //! What an explanation is made from.
 
 use crate::explaining::NamedFile;
+use crate::hints::larger_words;
 use crate::network::{Network, network_of, smallest_network};
 use crate::parts::{Input, input_of};
 use crate::plant::Plant;
@@ -22,16 +23,26 @@ pub(crate) struct CommandInput<'a> {
     pub plant: Plant<'a>,
 }
 
-/// Reads the files of a command.
+/// Whether a fault is told of texts that aren't parsed, since that may take much.
+fn is_unread(fault: &str) -> bool {
+    matches!(fault, "LineTooLong" | "")
+}
+
+/// Reads the files of a command, for what is told of a fault.
 pub(crate) fn given_of<'a>(
     alloc: Global,
     command: &'a str,
     cycles: Option<u32>,
     limits: Limits,
     sources: &'a [NamedFile<'a>],
+    fault: &str,
 ) -> Result<CommandInput<'a>, AllocError> {
     let input = input_of(alloc, command, sources)?;
-    let plant = Plant::read(alloc, input.plant.as_slice())?;
+    let plant = if is_unread(fault) {
+        Plant::unread(alloc, input.plant.as_slice())?
+    } else {
+        Plant::read(alloc, input.plant.as_slice(), input.are_two)?
+    };
     Ok(CommandInput {
         alloc,
         command,
@@ -44,6 +55,11 @@ pub(crate) fn given_of<'a>(
 }
 
 impl CommandInput<'_> {
+    /// What is said behind a limit of how many there may be with `--large`: nothing where that is given, or no word of the command.
+    pub(crate) fn larger(&self, most: u64) -> Result<String, AllocError> {
+        larger_words(self, most)
+    }
+
     /// The network of the plant, or of the command that has its own.
     pub(crate) fn network(&self) -> Result<Network<'_>, AllocError> {
         if self.command == "line" {

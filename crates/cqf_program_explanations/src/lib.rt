@@ -2,6 +2,7 @@
 //! and what may.
 //!
 //! - [`explanation`] makes these lines from the refusal's line and the files that the words name, which are a [`NamedFile`] each.
+//! - [`notes`] has what is worth a word though nothing is refused.
 //!
 //! ```text
 //! cqf: domain: BadValue rate
@@ -18,9 +19,11 @@ mod domain_faults;
 mod explaining;
 mod forms;
 mod given;
+mod hints;
 mod lexer;
 mod lines;
 mod network;
+mod noting;
 mod outline;
 mod part_faults;
 mod parts;
@@ -38,3 +41,4 @@ mod toml_faults;
 mod words;
 
 pub use explaining::{NamedFile, explanation};
+pub use noting::notes;

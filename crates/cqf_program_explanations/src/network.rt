@@ -1,10 +1,11 @@
 //! The network of a plant: its nodes and links by name.
 
 use crate::plant::{FoundKey, KeyOwner, Plant, WrittenItem};
-use crate::sketch::is_duplex;
+use crate::sketch::{is_duplex, talker_of};
 use crate::words::question;
 use cqf_model::Limits;
 use std::alloc::{AllocError, Global};
+use std::collections::BTreeMap;
 
 /// A link as it is written; what isn't there is empty or 0.
 #[derive(Clone, Copy)]
@@ -18,12 +19,23 @@ pub(crate) struct WrittenLink<'p> {
     pub delay: u64,
 }
 
+/// Places by the name of a node and that of another.
+type EndsMap<'p> = BTreeMap<&'p str, BTreeMap<&'p str, usize>>;
+
 /// The nodes and links of a plant.
 #[derive(Drop)]
 pub(crate) struct Network<'p> {
     pub bridges: Vec<&'p str>,
     pub nodes: Vec<&'p str>,
     pub links: Vec<WrittenLink<'p>>,
+    /// Whether the node of a name is a bridge.
+    are_bridges: BTreeMap<&'p str, bool>,
+    /// The place of the first link between two nodes, as it is written.
+    ends: EndsMap<'p>,
+    /// Of a sketch, the same of a link that stands for two, for its way back.
+    back: EndsMap<'p>,
+    /// Of a sketch, the place of the first talker's link of a station.
+    talkers: BTreeMap<&'p str, usize>,
     /// In ns.
     pub cycle: u64,
     pub guard: u64,
@@ -66,18 +78,41 @@ pub(crate) fn network_of<'p>(
     put_texts(&mut nodes, bridge_names.as_slice())?;
     put_texts(&mut nodes, station_names.as_slice())?;
     let items = plant.items(KeyOwner::Link)?;
-    let mut links = Vec::new(alloc);
+    let mut network = nodes_alone(alloc, bridges, nodes, limits)?;
+    network.cycle = plant.number("cycle");
+    network.guard = plant.number("guard");
+    network.is_sketch = is_sketch;
     for item in &items {
-        links.push(link_of(item))?;
+        network.put_link(alloc, link_of(item))?;
+    }
+    Ok(network)
+}
+
+/// A network of nodes, of which the first are bridges, without links.
+fn nodes_alone<'p>(
+    alloc: Global,
+    bridges: Vec<&'p str>,
+    nodes: Vec<&'p str>,
+    limits: Limits,
+) -> Result<Network<'p>, AllocError> {
+    let mut are_bridges = BTreeMap::new(alloc);
+    for (place, node) in nodes.iter().enumerate() {
+        if !are_bridges.contains_key(*node) {
+            are_bridges.insert(*node, place < bridges.len())?;
+        }
     }
     Ok(Network {
         bridges,
         nodes,
-        links,
-        cycle: plant.number("cycle"),
-        guard: plant.number("guard"),
+        links: Vec::new(alloc),
+        are_bridges,
+        ends: BTreeMap::new(alloc),
+        back: BTreeMap::new(alloc),
+        talkers: BTreeMap::new(alloc),
+        cycle: 0,
+        guard: 0,
         limits,
-        is_sketch,
+        is_sketch: false,
     })
 }
 
@@ -86,15 +121,8 @@ pub(crate) fn smallest_network<'p>(
     alloc: Global,
     limits: Limits,
 ) -> Result<Network<'p>, AllocError> {
-    Ok(Network {
-        bridges: vec![in alloc; "a"]?,
-        nodes: vec![in alloc; "a", "s"]?,
-        links: Vec::new(alloc),
-        cycle: 0,
-        guard: 0,
-        limits,
-        is_sketch: false,
-    })
+    let (bridges, nodes) = (vec![in alloc; "a"]?, vec![in alloc; "a", "s"]?);
+    nodes_alone(alloc, bridges, nodes, limits)
 }
 
 impl WrittenLink<'_> {
@@ -104,10 +132,61 @@ impl WrittenLink<'_> {
     }
 }
 
+/// Puts a place at two names, where none stands there.
+fn put_first<'p>(
+    alloc: Global,
+    places: &mut EndsMap<'p>,
+    from: &'p str,
+    to: &'p str,
+    place: usize,
+) -> Result<(), AllocError> {
+    if !places.contains_key(from) {
+        places.insert(from, BTreeMap::new(alloc))?;
+    }
+    if let Some(behind) = places.get_mut(from) {
+        if !behind.contains_key(to) {
+            behind.insert(to, place)?;
+        }
+    }
+    Ok(())
+}
+
+/// The place at two names.
+fn place_at(places: &EndsMap<'_>, from: &str, to: &str) -> Option<usize> {
+    match places.get(from) {
+        Some(behind) => behind.get(to).copied(),
+        None => None,
+    }
+}
+
 impl<'p> Network<'p> {
+    /// Takes a link more.
+    fn put_link(&mut self, alloc: Global, link: WrittenLink<'p>) -> Result<(), AllocError> {
+        let place = self.links.len();
+        put_first(alloc, &mut self.ends, link.from, link.to, place)?;
+        if self.is_sketch {
+            if is_duplex(&link) {
+                put_first(alloc, &mut self.back, link.to, link.from, place)?;
+            }
+            if let Some(station) = talker_of(&*self, &link) {
+                if !self.talkers.contains_key(station) {
+                    self.talkers.insert(station, place)?;
+                }
+            }
+        }
+        self.links.push(link)?;
+        Ok(())
+    }
+
     /// Whether the name is one of a bridge.
     pub(crate) fn is_bridge(&self, name: &str) -> bool {
-        self.bridges.iter().any(|bridge| *bridge == name)
+        self.are_bridges.get(name).copied().unwrap_or(false)
+    }
+
+    /// The link by which a station's talker sends, in a sketch.
+    pub(crate) fn talkers_link(&self, station: &str) -> Option<&WrittenLink<'p>> {
+        let place = self.talkers.get(station)?;
+        self.links.get(*place)
     }
 
     /// The bridge at which a talker's link ends, which a link is or stands for.
@@ -121,25 +200,18 @@ impl<'p> Network<'p> {
 
     /// Whether the name is one of a bridge or a station.
     pub(crate) fn is_node(&self, name: &str) -> bool {
-        self.nodes.iter().any(|node| *node == name)
+        self.are_bridges.contains_key(name)
     }
 
     /// The place of the link between two nodes.
     pub(crate) fn link_between(&self, from: &str, to: &str) -> Option<usize> {
-        self.links
-            .iter()
-            .position(|link| link.from == from && link.to == to)
+        place_at(&self.ends, from, to)
     }
 
     /// Whether a link of the plant leads from one node to another.
     pub(crate) fn leads(&self, from: &str, to: &str) -> bool {
-        self.is_bridge(from) && (self.link_between(from, to).is_some() || self.leads_back(from, to))
-    }
-
-    /// Whether a link of a sketch leads so that stands for two, and is written the other way.
-    fn leads_back(&self, from: &str, to: &str) -> bool {
-        self.is_sketch
-            && self.links.iter().any(|link| link.from == to && link.to == from && is_duplex(link))
+        self.is_bridge(from)
+            && (self.link_between(from, to).is_some() || place_at(&self.back, from, to).is_some())
     }
 
     /// The question whether a bridge was meant.

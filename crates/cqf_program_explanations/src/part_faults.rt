@@ -22,7 +22,7 @@ fn taken_by(command: &str) -> &'static str {
     }
 }
 
-/// The files' names, with the number of their parts where it isn't one.
+/// The files' names, with the number of their parts where it isn't one, and those that are empty as such.
 fn names_of(given: &CommandInput<'_>) -> Result<String, AllocError> {
     let mut names = String::new(given.alloc);
     for source in given.sources.iter().take(MOST_NAMED) {
@@ -36,6 +36,9 @@ fn names_of(given: &CommandInput<'_>) -> Result<String, AllocError> {
         if count > 1 {
             let note = format!(in given.alloc; " ({count} parts)")?;
             names.push_str(note.as_str())?;
+        }
+        if source.text.is_empty() {
+            names.push_str(" (empty)")?;
         }
     }
     if given.sources.len() > MOST_NAMED {

@@ -16,6 +16,15 @@ pub(crate) struct InputPart<'a> {
     pub before: u64,
     /// Whether it is all of its file.
     pub is_whole: bool,
+    /// Whether its file is the first.
+    pub is_first: bool,
+}
+
+impl InputPart<'_> {
+    /// Whether its keys are checked: it is a file named like a TOML text, or the first file, and no line divides it.
+    pub(crate) fn is_checked(&self) -> bool {
+        is_toml(self.file) || self.is_first && self.is_whole
+    }
 }
 
 /// What the files come to: the plant's parts, and those behind it.
@@ -23,6 +32,8 @@ pub(crate) struct InputPart<'a> {
 pub(crate) struct Input<'a> {
     pub plant: Vec<InputPart<'a>>,
     pub rest: Vec<InputPart<'a>>,
+    /// Whether the plant's are the domain and its streams, and not files that are one plant.
+    pub are_two: bool,
 }
 
 /// Whether the command takes a domain.
@@ -66,7 +77,7 @@ pub(crate) fn put_parts<'a>(
     source: NamedFile<'a>,
 ) -> Result<(), AllocError> {
     let texts = parts(alloc, source.text)?;
-    let is_whole = texts.len() == 1;
+    let (is_whole, is_first) = (texts.len() == 1, found.is_empty());
     let mut before: u64 = 0;
     for text in &texts {
         found.push(InputPart {
@@ -74,6 +85,7 @@ pub(crate) fn put_parts<'a>(
             text,
             before,
             is_whole,
+            is_first,
         })?;
         before = before.saturating_add(line_feeds(text)).saturating_add(1);
     }
@@ -94,6 +106,7 @@ fn all_parts<'a>(
                 text: source.text,
                 before: 0,
                 is_whole: true,
+                is_first: place == 0,
             })?;
         } else {
             put_parts(alloc, &mut found, *source)?;
@@ -138,6 +151,7 @@ pub(crate) fn input_of<'a>(
     let mut input = Input {
         plant: Vec::new(alloc),
         rest: Vec::new(alloc),
+        are_two: joint == 0 && plants == 2,
     };
     for (place, part) in parts.iter().enumerate() {
         if place < plants {

@@ -6,10 +6,11 @@ use crate::network::Network;
 use crate::places::Grouped;
 use crate::plant::{KeyOwner, WrittenItem};
 use crate::refusal::Refusal;
-use crate::sketch::{is_in_step, listeners_of, longest_frame, talkers_link, time_on};
+use crate::sketch::{is_in_step, listeners_of, longest_frame, time_on};
 use crate::stream_faults::{FormFault, form_fault_of, tell_form_faults};
 use crate::told::ToldLines;
 use crate::words::{question, shortened};
+use cqf_model::LARGE;
 use std::alloc::{AllocError, Global};
 use std::collections::BTreeMap;
 
@@ -78,7 +79,8 @@ fn tell_no_talkers(given: &CommandInput<'_>, told: &mut ToldLines) -> Result<(),
         let Some(name) = item.text("from") else {
             continue;
         };
-        if network.is_bridge(name) || talkers_link(&network, name).is_some() {
+        let is_there = network.is_bridge(name) || network.talkers_link(name).is_some();
+        if is_there || told.is_counted() {
             continue;
         }
         let (place, label) = (item.place_of("from"), item.label(given.alloc)?);
@@ -132,6 +134,9 @@ fn tell_names_twice(given: &CommandInput<'_>, told: &mut ToldLines) -> Result<()
     for item in &given.plant.items(KeyOwner::Stream)? {
         let name = item.text("name").unwrap_or("");
         if let Some(first) = firsts.get(name) {
+            if told.is_counted() {
+                continue;
+            }
             let (place, label) = (item.place_of("name"), item.counted(given.alloc)?);
             let (number, first) = (first.number.saturating_add(1), first.place_of("name"));
             told.tell(format!(in given.alloc;
@@ -152,7 +157,7 @@ fn tell_too_soon(
 ) -> Result<(), AllocError> {
     let network = given.network()?;
     let (place, label) = (item.place_of("deadline"), item.label(given.alloc)?);
-    let Some(link) = talkers_link(&network, item.text("from").unwrap_or("")) else {
+    let Some(link) = network.talkers_link(item.text("from").unwrap_or("")) else {
         return Ok(());
     };
     let (from, to) = (item.text("from").unwrap_or(""), network.edge_of(link));
@@ -263,8 +268,9 @@ fn tell_wide(
 ) -> Result<(), AllocError> {
     let (place, label) = (item.place_of("to"), item.label(given.alloc)?);
     let most = Grouped(given.limits.hops_within() as u64);
+    let larger = given.larger(LARGE.hops_within() as u64)?;
     told.tell(format!(in given.alloc;
-        "{place}: {label}: its ways have more than {most} links together: give some listeners a stream of their own"
+        "{place}: {label}: its ways have more than {most} links together{larger}: give some listeners a stream of their own"
     )?)
 }
 
@@ -299,8 +305,9 @@ fn tell_unplaced(
         "TooManyStreams" => {
             let (place, label) = (item.place(), item.counted(given.alloc)?);
             let most = Grouped(given.limits.streams_within() as u64);
+            let larger = given.larger(LARGE.streams_within() as u64)?;
             told.tell(format!(in given.alloc;
-                "{place}: {label}: at most {most} streams are held at once"
+                "{place}: {label}: at most {most} streams are held at once{larger}"
             )?)
         }
         _ => Ok(()),

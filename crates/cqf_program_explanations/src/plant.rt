@@ -21,6 +21,8 @@ pub(crate) struct PlantFile<'a> {
 pub(crate) struct Plant<'a> {
     alloc: Global,
     pub files: Vec<PlantFile<'a>>,
+    /// Whether the first is the domain's text and the second that of its streams, each read by itself.
+    are_two: bool,
 }
 
 /// Whose key it is.
@@ -129,6 +131,14 @@ fn plant_file(alloc: Global, part: InputPart<'_>) -> Result<PlantFile<'_>, Alloc
     })
 }
 
+/// The key of the top at which links or streams stand.
+fn key_of(kind: KeyOwner) -> &'static str {
+    match kind {
+        KeyOwner::Link => "links",
+        _ => "streams",
+    }
+}
+
 /// Puts the links or the streams of a file behind others.
 fn put_items<'p>(
     items: &mut Vec<WrittenItem<'p>>,
@@ -136,11 +146,11 @@ fn put_items<'p>(
     file_number: usize,
     file: &'p PlantFile<'_>,
 ) -> Result<(), AllocError> {
-    let (key, elements) = match kind {
-        KeyOwner::Link => ("links", file.outline.links.as_slice()),
-        _ => ("streams", file.outline.streams.as_slice()),
+    let elements = match kind {
+        KeyOwner::Link => file.outline.links.as_slice(),
+        _ => file.outline.streams.as_slice(),
     };
-    for (place, value) in file.values(key).iter().enumerate() {
+    for (place, value) in file.values(key_of(kind)).iter().enumerate() {
         let element: Option<&Element<'_>> = elements.get(place);
         items.push(WrittenItem {
             kind,
@@ -183,18 +193,54 @@ fn put_names<'p>(
 }
 
 impl<'a> Plant<'a> {
-    /// The plant of some parts.
-    pub(crate) fn read(alloc: Global, parts: &[InputPart<'a>]) -> Result<Plant<'a>, AllocError> {
+    /// The plant of some parts, which are the domain's and its streams' where they are two.
+    pub(crate) fn read(
+        alloc: Global,
+        parts: &[InputPart<'a>],
+        are_two: bool,
+    ) -> Result<Plant<'a>, AllocError> {
         let mut files = Vec::new(alloc);
         for part in parts {
             files.push(plant_file(alloc, *part)?)?;
         }
-        Ok(Plant { alloc, files })
+        Ok(Plant {
+            alloc,
+            files,
+            are_two,
+        })
+    }
+
+    /// The same of which only the texts are looked at.
+    pub(crate) fn unread(alloc: Global, parts: &[InputPart<'a>]) -> Result<Plant<'a>, AllocError> {
+        let mut files = Vec::new(alloc);
+        for part in parts {
+            files.push(PlantFile {
+                part: *part,
+                table: None,
+                outline: outline_of(alloc, &[], 0)?,
+            })?;
+        }
+        Ok(Plant {
+            alloc,
+            files,
+            are_two: false,
+        })
+    }
+
+    /// The files in which a key of the top is read.
+    pub(crate) fn files_of(&self, key: &str) -> &[PlantFile<'a>] {
+        let all = self.files.as_slice();
+        let read = match (self.are_two, key) {
+            (false, _) => None,
+            (true, "streams") => all.get(1..),
+            (true, _) => all.get(..1),
+        };
+        read.unwrap_or(all)
     }
 
     /// What stands at a key of the top of the first file that has it.
     pub(crate) fn top(&self, key: &str) -> Option<FoundKey<'_>> {
-        for file in &self.files {
+        for file in self.files_of(key) {
             let found = file.found(key);
             if found.is_some() {
                 return found;
@@ -211,10 +257,24 @@ impl<'a> Plant<'a> {
         }
     }
 
-    /// The links or the streams.
+    /// The links or the streams that are read.
     pub(crate) fn items(&self, kind: KeyOwner) -> Result<Vec<WrittenItem<'_>>, AllocError> {
+        self.items_of(self.files_of(key_of(kind)), kind)
+    }
+
+    /// The links or the streams of all texts.
+    pub(crate) fn all_items(&self, kind: KeyOwner) -> Result<Vec<WrittenItem<'_>>, AllocError> {
+        self.items_of(self.files.as_slice(), kind)
+    }
+
+    /// The links or the streams of some files.
+    fn items_of<'p>(
+        &self,
+        files: &'p [PlantFile<'a>],
+        kind: KeyOwner,
+    ) -> Result<Vec<WrittenItem<'p>>, AllocError> {
         let mut items = Vec::new(self.alloc);
-        for (number, file) in self.files.iter().enumerate() {
+        for (number, file) in files.iter().enumerate() {
             put_items(&mut items, kind, number, file)?;
         }
         Ok(items)
@@ -223,7 +283,7 @@ impl<'a> Plant<'a> {
     /// The elements of an array of names of the top.
     pub(crate) fn names(&self, key: &str) -> Result<Vec<FoundKey<'_>>, AllocError> {
         let mut names = Vec::new(self.alloc);
-        for file in &self.files {
+        for file in self.files_of(key) {
             put_names(&mut names, key, file)?;
         }
         Ok(names)

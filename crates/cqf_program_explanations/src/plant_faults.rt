@@ -2,6 +2,7 @@
 
 use crate::given::CommandInput;
 use crate::lines::Lines;
+use crate::outline::KeyLine;
 use crate::parts::is_toml;
 use crate::places::{Grouped, Place};
 use crate::plant::{KeyOwner, PlantFile, WrittenItem};
@@ -10,10 +11,24 @@ use crate::toml_faults::known_keys;
 use crate::words::{nearest, shortened};
 use cqf_program_files::{MOST_OCTETS, MOST_PARTS, OWN, TOP};
 use std::alloc::{AllocError, Global};
+use std::collections::BTreeMap;
 use toml::Table;
 
-/// A line to be told, with the file and line by which it comes in order.
-type OrderedLine = (usize, u64, String);
+/// A key that no command knows, with its table, and the file and the line by which it comes in order.
+#[derive(Clone, Copy)]
+struct UnknownKey<'p> {
+    file_number: usize,
+    place: Place<'p>,
+    key: &'p str,
+    owner: UnknownOwner<'p>,
+}
+
+/// Whose key it is.
+#[derive(Clone, Copy)]
+enum UnknownOwner<'p> {
+    Top,
+    Item(WrittenItem<'p>),
+}
 
 /// Whether a key is known of a kind, or the user's own.
 fn is_known(kind: KeyOwner, key: &str) -> bool {
@@ -39,82 +54,138 @@ fn unknown_words(alloc: Global, kind: KeyOwner, key: &str) -> Result<String, All
     )
 }
 
-/// The keys of a table that no command knows.
-fn unknown_of<'p>(
+/// The first of the lines on which each key stands.
+fn lines_of<'p>(
     alloc: Global,
+    keys: &'p [KeyLine<'p>],
+) -> Result<BTreeMap<&'p [u8], u64>, AllocError> {
+    let mut lines = BTreeMap::new(alloc);
+    for key in keys {
+        if !lines.contains_key(key.key) {
+            lines.insert(key.key, key.line)?;
+        }
+    }
+    Ok(lines)
+}
+
+/// Puts the keys of a table that no command knows.
+fn put_unknown<'p>(
+    alloc: Global,
+    unknown: &mut Vec<UnknownKey<'p>>,
     kind: KeyOwner,
     table: &'p Table,
-) -> Result<Vec<&'p str>, AllocError> {
-    let mut unknown = Vec::new(alloc);
+    lines: &'p [KeyLine<'p>],
+    first: UnknownKey<'p>,
+) -> Result<(), AllocError> {
+    let lines = lines_of(alloc, lines)?;
     for key in table.keys() {
         if !is_known(kind, key.as_str()) {
-            unknown.push(key.as_str())?;
+            let line = lines.get(key.as_bytes()).copied();
+            unknown.push(UnknownKey {
+                place: Place {
+                    file: first.place.file,
+                    line: line.or(first.place.line),
+                },
+                key: key.as_str(),
+                ..first
+            })?;
+        }
+    }
+    Ok(())
+}
+
+/// Puts those of a file's top.
+fn put_top<'p>(
+    alloc: Global,
+    unknown: &mut Vec<UnknownKey<'p>>,
+    file_number: usize,
+    file: &'p PlantFile<'_>,
+) -> Result<(), AllocError> {
+    let Some(table) = &file.table else {
+        return Ok(());
+    };
+    let first = UnknownKey {
+        file_number,
+        place: file.at(None),
+        key: "",
+        owner: UnknownOwner::Top,
+    };
+    let lines = file.outline.top.as_slice();
+    put_unknown(alloc, unknown, KeyOwner::Top, table, lines, first)
+}
+
+/// Puts those of a link or a stream.
+fn put_item<'p>(
+    alloc: Global,
+    unknown: &mut Vec<UnknownKey<'p>>,
+    item: &WrittenItem<'p>,
+) -> Result<(), AllocError> {
+    let Some(table) = item.value.as_table() else {
+        return Ok(());
+    };
+    let first = UnknownKey {
+        file_number: item.file_number,
+        place: item.place(),
+        key: "",
+        owner: UnknownOwner::Item(*item),
+    };
+    put_unknown(alloc, unknown, item.kind, table, item.keys, first)
+}
+
+/// Tells of a key that no command knows.
+fn tell_unknown_key(
+    given: &CommandInput<'_>,
+    told: &mut ToldLines,
+    unknown: &UnknownKey<'_>,
+) -> Result<(), AllocError> {
+    let place = unknown.place;
+    match &unknown.owner {
+        UnknownOwner::Top => {
+            let words = unknown_words(given.alloc, KeyOwner::Top, unknown.key)?;
+            told.tell(format!(in given.alloc; "{place}: {words}")?)
+        }
+        UnknownOwner::Item(item) => {
+            let words = unknown_words(given.alloc, item.kind, unknown.key)?;
+            let label = item.label(given.alloc)?;
+            told.tell(format!(in given.alloc; "{place}: {label}: {words}")?)
+        }
+    }
+}
+
+/// The keys of files that are checked which no command knows.
+fn unknown_keys<'p>(
+    given: &'p CommandInput<'_>,
+    links: &[WrittenItem<'p>],
+    streams: &[WrittenItem<'p>],
+) -> Result<Vec<UnknownKey<'p>>, AllocError> {
+    let mut unknown: Vec<UnknownKey<'p>> = Vec::new(given.alloc);
+    for (number, file) in given.plant.files.iter().enumerate() {
+        if file.part.is_checked() {
+            put_top(given.alloc, &mut unknown, number, file)?;
+        }
+    }
+    for item in links.iter().chain(streams) {
+        let file = given.plant.files.get(item.file_number);
+        if file.is_some_and(|file| file.part.is_checked()) {
+            put_item(given.alloc, &mut unknown, item)?;
         }
     }
     Ok(unknown)
 }
 
-/// Puts what is said of a file's keys of the top.
-fn put_top(
-    alloc: Global,
-    lines: &mut Vec<OrderedLine>,
-    number: usize,
-    file: &PlantFile<'_>,
-) -> Result<(), AllocError> {
-    let Some(table) = &file.table else {
-        return Ok(());
-    };
-    if !is_toml(file.part.file) {
-        return Ok(());
-    }
-    for key in &unknown_of(alloc, KeyOwner::Top, table)? {
-        let place = file.place_of(key);
-        let words = unknown_words(alloc, KeyOwner::Top, key)?;
-        let line = format!(in alloc; "{place}: {words}")?;
-        lines.push((number, place.line.unwrap_or(0), line))?;
-    }
-    Ok(())
-}
-
-/// Puts what is said of the keys of a link or a stream.
-fn put_item(
-    alloc: Global,
-    lines: &mut Vec<OrderedLine>,
-    item: &WrittenItem<'_>,
-) -> Result<(), AllocError> {
-    let Some(table) = item.value.as_table() else {
-        return Ok(());
-    };
-    if !is_toml(item.file) {
-        return Ok(());
-    }
-    for key in &unknown_of(alloc, item.kind, table)? {
-        let (place, label) = (item.place_of(key), item.label(alloc)?);
-        let words = unknown_words(alloc, item.kind, key)?;
-        let line = format!(in alloc; "{place}: {label}: {words}")?;
-        lines.push((item.file_number, place.line.unwrap_or(0), line))?;
-    }
-    Ok(())
-}
-
-/// Tells of each key that no command knows, in files named like TOML texts, in the order of the texts.
+/// Tells of each key that no command knows, in files whose keys are checked, in the order of the texts.
 pub(crate) fn tell_unknown_keys(
     given: &CommandInput<'_>,
     told: &mut ToldLines,
 ) -> Result<(), AllocError> {
-    let mut lines: Vec<OrderedLine> = Vec::new(given.alloc);
-    for (number, file) in given.plant.files.iter().enumerate() {
-        put_top(given.alloc, &mut lines, number, file)?;
-    }
-    for item in &given.plant.items(KeyOwner::Link)? {
-        put_item(given.alloc, &mut lines, item)?;
-    }
-    for item in &given.plant.items(KeyOwner::Stream)? {
-        put_item(given.alloc, &mut lines, item)?;
-    }
-    lines.sort_by_key(|line| (line.0, line.1))?;
-    for (_, _, line) in lines {
-        told.tell(line)?;
+    let links = given.plant.all_items(KeyOwner::Link)?;
+    let streams = given.plant.all_items(KeyOwner::Stream)?;
+    let mut unknown = unknown_keys(given, links.as_slice(), streams.as_slice())?;
+    unknown.sort_by_key(|key| (key.file_number, key.place.line.unwrap_or(0)))?;
+    for key in &unknown {
+        if !told.is_counted() {
+            tell_unknown_key(given, told, key)?;
+        }
     }
     Ok(())
 }
@@ -154,7 +225,7 @@ pub(crate) fn tell_key_twice(
 }
 
 /// What was seen of a line: an open quote, how many dots stand in a row, with nothing but parts of a key between them, and the most
-/// that did.
+/// that did in a key.
 #[derive(Clone, Copy, Debug)]
 struct Dots {
     quote: Option<u8>,
@@ -170,15 +241,16 @@ impl Dots {
                 quote: Some(byte),
                 ..self
             },
-            b'.' => {
-                let here = self.here.saturating_add(1);
-                Dots {
-                    quote: None,
-                    here,
-                    most: self.most.max(here),
-                }
-            }
-            b'=' | b',' | b'{' | b'}' | b'[' | b']' => Dots { here: 0, ..self },
+            b'.' => Dots {
+                here: self.here.saturating_add(1),
+                ..self
+            },
+            b'=' | b']' => Dots {
+                quote: None,
+                here: 0,
+                most: self.most.max(self.here),
+            },
+            b',' | b'{' | b'}' | b'[' => Dots { here: 0, ..self },
             _ => self,
         }
     }
@@ -212,12 +284,16 @@ fn tell_lines(
 ) -> Result<(), AllocError> {
     for (number, line) in Lines::of(file.part.text, file.part.before) {
         let (place, parts) = (file.at(Some(number)), parts_on(line));
-        if line.len() > MOST_OCTETS {
+        let is_long = line.len() > MOST_OCTETS && is_toml(file.part.file);
+        if (is_long || parts > u64::from(MOST_PARTS)) && told.is_counted() {
+            continue;
+        }
+        if is_long {
             let (octets, most) = (Grouped(line.len() as u64), Grouped(MOST_OCTETS as u64));
             told.tell(format!(in given.alloc;
                 "{place}: the line has {octets} octets: a line has at most {most}"
             )?)?;
-        } else if parts > MOST_PARTS as u64 {
+        } else if parts > u64::from(MOST_PARTS) {
             let most = MOST_PARTS;
             told.tell(format!(in given.alloc;
                 "{place}: the key has {parts} dotted parts: a key has at most {most}"
@@ -233,7 +309,7 @@ pub(crate) fn tell_long_lines(
     told: &mut ToldLines,
 ) -> Result<(), AllocError> {
     for file in &given.plant.files {
-        if is_toml(file.part.file) {
+        if file.part.is_checked() {
             tell_lines(given, told, file)?;
         }
     }

@@ -179,67 +179,73 @@ fn is_word(word: &[u8]) -> bool {
 }
 
 /// What is wrong with a line of three words, in words.
-fn wrong_call(
-    alloc: Global,
-    seat: &[u8],
-    verb: &[u8],
-    name: &[u8],
-) -> Result<Option<String>, AllocError> {
-    let words = if !is_seat(seat) {
+fn wrong_call(alloc: Global, seat: &[u8], verb: &[u8]) -> Result<String, AllocError> {
+    if !is_seat(seat) {
         let seat = shown(alloc, seat)?;
-        format!(in alloc; "{seat}: an administrator is a digit, 0 to 7")?
+        format!(in alloc; "{seat}: an administrator is a digit, 0 to 7")
     } else if !is_verb(verb) {
         let verb = shown(alloc, verb)?;
         let question = question(alloc, verb.as_str(), &["admit", "withdraw"])?;
-        format!(in alloc; "{verb}: a call is admit or withdraw{question}")?
-    } else if !is_word(name) {
-        String::from_str(alloc, "a stream is called by 1 to 64 printable characters")?
+        format!(in alloc; "{verb}: a call is admit or withdraw{question}")
     } else {
-        return Ok(None);
-    };
-    Ok(Some(words))
+        String::from_str(alloc, "a stream is called by 1 to 64 printable characters")
+    }
 }
 
 /// What is wrong with the words of a line, in words.
-fn wrong_words(alloc: Global, text: &[u8]) -> Result<Option<String>, AllocError> {
+fn wrong_words(alloc: Global, text: &[u8]) -> Result<String, AllocError> {
     let words: Vec<&[u8]> = text.split(|byte| *byte == b' ').collect(alloc)?;
-    let why = match *words.as_slice() {
-        [seat, verb, name] => return wrong_call(alloc, seat, verb, name),
+    match *words.as_slice() {
+        [seat, verb, _] => wrong_call(alloc, seat, verb),
         [verb, _] if is_verb(verb) => {
             String::from_str(
                 alloc,
                 "an administrator stands before a call, as in 0 admit NAME",
-            )?
+            )
         }
         [first, ..] => {
             let first = shown(alloc, first)?;
             let question = question(alloc, first.as_str(), &["seal"])?;
-            format!(in alloc; "{LINE_FORM}{question}")?
+            format!(in alloc; "{LINE_FORM}{question}")
         }
-        [] => String::from_str(alloc, LINE_FORM)?,
-    };
-    Ok(Some(why))
+        [] => String::from_str(alloc, LINE_FORM),
+    }
 }
 
-/// What is wrong with a line, in words.
+/// Whether a text is a call: a digit, `admit` or `withdraw`, and a name, with one blank between.
+fn is_call(text: &[u8]) -> bool {
+    match *text {
+        [seat, b' ', ref call @ ..] if is_seat(&[seat]) => {
+            let name = call
+                .strip_prefix(b"admit ")
+                .or(call.strip_prefix(b"withdraw "));
+            name.is_some_and(is_word)
+        }
+        _ => false,
+    }
+}
+
+/// Whether a line has a form which a line may have there.
+fn is_good(line: &ScriptLine<'_>, counts: ScriptCounts) -> bool {
+    match cycle_of(line) {
+        Some(cycle) => cycle >= counts.cycle,
+        None => is_seal(line) || is_call(line.text),
+    }
+}
+
+/// What is wrong with a line that isn't good, in words.
 fn wrong_of(
     alloc: Global,
     line: &ScriptLine<'_>,
     counts: ScriptCounts,
-) -> Result<Option<String>, AllocError> {
-    if is_seal(line) {
-        return Ok(None);
+) -> Result<String, AllocError> {
+    if cycle_of(line).is_some() {
+        let reached = Grouped(counts.cycle);
+        return format!(in alloc; "cycle {reached} is reached already");
     }
-    match cycle_of(line) {
-        Some(cycle) if cycle < counts.cycle => {
-            let reached = Grouped(counts.cycle);
-            Ok(Some(format!(in alloc; "cycle {reached} is reached already")?))
-        }
-        Some(_) => Ok(None),
-        None => match wrong_outside(line) {
-            Some(words) => Ok(Some(String::from_str(alloc, words)?)),
-            None => wrong_words(alloc, line.text),
-        },
+    match wrong_outside(line) {
+        Some(words) => String::from_str(alloc, words),
+        None => wrong_words(alloc, line.text),
     }
 }
 
@@ -253,7 +259,8 @@ pub(crate) fn tell_bad_lines(
     };
     let mut counts = ScriptCounts::none();
     for line in &lines_of(given, *part)? {
-        if let Some(why) = wrong_of(given.alloc, line, counts)? {
+        if !is_good(line, counts) && !told.is_counted() {
+            let why = wrong_of(given.alloc, line, counts)?;
             let (place, text) = (line.place, shown(given.alloc, line.text)?);
             let told_line = if line.text.trim_ascii().is_empty() {
                 format!(in given.alloc; "{place}: {why}")?

@@ -57,17 +57,6 @@ pub(crate) fn talker_of<'p>(network: &Network<'_>, link: &WrittenLink<'p>) -> Op
     }
 }
 
-/// The link by which a station's talker sends.
-pub(crate) fn talkers_link<'n, 'p>(
-    network: &'n Network<'p>,
-    station: &str,
-) -> Option<&'n WrittenLink<'p>> {
-    network
-        .links
-        .iter()
-        .find(|link| talker_of(network, link) == Some(station))
-}
-
 /// Whether a stream's talker is in step with the network.
 pub(crate) fn is_in_step(item: &WrittenItem<'_>) -> bool {
     item.get("in-step")

@@ -7,8 +7,10 @@ use crate::places::{Grouped, Place};
 use crate::plant::{KeyOwner, WrittenItem, number_of};
 use crate::told::ToldLines;
 use crate::words::shortened;
+use cqf_model::LARGE;
 use cqf_units::Name;
 use std::alloc::{AllocError, Global};
+use std::collections::BTreeMap;
 use toml::Value;
 
 /// In which cycles a stream is offered: in one of `every`, the first of which is `phase`.
@@ -159,18 +161,6 @@ fn loop_of<'p>(path: &[&'p str]) -> Option<(&'p str, usize, usize)> {
     None
 }
 
-/// With how many nodes two paths begin alike.
-fn same_nodes(before: &[&str], path: &[&str]) -> usize {
-    path.iter().zip(before).take_while(|(a, b)| a == b).count()
-}
-
-/// The first node that two paths reach in two ways, behind what both begin with; `None` where they are apart there.
-fn meeting<'p>(before: &[&str], path: &[&'p str]) -> Option<&'p str> {
-    let same = same_nodes(before, path);
-    let (rest, other) = (path.get(same..)?, before.get(same..)?);
-    rest.iter().find(|name| other.contains(name)).copied()
-}
-
 /// Why a path makes no tree with one before it.
 #[derive(Clone, Copy, Debug)]
 enum Stray<'p> {
@@ -182,41 +172,90 @@ enum Stray<'p> {
     Meets(&'p str),
 }
 
-/// Why two good paths make no tree.
-fn stray_of<'p>(before: &[&'p str], path: &[&'p str]) -> Option<Stray<'p>> {
-    let (first, other) = (path.first()?, before.first()?);
-    if first != other {
-        return Some(Stray::Begins(first, other));
-    }
-    if before == path {
-        return Some(Stray::Same);
-    }
-    meeting(before, path).map(Stray::Meets)
+/// How a node is reached: from which node before it, and by which path first, from 0.
+#[derive(Clone, Copy, Debug)]
+struct Reached<'p> {
+    from: &'p str,
+    path: usize,
 }
 
-/// Whether two of the paths make no tree.
-fn are_no_tree(paths: &[Vec<&str>]) -> bool {
-    for (place, path) in paths.iter().enumerate() {
-        for before in paths.iter().take(place) {
-            if stray_of(before.as_slice(), path.as_slice()).is_some() {
-                return true;
+/// The tree of some good paths, so far as they make one.
+#[derive(Drop)]
+struct PathTree<'p> {
+    root: Option<&'p str>,
+    nodes: BTreeMap<&'p str, Reached<'p>>,
+}
+
+impl<'p> PathTree<'p> {
+    /// The tree of no path.
+    fn new(alloc: Global) -> PathTree<'p> {
+        PathTree {
+            root: None,
+            nodes: BTreeMap::new(alloc),
+        }
+    }
+
+    /// How many links it has.
+    fn hops(&self) -> usize {
+        self.nodes.len()
+    }
+
+    /// The first node of a path that is reached otherwise by an earlier one, and that one.
+    fn meeting(&self, path: &[&'p str]) -> Option<(Stray<'p>, usize)> {
+        let behind = path.iter().skip(1);
+        for (from, to) in path.iter().zip(behind) {
+            if let Some(reached) = self.nodes.get(*to) {
+                if reached.from != *from {
+                    return Some((Stray::Meets(*to), reached.path));
+                }
             }
         }
+        None
     }
-    false
+
+    /// Why a path makes no tree with those before it, and the first of them with which it makes none.
+    fn stray_of(&self, path: &[&'p str]) -> Option<(Stray<'p>, usize)> {
+        let (root, first, last) = (self.root?, path.first()?, path.last()?);
+        if root != *first {
+            return Some((Stray::Begins(*first, root), 0));
+        }
+        let met = self.meeting(path);
+        if met.is_some() {
+            return met;
+        }
+        let reached = self.nodes.get(*last)?;
+        Some((Stray::Same, reached.path))
+    }
+
+    /// Takes a path more, which makes a tree with those before it.
+    fn put(&mut self, number: usize, path: &[&'p str]) -> Result<(), AllocError> {
+        if self.root.is_none() {
+            self.root = path.first().copied();
+        }
+        let behind = path.iter().skip(1);
+        for (from, to) in path.iter().zip(behind) {
+            if !self.nodes.contains_key(*to) {
+                let reached = Reached {
+                    from: *from,
+                    path: number,
+                };
+                self.nodes.insert(*to, reached)?;
+            }
+        }
+        Ok(())
+    }
 }
 
-/// How many links the tree of some paths has: each adds those behind what it has in common with one before it.
-fn hops_of(paths: &[Vec<&str>]) -> usize {
-    let mut hops: usize = 0;
-    for (place, path) in paths.iter().enumerate() {
-        let mut same: usize = 1;
-        for before in paths.iter().take(place) {
-            same = same.max(same_nodes(before.as_slice(), path.as_slice()));
+/// How many links the tree of some good paths has; `None` where they make none.
+fn hops_of(alloc: Global, paths: &[Vec<&str>]) -> Result<Option<usize>, AllocError> {
+    let mut tree = PathTree::new(alloc);
+    for (number, path) in paths.iter().enumerate() {
+        if tree.stray_of(path.as_slice()).is_some() {
+            return Ok(None);
         }
-        hops = hops.saturating_add(path.len().saturating_sub(same));
+        tree.put(number, path.as_slice())?;
     }
-    hops
+    Ok(Some(tree.hops()))
 }
 
 /// Whether the paths are none, or one of them is broken.
@@ -247,7 +286,25 @@ impl WrittenPace {
 
 impl WrittenStream<'_> {
     /// Why the stream is refused for its own form.
-    pub(crate) fn form_fault(&self, network: &Network<'_>) -> Option<FormFault> {
+    pub(crate) fn form_fault(
+        &self,
+        alloc: Global,
+        network: &Network<'_>,
+    ) -> Result<Option<FormFault>, AllocError> {
+        let fault = self.plain_fault(network);
+        if fault.is_some() || !self.has_paths() {
+            return Ok(fault);
+        }
+        let most = network.limits.hops_within();
+        Ok(match hops_of(alloc, self.paths.as_slice())? {
+            None => Some(FormFault::NotATree),
+            Some(hops) if hops > most => Some(FormFault::TooManyHops),
+            Some(_) => None,
+        })
+    }
+
+    /// The same, but of what its paths come to together.
+    fn plain_fault(&self, network: &Network<'_>) -> Option<FormFault> {
         let paths = self.paths.as_slice();
         if Name::new(self.name.as_bytes()).is_none() {
             Some(FormFault::BadName)
@@ -266,10 +323,6 @@ impl WrittenStream<'_> {
             Some(FormFault::BrokenPath)
         } else if paths.iter().any(|path| loop_of(path.as_slice()).is_some()) {
             Some(FormFault::LoopingPath)
-        } else if are_no_tree(paths) {
-            Some(FormFault::NotATree)
-        } else if hops_of(paths) > network.limits.hops_within() {
-            Some(FormFault::TooManyHops)
         } else {
             None
         }
@@ -346,10 +399,12 @@ fn tell_unknown_nodes(
 
 /// What is wrong with a path, in words.
 fn broken_words(
-    alloc: Global,
+    given: &CommandInput<'_>,
     network: &Network<'_>,
     broken: WrongPath<'_>,
 ) -> Result<String, AllocError> {
+    let alloc = given.alloc;
+    let larger = given.larger(LARGE.nodes_within().saturating_sub(1) as u64)?;
     match broken {
         WrongPath::Empty => String::from_str(
             alloc,
@@ -364,7 +419,7 @@ fn broken_words(
         }
         WrongPath::TooLong => {
             let most = network.limits.nodes_within().saturating_sub(1);
-            format!(in alloc; "the path has more than {most} bridges")
+            format!(in alloc; "the path has more than {most} bridges{larger}")
         }
     }
 }
@@ -381,8 +436,11 @@ fn tell_broken_paths(
         return told.tell(format!(in given.alloc; "{place}: {label}: there is no path")?);
     }
     for path in &asked.paths {
-        if let Some(broken) = broken_of(network, path.as_slice()) {
-            let words = broken_words(given.alloc, network, broken)?;
+        let Some(broken) = broken_of(network, path.as_slice()) else {
+            continue;
+        };
+        if !told.is_counted() {
+            let words = broken_words(given, network, broken)?;
             told.tell(format!(in given.alloc; "{place}: {label}: {words}")?)?;
         }
     }
@@ -397,7 +455,10 @@ fn tell_loops(
 ) -> Result<(), AllocError> {
     let (place, label) = (asked.paths_place(), asked.item.counted(given.alloc)?);
     for path in &asked.paths {
-        if let Some((name, first, second)) = loop_of(path.as_slice()) {
+        let Some((name, first, second)) = loop_of(path.as_slice()) else {
+            continue;
+        };
+        if !told.is_counted() {
             told.tell(format!(in given.alloc;
                 "{place}: {label}: {name} is node {second} of the path, and stood before as node {first}"
             )?)?;
@@ -425,19 +486,22 @@ fn stray_words(
     }
 }
 
-/// Tells of each path of a stream that makes no tree with one before it.
+/// Tells of each path of a stream that makes no tree with those before it, with the first of these with which it makes none.
 fn tell_strays(
     given: &CommandInput<'_>,
     told: &mut ToldLines,
     asked: &WrittenStream<'_>,
 ) -> Result<(), AllocError> {
     let (place, label) = (asked.paths_place(), asked.item.counted(given.alloc)?);
+    let mut tree = PathTree::new(given.alloc);
     for (second, path) in asked.paths.iter().enumerate() {
-        for (first, before) in asked.paths.iter().take(second).enumerate() {
-            if let Some(stray) = stray_of(before.as_slice(), path.as_slice()) {
-                let words = stray_words(given.alloc, stray, first, second)?;
-                told.tell(format!(in given.alloc; "{place}: {label}: {words}")?)?;
-            }
+        let Some((stray, first)) = tree.stray_of(path.as_slice()) else {
+            tree.put(second, path.as_slice())?;
+            continue;
+        };
+        if !told.is_counted() {
+            let words = stray_words(given.alloc, stray, first, second)?;
+            told.tell(format!(in given.alloc; "{place}: {label}: {words}")?)?;
         }
     }
     Ok(())
@@ -450,11 +514,23 @@ fn tell_hops(
     asked: &WrittenStream<'_>,
 ) -> Result<(), AllocError> {
     let (place, label) = (asked.paths_place(), asked.item.counted(given.alloc)?);
-    let hops = Grouped(hops_of(asked.paths.as_slice()) as u64);
+    let hops = hops_of(given.alloc, asked.paths.as_slice())?.unwrap_or(0);
+    let hops = Grouped(hops as u64);
     let most = Grouped(given.limits.hops_within() as u64);
+    let larger = given.larger(LARGE.hops_within() as u64)?;
     told.tell(format!(in given.alloc;
-        "{place}: {label}: its paths have {hops} links together: a tree has at most {most}"
+        "{place}: {label}: its paths have {hops} links together: a tree has at most {most}{larger}"
     )?)
+}
+
+impl FormFault {
+    /// Whether one line tells of a stream with it.
+    fn is_one_line(self) -> bool {
+        matches!(
+            self,
+            FormFault::BadName | FormFault::BadOctets | FormFault::BadPace | FormFault::TooManyHops
+        )
+    }
 }
 
 /// Tells what is wrong with the form of a stream.
@@ -465,6 +541,9 @@ fn tell_form(
     asked: &WrittenStream<'_>,
     fault: FormFault,
 ) -> Result<(), AllocError> {
+    if fault.is_one_line() && told.is_counted() {
+        return Ok(());
+    }
     let label = asked.item.counted(given.alloc)?;
     match fault {
         FormFault::BadName => {
@@ -484,6 +563,55 @@ fn tell_form(
         FormFault::NotATree => tell_strays(given, told, asked),
         FormFault::TooManyHops => tell_hops(given, told, asked),
     }
+}
+
+/// The number of a stream's gate: its place from 1, where none is written.
+fn gate_of(item: &WrittenItem<'_>) -> u64 {
+    match item.get("x-gate") {
+        Some(value) => number_of(value),
+        None => item.number.saturating_add(1),
+    }
+}
+
+/// Tells of a stream with the gate of an earlier one.
+fn tell_gate_twice(
+    given: &CommandInput<'_>,
+    told: &mut ToldLines,
+    item: &WrittenItem<'_>,
+    first: &WrittenItem<'_>,
+) -> Result<(), AllocError> {
+    let (place, label) = (item.place_of("x-gate"), item.counted(given.alloc)?);
+    let (number, first, gate) = (
+        first.number.saturating_add(1),
+        first.place_of("x-gate"),
+        gate_of(item),
+    );
+    let own = if item.get("x-gate").is_some() {
+        "x-gate ="
+    } else {
+        "without x-gate its gate is"
+    };
+    told.tell(format!(in given.alloc;
+        "{place}: {label}: {own} {gate}: stream {number} at {first} has this gate already"
+    )?)
+}
+
+/// Tells of each stream with the gate of an earlier one.
+pub(crate) fn tell_gates_twice(
+    given: &CommandInput<'_>,
+    told: &mut ToldLines,
+) -> Result<(), AllocError> {
+    let mut firsts: BTreeMap<u64, WrittenItem<'_>> = BTreeMap::new(given.alloc);
+    for item in &given.plant.items(KeyOwner::Stream)? {
+        if let Some(first) = firsts.get(&gate_of(item)) {
+            if !told.is_counted() {
+                tell_gate_twice(given, told, item, first)?;
+            }
+        } else {
+            firsts.insert(gate_of(item), *item)?;
+        }
+    }
+    Ok(())
 }
 
 /// The fault of a stream's own form that a line names.
@@ -509,7 +637,7 @@ pub(crate) fn tell_form_faults(
 ) -> Result<(), AllocError> {
     let network = given.network()?;
     for asked in &streams_of(given)? {
-        if asked.form_fault(&network) == Some(fault) {
+        if asked.form_fault(given.alloc, &network)? == Some(fault) {
             tell_form(given, told, &network, asked, fault)?;
         }
     }

@@ -8,6 +8,8 @@ use crate::parts::InputPart;
 use crate::places::{Grouped, Place};
 use crate::told::ToldLines;
 use crate::words::shown;
+use cqf_model::LARGE;
+use cqf_program_files::begins_as_offers;
 use cqf_text::read_decimal;
 use cqf_units::Name;
 use std::alloc::{AllocError, Global};
@@ -111,7 +113,11 @@ impl InputTable {
 
     /// Its place among the parts behind the plant.
     fn place(self, command: &str, rest: &[InputPart<'_>]) -> usize {
-        let is_third = matches!(rest, [first, ..] if first.text.starts_with(b"at,"));
+        let is_third = match rest {
+            [only] if only.text.is_empty() => true,
+            [first, ..] => begins_as_offers(first.text),
+            [] => false,
+        };
         match self {
             InputTable::Offers if command == "line" || is_third => 0,
             InputTable::Arrivals | InputTable::Offers => 1,
@@ -381,7 +387,7 @@ fn tell_order(
     let mut before: u64 = 0;
     for record in records_of(given.alloc, part)?.iter().skip(1) {
         let instant = instant_of(record);
-        if instant < before {
+        if instant < before && !told.is_counted() {
             let (place, at, earlier) = (record.place, Grouped(instant), Grouped(before));
             told.tell(format!(in given.alloc;
                 "{place}: {at} ns stands behind {earlier} ns; sort -s -t, -k1,1n brings rows in order"
@@ -404,8 +410,8 @@ fn tell_count(
     };
     let rows = (records_of(given.alloc, part)?.len() as u64).saturating_sub(1);
     let most = Grouped(u64::from(given.limits.rows_within()));
-    let rows = Grouped(rows);
-    told.tell(format!(in given.alloc; "{place}: {rows} rows: a table has at most {most}")?)
+    let (rows, larger) = (Grouped(rows), given.larger(u64::from(LARGE.rows_within()))?);
+    told.tell(format!(in given.alloc; "{place}: {rows} rows: a table has at most {most}{larger}")?)
 }
 
 /// Tells why a table is refused.

@@ -1,12 +1,15 @@
 //! The lines of an explanation, gathered.
 ghost use Rattle.std.specs.Prelude.{◌≡◌, ◌++◌, ◌≤◌, OnOk, IfOk, length, map, string_bytes};
 ghost use Rattle.std.specs.List.{flat_map};
-ghost use Rattle.cqf_program_explanations.specs.Explanations.{IsExplanation, printable, told_line};
+ghost use Rattle.cqf_program_explanations.specs.Explanations.{AreToldLines, printable, told_line};
 
 use std::alloc::{AllocError, Global};
 
 /// How many lines are told; of more, how many they are.
 const MOST_TOLD: usize = 20;
+
+/// What each hexadecimal digit of a character's number counts.
+const HEX_PLACES: [u32; 6] = [1_048_576, 65_536, 4096, 256, 16, 1];
 
 /// The lines that were told so far.
 #[derive(Drop)]
@@ -17,11 +20,11 @@ pub(crate) struct ToldLines {
     ghost few: { length lines.items ≤ 20 },
 }
 
-/// A byte as it is told: a question mark stands for one that isn't printable.
+/// A byte as it is told: a question mark stands for one that isn't a printable one of ASCII.
 fn printable(byte: u8) -> u8
     ensures { result ≡ printable byte }
 {
-    if byte < b' ' || byte == 127 {
+    if byte < b' ' || 126 < byte {
         b'?'
     } else {
         byte
@@ -38,23 +41,63 @@ fn put_printable(text: &mut Vec<u8>, line: &[u8]) -> Result<(), AllocError>
     Ok(())
 }
 
-/// Puts a line behind a text: two blanks before it, a line feed behind it.
-fn put_line(text: &mut Vec<u8>, line: &str) -> Result<(), AllocError>
-    ensures { OnOk result (text.new.items ≡ text.old.items ++ told_line line.now) }
+/// Puts a line behind a text: its start before it, a line feed behind it.
+fn put_line(text: &mut Vec<u8>, start: &str, line: &str) -> Result<(), AllocError>
+    ensures { OnOk result (text.new.items ≡ text.old.items ++ told_line start.now line.now) }
 {
-    text.extend_from_slice(b"  ")?;
+    text.extend_from_slice(start.as_bytes())?;
     put_printable(text, line.as_bytes())?;
     text.push(b'\n')?;
     Ok(())
 }
 
-/// Lines as a text.
-fn text_of(alloc: Global, lines: &[String]) -> Result<Vec<u8>, AllocError>
-    ensures { IfOk result (λ text. text.items ≡ flat_map told_line (map string_bytes lines.now)) }
+/// Whether a character is a printable one of ASCII.
+fn is_printable(character: char) -> bool {
+    let code = u32::from(character);
+    (32..=126).contains(&code)
+}
+
+/// The last hexadecimal digit of a number.
+fn hex_digit(number: u32) -> char {
+    let digits = b"0123456789abcdef".as_slice();
+    let digit = digits.get((number % 16) as usize).copied();
+    char::from(digit.unwrap_or(b'0'))
+}
+
+/// Puts a character as `\u{..}`, with its number in hexadecimal digits.
+fn put_escaped(text: &mut String, character: char) -> Result<(), AllocError> {
+    let code = u32::from(character);
+    text.push_str("\\u{")?;
+    for place in &HEX_PLACES {
+        let above = code.checked_div(*place).unwrap_or(0);
+        if above > 0 || *place == 1 {
+            text.push(hex_digit(above))?;
+        }
+    }
+    text.push('}')?;
+    Ok(())
+}
+
+/// A line with each character escaped that isn't a printable one of ASCII.
+fn escaped(alloc: Global, line: &str) -> Result<String, AllocError> {
+    let mut text = String::new(alloc);
+    for character in line.chars() {
+        if is_printable(character) {
+            text.push(character)?;
+        } else {
+            put_escaped(&mut text, character)?;
+        }
+    }
+    Ok(text)
+}
+
+/// Lines as a text, each with its start.
+fn text_of(alloc: Global, start: &str, lines: &[String]) -> Result<Vec<u8>, AllocError>
+    ensures { IfOk result (λ text. text.items ≡ flat_map (told_line start.now) (map string_bytes lines.now)) }
 {
     let mut text = Vec::new(alloc);
     for line in lines {
-        put_line(&mut text, line.as_str())?;
+        put_line(&mut text, start, line.as_str())?;
     }
     Ok(text)
 }
@@ -69,6 +112,11 @@ impl ToldLines {
         }
     }
 
+    /// Whether no line was told.
+    pub(crate) fn is_empty(&self) -> bool {
+        self.lines.is_empty()
+    }
+
     /// Whether a line more is only counted: it is then, and needs no words.
     pub(crate) fn is_counted(&mut self) -> bool {
         if self.lines.len() < MOST_TOLD {
@@ -81,6 +129,7 @@ impl ToldLines {
     /// Takes one line more.
     pub(crate) fn tell(&mut self, line: String) -> Result<(), AllocError> {
         if self.lines.len() < MOST_TOLD {
+            let line = escaped(self.alloc, line.as_str())?;
             self.lines.push(line)?;
         } else {
             self.more = self.more.saturating_add(1);
@@ -88,17 +137,17 @@ impl ToldLines {
         Ok(())
     }
 
-    /// All lines, as a text; behind them how many more there are.
-    pub(crate) fn text(&self) -> Result<Vec<u8>, AllocError>
-        ensures { IfOk result (λ text. IsExplanation text.items) }
+    /// All lines, as a text, each with its start; behind them how many more there are.
+    pub(crate) fn text(&self, start: &str) -> Result<Vec<u8>, AllocError>
+        ensures { IfOk result (λ text. AreToldLines 21 start.now text.items) }
     {
-        let mut text = text_of(self.alloc, self.lines.as_slice())?;
+        let mut text = text_of(self.alloc, start, self.lines.as_slice())?;
         if self.more == 0 {
             return Ok(text);
         }
         let more = self.more;
         let line = format!(in self.alloc; "and {more} more")?;
-        put_line(&mut text, line.as_str())?;
+        put_line(&mut text, start, line.as_str())?;
         Ok(text)
     }
 }

@@ -1,10 +1,13 @@
 //! Texts that aren't TOML, keys that are missing, and values of another form.
 
-use crate::forms::{CYCLES_FORM, Form, NAME_FORM, fits, form_of, is_name, told_value, written};
+use crate::forms::{
+    CYCLES_FORM, Form, NAME_FORM, fits, form_of, form_of_gate, is_name, told_value, written,
+};
 use crate::given::CommandInput;
+use crate::hints::{is_open, plan_hint};
 use crate::outline::{Element, KeyLine, Outline};
 use crate::places::Place;
-use crate::plant::{FoundKey, KeyOwner, PlantFile, WrittenItem};
+use crate::plant::{KeyOwner, PlantFile, WrittenItem};
 use crate::sketch::{is_in_step, reads_sketch};
 use crate::told::ToldLines;
 use crate::words::{nearest, shown};
@@ -24,7 +27,7 @@ pub(crate) fn known_keys(kind: KeyOwner) -> &'static [&'static str] {
 /// Whose key it is that a part lacks or has in another form.
 fn kind_of(part: &str, key: &str) -> KeyOwner {
     if part == "domain" {
-        if matches!(key, "from" | "to" | "rate" | "delay" | "duplex") {
+        if LINK.contains(&key) {
             KeyOwner::Link
         } else {
             KeyOwner::Top
@@ -152,11 +155,14 @@ fn tell_misplaced(
     let mut found = false;
     for item in &given.plant.items(kind)? {
         if item.get(key).is_some() {
+            found = true;
+            if told.is_counted() {
+                continue;
+            }
             let (place, label) = (item.place_of(key), item.label(given.alloc)?);
             told.tell(format!(in given.alloc;
                 "{place}: {key} stands in {label}: keys of the plant stand before the first [[..]]"
             )?)?;
-            found = true;
         }
     }
     Ok(found)
@@ -169,11 +175,14 @@ fn tell_near_top(
     key: &str,
 ) -> Result<bool, AllocError> {
     let mut found = false;
-    for file in &given.plant.files {
+    for file in given.plant.files_of(key) {
         for line in &file.outline.top {
             let written = shown(given.alloc, line.key)?;
             let is_known = TOP.contains(&written.as_str());
             if !is_known && nearest(given.alloc, written.as_str(), &[key])?.is_some() {
+                if told.is_counted() {
+                    continue;
+                }
                 let place = file.at(Some(line.line));
                 told.tell(format!(in given.alloc; "{place}: {written}: did you mean {key}?")?)?;
                 found = true;
@@ -199,7 +208,7 @@ fn tell_missing_top(
         Some((_, words)) => words,
         None => "",
     };
-    if let Some(file) = given.plant.files.first() {
+    if let Some(file) = given.plant.files_of(key).first() {
         let place = file.at(None);
         told.tell(format!(in given.alloc; "{place}: no {key} at the top: {words}")?)?;
     }
@@ -231,6 +240,15 @@ fn lacks(item: &WrittenItem<'_>, key: &str) -> bool {
         && !(key == "path" && item.get("paths").is_some())
 }
 
+/// What is said of a stream that lacks a key, where `plan` chooses what stands there.
+fn hint_of_missing(given: &CommandInput<'_>, key: &str) -> Result<String, AllocError> {
+    if matches!(key, "path" | "octets") && is_open(given)? {
+        plan_hint(given)
+    } else {
+        Ok(String::new(given.alloc))
+    }
+}
+
 /// Tells of each link or stream that lacks a key.
 fn tell_missing_within(
     given: &CommandInput<'_>,
@@ -244,7 +262,7 @@ fn tell_missing_within(
         key
     };
     for item in &given.plant.items(kind)? {
-        if !lacks(item, key) {
+        if !lacks(item, key) || told.is_counted() {
             continue;
         }
         let label = item.label(given.alloc)?;
@@ -254,8 +272,8 @@ fn tell_missing_within(
                 format!(in given.alloc; "{place}: {label}: {near}: did you mean {key}?")?
             }
             None => {
-                let place = item.place();
-                format!(in given.alloc; "{place}: {label} has no {owed}")?
+                let (place, hint) = (item.place(), hint_of_missing(given, key)?);
+                format!(in given.alloc; "{place}: {label} has no {owed}{hint}")?
             }
         };
         told.tell(line)?;
@@ -285,8 +303,11 @@ fn form_at_top(given: &CommandInput<'_>, key: &str) -> Option<(Form, &'static st
     }
 }
 
-/// The question whether a cycle time is meant in microseconds.
+/// What is said of several cycle times, or the question whether one is meant in microseconds.
 fn unit_question(given: &CommandInput<'_>, key: &str, value: &Value) -> Result<String, AllocError> {
+    if key == "cycle" && value.is_array() {
+        return plan_hint(given);
+    }
     match value.as_integer() {
         Some(number) if key == "cycle" && (10..=10_000).contains(&number) => {
             format!(in given.alloc; "; is {number} meant as microseconds?")
@@ -304,7 +325,7 @@ fn tell_bad_top(
     let Some((form, words)) = form_at_top(given, key) else {
         return Ok(());
     };
-    for file in &given.plant.files {
+    for file in given.plant.files_of(key) {
         let Some(found) = file.found(key) else {
             continue;
         };
@@ -327,9 +348,8 @@ fn tell_bad_names(
 ) -> Result<(), AllocError> {
     let names = given.plant.names(key)?;
     for name in &names {
-        if !is_name(name.value) {
+        if !is_name(name.value) && !told.is_counted() {
             let (place, value) = (name.place, told_value(given.alloc, name.value)?);
-
             told.tell(format!(in given.alloc; "{place}: {key}: {value}: {NAME_FORM}")?)?;
         }
     }
@@ -356,7 +376,7 @@ fn tell_bad_tables(
         KeyOwner::Stream
     };
     for item in &given.plant.items(kind)? {
-        if !item.value.is_table() {
+        if !item.value.is_table() && !told.is_counted() {
             let (place, label) = (item.place(), item.label(given.alloc)?);
             let value = told_value(given.alloc, item.value)?;
             told.tell(format!(in given.alloc;
@@ -367,21 +387,34 @@ fn tell_bad_tables(
     Ok(())
 }
 
+/// The form of a value of a link or a stream, within the limits of the plant.
+fn form_within(
+    given: &CommandInput<'_>,
+    kind: KeyOwner,
+    key: &str,
+) -> Option<(Form, &'static str)> {
+    if kind == KeyOwner::Stream && key == "x-gate" {
+        Some(form_of_gate(given.limits))
+    } else {
+        form_of(kind, key)
+    }
+}
+
 /// What is wrong with the value at a key of a link or a stream, where it has another form than it must have.
-fn bad_form<'p>(item: &WrittenItem<'p>, key: &str) -> Option<(FoundKey<'p>, &'static str)> {
-    let found = item.found(key)?;
-    let (form, words) = form_of(item.kind, key)?;
+fn bad_form(given: &CommandInput<'_>, item: &WrittenItem<'_>, key: &str) -> Option<&'static str> {
+    let value = item.get(key)?;
+    let (form, words) = form_within(given, item.kind, key)?;
     let has_path = item.get("path").is_some() || item.get("paths").is_some();
     if key == "paths" && item.get("path").is_some() {
-        Some((found, "give path or paths, not both"))
-    } else if matches!(key, "from" | "to") && has_path {
-        Some((found, "give a path, or from and to, not both"))
+        Some("give path or paths, not both")
+    } else if item.kind == KeyOwner::Stream && matches!(key, "from" | "to") && has_path {
+        Some("give a path, or from and to, not both")
     } else if matches!(key, "every" | "phase") && is_in_step(item) {
-        Some((found, "give every and phase, or in-step, not both"))
-    } else if fits(form, found.value) {
+        Some("give every and phase, or in-step, not both")
+    } else if fits(form, value) {
         None
     } else {
-        Some((found, words))
+        Some(words)
     }
 }
 
@@ -393,7 +426,13 @@ fn tell_bad_within(
     key: &str,
 ) -> Result<(), AllocError> {
     for item in &given.plant.items(kind)? {
-        if let Some((found, words)) = bad_form(item, key) {
+        let Some(words) = bad_form(given, item, key) else {
+            continue;
+        };
+        if told.is_counted() {
+            continue;
+        }
+        if let Some(found) = item.found(key) {
             let (place, label): (Place<'_>, String) = (found.place, item.label(given.alloc)?);
             let written = written(given.alloc, &found)?;
             told.tell(format!(in given.alloc; "{place}: {label}: {key} = {written}: {words}")?)?;

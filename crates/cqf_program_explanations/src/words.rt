@@ -31,7 +31,9 @@ pub(crate) fn shown(alloc: Global, bytes: &[u8]) -> Result<String, AllocError> {
 
 /// Whether the lengths of two words don't rule out that one is meant by the other.
 fn may_be_near(word: &str, other: &str) -> bool {
-    word.len().abs_diff(other.len()) <= 4 * FARTHEST && word.len() <= MOST_SHOWN
+    let is_ascii = word.is_ascii() && other.is_ascii();
+    let most = if is_ascii { FARTHEST } else { 4 * FARTHEST };
+    word.len().abs_diff(other.len()) <= most && word.len() <= MOST_SHOWN
 }
 
 /// The first of the words that are nearest to a word, no farther than two edits and fewer than either is long.

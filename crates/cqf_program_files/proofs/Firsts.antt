@@ -4,7 +4,7 @@ use Rattle.std.proofs.lemmas.Bool.{false≢true}
 use Rattle.std.proofs.lemmas.List.{drop-map, drop_all, drop_more, length-drop, take_all}
 use Rattle.std.specs.Option.{option_or}
 use Rattle.cqf_press.specs.declared.stops.Stop.{Stop}
-use Rattle.cqf_program_files.specs.Plants.{EndsPlant, EndsTogether, IsCheckedPlant, IsPlantText, are_several, first_strange_among, joint_refusal, leading}
+use Rattle.cqf_program_files.specs.Plants.{EndsPlant, EndsTogether, IsCheckedPlant, IsPlantText, are_several, first_refusal, first_strange_among, joint_refusal, leading}
 use Rattle.cqf_program_files.specs.Plants.{strange_in, tables_of, texts_refusal, toml_text, toml_texts}
 
 -- what is found here is what is found first
@@ -35,18 +35,20 @@ pub strange_at : {A : Type 0} (g : A → List ℕ) (texts : List A) (i : ℕ) (t
 strange_at g texts i text inside = rw (drop_more texts i text inside) refl
 
 -- several files that are one plant
-pub plant_is_good : (names texts : List (List ℕ)) (text : List ℕ) → texts_refusal (toml_texts names texts) ≡ None → are_several names ≡ true
+pub plant_is_good : (names texts : List (List ℕ)) (text : List ℕ) → texts_refusal (toml_texts names texts) ≡ None → first_refusal names texts ≡ None
+    → are_several names ≡ true
     → joint_refusal (tables_of (take (leading names) texts)) ≡ None → IsPlantText (take (leading names) texts) text → IsCheckedPlant names texts (Some text)
-plant_is_good names texts text alone several together is = record { sound = rw (alone, several, together) refl; text = rw several is }
+plant_is_good names texts text alone first several together is = record { sound = rw (alone, first, several, together) refl; text = rw several is }
 
 -- and where they aren't
-pub plant_ends : (names texts : List (List ℕ)) (stop : Stop) → texts_refusal (toml_texts names texts) ≡ None → are_several names ≡ true
+pub plant_ends : (names texts : List (List ℕ)) (stop : Stop) → texts_refusal (toml_texts names texts) ≡ None → first_refusal names texts ≡ None
+    → are_several names ≡ true
     → EndsTogether (take (leading names) texts) stop → EndsPlant names texts stop
-plant_ends names texts stop alone several ends = record {
+plant_ends names texts stop alone first several ends = record {
   statuses = ends.statuses;
   line = λ refused. elim (ends.line refused) [
-    | inl told ↦ inl (rw (alone, several) told)
-    | inr unwritable ↦ inr (rw (alone, several) unwritable.0, several, unwritable.1)
+    | inl told ↦ inl (rw (alone, first, several) told)
+    | inr unwritable ↦ inr (rw (alone, first, several) unwritable.0, several, unwritable.1)
   ];
   memory = ends.memory;
 }

@@ -1,6 +1,7 @@
 -- What the texts of files come to for a job: the input that the program reads (profile).
-use Rattle.std.specs.Prelude.{ℕ, ◌≡◌, ◌-◌, ◌&&◌, Bool, true, false, not, List, [], ◌∷◌, Option, Some, None, Vec, bytes_eq, codes, drop, if◌then◌else◌, option_and_then, option_map, take}
+use Rattle.std.specs.Prelude.{ℕ, ◌≡◌, ◌⊎◌, ◌==◌, ◌-◌, ◌&&◌, ◌||◌, Bool, true, false, nat_eq, nat_le, not, List, [], ◌∷◌, Option, Some, None, Vec, codes, drop, if◌then◌else◌, is_some, length, option_and_then, option_map}
 use Rattle.std.specs.declared.alloc.Global.{Global}
+use Rattle.cqf_press.specs.Stops.{fault_line}
 use Rattle.cqf_press.specs.declared.stops.Stop.{Stop}
 use Rattle.cqf_program_words.specs.declared.words.Job.{Job}
 use Rattle.cqf_program_words.specs.declared.words.Job.TheVariants as job
@@ -20,9 +21,26 @@ cycles_of (job.Summary cycles) = Some cycles
 cycles_of (job.Hops cycles stream frame) = Some cycles
 cycles_of other = None
 
--- a text begins as a table of offers does
+-- what divides the fields of a table, also where it is written by another program: a comma, a semicolon, or where these count a tab
+abbrev pub is_between : Bool → ℕ → Bool
+is_between tabs octet = octet == 44 || (octet == 59 || (tabs && octet == 9))
+
+-- it stands in the first line of a text, and no blank before it
+abbrev pub has_fields : Bool → List ℕ → Bool
+has_fields tabs [] = false
+has_fields tabs (octet ∷ more) = if is_between tabs octet then true else (if octet == 32 || octet == 10 then false else has_fields tabs more)
+
+-- what only a line of a file of calls begins with: `#` or `@`; and a digit, with which a row begins too
+abbrev pub is_mark : ℕ → Bool
+is_mark octet = octet == 35 || octet == 64
+
+abbrev pub is_digit : ℕ → Bool
+is_digit octet = nat_le 48 octet && nat_le octet 57
+
+-- a text begins as a table of offers does, or as another that is meant so: its first line has fields, and isn't one of a file of calls
 abbrev pub begins_as_offers : List ℕ → Bool
-begins_as_offers text = bytes_eq (take 3 text) (codes "at,")
+begins_as_offers [] = false
+begins_as_offers (first ∷ more) = not (is_mark first) && has_fields (not (is_digit first)) (first ∷ more)
 
 -- the file of calls, where there is one: it stands right behind a plant, no line divides it, and it isn't a table of offers
 abbrev pub called_script : Job → List (List ℕ) → List ℕ → List ℕ → ℕ → Option (List (ℕ × List ℕ))
@@ -61,6 +79,17 @@ IsGatheredWith it names texts (Some plant) front = IsGathered it (joint_names na
 IsGatheredWith it names (first ∷ rest) None front = IsGathered it names first rest front
 IsGatheredWith it names [] None front = front.input.items ≡ []
 
+-- an empty text right behind a plant, with none behind it, of a job that reads a script: it is one of offers, and lacks their header
+abbrev pub lacks_header : Job → List (List ℕ) → List ℕ → List (List ℕ) → Bool
+lacks_header it names first (second ∷ []) = is_some (cycles_of it) && (nat_eq (length second) 0 && is_plant it names first)
+lacks_header it names first rest = false
+
+-- of texts whose first are those of one plant with this text, if any
+abbrev pub is_headless : Job → List (List ℕ) → List (List ℕ) → Option (List ℕ) → Bool
+is_headless it names texts (Some plant) = lacks_header it (joint_names names) plant (drop (leading names) texts)
+is_headless it names (first ∷ rest) None = lacks_header it names first rest
+is_headless it names [] None = false
+
 -- the files of a job that takes a domain are checked, and several that are one plant have its text; those of another job aren't looked at
 abbrev pub IsJointFor : Bool → List (List ℕ) → List (List ℕ) → Option (List ℕ) → Type 0
 IsJointFor true names texts plant = IsCheckedPlant names texts plant
@@ -70,9 +99,25 @@ IsJointFor false names texts plant = plant ≡ None
 pub record IsFrontOf (it : Job) (names texts : List (List ℕ)) (front : Front) : Type 0 where
   pub plant : Option (List ℕ)
   pub is_joint : IsJointFor (takes_domain it) names texts plant
+  pub headed : is_headless it names texts plant ≡ false
   pub gathered : IsGatheredWith it names texts plant front
 
--- how it ends where they are refused: only those of a job that takes a domain are, and else there was no memory
-abbrev pub EndsFront : Bool → List (List ℕ) → List (List ℕ) → Stop → Type 0
-EndsFront true names texts stop = EndsPlant names texts stop
-EndsFront false names texts stop = EndsFor (λ line. ⊥) stop
+-- how it ends where a plant's files are refused: only those of a job that takes a domain are, and else there was no memory
+abbrev pub EndsJoint : Bool → List (List ℕ) → List (List ℕ) → Stop → Type 0
+EndsJoint true names texts stop = EndsPlant names texts stop
+EndsJoint false names texts stop = EndsFor (λ line. ⊥) stop
+
+-- and where they are good, but the offers lack their header
+abbrev pub headless_line : List ℕ
+headless_line = fault_line (codes "offers") (codes "BadHeader")
+
+abbrev pub EndsHeader : Job → List (List ℕ) → List (List ℕ) → Option (List ℕ) → Stop → Type 0
+EndsHeader it names texts plant = EndsFor (λ line. (is_headless it names texts plant ≡ true) × (line ≡ headless_line))
+
+pub record EndsHeadless (it : Job) (names texts : List (List ℕ)) (stop : Stop) : Type 0 where
+  pub plant : Option (List ℕ)
+  pub is_joint : IsJointFor (takes_domain it) names texts plant
+  pub ends : EndsHeader it names texts plant stop
+
+abbrev pub EndsFront : Job → List (List ℕ) → List (List ℕ) → Stop → Type 0
+EndsFront it names texts stop = EndsJoint (takes_domain it) names texts stop ⊎ EndsHeadless it names texts stop

@@ -1,5 +1,5 @@
--- The lines of a TOML file that are too long to be parsed (profile): parsing costs by the square of a name's length, and much memory a dot.
-use Rattle.std.specs.Prelude.{ℕ, ◌==◌, ◌||◌, ◌+◌, Bool, true, false, List, [], ◌∷◌, Option, Some, None, fold, if◌then◌else◌, length, nat_lt}
+-- The lines of a plant that are too long to be parsed (profile): parsing costs by the square of a name's length, and much memory a dot.
+use Rattle.std.specs.Prelude.{ℕ, ◌==◌, ◌&&◌, ◌||◌, ◌+◌, Bool, true, false, List, [], ◌∷◌, Option, Some, None, fold, if◌then◌else◌, length, nat_le, nat_lt}
 use Rattle.cqf_text.specs.Lines.{lines_of}
 use Rattle.cqf_program_files.specs.declared.lines.Seen.{Seen}
 
@@ -8,22 +8,29 @@ abbrev pub most_octets : ℕ
 most_octets = 4096
 
 abbrev pub most_dots : ℕ
-most_dots = 15
+most_dots = 3
 
 -- nothing was seen of a line yet
 abbrev pub none_seen : Seen
 none_seen = record { quote = None; comment = false; dots = 0; long = false }
 
--- a quote of either kind, and what stands between keys and values
+-- a quote of either kind, what stands between keys and values, and behind which of that a key is over
 abbrev pub is_quote : ℕ → Bool
 is_quote octet = octet == 34 || octet == 39
 
 abbrev pub is_divider : ℕ → Bool
 is_divider octet = octet == 61 || (octet == 44 || (octet == 123 || (octet == 125 || (octet == 91 || octet == 93))))
 
--- one dot more
+abbrev pub ends_key : ℕ → Bool
+ends_key octet = octet == 61 || octet == 93
+
+-- one dot more: more than are too many aren't counted
 abbrev pub with_dot : Seen → Seen
-with_dot seen = if nat_lt seen.dots most_dots then record seen { dots = seen.dots + 1 } else record seen { long = true }
+with_dot seen = if nat_le seen.dots most_dots then record seen { dots = seen.dots + 1 } else seen
+
+-- a divider: a key that is over may have had too many dots
+abbrev pub with_divider : Seen → ℕ → Seen
+with_divider seen octet = if ends_key octet && nat_lt most_dots seen.dots then record seen { long = true } else record seen { dots = 0 }
 
 -- an octet behind what was seen, where no quote is open and no comment has begun
 abbrev pub with_open : Seen → ℕ → Seen
@@ -31,7 +38,7 @@ with_open seen octet =
     if is_quote octet then record seen { quote = Some octet }
     else (if octet == 35 then record seen { comment = true }
     else (if octet == 46 then with_dot seen
-    else (if is_divider octet then record seen { dots = 0 } else seen)))
+    else (if is_divider octet then with_divider seen octet else seen)))
 
 -- and within a quote, which ends where it stands once more
 abbrev pub with_quoted : Seen → ℕ → ℕ → Seen
@@ -48,15 +55,15 @@ with_octet seen octet = if seen.comment then seen else by_quote seen octet seen.
 abbrev pub seen_of : List ℕ → Seen
 seen_of line = fold with_octet none_seen line
 
--- a line has more octets, or more parts in a row, than are parsed
-abbrev pub is_too_long : List ℕ → Bool
-is_too_long line = nat_lt most_octets (length line) || (seen_of line).long
+-- a line has more parts in a row than are parsed, or where octets count, more of these
+abbrev pub is_too_long : Bool → List ℕ → Bool
+is_too_long counts line = (counts && nat_lt most_octets (length line)) || (seen_of line).long
 
 -- the number of the first of some lines that is, where the first of them has this number
-abbrev pub first_long_from : ℕ → List (List ℕ) → Option ℕ
-first_long_from number [] = None
-first_long_from number (line ∷ lines) = if is_too_long line then Some number else first_long_from (number + 1) lines
+abbrev pub first_long_from : Bool → ℕ → List (List ℕ) → Option ℕ
+first_long_from counts number [] = None
+first_long_from counts number (line ∷ lines) = if is_too_long counts line then Some number else first_long_from counts (number + 1) lines
 
 -- of a text, from 1
-abbrev pub first_long_line : List ℕ → Option ℕ
-first_long_line text = first_long_from 1 (lines_of text)
+abbrev pub first_long_line : Bool → List ℕ → Option ℕ
+first_long_line counts text = first_long_from counts 1 (lines_of text)

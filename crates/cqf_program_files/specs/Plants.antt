@@ -1,6 +1,6 @@
 -- Files that are one plant, and why they are refused (profile).
 use Rattle.std.specs.Prelude.{ℕ, ◌≡◌, ◌⊎◌, ◌+◌, ◌++◌, ◌≤◌, ◌&&◌, Bool, true, false, List, [], ◌∷◌, Option, Some, None, codes, count_by, decimal, find, fold}
-use Rattle.std.specs.Prelude.{if◌then◌else◌, is_some, length, map, nat_le, nat_lt, option_and_then, option_map, string_bytes, take}
+use Rattle.std.specs.Prelude.{if◌then◌else◌, is_some, length, map, nat_le, nat_lt, not, option_and_then, option_map, string_bytes, take}
 use Rattle.std.specs.Ordering.{match_ordering, nat_cmp}
 use Rattle.std.specs.Cmp.Lexicographic.{slice_cmp}
 use Rattle.std.specs.Option.{option_or}
@@ -10,7 +10,7 @@ use Rattle.toml.specs.Parse.{parse_document}
 use Rattle.toml.specs.Text.{IsDocumentText}
 use Rattle.cqf_press.specs.Stops.{fault_line}
 use Rattle.cqf_press.specs.declared.stops.Stop.{Stop}
-use Rattle.cqf_program_words.specs.Composing.{is_toml}
+use Rattle.cqf_program_words.specs.Composing.{is_toml, is_undivided}
 use Rattle.cqf_program_files.specs.declared.faults.PlantFault.{PlantFault}
 use Rattle.cqf_program_files.specs.declared.faults.PlantFault.TheVariants as fault
 use Rattle.cqf_program_files.specs.Keys.{strange_key, top_keys}
@@ -115,7 +115,7 @@ toml_texts (name ∷ names) (text ∷ texts) = toml_text name text ++ toml_texts
 -- the number of the first line that is too long of the first of some texts that has one
 abbrev pub first_long_among : List (List ℕ) → Option ℕ
 first_long_among [] = None
-first_long_among (text ∷ texts) = option_or (first_long_line text) (first_long_among texts)
+first_long_among (text ∷ texts) = option_or (first_long_line true text) (first_long_among texts)
 
 -- the first key that is neither known nor the user's own of the first of some texts that has one and is TOML
 abbrev pub strange_in : List ℕ → Option (List ℕ)
@@ -141,10 +141,12 @@ plant_fault_text (fault.UnknownKey key) = unknown_text (string_bytes key)
 plant_fault_text fault.NotToml = codes "NotToml"
 plant_fault_text fault.StreamsTwice = codes "StreamsTwice"
 plant_fault_text (fault.KeyTwice key) = twice_text key.now
+plant_fault_text fault.NoHeader = codes "BadHeader"
 
--- the part of the input that a fault is told of: a text that isn't TOML is the domain's
+-- the part of the input that a fault is told of: a text that isn't TOML is the domain's, and one that lacks its header the offers'
 abbrev pub part_of_fault : PlantFault → List ℕ
 part_of_fault fault.NotToml = codes "domain"
+part_of_fault fault.NoHeader = codes "offers"
 part_of_fault other = codes "plant"
 
 abbrev pub plant_fault_line : PlantFault → List ℕ
@@ -158,6 +160,19 @@ abbrev pub texts_refusal : List (List ℕ) → Option (List ℕ)
 texts_refusal texts =
     option_or (option_map (λ line. plant_line (long_text line)) (first_long_among texts))
     (option_map (λ key. plant_line (unknown_text (shown_key key))) (first_strange_among texts))
+
+-- a first text is one of a domain or a plant by itself, though it isn't named so: no line divides it. The octets of its lines don't count
+abbrev pub is_plain : List ℕ → List ℕ → Bool
+is_plain name text = not (is_toml name) && is_undivided text
+
+abbrev pub plain_fault : List ℕ → Option (List ℕ)
+plain_fault text =
+    option_or (option_map (λ line. plant_line (long_text line)) (first_long_line false text))
+    (option_map (λ key. plant_line (unknown_text (shown_key key))) (strange_in text))
+
+abbrev pub first_refusal : List (List ℕ) → List (List ℕ) → Option (List ℕ)
+first_refusal (name ∷ names) (text ∷ texts) = if is_plain name text then plain_fault text else None
+first_refusal names texts = None
 
 -- and of several that are one plant: one isn't TOML, streams stand twice, or a key does
 abbrev pub not_toml_line : List ℕ
@@ -176,7 +191,7 @@ abbrev pub several_refusal : List (List ℕ) → List (List ℕ) → Option (Lis
 several_refusal names texts = if are_several names then joint_refusal (tables_of (take (leading names) texts)) else None
 
 abbrev pub plant_refusal : List (List ℕ) → List (List ℕ) → Option (List ℕ)
-plant_refusal names texts = option_or (texts_refusal (toml_texts names texts)) (several_refusal names texts)
+plant_refusal names texts = option_or (texts_refusal (toml_texts names texts)) (option_or (first_refusal names texts) (several_refusal names texts))
 
 -- a text writes a table, and reads back as it where it nests no deeper than is read
 pub record IsTextOf (table : Members) (text : List ℕ) : Type 0 where

@@ -4,7 +4,8 @@ ghost use Rattle.toml.specs.View.{table_view};
 ghost use Rattle.cqf_press.specs.Stops.{EndsWith};
 ghost use Rattle.cqf_program_files.specs.Keys.{strange_key};
 ghost use Rattle.cqf_program_files.specs.Plants.{EndsBy, EndsPlant, EndsTogether, EndsUnwritten, IsCheckedPlant, IsPlantText, IsTextOf};
-ghost use Rattle.cqf_program_files.specs.Plants.{first_long_among, first_strange_among, joint_refusal, most_shown, plant_fault_line};
+ghost use Rattle.cqf_program_files.specs.Plants.{first_long_among, first_refusal, first_strange_among, is_plain, joint_refusal, most_shown};
+ghost use Rattle.cqf_program_files.specs.Plants.{plain_fault, plant_fault_line};
 ghost use Rattle.cqf_program_files.specs.Plants.{shown_key, shown_octet, strange_in, table_of, tables_of, tables_refusal, texts_refusal, toml_text, toml_texts};
 
 use crate::faults::PlantFault;
@@ -12,7 +13,7 @@ use crate::keys::strange_key;
 use crate::lines::first_long_line;
 use crate::plants::{are_several, key_twice, leading, plant_of, streams_twice};
 use cqf_press::Stop;
-use cqf_program_words::is_toml;
+use cqf_program_words::{is_toml, is_undivided};
 use cqf_units::Memory;
 use std::alloc::{AllocError, Global};
 use toml::Table;
@@ -126,7 +127,7 @@ fn first_long_among(texts: &[&[u8]]) -> Option<u64>
     ensures { result ≡ first_long_among (map (λ text. text.now) texts.now) }
 {
     for text in texts {
-        let line = first_long_line(text);
+        let line = first_long_line(true, text);
         if line.is_some() {
             return line;
         }
@@ -173,6 +174,49 @@ fn texts_refusal(alloc: Global, texts: &[&[u8]]) -> Result<Option<PlantFault>, M
     }
 }
 
+/// The fault of one text by itself, of whose lines the octets don't count, where there is one. The error is want of memory.
+fn plain_fault(alloc: Global, text: &[u8]) -> Result<Option<PlantFault>, Memory>
+    ensures { IfOk result (λ found. option_map plant_fault_line found ≡ plain_fault text.now) }
+{
+    if let Some(line) = first_long_line(false, text) {
+        return Ok(Some(PlantFault::LineTooLong(line)));
+    }
+    match strange_in(alloc, text)? {
+        Some(key) => Ok(Some(PlantFault::UnknownKey(key))),
+        None => Ok(None),
+    }
+}
+
+/// Whether a first text is one of a domain or a plant by itself that isn't named so: no line divides it. The error is want of memory.
+fn is_plain(alloc: Global, name: &str, text: &[u8]) -> Result<bool, Memory>
+    ensures { IfOk result (λ plain. plain ≡ is_plain name.now text.now) }
+{
+    if is_toml(name) {
+        return Ok(false);
+    }
+    is_undivided(alloc, text)
+}
+
+/// The fault of the first text by itself, where it is such a one, and has one. The error is want of memory.
+fn first_refusal(
+    alloc: Global,
+    names: &[&str],
+    texts: &[&[u8]],
+) -> Result<Option<PlantFault>, Memory>
+    ensures { IfOk result (λ found. option_map plant_fault_line found
+        ≡ first_refusal (map (λ name. name.now) names.now) (map (λ text. text.now) texts.now)) }
+{
+    match (names, texts) {
+        ([name, ..], [text, ..]) => {
+            if !is_plain(alloc, name, text)? {
+                return Ok(None);
+            }
+            plain_fault(alloc, text)
+        }
+        _ => Ok(None),
+    }
+}
+
 /// The fault of several tables that are one plant, where there is one.
 fn tables_refusal(tables: &[Table]) -> Option<PlantFault>
     ensures { option_map plant_fault_line result ≡ tables_refusal (map table_view tables.now) }
@@ -187,11 +231,12 @@ fn tables_refusal(tables: &[Table]) -> Option<PlantFault>
 }
 
 /// The end where a plant's files are refused: status 1 and the fault's line, or want of memory for it.
-fn stop_of(alloc: Global, fault: &PlantFault) -> Stop
+pub(crate) fn stop_of(alloc: Global, fault: &PlantFault) -> Stop
     ensures { EndsWith 1 (plant_fault_line fault.now) result }
 {
     match fault {
         PlantFault::NotToml => Stop::refused(alloc, "domain", fault),
+        PlantFault::NoHeader => Stop::refused(alloc, "offers", fault),
         _ => Stop::refused(alloc, "plant", fault),
     }
 }
@@ -244,6 +289,18 @@ fn check_texts(alloc: Global, names: &[&str], texts: &[&[u8]]) -> Result<(), Sto
     }
 }
 
+/// Looks at the first text by itself. `Err` where it is refused, and for want of memory.
+fn check_first(alloc: Global, names: &[&str], texts: &[&[u8]]) -> Result<(), Stop>
+    ensures ok { OnOk result (first_refusal (map (λ name. name.now) names.now) (map (λ text. text.now) texts.now) ≡ None) }
+    ensures err { IfErr result (EndsBy (first_refusal (map (λ name. name.now) names.now) (map (λ text. text.now) texts.now))) }
+{
+    match first_refusal(alloc, names, texts) {
+        Ok(None) => Ok(()),
+        Ok(Some(fault)) => Err(stop_of(alloc, &fault)),
+        Err(_) => Err(Stop::memory(alloc)),
+    }
+}
+
 /// Checks the files of a plant: the text of their one plant, where the first of them are 2 to 16 TOML files. `Err` with status 1 and the
 /// line of the first fault, and with status 3 for want of memory.
 pub(crate) fn check_plant(
@@ -256,6 +313,7 @@ pub(crate) fn check_plant(
     ensures err { IfErr result (EndsPlant (map (λ name. name.now) names.now) (map (λ text. text.now) texts.now)) }
 {
     check_texts(alloc, names, texts)?;
+    check_first(alloc, names, texts)?;
     if !are_several(names) {
         return Ok(None);
     }

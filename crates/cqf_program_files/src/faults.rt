@@ -9,9 +9,9 @@ use thiserror::Error;
 /// Why the files of a plant are refused (profile). A fault prints as its name, and then its value.
 #[derive(Debug, Drop, Error)]
 pub enum PlantFault {
-    /// The first line, from 1, of the first TOML file that has one, of more than 4,096 octets or with a key of more than 16 parts.
+    /// The first line, from 1, of the first file that has one, with a key of more than 4 parts, or in a TOML file of more than 4,096 octets.
     LineTooLong(u64),
-    /// The first key of the first TOML file that has one that no command knows, as a line shows it.
+    /// The first key of the first file that has one that no command knows, as a line shows it.
     UnknownKey(String),
     /// One of several files isn't TOML.
     NotToml,
@@ -19,6 +19,8 @@ pub enum PlantFault {
     StreamsTwice,
     /// The first key that may stand once and stands in two of several files.
     KeyTwice(&'static str),
+    /// The only file behind a plant is empty, where offers may stand.
+    NoHeader,
 }
 
 impl fmt::Display for PlantFault {
@@ -31,6 +33,7 @@ impl fmt::Display for PlantFault {
             PlantFault::NotToml => f.write_str("NotToml"),
             PlantFault::StreamsTwice => f.write_str("StreamsTwice"),
             PlantFault::KeyTwice(key) => write!(f, "KeyTwice {key}"),
+            PlantFault::NoHeader => f.write_str("BadHeader"),
         }
     }
 }

@@ -1,12 +1,14 @@
 //! What the texts of files come to.
-ghost use Rattle.std.specs.Prelude.{◌≡◌, ◌∷◌, IfOk, IfErr, Some, length, map, option_map, string_bytes};
+ghost use Rattle.std.specs.Prelude.{◌≡◌, ◌∷◌, IfOk, IfErr, OnOk, Some, false, length, map, option_map, string_bytes};
 ghost use Rattle.cqf_program_words.specs.Composing.{composed_of};
 ghost use Rattle.cqf_program_words.specs.Words.{takes_domain};
-ghost use Rattle.cqf_program_files.specs.Front.{EndsFront, IsFrontOf, IsGathered, IsGatheredWith, IsJointFor, begins_as_offers, called_script, cycles_of, joint_names};
-ghost use Rattle.cqf_program_files.specs.Front.{parts_of_script, script_at, with_first};
+ghost use Rattle.cqf_program_files.specs.Front.{EndsFront, EndsHeader, EndsJoint, IsFrontOf, IsGathered, IsGatheredWith, IsJointFor, begins_as_offers};
+ghost use Rattle.cqf_program_files.specs.Front.{called_script, cycles_of, has_fields, is_between, is_digit, is_headless, is_mark, joint_names};
+ghost use Rattle.cqf_program_files.specs.Front.{lacks_header, parts_of_script, script_at, with_first};
 
 use crate::calls::{CallsScript, script_of_calls};
-use crate::checking::check_plant;
+use crate::checking::{check_plant, stop_of};
+use crate::faults::PlantFault;
 use crate::plants::leading;
 use cqf_press::Stop;
 use cqf_program_words::{Job, composed_behind, composed_between, is_plant, is_undivided};
@@ -36,11 +38,56 @@ pub fn cycles_of(job: &Job) -> Option<u32>
     }
 }
 
-/// Whether the text begins as a table of offers does, with `at,`.
+/// Whether the octet divides the fields of a table: a comma, a semicolon, or where these count a tab.
+fn is_between(tabs: bool, octet: u8) -> bool
+    ensures { result ≡ is_between tabs octet }
+{
+    octet == b',' || octet == b';' || (tabs && octet == b'\t')
+}
+
+/// Whether the first line of a text has fields, with no blank before what divides them.
+fn has_fields(tabs: bool, text: &[u8]) -> bool
+    ensures { result ≡ has_fields tabs text.now }
+{
+    for octet in text {
+        if is_between(tabs, *octet) {
+            return true;
+        }
+        if *octet == b' ' || *octet == b'\n' {
+            return false;
+        }
+    }
+    false
+}
+
+/// Whether only a line of a file of calls begins with the octet: `#` or `@`.
+fn is_mark(octet: u8) -> bool
+    ensures { result ≡ is_mark octet }
+{
+    octet == b'#' || octet == b'@'
+}
+
+/// Whether the octet is a digit.
+fn is_digit(octet: u8) -> bool
+    ensures { result ≡ is_digit octet }
+{
+    b'0' <= octet && octet <= b'9'
+}
+
+/// Whether the text begins as a table of offers does, or as another that is meant so: its first line has a comma or a semicolon with no blank
+/// before it, or a tab behind another beginning than a digit, and doesn't begin with `#` or `@` as lines of a file of calls do.
 pub fn begins_as_offers(text: &[u8]) -> bool
     ensures { result ≡ begins_as_offers text.now }
 {
-    text.starts_with(b"at,")
+    match text {
+        [] => false,
+        [first, ..] => {
+            if is_mark(*first) {
+                return false;
+            }
+            has_fields(!is_digit(*first), text)
+        }
+    }
 }
 
 /// The script of the second text, where it is a file of calls behind a plant, and no table of offers. The error is want of memory.
@@ -180,12 +227,82 @@ fn joint_plant(
     requires { length names.now ≡ length texts.now }
     ensures ok { IfOk result (λ plant. IsJointFor (takes_domain job.now) (map (λ name. name.now) names.now) (map (λ text. text.now) texts.now)
         (option_map string_bytes plant)) }
-    ensures err { IfErr result (EndsFront (takes_domain job.now) (map (λ name. name.now) names.now) (map (λ text. text.now) texts.now)) }
+    ensures err { IfErr result (EndsJoint (takes_domain job.now) (map (λ name. name.now) names.now) (map (λ text. text.now) texts.now)) }
 {
     if job.takes_domain() {
         check_plant(alloc, names, texts)
     } else {
         Ok(None)
+    }
+}
+
+/// Whether an empty text stands right behind a plant, with none behind it, where offers may stand. The error is want of memory.
+fn lacks_header(
+    alloc: Global,
+    job: &Job,
+    names: &[&str],
+    first: &[u8],
+    rest: &[&[u8]],
+) -> Result<bool, Memory>
+    ensures { IfOk result (λ lacks. lacks ≡ lacks_header job.now (map (λ name. name.now) names.now) first.now (map (λ text. text.now) rest.now)) }
+{
+    if cycles_of(job).is_none() {
+        return Ok(false);
+    }
+    match *rest {
+        [second] => {
+            if !second.is_empty() {
+                return Ok(false);
+            }
+            is_plant(alloc, job, names, first)
+        }
+        _ => Ok(false),
+    }
+}
+
+/// The same of texts whose first are those of one plant with this text, if any. The error is want of memory.
+fn is_headless(
+    alloc: Global,
+    job: &Job,
+    names: &[&str],
+    texts: &[&[u8]],
+    plant: Option<&str>,
+) -> Result<bool, Memory>
+    requires { length names.now ≡ length texts.now }
+    ensures { IfOk result (λ headless. headless ≡ is_headless job.now (map (λ name. name.now) names.now) (map (λ text. text.now) texts.now)
+        (option_map (λ plant. plant.now) plant.entry)) }
+{
+    match (plant, texts) {
+        (Some(plant), _) => lacks_header(
+            alloc,
+            job,
+            joint_names(names),
+            plant.as_bytes(),
+            &texts[leading(names)..],
+        ),
+        (None, [first, rest @ ..]) => lacks_header(alloc, job, names, first, rest),
+        (None, []) => Ok(false),
+    }
+}
+
+/// Looks whether offers lack their header. `Err` where they do, and for want of memory.
+fn check_header(
+    alloc: Global,
+    job: &Job,
+    names: &[&str],
+    texts: &[&[u8]],
+    plant: Option<&str>,
+) -> Result<(), Stop>
+    requires { length names.now ≡ length texts.now }
+    ensures ok { OnOk result (is_headless job.now (map (λ name. name.now) names.now) (map (λ text. text.now) texts.now)
+        (option_map (λ plant. plant.now) plant.entry) ≡ false) }
+    ensures err { IfErr result (EndsHeader job.now (map (λ name. name.now) names.now) (map (λ text. text.now) texts.now)
+        (option_map (λ plant. plant.now) plant.entry)) }
+{
+    match is_headless(alloc, job, names, texts, plant) {
+        Ok(false) => Ok(()),
+        Ok(true) => Err(stop_of(alloc, &PlantFault::NoHeader)),
+        Err(_) => Err(Stop::memory(alloc)),
     }
 }
 
@@ -196,18 +313,23 @@ fn joint_plant(
 /// [`script_of_calls`] reads, unless it begins as offers do. The rest goes as [`cqf_program_words::composed`] has it (profile).
 ///
 /// # Errors
-/// Where the job takes a domain, status 1 and the line of the first fault: a line of a file whose name ends with `.toml` that is too long to
-/// be parsed, a key that no command knows, and of several files that are one plant one that isn't TOML, streams in the first two, `cycle` or
-/// `guard` in two. Status 3 for want of memory.
+/// Where the job takes a domain, status 1 and the line of the first fault: of files whose names end with `.toml`, and then of the first file
+/// where no line divides it, a line that is too long to be parsed, and then a key that no command knows; of several files that are one plant
+/// one that isn't TOML, streams in the first two, `cycle` or `guard` in two; and an only file behind a plant that is empty, of a job that
+/// reads a script. Status 3 for want of memory.
 pub fn front_of(alloc: Global, job: &Job, names: &[&str], texts: &[&[u8]]) -> Result<Front, Stop>
     requires { length names.now ≡ length texts.now }
     ensures ok { IfOk result (IsFrontOf job.now (map (λ name. name.now) names.now) (map (λ text. text.now) texts.now)) }
-    ensures err { IfErr result (EndsFront (takes_domain job.now) (map (λ name. name.now) names.now) (map (λ text. text.now) texts.now)) }
+    ensures err { IfErr result (EndsFront job.now (map (λ name. name.now) names.now) (map (λ text. text.now) texts.now)) }
 {
     let plant = match joint_plant(alloc, job, names, texts) {
         Ok(plant) => plant,
         Err(stop) => return Err(stop),
     };
+    match check_header(alloc, job, names, texts, plant.as_deref()) {
+        Ok(()) => {}
+        Err(stop) => return Err(stop),
+    }
     match gathered_with(alloc, job, names, texts, plant.as_deref()) {
         Ok(front) => Ok(front),
         Err(_) => Err(Stop::memory(alloc)),

@@ -12,12 +12,20 @@ use toml::{Table, Value};
 pub const TOP: [&str; 6] = ["cycle", "guard", "bridges", "stations", "links", "streams"];
 
 /// Those of a link (profile).
-pub const LINK: [&str; 5] = ["from", "to", "rate", "delay", "duplex"];
+pub const LINK: [&str; 7] = [
+    "from",
+    "to",
+    "rate",
+    "delay",
+    "duplex",
+    "interface",
+    "far-interface",
+];
 
 /// Those of a stream (profile).
-pub const STREAM: [&str; 15] = [
+pub const STREAM: [&str; 17] = [
     "name", "octets", "every", "phase", "in-step", "path", "paths", "deadline", "from", "to",
-    "interval", "frames", "size", "jitter", "offset",
+    "interval", "frames", "size", "jitter", "offset", "mac", "vlan",
 ];
 
 /// How a key begins that is the user's own, which no command reads (profile).

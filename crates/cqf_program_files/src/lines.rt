@@ -1,6 +1,6 @@
 //! Lines that are too long to be parsed.
 ghost use Rattle.std.specs.Prelude.{◌≡◌, ◌<◌, ◌+◌, ◌^◌, length};
-ghost use Rattle.cqf_program_files.specs.Lines.{first_long_line, is_divider, is_quote, is_too_long, seen_of, with_octet, with_open, with_dot, with_quoted};
+ghost use Rattle.cqf_program_files.specs.Lines.{ends_key, first_long_line, is_divider, is_quote, is_too_long, seen_of, with_octet, with_divider, with_open, with_dot, with_quoted};
 
 use cqf_text::split_line;
 
@@ -8,7 +8,7 @@ use cqf_text::split_line;
 pub const MOST_OCTETS: usize = 4096;
 
 /// The most parts of a key, which dots divide (profile).
-pub const MOST_PARTS: u8 = 16;
+pub const MOST_PARTS: u8 = 4;
 
 /// The most dots between two dividers: a key of so many has one part more.
 const MOST_DOTS: u8 = MOST_PARTS - 1;
@@ -20,9 +20,9 @@ pub struct Seen {
     quote: Option<u8>,
     /// Whether a comment has begun.
     comment: bool,
-    /// The dots since the last divider, at most [`MOST_DOTS`].
+    /// The dots since the last divider, at most one more than [`MOST_DOTS`].
     dots: u8,
-    /// Whether there were more.
+    /// Whether a key had so many.
     long: bool,
 }
 
@@ -45,18 +45,36 @@ fn is_divider(octet: u8) -> bool
         || octet == b']'
 }
 
+/// Whether a key is over behind the octet.
+fn ends_key(octet: u8) -> bool
+    ensures { result ≡ ends_key octet }
+{
+    octet == b'=' || octet == b']'
+}
+
 impl Seen {
     /// One dot more.
     fn with_dot(self) -> Seen
         ensures { result ≡ with_dot self }
     {
-        if self.dots < MOST_DOTS {
+        if self.dots <= MOST_DOTS {
             Seen {
                 dots: self.dots + 1,
                 ..self
             }
         } else {
+            self
+        }
+    }
+
+    /// A divider.
+    fn with_divider(self, octet: u8) -> Seen
+        ensures { result ≡ with_divider self octet }
+    {
+        if ends_key(octet) && MOST_DOTS < self.dots {
             Seen { long: true, ..self }
+        } else {
+            Seen { dots: 0, ..self }
         }
     }
 
@@ -80,7 +98,7 @@ impl Seen {
             return self.with_dot();
         }
         if is_divider(octet) {
-            return Seen { dots: 0, ..self };
+            return self.with_divider(octet);
         }
         self
     }
@@ -129,26 +147,26 @@ fn seen_of(line: &[u8]) -> Seen
     seen
 }
 
-/// Whether the line has more octets, or more parts in a row, than are parsed.
-fn is_too_long(line: &[u8]) -> bool
-    ensures { result ≡ is_too_long line.now }
+/// Whether the line has more parts in a row than are parsed, or where octets count, more of these.
+fn is_too_long(counts: bool, line: &[u8]) -> bool
+    ensures { result ≡ is_too_long counts line.now }
 {
-    if line.len() > MOST_OCTETS {
+    if counts && line.len() > MOST_OCTETS {
         return true;
     }
     seen_of(line).long
 }
 
-/// The number of the text's first line that has more than 4,096 octets, or a key of more than 16 parts, from 1. Time grows with the
-/// text, and no memory is asked for (profile).
-pub fn first_long_line(text: &[u8]) -> Option<u64>
+/// The number of the text's first line that has a key of more than 4 parts, or where octets count, more than 4,096 of these, from 1. Time
+/// grows with the text, and no memory is asked for (profile).
+pub fn first_long_line(counts: bool, text: &[u8]) -> Option<u64>
     requires { length text.now < 2 ^ 63 }
-    ensures { result ≡ first_long_line text.now }
+    ensures { result ≡ first_long_line counts text.now }
 {
     let mut number: u64 = 1;
     let mut left = text;
     while let Some((line, behind)) = split_line(left) {
-        if is_too_long(line) {
+        if is_too_long(counts, line) {
             return Some(number);
         }
         number += 1;

@@ -1,9 +1,12 @@
 -- Streams that are judged one after the other.
 use Rattle.std.proofs.Common.{◌≡◌, ◌∙◌, ℕ, ◌+◌, ◌<◌, ◌++◌, ◌∷◌, [], List, Result, Ok, ap, drop, get_or, length, map, subst, sym, take}
 use Rattle.std.proofs.lemmas.List.{drop_more, map-append, take_more}
+use Rattle.std.specs.List.{list_any}
+use Rattle.cqf_lists.proofs.Any.{list_any-map}
 use Rattle.cqf_lists.specs.Results.{and_then}
 use Rattle.cqf_model.specs.declared.topology.Row.{Row}
-use Rattle.cqf_model.specs.Domain.{Domain}
+use Rattle.cqf_model.specs.Domain.{Domain, is_text}
+use Rattle.cqf_topology.specs.DomainText.{is_among}
 use Rattle.cqf_model.specs.History.{Asked}
 use Rattle.cqf_program_plans.specs.Load.Output.{listed_from}
 use Rattle.cqf_press.specs.declared.stops.Stop.{Stop}
@@ -28,6 +31,19 @@ refused_first found next stop h = record {
   line = λ one. ap (λ r. and_then r next) (h.line one);
   memory = h.memory;
 }
+
+-- a name is among those of some rows where one of them has it
+pub named_there : (names : List (List ℕ)) (rows : List Row) (name : List ℕ) → names ≡ map (λ (r : Row). r.name) rows →
+    is_among name names ≡ list_any (λ (r : Row). is_text r.name name) rows
+named_there names rows name are =
+    ap (is_among name) are ∙ list_any-map (λ (other : List ℕ). is_text other name) (λ (r : Row). r.name) rows
+
+-- beside rows their names
+pub one_named : (names names_after : List (List ℕ)) (rows rows_after : List Row) (row : Row) → names ≡ map (λ (r : Row). r.name) rows →
+    names_after ≡ names ++ row.name ∷ [] → rows_after ≡ rows ++ row ∷ [] → names_after ≡ map (λ (r : Row). r.name) rows_after
+one_named names names_after rows rows_after row are named put =
+    named ∙ ap (λ (ns : List (List ℕ)). ns ++ row.name ∷ []) are ∙ sym (map-append (λ (r : Row). r.name) rows (row ∷ []))
+    ∙ ap (map (λ (r : Row). r.name)) (sym put)
 
 module _ (d : Domain) (flows : List Flow) (k : ℕ) (flow : Flow) (inside : k < length flows) (is : flow ≡ get_or flows k flow) where
   -- the rest begins with the stream there

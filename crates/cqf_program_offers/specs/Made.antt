@@ -21,7 +21,8 @@ use Rattle.cqf_program_files.specs.Front.{begins_as_offers, cycles_of}
 use Rattle.cqf_program_scenario.specs.Lines.{domain_line, script_line, streams_line}
 use Rattle.cqf_program_plans.specs.Compile.Output.{admitted_from}
 use Rattle.cqf_program_plans.specs.Latency.Input.{asked_in as asked_by_planned}
-use Rattle.cqf_program_offers.specs.OffersOutput.{asked_in, flows_line, offered_of}
+use Rattle.cqf_program_offers.specs.OffersOutput.{asked_in, offered_of}
+use Rattle.cqf_program_plans.specs.Reserving.{flows_line}
 
 -- the script that admits streams before cycle 0
 abbrev pub call_of : Asked → List ℕ

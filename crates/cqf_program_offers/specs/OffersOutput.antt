@@ -10,19 +10,15 @@ use Rattle.cqf_text.specs.Parts.{parts_of}
 use Rattle.cqf_topology.specs.DomainText.{domain_within}
 use Rattle.cqf_admission.specs.Asking.{asked_by}
 use Rattle.cqf_report.specs.Offers.{as_bridge}
-use Rattle.cqf_traffic.specs.declared.faults.FlowsFault.{FlowsFault}
-use Rattle.cqf_traffic.specs.FlowsText.{FlowText, flows_fault_text, flows_of_text}
+use Rattle.cqf_traffic.specs.FlowsText.{FlowText, flows_of_text}
 use Rattle.cqf_traffic.specs.declared.senders.TalkerStream.{TalkerStream}
 use Rattle.cqf_traffic.specs.Offering.{frames_before, offers_before}
 use Rattle.cqf_press.specs.Stops.{fault_line, or_line}
 use Rattle.cqf_program_scenario.specs.Lines.{domain_line}
 use Rattle.cqf_program_scenario.specs.Parts.{two_parts}
 use Rattle.cqf_program_plans.specs.Load.Output.{listed_from}
+use Rattle.cqf_program_plans.specs.Reserving.{flows_line}
 use Rattle.cqf_program_offers.specs.OffersText.{offers_text}
-
--- why streams with traffic are refused
-abbrev pub flows_line : FlowsFault → List ℕ
-flows_line fault = fault_line (codes "streams") (flows_fault_text fault)
 
 -- where what they offer is too much
 abbrev pub too_many_line : List ℕ

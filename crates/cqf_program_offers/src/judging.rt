@@ -1,11 +1,12 @@
 //! Streams that are judged one after the other, as `load` judges them.
-ghost use Rattle.std.specs.Prelude.{◌≡◌, ◌++◌, ◌∷◌, [], ◌<◌, ◌^◌, List, IfErr, IfOk, string_bytes};
-ghost use Rattle.std.specs.List.{list_any};
+ghost use Rattle.std.specs.Prelude.{◌≡◌, ◌++◌, ◌∷◌, [], ◌<◌, ◌^◌, List, IfErr, IfOk, false, map, string_bytes};
 ghost use Rattle.cqf_admission.specs.Asking.{asked_paced};
 ghost use Rattle.cqf_admission.specs.Branches.{branches_of, places_of};
+ghost use Rattle.std.specs.List.{list_any};
 ghost use Rattle.cqf_model.specs.Domain.{is_text};
 ghost use Rattle.cqf_model.specs.History.{Asked};
 ghost use Rattle.cqf_model.specs.declared.topology.Row.{Row as ARow};
+ghost use Rattle.cqf_topology.specs.DomainText.{is_among};
 ghost use Rattle.cqf_program_plans.specs.Load.Listing.{Weighs};
 ghost use Rattle.cqf_program_plans.specs.Load.Output.{listed_from};
 ghost use Rattle.cqf_press.specs.Stops.{IsRefused};
@@ -14,25 +15,32 @@ use cqf_admission::{JudgedRequest, count_places, judge_paced};
 use cqf_model::{Refused, Row};
 use cqf_press::Stop;
 use cqf_program_plans::stream_stop;
-use cqf_topology::{Domain, PacedRequest};
+use cqf_topology::{Domain, NameList, PacedRequest};
 use cqf_units::{Cycle, Name};
 use std::alloc::Global;
 
-/// Whether a stream has the name.
-fn has_name(rows: &[Row], name: &Name) -> bool
+/// Whether one of some streams of these names has the name.
+fn has_name(names: &NameList, rows: &[Row], name: &Name) -> bool
+    requires { names.now.keys ≡ map (λ (row : ARow). row.name) rows.now }
     ensures { result ≡ list_any (λ (row : ARow). is_text row.name name.now) rows.now }
 {
-    rows.iter().any(|row| row.name == *name)
+    names.contains(name)
 }
 
-/// The first reason but that a link has no room against a request beside others, which asks for less than 2^64 places, or what it is by
-/// itself.
-fn weigh(domain: &Domain, rows: &[Row], request: &PacedRequest) -> Result<JudgedRequest, Refused>
-    requires { places_of (branches_of request.now.paths.items) < 2 ^ 64 }
+/// The first reason but that a link has no room against a request beside others of these names, which asks for less than 2^64 places, or
+/// what it is by itself.
+fn weigh(
+    domain: &Domain,
+    names: &NameList,
+    rows: &[Row],
+    request: &PacedRequest,
+) -> Result<JudgedRequest, Refused>
+    requires places { places_of (branches_of request.now.paths.items) < 2 ^ 64 }
+    requires named { names.now.keys ≡ map (λ (row : ARow). row.name) rows.now }
     ensures { Weighs domain.now rows.now (asked_paced request.now) result }
 {
     let judged = judge_paced(domain, request)?;
-    if has_name(rows, &judged.name) {
+    if has_name(names, rows, &judged.name) {
         return Err(Refused::NameHeld);
     }
     if rows.len() >= domain.limits().streams_within() {
@@ -41,22 +49,25 @@ fn weigh(domain: &Domain, rows: &[Row], request: &PacedRequest) -> Result<Judged
     Ok(judged)
 }
 
-/// The row of a request behind others, or the end where it is refused.
+/// The row of a request behind others of these names, or the end where it is refused.
 pub(crate) fn row_of(
     alloc: Global,
     domain: &Domain,
+    names: &NameList,
     rows: &[Row],
     request: &PacedRequest,
 ) -> Result<Row, Stop>
+    requires { names.now.keys ≡ map (λ (row : ARow). row.name) rows.now }
     ensures ok { IfOk result (λ row. (more : List Asked) →
         listed_from domain.now rows.now (asked_paced request.now ∷ more) ≡ listed_from domain.now (rows.now ++ row ∷ []) more) }
     ensures named { IfOk result (λ row. row.name ≡ string_bytes request.now.name) }
+    ensures free { IfOk result (λ row. is_among row.name names.now.keys ≡ false) }
     ensures err { IfErr result (λ stop. (more : List Asked) → IsRefused (listed_from domain.now rows.now (asked_paced request.now ∷ more)) stop) }
 {
     if count_places(request.paths.as_slice()).is_none() {
         return Err(Stop::memory(alloc));
     }
-    match weigh(domain, rows, request) {
+    match weigh(domain, names, rows, request) {
         Ok(judged) => {
             match judged.into_row(alloc, request.octets, rows.len() as u32, Cycle(0)) {
                 Ok(row) => Ok(row),

@@ -3,8 +3,7 @@
 //! - [`offers_output`] gives the command's output for an input, or the end of the run with the line of the input's first fault.
 //! - [`made_input`] completes an input, so that the engine reads all parts of a run: calls that admit all streams before cycle 0, and what their
 //!   talkers offer, are made as texts, as if they had been read.
-//! - `senders_of` judges each stream as `load` does and has it as its talker sees it, `offered_by` has what senders offer as a text, and
-//!   [`flows_stop`] ends where streams with traffic are refused.
+//! - `senders_of` judges each stream as `load` does and has it as its talker sees it, and `offered_by` has what senders offer as a text.
 //!
 //! In `specs/` stand which text an input has (`OffersOutput`, and `Made` where parts are made), and how offers are written (`OffersText`).
 //!
@@ -30,4 +29,3 @@ pub(crate) use command::offered_of;
 pub use command::offers_output;
 pub use completing::made_input;
 pub(crate) use reading::flows_part;
-pub use reading::flows_stop;

@@ -1,26 +1,17 @@
 //! The reader of streams with their traffic.
-ghost use Rattle.std.specs.Prelude.{◌≡◌, ◌≢◌, [], Ok, IfErr, IfOk, map};
-ghost use Rattle.cqf_program_offers.specs.OffersOutput.{flows_input, flows_line};
-ghost use Rattle.cqf_press.specs.Stops.{EndsWith, IsRefused, or_line};
+ghost use Rattle.std.specs.Prelude.{◌≡◌, Ok, IfErr, IfOk, map};
+ghost use Rattle.cqf_program_offers.specs.OffersOutput.{flows_input};
+ghost use Rattle.cqf_program_plans.specs.Reserving.{flows_line};
+ghost use Rattle.cqf_press.specs.Stops.{IsRefused, or_line};
 ghost use Rattle.cqf_traffic.specs.FlowsText.{flow_text, flows_of_text};
 
 use cqf_model::Limits;
 use cqf_press::Stop;
+use cqf_program_plans::flows_stop;
 use cqf_program_scenario::{domain_part, two_parts};
-use cqf_topology::{Domain, StreamsFault};
-use cqf_traffic::{Flow, FlowsFault, read_flows};
+use cqf_topology::Domain;
+use cqf_traffic::{Flow, read_flows};
 use std::alloc::Global;
-
-/// The end where streams with traffic are refused: with status 1 and the line of the fault, or with status 3 for want of memory.
-pub fn flows_stop(alloc: Global, fault: FlowsFault) -> Stop
-    ensures refused { fault ≢ FlowsFault.Streams StreamsFault.Memory → EndsWith 1 (flows_line fault) result }
-    ensures memory { fault ≡ FlowsFault.Streams StreamsFault.Memory → EndsWith 3 [] result }
-{
-    match fault {
-        FlowsFault::Streams(StreamsFault::Memory) => Stop::memory(alloc),
-        _ => Stop::refused(alloc, "streams", &fault),
-    }
-}
 
 /// The streams of a part, with their deadlines and their traffic. `Err` with status 1 and the line of its first fault, and with status 3 for
 /// want of memory.

@@ -1,14 +1,15 @@
 //! Streams as their talkers see them.
-ghost use Rattle.std.specs.Prelude.{◌≡◌, ◌++◌, ◌∷◌, [], IfErr, IfOk, Ok, OnOk, map, string_bytes, option_map};
+ghost use Rattle.std.specs.Prelude.{◌≡◌, ◌++◌, ◌∷◌, [], IfErr, IfOk, Ok, OnOk, false, map, string_bytes, option_map};
 ghost use Rattle.cqf_press.specs.Stops.{EndsWith, IsRefused};
 ghost use Rattle.cqf_admission.specs.Branches.{branches_of};
 ghost use Rattle.cqf_program_offers.specs.OffersOutput.{edge_of, first_name, sender_of, senders_of};
+ghost use Rattle.cqf_topology.specs.DomainText.{is_among};
 ghost use Rattle.cqf_traffic.specs.FlowsText.{flow_text};
 
 use crate::judging::row_of;
 use cqf_model::{Node, Row};
 use cqf_press::Stop;
-use cqf_topology::Domain;
+use cqf_topology::{Domain, NameList};
 use cqf_traffic::{Flow, TalkerStream};
 use cqf_units::Name;
 use std::alloc::Global;
@@ -51,18 +52,24 @@ fn sender_of(domain: &Domain, flow: &Flow, name: Name) -> TalkerStream
     }
 }
 
-/// Puts a stream behind others, as its row and as its talker sees it. `Err` with status 3 for want of memory.
+/// Puts a stream behind others, by its name, as its row and as its talker sees it. `Err` with status 3 for want of memory.
 fn put_stream(
     alloc: Global,
     sender: TalkerStream,
     row: Row,
+    names: &mut NameList,
     rows: &mut Vec<Row>,
     senders: &mut Vec<TalkerStream>,
 ) -> Result<(), Stop>
+    requires { is_among row.name names.old.keys ≡ false }
+    ensures names { OnOk result (names.new.keys ≡ names.old.keys ++ row.name ∷ []) }
     ensures rows { OnOk result (rows.new.items ≡ rows.old.items ++ row ∷ []) }
     ensures senders { OnOk result (senders.new.items ≡ senders.old.items ++ sender ∷ []) }
     ensures memory { IfErr result (EndsWith 3 []) }
 {
+    if names.add(&row.name).is_err() {
+        return Err(Stop::memory(alloc));
+    }
     if rows.push(row).is_err() {
         return Err(Stop::memory(alloc));
     }
@@ -80,15 +87,17 @@ pub fn senders_of(alloc: Global, domain: &Domain, flows: &[Flow]) -> Result<Vec<
     ensures ok { IfOk result (λ senders. senders_of domain.now (map flow_text flows.now) ≡ Ok senders.items) }
     ensures err { IfErr result (IsRefused (senders_of domain.now (map flow_text flows.now))) }
 {
+    let mut names = NameList::new(alloc);
     let mut rows = Vec::new(alloc);
     let mut senders = Vec::new(alloc);
     for flow in flows {
-        let row = match row_of(alloc, domain, rows.as_slice(), &flow.planned.request) {
+        let request = &flow.planned.request;
+        let row = match row_of(alloc, domain, &names, rows.as_slice(), request) {
             Ok(row) => row,
             Err(stop) => return Err(stop),
         };
         let sender = sender_of(domain, flow, row.name.copied());
-        put_stream(alloc, sender, row, &mut rows, &mut senders)?;
+        put_stream(alloc, sender, row, &mut names, &mut rows, &mut senders)?;
     }
     Ok(senders)
 }

@@ -11,4 +11,5 @@ pub mod FirstBranches
 pub mod ReadyStreams
 pub mod StreamsRead
 pub mod Behind
+pub mod Known
 pub mod RoomLemmas

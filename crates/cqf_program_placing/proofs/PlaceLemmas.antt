@@ -2,7 +2,7 @@
 use Rattle.std.proofs.Common.{◌≡◌, ◌∙◌, ◌+◌, ◌-◌, ◌*◌, ◌<◌, ◌≤◌, ◌^◌, ℕ, All, Bool, true, false, List, [], ◌∷◌, ◌++◌, Option, Some, None, Result, Ok, Err, length, cond, get_or, map, nat_le, nat_lt, take, length-append, ap, arith, refl, subst, subst₂, sym, div-le_self}
 use Rattle.std.proofs.Math.Nat.{mul-le-mul_right}
 use Rattle.std.proofs.lemmas.Nat.{le-div}
-use Rattle.std.specs.Prelude.{IfOk}
+use Rattle.std.specs.Prelude.{IfOk, option_map}
 use Rattle.std.proofs.lemmas.Bool.{and_parts, leb-true, ltb-false}
 use Rattle.std.proofs.lemmas.Bool.Decides.{nat_tests}
 use Rattle.std.proofs.lemmas.List.{get_or-map, length-map, map_more, map_push, take_all}
@@ -25,7 +25,7 @@ use Rattle.cqf_program_placing.specs.Placing.{ArePlacedFrom, IsAnswered, IsAsked
 use Rattle.cqf_program_placing.specs.Placing.{reserved_by, reserved_on, turns_on}
 use Rattle.cqf_program_placing.specs.Settled.{IsPlaceable, SettledStream, are_reservable, settled_value}
 use Rattle.cqf_program_placing.specs.declared.turns.Turns.{Turns}
-use Rattle.cqf_program_placing.specs.Turns.{IsPhaseAlong, every_in}
+use Rattle.cqf_program_placing.specs.Turns.{IsPhaseAlong, can_step, every_in}
 
 -- one stream more is placed behind the others
 pub placed_more : (d : Domain) (start entries after : List Recorded) (streams : List SettledStream) (stream : SettledStream) (outcomes : List PlacedOr)
@@ -37,6 +37,19 @@ placed_more d start entries after [] stream (other ∷ outcomes) become placed l
 placed_more d start entries after (first ∷ streams) stream [] become placed last = absurd placed
 placed_more d start entries after (first ∷ streams) stream (other ∷ outcomes) become placed last =
     (placed.0, placed.1, placed_more d placed.0 entries after streams stream outcomes become placed.2 last)
+
+-- what is reserved on a cycle time on which a stream can be offered
+pub reserved_there : (cycle_time : ℕ) (stream : SettledStream) (octets : ℕ) → reserved_on cycle_time stream ≡ Ok octets →
+    (can_step cycle_time stream.pacing stream.traffic ≡ true)
+    × (reserved_by stream.octets (option_map (λ (t : TrafficText). needed cycle_time (promise_of t)) stream.traffic) ≡ Ok octets)
+reserved_there cycle_time stream octets is = by (can_step cycle_time stream.pacing stream.traffic) is
+  where
+    reserves : Result ℕ PlanFault
+    reserves = reserved_by stream.octets (option_map (λ (t : TrafficText). needed cycle_time (promise_of t)) stream.traffic)
+
+    by : (b : Bool) → cond b reserves (Err fault.BadInStep) ≡ Ok octets → (b ≡ true) × (reserves ≡ Ok octets)
+    by true found = (refl, found)
+    by false found = absurd cc
 
 -- octets that may be reserved are no more than the most
 few_octets : (octets : ℕ) → are_reservable (Some octets) ≡ true → octets ≤ 60000
@@ -186,27 +199,32 @@ unrouted_so d entries stream octets every cost turns found each is routed = reco
   is_answered = (refl, refl);
 }
 
--- one with branches is asked for
-pub routed_so : (d : Domain) (entries : List Recorded) (stream : SettledStream) (octets every phase cost : ℕ) (turns : Turns) (name : List ℕ)
-    (paths : List Branch) (become : PlacedOr) (after : List Recorded) → every ≡ every_in turns → cost ≡ cost_of octets →
-    IsRouted d (held_in d entries (seals entries)) every cost stream.way (Ok paths) →
-    IsPhaseAlong d (held_in d entries (seals entries)) cost paths turns phase → name ≡ stream.name →
+-- what becomes of one that is asked for along its branches
+pub asked_so : (d : Domain) (entries : List Recorded) (called : List ℕ) (octets every phase cost : ℕ) (turns : Turns) (name : List ℕ) (paths : List Branch)
+    (become : PlacedOr) (after : List Recorded) → every ≡ every_in turns → cost ≡ cost_of octets →
+    IsPhaseAlong d (held_in d entries (seals entries)) cost paths turns phase → name ≡ called →
     become ≡ answered d (asked_with name octets every phase paths) (refusal_of d (held_in d entries (seals entries)) (asked_with name octets every phase paths)) →
-    after ≡ with_asked d entries (asked_with name octets every phase paths) → IsRoutedAndAnswered d entries stream octets turns become after
-routed_so d entries stream octets every phase cost turns name paths become after each is routed chosen named answer entered =
-    let asked : asked_with name octets every phase paths ≡ asked_with stream.name octets (every_in turns) phase paths =
+    after ≡ with_asked d entries (asked_with name octets every phase paths) → IsAskedFor d entries called octets turns paths become after
+asked_so d entries called octets every phase cost turns name paths become after each is chosen named answer entered =
+    let asked : asked_with name octets every phase paths ≡ asked_with called octets (every_in turns) phase paths =
     (λ i. asked_with (named i) octets (each i) phase paths) in
-    let so : IsAskedFor d entries stream.name octets turns paths become after = record {
+    record {
       phase = phase;
       is_phase = subst (λ (c : ℕ). IsPhaseAlong d (held_in d entries (seals entries)) c paths turns phase) is chosen;
       answer = answer ∙ ap (λ (a : Asked). answered d a (refusal_of d (held_in d entries (seals entries)) a)) asked;
       entered = entered ∙ ap (with_asked d entries) asked;
-    } in
-    record {
-      routed = Ok paths;
-      is_routed = subst₂ (λ (e c : ℕ). IsRouted d (held_in d entries (seals entries)) e c stream.way (Ok paths)) each is routed;
-      is_answered = so;
     }
+
+-- one with branches is
+pub routed_so : (d : Domain) (entries : List Recorded) (stream : SettledStream) (octets every cost : ℕ) (turns : Turns) (paths : List Branch)
+    (become : PlacedOr) (after : List Recorded) → every ≡ every_in turns → cost ≡ cost_of octets →
+    IsRouted d (held_in d entries (seals entries)) every cost stream.way (Ok paths) → IsAskedFor d entries stream.name octets turns paths become after →
+    IsRoutedAndAnswered d entries stream octets turns become after
+routed_so d entries stream octets every cost turns paths become after each is routed so = record {
+  routed = Ok paths;
+  is_routed = subst₂ (λ (e c : ℕ). IsRouted d (held_in d entries (seals entries)) e c stream.way (Ok paths)) each is routed;
+  is_answered = so;
+}
 
 -- a stream of a slice can be placed as all can
 pub placeable_there : (d : Domain) (streams : List Settled) (k : ℕ) (stream : Settled) → k < length streams → stream ≡ get_or streams k stream →

@@ -30,7 +30,7 @@ use Rattle.cqf_program_placing.specs.Placing.{if_enough, reserved_by, reserved_o
 use Rattle.cqf_program_placing.specs.Settled.{Along, Between, SettledStream, SettledWay, are_reservable, entrance_at, first_apart, is_paced, settled_next, settled_way}
 use Rattle.cqf_program_placing.specs.Settled.{station_by_name, stations_by_name}
 use Rattle.cqf_program_placing.proofs.FirstBranches.{AreBranches, AreFew}
-use Rattle.cqf_program_placing.proofs.PlaceLemmas.{needed_least}
+use Rattle.cqf_program_placing.proofs.PlaceLemmas.{needed_least, reserved_there}
 use Rattle.cqf_program_placing.proofs.SettledLemmas.{and_first-Ok, entrance_there, settled_by, station_named_by}
 
 -- some listeners, all different
@@ -92,7 +92,8 @@ least_by octets (Some needs) reserved may reserves least e = by_needs (nat_lt 60
 pub reserved_least : (d : Domain) (stream : SettledStream) (cycle_time octets : ℕ) → 1 ≤ cycle_time → IsReady d stream →
     reserved_on cycle_time stream ≡ Ok octets → 64 ≤ octets
 reserved_least d stream cycle_time octets some ready e = least_by stream.octets (option_map needs stream.traffic) octets ready.reservable
-    (λ none_asked none_needed. ready.reserves none_asked (unmapped stream.traffic none_needed)) (each stream.traffic ready.traffic) e
+    (λ none_asked none_needed. ready.reserves none_asked (unmapped stream.traffic none_needed)) (each stream.traffic ready.traffic)
+    (reserved_there cycle_time stream octets e).1
   where
     needs : TrafficText → ℕ
     needs = λ (t : TrafficText). needed cycle_time (promise_of t)

@@ -47,7 +47,7 @@ use Rattle.cqf_program_placing.specs.Settled.{Along, Between, SettledStream, Set
 use Rattle.cqf_program_placing.proofs.Behind.{IsBehind, none_behind, one_behind}
 use Rattle.cqf_program_placing.proofs.FirstBranches.{AreBranches, AreFew, first_branches, first_enough, none_short, way_there}
 use Rattle.cqf_program_placing.proofs.Emptiest.{left_of_hop}
-use Rattle.cqf_program_placing.proofs.PlaceLemmas.{reserved_few}
+use Rattle.cqf_program_placing.proofs.PlaceLemmas.{reserved_few, reserved_there}
 use Rattle.cqf_program_placing.proofs.ReadyStreams.{IsGoodWay, IsReadStream, IsReady, IsToStations, next_ready, reserved_least}
 use Rattle.cqf_program_placing.proofs.StreamsRead.{streams_read}
 use Rattle.cqf_program_placing.proofs.SettledLemmas.{and_first-Ok, next_stands}
@@ -331,7 +331,8 @@ module _ (one_way : FirstWayIsOne) (no_loop : FirstWaysHaveNoLoop) (parts : Firs
           let may : MayAsk d rows stream.name octets = record {
             named = ready.named;
             least_octets = reserved_least d stream d.cycle_time octets some_time ready e;
-            most_octets = reserved_few stream.octets (option_map (λ (t : TrafficText). needed d.cycle_time (promise_of t)) stream.traffic) octets ready.reservable e;
+            most_octets = reserved_few stream.octets (option_map (λ (t : TrafficText). needed d.cycle_time (promise_of t)) stream.traffic) octets ready.reservable
+                (reserved_there d.cycle_time stream octets e).1;
             name_free = free;
             few = few;
           } in

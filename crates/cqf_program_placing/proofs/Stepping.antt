@@ -127,22 +127,14 @@ every_is_good cycles =
 pub turns_good : (cycle_time : ℕ) (given : Pacing) (traffic : Option TrafficText) → is_paced given ≡ true → AreGoodTurns (turns_by cycle_time given traffic)
 turns_good cycle_time (pacing.Given every phase) traffic paced = paced
 turns_good cycle_time pacing.InStep None paced = refl
-turns_good cycle_time pacing.InStep (Some t) paced = by (keeps_step cycle_time t)
-  where
-    by : (b : Bool) → AreGoodTurns (cond b (Chosen (every_of (t.interval / cycle_time))) (Given 1 0))
-    by true = every_is_good (t.interval / cycle_time)
-    by false = refl
+turns_good cycle_time pacing.InStep (Some t) paced = every_is_good (t.interval / cycle_time)
 
 -- what costs something where there is traffic costs something where the first cycle is to be chosen
 pub costs_some : (cycle_time octets : ℕ) (given : Pacing) (traffic : Option TrafficText) → IfSome traffic (λ _. 1 ≤ octets) →
     CostsSome (turns_by cycle_time given traffic) octets
 costs_some cycle_time octets (pacing.Given every phase) traffic some = tt
 costs_some cycle_time octets pacing.InStep None some = tt
-costs_some cycle_time octets pacing.InStep (Some t) some = by (keeps_step cycle_time t)
-  where
-    by : (b : Bool) → CostsSome (cond b (Chosen (every_of (t.interval / cycle_time))) (Given 1 0)) octets
-    by true = some
-    by false = tt
+costs_some cycle_time octets pacing.InStep (Some t) some = some
 
 -- and as much does what costs no less
 pub costs_more : (turns : Turns) (octets cost : ℕ) → octets ≤ cost → CostsSome turns octets → CostsSome turns cost
@@ -159,7 +151,7 @@ pub may_be_first : (d : Domain) (rows : List Row) (cost : ℕ) (paths : List Bra
     (first : ℕ) → IsPhaseAlong d rows cost paths (turns_by cycle_time given traffic) first → MayBeFirst (turns_by cycle_time given traffic) first
 may_be_first d rows cost paths cycle_time (pacing.Given every phase) traffic first is = is
 may_be_first d rows cost paths cycle_time pacing.InStep None first is = is
-may_be_first d rows cost paths cycle_time pacing.InStep (Some t) first is = by_step (keeps_step cycle_time t) is
+may_be_first d rows cost paths cycle_time pacing.InStep (Some t) first is = by_tree (tree_refusal d paths) is
   where
     every : ℕ
     every = every_of (t.interval / cycle_time)
@@ -167,10 +159,6 @@ may_be_first d rows cost paths cycle_time pacing.InStep (Some t) first is = by_s
     by_tree : (o : Option Refused) → IsChosenBy d rows cost paths every o first → first < every
     by_tree None chosen = chosen.within
     by_tree (Some refusal) none = omega (arith, none, (every_is_good (t.interval / cycle_time)).some)
-
-    by_step : (b : Bool) → IsPhaseAlong d rows cost paths (cond b (Chosen every) (Given 1 0)) first → MayBeFirst (cond b (Chosen every) (Given 1 0)) first
-    by_step true along = by_tree (tree_refusal d paths) along
-    by_step false along = along
 
 -- and comes before all paces repeat
 pub first_is_early : (cycle_time : ℕ) (given : Pacing) (traffic : Option TrafficText) (first : ℕ) → is_paced given ≡ true →

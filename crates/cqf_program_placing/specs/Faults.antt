@@ -15,6 +15,7 @@ plan_fault_text fault.NoTalker = codes "NoTalker"
 plan_fault_text (fault.NoListener listener) = codes "NoListener " ++ listener
 plan_fault_text (fault.NoWay listener) = codes "NoWay " ++ listener
 plan_fault_text fault.TooSoon = codes "TooSoon"
+plan_fault_text fault.BadInStep = codes "BadInStep"
 plan_fault_text (fault.TooMuch needed) = codes "TooMuch " ++ decimal needed
 plan_fault_text (fault.TooLittle needed) = codes "TooLittle " ++ decimal needed
 plan_fault_text (fault.Short from to left) = codes "BudgetShort " ++ short_text from to left

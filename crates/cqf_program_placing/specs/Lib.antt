@@ -2,5 +2,6 @@ pub mod Faults
 pub mod Settled
 pub mod Turns
 pub mod Placing
+pub mod Known
 pub mod Routes
 pub mod Room

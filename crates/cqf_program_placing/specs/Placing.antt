@@ -23,7 +23,7 @@ use Rattle.cqf_program_placing.specs.declared.outcomes.PlacingOutcome.{PlacingOu
 use Rattle.cqf_program_placing.specs.declared.outcomes.PlacingOutcome.TheVariants as outcome
 use Rattle.cqf_program_placing.specs.declared.turns.Turns.{Turns}
 use Rattle.cqf_program_placing.specs.Settled.{SettledStream, SettledWay, Along, Between}
-use Rattle.cqf_program_placing.specs.Turns.{IsPhaseAlong, every_in, is_in_step, left_emptiest, lefts_on, turns_by}
+use Rattle.cqf_program_placing.specs.Turns.{IsPhaseAlong, can_step, every_in, is_in_step, left_emptiest, lefts_on, turns_by}
 
 -- what becomes of a stream: it is placed, with its octets, its cycles and its branches, or it isn't, for a fault
 pub data PlacedOr : Type 0 where
@@ -44,8 +44,12 @@ reserved_by octets (Some needs) = if nat_lt most_reserved needs then Err (fault.
 reserved_by (Some octets) None = Ok octets
 reserved_by None None = Ok 0
 
+-- on a cycle time, on which it has to be in step where its talker is to be
 abbrev pub reserved_on : ℕ → SettledStream → Result ℕ PlanFault
-reserved_on cycle_time stream = reserved_by stream.octets (option_map (λ (t : TrafficText). needed cycle_time (promise_of t)) stream.traffic)
+reserved_on cycle_time stream =
+    if can_step cycle_time stream.pacing stream.traffic
+    then reserved_by stream.octets (option_map (λ (t : TrafficText). needed cycle_time (promise_of t)) stream.traffic)
+    else Err fault.BadInStep
 
 -- in which cycles it is offered
 abbrev pub turns_on : ℕ → SettledStream → Turns

@@ -1,6 +1,7 @@
 -- In which cycles a stream is offered on a cycle time, and how full links are in these (profile).
 use Rattle.std.specs.Prelude.{ℕ, ◌≡◌, ◌+◌, ◌-◌, ◌*◌, ◌/◌, ◌%◌, ◌<◌, ◌≤◌, ◌==◌, ◌&&◌, ◌⊎◌, ⊤, Bool, true, false, Contains, List, [], ◌∷◌, Option, Some, None, fold}
 use Rattle.std.specs.Prelude.{if◌then◌else◌, length, max, nat_lt}
+use Rattle.std.specs.Option.{option_map_or}
 use Rattle.cqf_lists.specs.Lists.{each_below}
 use Rattle.cqf_model.specs.declared.history.Refused.{Refused}
 use Rattle.cqf_model.specs.declared.topology.Hop.{Hop}
@@ -23,20 +24,25 @@ use Rattle.cqf_program_placing.specs.declared.turns.Turns.TheVariants.{Given, Ch
 abbrev pub keeps_step : ℕ → TrafficText → Bool
 keeps_step cycle_time t = (t.interval % cycle_time == 0) && nat_lt (t.offset % cycle_time + t.jitter) cycle_time
 
--- so the cycles of a talker that is in step are chosen where this is so, and else its stream is offered in each
+-- so it is of a talker that is in step, where the cycles of its stream are to be chosen
 abbrev pub is_in_step : ℕ → Pacing → TrafficText → Bool
 is_in_step cycle_time (pacing.Given every phase) t = false
 is_in_step cycle_time pacing.InStep t = keeps_step cycle_time t
+
+-- a stream can be offered on a cycle time: where its talker is to be in step, it is; without traffic there is nothing to be in step with
+abbrev pub can_step : ℕ → Pacing → Option TrafficText → Bool
+can_step cycle_time (pacing.Given every phase) traffic = true
+can_step cycle_time pacing.InStep traffic = option_map_or (keeps_step cycle_time) traffic false
 
 -- the greatest common divisor of a number of cycles and those after which all paces repeat
 abbrev pub every_of : ℕ → ℕ
 every_of cycles =
     fold max 0 (each_below (λ k. if (most_every % (k + 1) == 0) && (cycles % (k + 1) == 0) then (k + 1) ∷ [] else []) most_every)
 
--- in which cycles a stream is offered: in one of so many, of which the first is given or to be chosen
+-- in which cycles a stream that can be is offered: in one of so many, of which the first is given or to be chosen
 abbrev pub turns_in_step : ℕ → Option TrafficText → Turns
 turns_in_step cycle_time None = Given 1 0
-turns_in_step cycle_time (Some t) = if keeps_step cycle_time t then Chosen (every_of (t.interval / cycle_time)) else Given 1 0
+turns_in_step cycle_time (Some t) = Chosen (every_of (t.interval / cycle_time))
 
 abbrev pub turns_by : ℕ → Pacing → Option TrafficText → Turns
 turns_by cycle_time (pacing.Given every phase) traffic = Given every phase

@@ -21,6 +21,8 @@ pub enum PlanFault {
     NoWay(Name),
     /// Its deadline is over no later than a frame is whole at its edge bridge.
     TooSoon,
+    /// Its talker is to be in step, and not all its frames of an interval come within one cycle.
+    BadInStep,
     /// So many octets are needed of a cycle, and a stream may not reserve as many.
     TooMuch(u64),
     /// So many octets are needed of a cycle, and it asks for fewer.
@@ -58,6 +60,7 @@ impl fmt::Display for PlanFault {
             PlanFault::NoListener(listener) => write!(f, "NoListener {listener}"),
             PlanFault::NoWay(listener) => write!(f, "NoWay {listener}"),
             PlanFault::TooSoon => f.write_str("TooSoon"),
+            PlanFault::BadInStep => f.write_str("BadInStep"),
             PlanFault::TooMuch(needed) => write!(f, "TooMuch {needed}"),
             PlanFault::TooLittle(needed) => write!(f, "TooLittle {needed}"),
             PlanFault::Short { from, to, left } => write!(f, "BudgetShort {from}>{to} {left}"),

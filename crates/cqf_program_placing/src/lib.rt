@@ -19,6 +19,7 @@
 #![tactic(auto)]
 
 mod asking;
+mod branched;
 mod branches;
 mod deadlines;
 mod entrances;

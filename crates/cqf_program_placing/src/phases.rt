@@ -1,18 +1,19 @@
 //! In which phase a stream makes the fullest of its links least full.
-ghost use Rattle.std.specs.Prelude.{◌≡◌, ◌*◌, ◌<◌, ◌≤◌, All, IfOk, length, nat_lt};
+ghost use Rattle.std.specs.Prelude.{◌≡◌, ◌*◌, ◌<◌, ◌≤◌, All, length, nat_lt};
 ghost use Rattle.cqf_admission.specs.Branches.{branches_of};
 ghost use Rattle.cqf_admission.specs.Turns.{IsGoodPace};
 ghost use Rattle.cqf_model.specs.declared.topology.Hop.{Hop as AHop};
 ghost use Rattle.cqf_model.specs.History.{held_in, seals};
+ghost use Rattle.cqf_program_placing.specs.Known.{IsBranched};
 ghost use Rattle.cqf_program_placing.specs.Turns.{AreGoodTurns, CostsSome, IsFullest, IsGoodEvery, IsLeastFull, IsPhaseAlong, share_at, shares_with};
 
+use crate::branched::Branched;
 use crate::rooms::pace_by;
 use crate::turns::Turns;
-use cqf_admission::{Admission, count_places, find_tree};
+use cqf_admission::Admission;
 use cqf_model::{Hop, Pace};
 use cqf_topology::Domain;
-use cqf_units::{Memory, budget};
-use std::alloc::AllocError;
+use cqf_units::budget;
 
 /// How much of a link's budget is held, in octets a cycle.
 #[derive(Clone, Copy, Debug)]
@@ -92,50 +93,27 @@ fn least_full(domain: &Domain, admission: &Admission, cost: u32, every: u8, tree
     first
 }
 
-/// The first phase of so many in which the fullest link of the tree of some branches is least full; of no tree it is 0.
-fn chosen_along(
-    domain: &Domain,
-    admission: &Admission,
-    cost: u32,
-    every: u8,
-    paths: &[Vec<String>],
-) -> Result<u8, Memory>
-    requires domain { admission.now.domain ≡ domain.now }
-    requires good { IsGoodEvery every }
-    requires some { 1 ≤ cost }
-    ensures { let d = domain.now in let entries = admission.now.entries in IfOk result
-        (IsPhaseAlong d (held_in d entries (seals entries)) cost (branches_of paths.now) (Turns.Chosen every)) }
-{
-    // as admission tells it
-    if count_places(paths).is_none() {
-        return Err(AllocError);
-    }
-    match find_tree(domain, paths) {
-        Ok(tree) => Ok(least_full(domain, admission, cost, every, tree.as_slice())),
-        Err(_) => Ok(0),
-    }
-}
-
 /// The phase of a stream along some branches: the one that is given, or else the first in which the fullest link of their tree is least full
-/// (profile).
-///
-/// # Errors
-/// Where a growth is refused.
+/// (profile); of no tree it is 0 then.
 pub(crate) fn phase_along(
     domain: &Domain,
     admission: &Admission,
     cost: u32,
     turns: Turns,
-    paths: &[Vec<String>],
-) -> Result<u8, Memory>
+    branched: &Branched,
+) -> u8
     requires domain { admission.now.domain ≡ domain.now }
     requires good { AreGoodTurns turns }
     requires some { CostsSome turns cost }
+    requires tree { IsBranched domain.now branched.now }
     ensures { let d = domain.now in let entries = admission.now.entries in
-        IfOk result (IsPhaseAlong d (held_in d entries (seals entries)) cost (branches_of paths.now) turns) }
+        IsPhaseAlong d (held_in d entries (seals entries)) cost (branches_of branched.now.paths.items) turns result }
 {
     match turns {
-        Turns::Given { phase, .. } => Ok(phase),
-        Turns::Chosen { every } => chosen_along(domain, admission, cost, every, paths),
+        Turns::Given { phase, .. } => phase,
+        Turns::Chosen { every } => match &branched.tree {
+            Some(tree) => least_full(domain, admission, cost, every, tree.as_slice()),
+            None => 0,
+        },
     }
 }

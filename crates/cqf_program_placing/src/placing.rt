@@ -8,16 +8,18 @@ ghost use Rattle.cqf_laws_history.specs.StateLaws.{AreHeld};
 ghost use Rattle.cqf_model.specs.History.{held_in, seals};
 ghost use Rattle.cqf_model.specs.Limits.{most_calls, most_reserved, most_streams};
 ghost use Rattle.cqf_sketch.specs.SketchDomain.{IsOpenCycle, domain_at};
-ghost use Rattle.cqf_program_placing.specs.Placing.{ArePlaced, IsPlacing, IsRouted, IsRoutedAndAnswered, outcome_value};
+ghost use Rattle.cqf_program_placing.specs.Known.{AreKnown};
+ghost use Rattle.cqf_program_placing.specs.Placing.{ArePlaced, IsAskedFor, IsPlacing, IsRouted, IsRoutedAndAnswered, outcome_value};
 ghost use Rattle.cqf_program_placing.specs.Routes.{IsUnrouted};
 ghost use Rattle.cqf_program_placing.specs.Settled.{IsOnWay, IsPlaceable, open_domain, settled_value, way_value};
 ghost use Rattle.cqf_program_placing.specs.Turns.{AreGoodTurns, CostsSome, IsGoodEvery};
 
 use crate::asking::ask;
+use crate::branched::branched_by;
 use crate::branches::copied_branches;
 use crate::phases::phase_along;
 use crate::reserving::reservation;
-use crate::rooms::lefts;
+use crate::rooms::Rooms;
 use crate::routes::{Unrouted, branches_between};
 use crate::turns::{Turns, turns_on};
 use crate::{PlacingOutcome, Settled, StreamWay};
@@ -26,7 +28,7 @@ use cqf_laws_history::state_follows_history;
 use cqf_model::{Link, Row};
 use cqf_sketch::{Room, SketchDomain};
 use cqf_topology::{Domain, PacedRequest};
-use cqf_units::{Memory, Octets, cost};
+use cqf_units::{Memory, Name, Octets, cost};
 use std::alloc::{AllocError, Global};
 use std::marker::Model;
 
@@ -60,6 +62,7 @@ fn branches_by(
     domain: &Domain,
     links: &[Link],
     admission: &Admission,
+    rooms: &mut Rooms,
     way: &StreamWay,
     every: u8,
     cost: u32,
@@ -68,6 +71,8 @@ fn branches_by(
     requires links { links.now ≡ domain.now.links }
     requires on_way { IsOnWay domain.now (way_value way.now) }
     requires good { IsGoodEvery every }
+    requires known { AreKnown domain.now (held_in domain.now admission.now.entries (seals admission.now.entries)) rooms.old }
+    ensures known { AreKnown domain.now (held_in domain.now admission.now.entries (seals admission.now.entries)) rooms.new }
     ensures ok { let entries = admission.now.entries in IfOk result (λ paths.
         IsRouted domain.now (held_in domain.now entries (seals entries)) every cost (way_value way.now) (Ok (branches_of paths.items))) }
     ensures err { let entries = admission.now.entries in IfErr result
@@ -79,15 +84,57 @@ fn branches_by(
             Ok(given)
         }
         StreamWay::Between(bridge, stations) => {
-            let left = lefts(alloc, domain, admission, every)?;
+            let place = rooms.find(alloc, domain, admission, every)?;
             let room = Room {
                 links,
-                left: left.as_slice(),
+                left: rooms.lefts_at(place, every),
                 cost,
             };
             branches_between(alloc, domain, room, *bridge, stations.as_slice())
         }
     }
+}
+
+/// Asks for a stream with this reservation in these cycles along some branches, behind those that are placed.
+fn place_along(
+    alloc: Global,
+    domain: &Domain,
+    admission: &mut Admission,
+    rooms: &mut Rooms,
+    name: &Name,
+    octets: u32,
+    turns: Turns,
+    paths: Vec<Vec<String>>,
+) -> Result<PlacingOutcome, Memory>
+    requires domain { admission.old.domain ≡ domain.now }
+    requires free { calls admission.old.entries < most_calls }
+    requires few { octets ≤ most_reserved }
+    requires good { AreGoodTurns turns }
+    requires some { CostsSome turns octets }
+    requires known { AreKnown domain.now (held_in domain.now admission.old.entries (seals admission.old.entries)) rooms.old }
+    ensures domain { admission.new.domain ≡ domain.now }
+    ensures placed { IfOk result (λ outcome. IsAskedFor domain.now admission.old.entries name.now octets turns (branches_of paths.items)
+        (outcome_value outcome) admission.new.entries) }
+    ensures known { IfOk result (λ _. AreKnown domain.now (held_in domain.now admission.new.entries (seals admission.new.entries)) rooms.new) }
+{
+    state_follows_history();
+    admission.know();
+    let branched = branched_by(domain, paths)?;
+    let phase = phase_along(domain, admission, cost(Octets(octets)).0, turns, &branched);
+    let name = String::from_str(alloc, name.as_str())?;
+    let request = PacedRequest {
+        name,
+        octets,
+        every: u32::from(turns.every()),
+        phase: u32::from(phase),
+        paths: branched.paths,
+    };
+    let outcome = ask(domain, admission, request)?;
+    match &branched.tree {
+        Some(tree) => rooms.renew(domain, admission, tree.as_slice()),
+        None => {}
+    }
+    Ok(outcome)
 }
 
 /// Places a stream with this reservation in these cycles behind those that are placed.
@@ -96,6 +143,7 @@ fn place_with(
     domain: &Domain,
     links: &[Link],
     admission: &mut Admission,
+    rooms: &mut Rooms,
     stream: &Settled,
     octets: u32,
     turns: Turns,
@@ -107,19 +155,21 @@ fn place_with(
     requires few { octets ≤ most_reserved }
     requires good { AreGoodTurns turns }
     requires some { CostsSome turns octets }
+    requires known { AreKnown domain.now (held_in domain.now admission.old.entries (seals admission.old.entries)) rooms.old }
     ensures domain { admission.new.domain ≡ domain.now }
     ensures placed { IfOk result (λ outcome.
         IsRoutedAndAnswered domain.now admission.old.entries (settled_value stream.now) octets turns (outcome_value outcome) admission.new.entries) }
+    ensures known { IfOk result (λ _. AreKnown domain.now (held_in domain.now admission.new.entries (seals admission.new.entries)) rooms.new) }
 {
-    let cost = cost(Octets(octets)).0;
     let paths = match branches_by(
         alloc,
         domain,
         links,
         admission,
+        rooms,
         &stream.way,
         turns.every(),
-        cost,
+        cost(Octets(octets)).0,
     ) {
         Ok(paths) => paths,
         Err(unrouted) => match unrouted {
@@ -127,16 +177,16 @@ fn place_with(
             Unrouted::Memory => return Err(AllocError),
         },
     };
-    let phase = phase_along(domain, admission, cost, turns, paths.as_slice())?;
-    let name = String::from_str(alloc, stream.name.as_str())?;
-    let request = PacedRequest {
-        name,
+    let outcome = place_along(
+        alloc,
+        domain,
+        admission,
+        rooms,
+        &stream.name,
         octets,
-        every: u32::from(turns.every()),
-        phase: u32::from(phase),
+        turns,
         paths,
-    };
-    let outcome = ask(domain, admission, request)?;
+    )?;
     Ok(outcome)
 }
 
@@ -146,22 +196,27 @@ fn place_one(
     domain: &Domain,
     links: &[Link],
     admission: &mut Admission,
+    rooms: &mut Rooms,
     stream: &Settled,
 ) -> Result<PlacingOutcome, Memory>
     requires domain { admission.old.domain ≡ domain.now }
     requires links { links.now ≡ domain.now.links }
     requires free { calls admission.old.entries < most_calls }
     requires placeable { IsPlaceable domain.now (settled_value stream.now) }
+    requires known { AreKnown domain.now (held_in domain.now admission.old.entries (seals admission.old.entries)) rooms.old }
     ensures domain { admission.new.domain ≡ domain.now }
     ensures placed { IfOk result (λ outcome.
         IsPlacing domain.now admission.old.entries (settled_value stream.now) (outcome_value outcome) admission.new.entries) }
+    ensures known { IfOk result (λ _. AreKnown domain.now (held_in domain.now admission.new.entries (seals admission.new.entries)) rooms.new) }
 {
     let octets = match reservation(domain, stream) {
         Ok(octets) => octets,
         Err(found) => return Ok(PlacingOutcome::Unplaced(found)),
     };
     let turns = turns_on(stream, domain.cycle_time());
-    place_with(alloc, domain, links, admission, stream, octets, turns)
+    place_with(
+        alloc, domain, links, admission, rooms, stream, octets, turns,
+    )
 }
 
 /// Places streams on a domain, which has these links.
@@ -179,9 +234,10 @@ fn place_all(
 {
     state_follows_history();
     let mut admission = Admission::new(alloc, domain)?;
+    let mut rooms = Rooms::new(alloc);
     let mut outcomes = Vec::new(alloc);
     for stream in streams {
-        let outcome = place_one(alloc, domain, links, &mut admission, stream)?;
+        let outcome = place_one(alloc, domain, links, &mut admission, &mut rooms, stream)?;
         outcomes.push(outcome)?;
     }
     Ok(Placing {

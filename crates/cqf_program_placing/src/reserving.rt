@@ -4,6 +4,7 @@ ghost use Rattle.cqf_model.specs.Limits.{most_reserved};
 ghost use Rattle.cqf_program_placing.specs.Placing.{reserved_by, reserved_on};
 ghost use Rattle.cqf_program_placing.specs.Settled.{are_reservable, settled_value};
 
+use crate::turns::can_step;
 use crate::{PlanFault, Settled};
 use cqf_admission::MOST_OCTETS;
 use cqf_topology::Domain;
@@ -29,17 +30,21 @@ fn reserved_for(octets: Option<u32>, needed: u128) -> Result<u32, PlanFault>
 /// have to be enough (profile).
 ///
 /// # Errors
-/// `TooMuch` where its traffic needs more than a stream may reserve; else `TooLittle` where it asks for fewer than that.
+/// `BadInStep` where its talker is to be in step, and not all its frames of an interval come within one cycle; else `TooMuch` where its traffic needs more than a stream may reserve; else `TooLittle` where it asks for fewer than that.
 pub(crate) fn reservation(domain: &Domain, stream: &Settled) -> Result<u32, PlanFault>
     requires { IsTrue (are_reservable stream.now.octets) }
     ensures value { result ≡ reserved_on domain.now.cycle_time (settled_value stream.now) }
     ensures few { IfOk result (λ octets. octets ≤ most_reserved) }
     ensures some { IfOk result (λ octets. IfSome stream.now.traffic (λ _. 1 ≤ octets)) }
 {
+    let cycle_time = domain.cycle_time();
+    if !can_step(stream, cycle_time) {
+        return Err(PlanFault::BadInStep);
+    }
     let Some(traffic) = stream.traffic else {
         return Ok(stream.octets.unwrap_or(0));
     };
     traffic.know();
-    let needed = traffic.needed(domain.cycle_time());
+    let needed = traffic.needed(cycle_time);
     reserved_for(stream.octets, needed)
 }

@@ -1,6 +1,10 @@
 //! What links have left beside streams that are placed.
-ghost use Rattle.std.specs.Prelude.{◌≡◌, ◌<◌, ◌≤◌, IfOk, length};
+ghost use Rattle.std.specs.Prelude.{◌≡◌, ◌<◌, ◌≤◌, [], ◌==◌, All, IfOk, List, length, position};
+ghost use Rattle.cqf_model.specs.declared.topology.Hop.{Hop as AHop};
+ghost use Rattle.cqf_model.specs.declared.topology.Row.{Row};
 ghost use Rattle.cqf_model.specs.History.{held_in, seals};
+ghost use Rattle.cqf_model.specs.Table.{links_in};
+ghost use Rattle.cqf_program_placing.specs.Known.{AreKnown, AreRenewed, IsFilled, IsKnown, IsKnownAt, TakesNothingOff};
 ghost use Rattle.cqf_program_placing.specs.Turns.{IsGoodEvery, left_emptiest, lefts_on, pace_by};
 
 use cqf_admission::Admission;
@@ -41,7 +45,7 @@ fn left_on(domain: &Domain, admission: &Admission, link: u16, every: u8) -> u32
 }
 
 /// What each link has left beside those that are placed, in octets a cycle, in the emptiest of so many cycles, by number.
-pub(crate) fn lefts(
+fn lefts(
     alloc: Global,
     domain: &Domain,
     admission: &Admission,
@@ -56,4 +60,91 @@ pub(crate) fn lefts(
         left.push(left_on(domain, admission, link, every))?;
     }
     Ok(left)
+}
+
+/// What each link has left in the emptiest of so many cycles, by number.
+#[derive(Debug, Drop)]
+struct Emptiest {
+    every: u8,
+    left: Vec<u32>,
+}
+
+/// Takes anew what the links of a tree's hops have left.
+fn renew_lefts(emptiest: &mut Emptiest, domain: &Domain, admission: &Admission, tree: &[Hop])
+    requires domain { admission.now.domain ≡ domain.now }
+    requires inside { All (λ (hop : AHop). hop.link < length domain.now.links) tree.now }
+    requires filled { IsFilled domain.now emptiest.old }
+    ensures every { emptiest.new.every ≡ emptiest.old.every }
+    ensures left { let d = domain.now in let entries = admission.now.entries in
+        AreRenewed (left_emptiest d (held_in d entries (seals entries)) emptiest.old.every) (links_in tree.now) emptiest.old.left.items emptiest.new.left.items }
+{
+    for hop in tree {
+        let left = left_on(domain, admission, hop.link, emptiest.every);
+        emptiest.left[usize::from(hop.link)] = left;
+    }
+}
+
+/// What each link has left beside the streams that are placed, in octets a cycle, in the emptiest of so many cycles, for each such number
+/// that was asked for so far. Where a stream is placed, only what its links have left is taken anew.
+#[derive(Debug, Drop)]
+pub(crate) struct Rooms {
+    known: Vec<Emptiest>,
+}
+
+impl Rooms {
+    /// Nothing so far. It takes no memory.
+    pub(crate) fn new(alloc: Global) -> Rooms
+        ensures { result.known.items ≡ [] }
+    {
+        Rooms {
+            known: Vec::new(alloc),
+        }
+    }
+
+    /// The place of what links have left in the emptiest of so many cycles, which is taken where it isn't known.
+    pub(crate) fn find(
+        &mut self,
+        alloc: Global,
+        domain: &Domain,
+        admission: &Admission,
+        every: u8,
+    ) -> Result<usize, Memory>
+        requires domain { admission.now.domain ≡ domain.now }
+        requires good { IsGoodEvery every }
+        requires known { AreKnown domain.now (held_in domain.now admission.now.entries (seals admission.now.entries)) self.old }
+        ensures known { AreKnown domain.now (held_in domain.now admission.now.entries (seals admission.now.entries)) self.new }
+        ensures there { IfOk result (IsKnownAt self.new every) }
+    {
+        let place = self
+            .known
+            .iter()
+            .position(|emptiest| emptiest.every == every);
+        if let Some(place) = place {
+            return Ok(place);
+        }
+        let left = lefts(alloc, domain, admission, every)?;
+        self.known.push(Emptiest { every, left })?;
+        Ok(self.known.len() - 1)
+    }
+
+    /// What each link has left in the emptiest of so many cycles, by number, which stands at this place.
+    pub(crate) fn lefts_at(&self, place: usize, every: u8) -> &[u32]
+        requires { IsKnownAt self.now every place }
+        ensures { (d : Domain) (rows : List Row) → AreKnown d rows self.now → result.now ≡ lefts_on d rows every }
+    {
+        self.known[place].left.as_slice()
+    }
+
+    /// Takes anew what the links of a tree's hops have left, where a stream was placed along them.
+    pub(crate) fn renew(&mut self, domain: &Domain, admission: &Admission, tree: &[Hop])
+        requires domain { admission.now.domain ≡ domain.now }
+        requires inside { All (λ (hop : AHop). hop.link < length domain.now.links) tree.now }
+        requires filled { All (IsFilled domain.now) self.old.known.items }
+        ensures { let d = domain.now in let entries = admission.now.entries in (before : List Row) → AreKnown d before self.old →
+            TakesNothingOff before (held_in d entries (seals entries)) (links_in tree.now) → AreKnown d (held_in d entries (seals entries)) self.new }
+    {
+        for emptiest in self.known.iter_mut() {
+            renew_lefts(emptiest, domain, admission, tree);
+        }
+    }
 }

@@ -2,7 +2,7 @@
 ghost use Rattle.std.specs.Prelude.{◌≡◌, ◌<◌, IsTrue};
 ghost use Rattle.cqf_program_placing.specs.Placing.{is_chosen_on, turns_on};
 ghost use Rattle.cqf_program_placing.specs.Settled.{is_paced, settled_value};
-ghost use Rattle.cqf_program_placing.specs.Turns.{AreGoodTurns, IsGoodEvery, every_in, every_of, keeps_step, turns_in_step};
+ghost use Rattle.cqf_program_placing.specs.Turns.{AreGoodTurns, IsGoodEvery, can_step, every_in, every_of, keeps_step, turns_in_step};
 
 use crate::Settled;
 use cqf_model::MOST_EVERY;
@@ -55,26 +55,37 @@ fn every_of(cycles: u64) -> u8
     every
 }
 
+/// Whether a stream can be offered on a cycle time: where its talker is to be in step, all its frames of an interval come within one cycle
+/// (profile).
+pub(crate) fn can_step(stream: &Settled, cycle_time: Nanos) -> bool
+    requires { 0 < cycle_time.0 }
+    ensures { result ≡ can_step cycle_time.0 stream.now.pacing stream.now.traffic }
+{
+    match stream.pacing {
+        Pacing::Given { .. } => true,
+        Pacing::InStep => match stream.traffic {
+            Some(traffic) => keeps_step(traffic, cycle_time),
+            None => false,
+        },
+    }
+}
+
 /// In which cycles a stream is offered whose talker is in step.
 fn turns_in_step(traffic: Option<Traffic>, cycle_time: Nanos) -> Turns
     requires { 0 < cycle_time.0 }
     ensures value { result ≡ turns_in_step cycle_time.0 traffic }
     ensures good { AreGoodTurns result }
 {
-    let Some(traffic) = traffic else {
-        return Turns::Given { every: 1, phase: 0 };
-    };
-    if !keeps_step(traffic, cycle_time) {
-        return Turns::Given { every: 1, phase: 0 };
-    }
-    Turns::Chosen {
-        every: every_of(traffic.interval().0 / cycle_time.0),
+    match traffic {
+        Some(traffic) => Turns::Chosen {
+            every: every_of(traffic.interval().0 / cycle_time.0),
+        },
+        None => Turns::Given { every: 1, phase: 0 },
     }
 }
 
-/// In which cycles a stream is offered on a cycle time: in those that are given; or, where its talker is in step and all its frames of an
-/// interval come within one cycle, in one of as many as an interval has in common with 80, of which the first is to be chosen; else in each
-/// (profile).
+/// In which cycles a stream that can be is offered on a cycle time: in those that are given; or, where its talker is in step, in one of as
+/// many as an interval has in common with 80, of which the first is to be chosen (profile).
 pub(crate) fn turns_on(stream: &Settled, cycle_time: Nanos) -> Turns
     requires some { 0 < cycle_time.0 }
     requires paced { IsTrue (is_paced stream.now.pacing) }

@@ -16,12 +16,13 @@ use Rattle.cqf_admission.specs.Admission.{Administration, Answers, is_entered}
 use Rattle.cqf_admission.specs.Asking.{asked_by, asked_paced}
 use Rattle.cqf_text.specs.Parts.{parts_of}
 use Rattle.cqf_topology.specs.DomainText.{domain_within}
-use Rattle.cqf_topology.specs.PacedText.{paced_text, paced_of_text}
+use Rattle.cqf_topology.specs.PacedText.{paced_text}
 use Rattle.cqf_lists.specs.Results.{and_then, refuse}
 use Rattle.cqf_press.specs.Stops.{EndsWith}
 use Rattle.cqf_program_plans.specs.Compile.Output.{AreAllHeld, admitted_from, compile_input, stream_line, with_asked}
+use Rattle.cqf_program_plans.specs.Reserving.{requests_in}
 use Rattle.cqf_program_scenario.proofs.AskedTexts.{asked_texts}
-use Rattle.cqf_program_scenario.specs.Lines.{domain_line, streams_line}
+use Rattle.cqf_program_scenario.specs.Lines.{domain_line}
 use Rattle.cqf_program_scenario.specs.Parts.{two_parts}
 use Rattle.cqf_press.specs.Stops.{IsRefused, or_line}
 use Rattle.cqf_press.specs.declared.stops.Stop.{Stop}
@@ -182,11 +183,10 @@ refused-ends old new asked refused place stop more all answers line memory =
 -- the domain and the streams that are read are the input's
 pub compile_input-is : (limits : Limits) (input domain_text streams_text : List ℕ) (domain : Domain) (requests : List PacedRequest) →
     two_parts (parts_of input) ≡ Ok (domain_text, streams_text) → domain_within limits domain_text ≡ Ok domain →
-    paced_of_text streams_text ≡ Ok (map paced_text requests) → compile_input limits input ≡ Ok (domain, map asked_paced requests)
+    requests_in domain streams_text ≡ Ok (map paced_text requests) → compile_input limits input ≡ Ok (domain, map asked_paced requests)
 compile_input-is limits input domain_text streams_text domain requests parts domain_is streams_are =
     ap (λ found. and_then found (λ texts. and_then (or_line domain_line (domain_within limits texts.0))
-    (λ d. and_then (or_line streams_line (paced_of_text texts.1)) (λ read. Ok (d, map asked_by read))))) parts
-    ∙ ap (λ found. and_then (or_line domain_line found)
-    (λ d. and_then (or_line streams_line (paced_of_text streams_text)) (λ read. Ok (d, map asked_by read)))) domain_is
-    ∙ ap (λ found. and_then (or_line streams_line found) (λ read. Ok (domain, map asked_by read))) streams_are
+    (λ d. and_then (requests_in d texts.1) (λ read. Ok (d, map asked_by read))))) parts
+    ∙ ap (λ found. and_then (or_line domain_line found) (λ d. and_then (requests_in d streams_text) (λ read. Ok (d, map asked_by read)))) domain_is
+    ∙ ap (λ found. and_then found (λ read. Ok (domain, map asked_by read))) streams_are
     ∙ ap (λ asked. Ok (domain, asked)) (asked_texts requests)

@@ -5,3 +5,4 @@ pub mod Compile
 pub mod Port
 pub mod EndNames
 pub mod Adding
+pub mod Reserving

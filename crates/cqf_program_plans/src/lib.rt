@@ -45,6 +45,7 @@ mod compile;
 mod latency;
 mod load;
 mod port;
+mod reserving;
 mod row_costs;
 
 pub use compile::command::{compile_output, read_plan, rows_of_cycle_0, stream_stop};
@@ -62,4 +63,5 @@ pub use load::laws::{greatest_fits, plan_fits};
 pub use load::outputs::LoadOutput;
 pub use port::command::port_output;
 pub use port::outputs::PortOutput;
+pub use reserving::flows_stop;
 pub use row_costs::add_cost;

@@ -10,6 +10,7 @@ use Rattle.std.proofs.lemmas.List.Sums.{length-filter}
 use Rattle.cqf_model.specs.declared.frames.Offered.{Offered}
 use Rattle.cqf_model.specs.Traffic.{numbered}
 use Rattle.cqf_program_runs.specs.declared.check.checked.CheckCounts.{CheckCounts}
+use Rattle.cqf_program_runs.specs.declared.check.checked.OfferCounts.{OfferCounts}
 use Rattle.cqf_program_runs.specs.declared.deliveries.delivery.Delivery.{Delivery}
 use Rattle.cqf_program_runs.specs.Check.Checked.{counts_of, is_bad, is_delivered, is_timed, is_under_way}
 use Rattle.cqf_program_runs.specs.Check.Counting.{NoneBad}
@@ -34,13 +35,12 @@ abbrev is_there_timed : Delivery → Bool
 is_there_timed delivery = is_delivered (fate_of delivery) && is_timed delivery.passage
 
 -- some more are counted
-pub counted_more : (counts : CheckCounts) (frames later u v w : ℕ) (done here : List Delivery) → u ≡ count_by goes here → v ≡ count_by is_there here →
-    w ≡ count_by is_there_timed here → counts ≡ counts_of frames later done →
-    record { frames = counts.frames; later = counts.later; under_way = counts.under_way + u; delivered = counts.delivered + v; timed = counts.timed + w }
-    ≡ counts_of frames later (done ++ here)
-counted_more counts frames later u v w done here us vs ws is = λ i. record {
-  frames = (is i).frames;
-  later = (is i).later;
+pub counted_more : (counts : CheckCounts) (offers : OfferCounts) (u v w : ℕ) (done here : List Delivery) → u ≡ count_by goes here → v ≡ count_by is_there here →
+    w ≡ count_by is_there_timed here → counts ≡ counts_of offers done →
+    record { offers = counts.offers; under_way = counts.under_way + u; delivered = counts.delivered + v; timed = counts.timed + w }
+    ≡ counts_of offers (done ++ here)
+counted_more counts offers u v w done here us vs ws is = λ i. record {
+  offers = (is i).offers;
   under_way = under i;
   delivered = there i;
   timed = timed i;

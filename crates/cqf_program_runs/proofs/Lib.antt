@@ -23,9 +23,9 @@ mod Room
 pub mod OneMore
 mod Counted
 mod KeptSlots
-mod ToldStarts
+pub mod ToldStarts
 mod InOrder
 mod FollowedOn
-mod BehindOffers
+pub mod BehindOffers
 mod SlotsTell
-mod Greatest
+pub mod Greatest

@@ -9,6 +9,11 @@ pub unfinished_told : (under_way later : List ℕ) →
 unfinished_told under_way later =
     ap (λ t. codes "cqf: check: unfinished, under way " ++ t) (sym (append_assoc under_way (codes ", not run " ++ later) (10 ∷ [])))
 
+pub none_come_told : (enough : List ℕ) →
+    codes "cqf: check: no frame; " ++ (enough ++ codes " cycles would do\n")
+    ≡ fault_line (codes "check") (codes "no frame; " ++ (enough ++ codes " cycles would do"))
+none_come_told enough = ap (λ t. codes "cqf: check: no frame; " ++ t) (sym (append_assoc enough (codes " cycles would do") (10 ∷ [])))
+
 pub well_told : (frames delivered timed : List ℕ) →
     codes "well: frames " ++ (frames ++ (codes ", deliveries " ++ (delivered ++ (codes ", with a deadline " ++ (timed ++ 10 ∷ [])))))
     ≡ line_of (codes "well: frames " ++ (frames ++ (codes ", deliveries " ++ (delivered ++ (codes ", with a deadline " ++ timed)))))

@@ -1,13 +1,11 @@
 -- What is told of the deliveries that were made is told of the input.
-use Rattle.std.proofs.Common.{◌≡◌, ◌∙◌, ℕ, List, Option, Some, None, Result, Err, ap, find, length, map, option_map, refl, subst, sym, count_by, nat_le}
+use Rattle.std.proofs.Common.{◌≡◌, ◌∙◌, ℕ, List, Option, Some, None, Result, Err, ap, find, length, map, option_map, refl, subst, sym}
 use Rattle.cqf_lists.specs.Results.{refuse}
 use Rattle.cqf_lists.proofs.EachBelow.{length-singles}
 use Rattle.cqf_model.specs.declared.limits.Limits.{Limits}
-use Rattle.cqf_model.specs.declared.frames.Offered.{Offered}
+use Rattle.cqf_model.specs.declared.topology.Row.{Row}
 use Rattle.cqf_model.specs.Book.{Contents}
-use Rattle.cqf_model.specs.History.{Recorded, table_at}
-use Rattle.cqf_model.specs.Shift.{offer_cycle}
-use Rattle.cqf_model.specs.Traffic.{numbered}
+use Rattle.cqf_model.specs.History.{Recorded, streams_of, table_at}
 use Rattle.cqf_topology.specs.PlannedText.{PlannedText}
 use Rattle.cqf_admission.specs.Asking.{asked_paced}
 use Rattle.cqf_admission.specs.declared.logs.Logged.{Logged}
@@ -22,12 +20,13 @@ use Rattle.cqf_program_scenario.specs.Scenario.{Scenario}
 use Rattle.cqf_press.specs.declared.stops.Stop.{Stop}
 use Rattle.cqf_press.specs.Stops.{EndsWith, IsRefused}
 use Rattle.cqf_program_runs.specs.declared.check.checked.CheckCounts.{CheckCounts}
+use Rattle.cqf_program_runs.specs.declared.check.checked.OfferCounts.{OfferCounts}
 use Rattle.cqf_program_runs.specs.declared.deliveries.delivery.Delivery.{Delivery}
-use Rattle.cqf_program_runs.specs.Check.Checked.{checked_by, checked_deliveries, complaint_line, counts_of, finished, is_bad, later_offers}
+use Rattle.cqf_program_runs.specs.Check.Checked.{checked_by, checked_deliveries, complaint_line, counts_of, finished, is_bad, offer_counts, run_offers}
 use Rattle.cqf_program_runs.specs.Deliveries.{fate_of}
 use Rattle.cqf_program_runs.specs.Deliveries.Text.{text_of_deliveries}
 use Rattle.cqf_program_runs.specs.declared.deliveries.reading.PlannedGiven.{PlannedGiven}
-use Rattle.cqf_program_runs.specs.Check.Checking.{IsCheckedGiven, IsRefusedGiven}
+use Rattle.cqf_program_runs.specs.Check.Checking.{AreOffersCounted, IsCheckedGiven, IsRefusedGiven}
 use Rattle.cqf_program_runs.specs.Check.Output.{IsCheckRefusal, IsChecked, IsCheckedOf, IsCheckedScenario}
 use Rattle.cqf_program_runs.specs.Deliveries.Output.{IsDeliveriesOutput}
 use Rattle.cqf_program_runs.specs.Deliveries.PlannedScenario.{planned_scenario, run_of_scenario}
@@ -50,24 +49,23 @@ IsDeliveriesOutput-made limits cycles input planned deliveries given are =
     }
 
 -- what is told of them is told of the scenario
-pub IsCheckedScenario-made : (cycles : ℕ) (s : Scenario) (streams : List PlannedText) (deliveries : List Delivery) (frames later : ℕ)
-    (found : Result (List ℕ) (List ℕ)) → first_refused (history_of cycles s) ≡ None → AreDeliveries cycles s streams deliveries → frames ≡ length s.offers →
-    later ≡ count_by (λ (x : Offered). nat_le cycles (offer_cycle s.domain x)) (numbered s.offers) →
-    checked_by deliveries (counts_of frames later deliveries) ≡ found → IsCheckedScenario cycles s streams found
-IsCheckedScenario-made cycles s streams deliveries frames later found granted made many rest told = record {
-  book = made.book;
-  is_book = made.is_book;
-  told = ap (λ (first : Option (ℕ × Recorded)). refuse first refused_call_line (checked_deliveries (run_of_scenario cycles s) streams made.book)) granted
-      ∙ ap (λ (ds : List Delivery). checked_by ds (counts_of (length s.offers) (later_offers (run_of_scenario cycles s)) ds)) (sym made.are)
-      ∙ ap (λ (n : ℕ). checked_by deliveries (counts_of (length s.offers) n deliveries)) (sym (rest ∙ as_run))
-      ∙ ap (λ (n : ℕ). checked_by deliveries (counts_of n later deliveries)) (sym many)
-      ∙ told;
-}
-  where
+pub IsCheckedScenario-made : (cycles : ℕ) (s : Scenario) (streams : List PlannedText) (deliveries : List Delivery)
+    (found : Result (List ℕ) (List ℕ)) → first_refused (history_of cycles s) ≡ None → AreDeliveries cycles s streams deliveries →
+    checked_by deliveries (counts_of (offer_counts s.domain cycles (streams_of s.domain (history_of cycles s)) s.offers) deliveries) ≡ found →
+    IsCheckedScenario cycles s streams found
+IsCheckedScenario-made cycles s streams deliveries found granted made told =
+    let rows = streams_of s.domain (history_of cycles s) in
+    let run = run_of_scenario cycles s in
     -- there is a table for each cycle
-    as_run : count_by (λ (x : Offered). nat_le cycles (offer_cycle s.domain x)) (numbered s.offers) ≡ later_offers (run_of_scenario cycles s)
-    as_run = ap (λ (n : ℕ). count_by (λ (x : Offered). nat_le n (offer_cycle s.domain x)) (numbered s.offers))
-        (sym (length-singles (table_at s.domain (history_of cycles s)) cycles))
+    let as_run : length run.tables ≡ cycles = length-singles (table_at s.domain (history_of cycles s)) cycles in
+    record {
+      book = made.book;
+      is_book = made.is_book;
+      told = ap (λ (first : Option (ℕ × Recorded)). refuse first refused_call_line (checked_deliveries rows run streams made.book)) granted
+          ∙ ap (λ (ds : List Delivery). checked_by ds (counts_of (run_offers rows run) ds)) (sym made.are)
+          ∙ ap (λ (n : ℕ). checked_by deliveries (counts_of (offer_counts s.domain n rows s.offers) deliveries)) as_run
+          ∙ told;
+    }
 
 -- and of the input
 pub IsChecked-given : (limits : Limits) (cycles : ℕ) (input : List ℕ) (planned : PlannedGiven) (found : Result (List ℕ) (List ℕ)) → IsPlannedGiven limits cycles input planned →
@@ -111,14 +109,11 @@ IsRefused-line found line stop is ends = record {
 -- what is told of the deliveries that were made is told of what was read
 module _ (cycles : ℕ) (planned : PlannedGiven) (deliveries : List Delivery) (counts : CheckCounts)
     (granted : first_refused (history_of cycles (scenario_given planned.given)) ≡ None) (are : AreDeliveriesOf cycles planned deliveries)
-    (counted : counts ≡ counts_of (length planned.given.offers.items)
-    (count_by (λ (x : Offered). nat_le cycles (offer_cycle planned.given.domain x)) (numbered planned.given.offers.items)) deliveries) where
+    (offers : OfferCounts) (are_offers : AreOffersCounted cycles planned offers) (counted : counts ≡ counts_of offers deliveries) where
   pub IsCheckedGiven-made : (found : Result (List ℕ) (List ℕ)) → checked_by deliveries counts ≡ found → IsCheckedGiven cycles planned found
   IsCheckedGiven-made found told streams those =
-      IsCheckedScenario-made cycles (scenario_given planned.given) streams deliveries (length planned.given.offers.items)
-      (count_by (λ (x : Offered). nat_le cycles (offer_cycle planned.given.domain x)) (numbered planned.given.offers.items)) found granted
-      (are streams those) refl refl
-      (ap (checked_by deliveries) (sym counted) ∙ told)
+      IsCheckedScenario-made cycles (scenario_given planned.given) streams deliveries found granted (are streams those)
+      (ap (checked_by deliveries) (ap (λ (o : OfferCounts). counts_of o deliveries) (sym are_offers) ∙ sym counted) ∙ told)
 
   pub IsRefusedGiven-made : (stop : Stop) → IsRefused (checked_by deliveries counts) stop → IsRefusedGiven cycles planned stop
   IsRefusedGiven-made stop refused = record {
@@ -146,7 +141,8 @@ IsRefusedGiven-call cycles planned outcome book call stop comes is_book is ends 
   line = λ one streams those. record {
     book = book;
     is_book = is_book;
-    told = ap (λ (first : Option (ℕ × Recorded)). refuse first refused_call_line (checked_deliveries (run_of_scenario cycles (scenario_given planned.given))
+    told = ap (λ (first : Option (ℕ × Recorded)). refuse first refused_call_line (checked_deliveries
+        (streams_of planned.given.domain (history_of cycles (scenario_given planned.given))) (run_of_scenario cycles (scenario_given planned.given))
         streams book)) (refused_is cycles planned.given outcome (Some call) comes is)
         ∙ ap Err (sym (ends.line_is one));
   };

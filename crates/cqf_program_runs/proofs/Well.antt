@@ -12,7 +12,7 @@ use Rattle.cqf_model.specs.declared.frames.Started.{Started}
 use Rattle.cqf_model.specs.declared.topology.Hop.{Hop}
 use Rattle.cqf_model.specs.declared.topology.Row.{Row}
 use Rattle.cqf_model.specs.Book.{Contents}
-use Rattle.cqf_model.specs.History.{Recorded}
+use Rattle.cqf_model.specs.History.{Recorded, streams_of}
 use Rattle.cqf_model.specs.Run.{Run}
 use Rattle.cqf_model.specs.Shift.{IsCovered, IsUncovered, offer_cycle}
 use Rattle.cqf_model.specs.Traffic.{DroppedFor, ExceedsGate, LacksRow, Queued, Verdict, numbered}
@@ -25,7 +25,7 @@ use Rattle.cqf_program_runs.specs.declared.deliveries.delivery.Passage.TheVarian
 use Rattle.cqf_program_runs.specs.declared.deliveries.delivery.Delivery.{Delivery}
 use Rattle.cqf_program_runs.specs.declared.deliveries.delivery.Fate.TheVariants as fate
 use Rattle.cqf_program_runs.specs.Check.Checked.{checked_deliveries, checked_by, complaint_line, counts_of, finished, is_bad}
-use Rattle.cqf_program_runs.specs.Check.Checked.{is_finished, is_under_way, later_offers, unfinished_line, well_line}
+use Rattle.cqf_program_runs.specs.Check.Checked.{is_finished, is_under_way, none_offered_line, run_offers, unfinished_line, well_line}
 use Rattle.cqf_program_runs.specs.Check.Laws.{AllOffersGoWell, ComesInTime, GoesWell, IsWellExactly, line_of_well}
 use Rattle.cqf_program_runs.specs.Deliveries.{deadline_named, deliveries_by, deliveries_of, deliveries_of_offer}
 use Rattle.cqf_program_runs.specs.Deliveries.{deliveries_to, deliveries_unless, delivery_of, delivery_to, drop_of}
@@ -35,8 +35,19 @@ use Rattle.cqf_program_runs.proofs.ByBook.{covered_no_drop, uncovered_drop}
 use Rattle.cqf_program_runs.proofs.CallsWell.{by_refused, none_is_refused, none_refused}
 use Rattle.cqf_program_runs.proofs.Fates.{count_none, first_passes, is_there, none_counted, none_found, none_passes, second_passes}
 
--- whether all is finished
-by_finish : (counts : CheckCounts) (line : List ℕ) → finished counts ≡ Ok line → (b : Bool) → is_finished counts ≡ b → b ≡ true
+-- whether all is finished, where something is offered
+abbrev rest : CheckCounts → Result (List ℕ) (List ℕ)
+rest counts = if is_finished counts then Ok (well_line counts) else Err (unfinished_line counts)
+
+by_offered : (counts : CheckCounts) (line : List ℕ) → finished counts ≡ Ok line → (b : Bool) → (counts.offers.frames == 0) ≡ b →
+    (b ≡ false) × (rest counts ≡ Ok line)
+by_offered counts line is true e = absurd (
+    let both : Err none_offered_line ≡ Ok line =
+    sym (ap {B = Result (List ℕ) (List ℕ)} (λ (b : Bool). if b then Err none_offered_line else rest counts) e) ∙ is in cc)
+by_offered counts line is false e =
+    (refl, sym (ap {B = Result (List ℕ) (List ℕ)} (λ (b : Bool). if b then Err none_offered_line else rest counts) e) ∙ is)
+
+by_finish : (counts : CheckCounts) (line : List ℕ) → rest counts ≡ Ok line → (b : Bool) → is_finished counts ≡ b → b ≡ true
 by_finish counts line is true e = refl
 by_finish counts line is false e = absurd (
     let both : Err (unfinished_line counts) ≡ Ok line =
@@ -141,38 +152,54 @@ module _ (run : Run) (streams : List PlannedText) (book : Contents) (says : Says
       ∙ ap (λ (o : Option Started). end_of_journey x.offer.at.0 (option_map (whole_instant run.domain) o) deadline) comes.starts
       ∙ comes.in_time
 
-  -- what is counted
-  abbrev counted : CheckCounts
-  counted = counts_of (length run.offers) (later_offers run) all
+  -- what is counted, where the history granted some rows
+  abbrev counted : List Row → CheckCounts
+  counted rows = counts_of (run_offers rows run) all
 
-  only_well : (line : List ℕ) → checked_deliveries run streams book ≡ Ok line → AllOffersGoWell run streams book
-  only_well line is =
+  only_well : (rows : List Row) (line : List ℕ) → checked_deliveries rows run streams book ≡ Ok line →
+      (0 < length run.offers) × AllOffersGoWell run streams book
+  only_well rows line is =
       let bad : Delivery → Bool = λ delivery. is_bad (fate_of delivery) in
       let waits : Delivery → Bool = λ delivery. is_under_way (fate_of delivery) in
       let late : Offered → Bool = λ x. nat_le (length run.tables) (offer_cycle run.domain x) in
-      let steps = by_bad all counted line is (find bad all) refl in
-      let done : is_finished counted ≡ true = by_finish counted line steps.1 (is_finished counted) refl in
-      let first : (counted.under_way == 0) ≡ true = first_passes (counted.under_way == 0) (counted.later == 0) done in
-      let second : (counted.later == 0) ≡ true = second_passes (counted.under_way == 0) (counted.later == 0) done in
-      let none_waits : counted.under_way ≡ 0 = grind (arith, nat_tests) in
-      let none_late : counted.later ≡ 0 = grind (arith, nat_tests) in
-      goes_well
-      (λ delivery among. is_there (fate_of delivery) (none_passes bad all steps.0 delivery among) (none_counted waits all none_waits delivery among))
-      (λ x inside. leb-false (length run.tables) (offer_cycle run.domain x) (none_counted late (numbered run.offers) none_late x inside))
+      let counts = counted rows in
+      let steps = by_bad all counts line is (find bad all) refl in
+      let offered = by_offered counts line steps.1 (length run.offers == 0) refl in
+      let done : is_finished counts ≡ true = by_finish counts line offered.1 (is_finished counts) refl in
+      let first : (counts.under_way == 0) ≡ true = first_passes (counts.under_way == 0) (counts.offers.later == 0) done in
+      let second : (counts.offers.later == 0) ≡ true = second_passes (counts.under_way == 0) (counts.offers.later == 0) done in
+      let none_waits : counts.under_way ≡ 0 = grind (arith, nat_tests) in
+      let none_late : counts.offers.later ≡ 0 = grind (arith, nat_tests) in (
+        not_none (length run.offers) offered.0,
+        goes_well
+            (λ delivery among. is_there (fate_of delivery) (none_passes bad all steps.0 delivery among) (none_counted waits all none_waits delivery among))
+            (λ x inside. leb-false (length run.tables) (offer_cycle run.domain x) (none_counted late (numbered run.offers) none_late x inside)),
+      )
+    where
+      -- a number that isn't 0
+      not_none : (n : ℕ) → (n == 0) ≡ false → 0 < n
+      not_none n differs = grind (arith, nat_tests)
 
-  where_all_well : AllOffersGoWell run streams book → checked_deliveries run streams book ≡ Ok (line_of_well run streams book)
-  where_all_well well =
+  where_all_well : (rows : List Row) → 0 < length run.offers → AllOffersGoWell run streams book →
+      checked_deliveries rows run streams book ≡ Ok (line_of_well rows run streams book)
+  where_all_well rows some well =
+      let counts = counted rows in
       let bad : Delivery → Bool = λ delivery. is_bad (fate_of delivery) in
       let waits : Delivery → Bool = λ delivery. is_under_way (fate_of delivery) in
       let late : Offered → Bool = λ x. nat_le (length run.tables) (offer_cycle run.domain x) in
       let found : find bad all ≡ None = none_found bad all (λ delivery among. ap is_bad (each_there well delivery among)) in
-      let none_waits : counted.under_way ≡ 0 = count_none waits all (λ delivery among. ap is_under_way (each_there well delivery among)) in
-      let none_late : counted.later ≡ 0 =
+      let none_waits : counts.under_way ≡ 0 = count_none waits all (λ delivery among. ap is_under_way (each_there well delivery among)) in
+      let none_late : counts.offers.later ≡ 0 =
       count_none late (numbered run.offers) (λ x inside. lt-leb (length run.tables) (offer_cycle run.domain x) (well x inside).within) in
-      ap {B = Result (List ℕ) (List ℕ)} (λ (o : Option Delivery). refuse o complaint_line (finished counted)) found
-      ∙ ap {B = Result (List ℕ) (List ℕ)} (λ (b : Bool). if b then Ok (well_line counted) else Err (unfinished_line counted))
-      (done counted.under_way counted.later none_waits none_late)
+      ap {B = Result (List ℕ) (List ℕ)} (λ (o : Option Delivery). refuse o complaint_line (finished counts)) found
+      ∙ ap {B = Result (List ℕ) (List ℕ)} (λ (b : Bool). if b then Err none_offered_line else rest counts) (is_some (length run.offers) some)
+      ∙ ap {B = Result (List ℕ) (List ℕ)} (λ (b : Bool). if b then Ok (well_line counts) else Err (unfinished_line counts))
+      (done counts.under_way counts.offers.later none_waits none_late)
     where
+      -- some are offered
+      is_some : (n : ℕ) → 0 < n → (n == 0) ≡ false
+      is_some n more = grind (arith, nat_tests)
+
       -- nothing is left
       done : (a b : ℕ) → a ≡ 0 → b ≡ 0 → ((a == 0) && (b == 0)) ≡ true
       done a b first second = ap (λ (n : ℕ). (n == 0) && (b == 0)) first ∙ ap (λ (n : ℕ). (0 == 0) && (n == 0)) second
@@ -180,10 +207,11 @@ module _ (run : Run) (streams : List PlannedText) (book : Contents) (says : Says
   pub is_well_exactly : (entries : List Recorded) → IsWellExactly entries run streams book
   is_well_exactly entries = record {
     only = λ line is.
-        let parts = by_refused (first_refused entries) (checked_deliveries run streams book) line is in
-        record { calls = none_is_refused entries parts.0; offers = only_well line parts.1 };
+        let parts = by_refused (first_refused entries) (checked_deliveries (streams_of run.domain entries) run streams book) line is in
+        let well = only_well (streams_of run.domain entries) line parts.1 in
+        record { some = well.0; calls = none_is_refused entries parts.0; offers = well.1 };
     where_well = λ well.
-        ap {B = Result (List ℕ) (List ℕ)} (λ (first : Option (ℕ × Recorded)). refuse first refused_call_line (checked_deliveries run streams book))
-        (none_refused entries well.calls)
-        ∙ where_all_well well.offers;
+        ap {B = Result (List ℕ) (List ℕ)} (λ (first : Option (ℕ × Recorded)). refuse first refused_call_line
+        (checked_deliveries (streams_of run.domain entries) run streams book)) (none_refused entries well.calls)
+        ∙ where_all_well (streams_of run.domain entries) well.some well.offers;
   }

@@ -17,7 +17,7 @@
 //! - [`read_planned_given`] has the scenario of an input with its deadlines ([`PlannedGiven`]), [`noted_of_scenario`] what its deliveries are
 //!   told from (`Noted`, [`CompletedRun`]) with the frames under way ([`UnderWay`]), and [`put_those_of`] those of one offer ([`Few`]), for
 //!   other commands over deliveries.
-//! - `complaint_about`, `unfinished_line` and `well_line` are the lines of a check.
+//! - `complaint_about`, `none_offered_line`, `unfinished_line` and `well_line` are the lines of a check.
 //! - [`verdicts_tell_deliveries`] is the law that ties deliveries by the verdicts on offers to those of a book.
 //!   [`arrivals_are_the_shift`] says which have come, [`each_is_told_once`] what is told of an offer, and
 //!   [`check_is_well_exactly`] when a check tells that all is well.
@@ -48,7 +48,8 @@ mod report;
 mod run;
 
 pub(crate) use check::checked::{
-    CheckCounts, complaint_about, first_bad, unfinished_line, well_line,
+    CheckCounts, OfferCounts, complaint_about, first_bad, none_offered_line, unfinished_line,
+    well_line,
 };
 pub use deliveries::command::{check_output, deliveries_output};
 pub use deliveries::deadlines::Deadlines;
@@ -59,6 +60,7 @@ pub(crate) use deliveries::noted::Noted;
 pub use deliveries::noted::noted_of_scenario;
 pub use deliveries::outputs::DeliveriesOutput;
 pub use deliveries::reading::{PlannedGiven, read_planned_given};
+pub use deliveries::rooms::deepest;
 pub use deliveries::under_way::UnderWay;
 pub use laws::{
     arrivals_are_the_shift, check_is_well_exactly, each_is_told_once, verdicts_tell_deliveries,

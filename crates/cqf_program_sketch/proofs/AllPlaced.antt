@@ -22,11 +22,12 @@ use Rattle.cqf_program_plans.specs.Latency.Text.{is_not_sure}
 use Rattle.cqf_program_offers.specs.OffersOutput.{asked_in}
 use Rattle.cqf_program_placing.specs.declared.faults.PlanFault.{PlanFault}
 use Rattle.cqf_sketch.specs.declared.pacing.Pacing.{Pacing}
+use Rattle.cqf_sketch.specs.declared.pacing.Pacing.TheVariants as pacing
 use Rattle.cqf_program_placing.specs.Placing.{ArePlacedFrom, IsAnswered, IsAskedFor, IsPlacedBy, PlacedOr, Placed, Unplaced, answered}
 use Rattle.cqf_program_placing.specs.Placing.{reserved_by, reserved_on, turns_on}
 use Rattle.cqf_program_placing.specs.Settled.{SettledStream}
-use Rattle.cqf_program_placing.specs.Turns.{MayBeFirst, every_in, is_in_step}
-use Rattle.cqf_program_placing.proofs.PlaceLemmas.{reserved_enough}
+use Rattle.cqf_program_placing.specs.Turns.{MayBeFirst, can_step, every_in, is_in_step}
+use Rattle.cqf_program_placing.proofs.PlaceLemmas.{reserved_enough, reserved_there}
 use Rattle.cqf_program_placing.proofs.Stepping.{may_be_first}
 use Rattle.cqf_program_sketch.specs.Judging.{first_late, first_unplaced, flow_of, flows_placed, late_fault, traffic_by}
 use Rattle.cqf_program_sketch.specs.PlanLaws.{AreTakenOver, IsTakenOver, ReservesEnough}
@@ -147,6 +148,12 @@ no_stream d entries end same = record {
   no_seal = ap seals same;
 }
 
+-- one whose talker is to be in step is so, and its phase is chosen
+in_step_chosen : (cycle_time : ℕ) (given : Pacing) (traffic : Option TrafficText) → can_step cycle_time given traffic ≡ true → given ≡ pacing.InStep →
+    option_map_or (is_in_step cycle_time given) traffic false ≡ true
+in_step_chosen cycle_time (pacing.Given every phase) traffic can same = absurd (cc)
+in_step_chosen cycle_time pacing.InStep traffic can same = can
+
 -- one
 one_taken_over : (d : Domain) (entries after : List Recorded) (stream : SettledStream) (asked : Asked) → IsGranted d entries stream asked after →
     IsTakenOver d.cycle_time stream (flow_of d.cycle_time stream asked)
@@ -157,6 +164,7 @@ one_taken_over d entries after stream asked granted =
       deadline = refl;
       every = granted.every;
       phase = granted.phase;
+      in_step = in_step_chosen d.cycle_time stream.pacing stream.traffic (reserved_there d.cycle_time stream asked.octets granted.reserved).0;
       promise = told.promise;
       whole = told.whole;
       chosen = told.chosen;
@@ -185,7 +193,7 @@ one_stream d entries after end stream streams asked flows counted granted rest =
   granted = (granted.granted, subst (λ (there : List Recorded). AreGranted d there (map asked_in flows)) granted.entered rest.granted);
   enough = All-cons (ReservesEnough d.cycle_time) (flow_of d.cycle_time stream asked) flows
       (enough_told d.cycle_time stream.pacing asked.phase asked.octets stream.traffic
-      (enough_for stream.octets stream.traffic d.cycle_time asked.octets granted.reserved)) rest.enough;
+      (enough_for stream.octets stream.traffic d.cycle_time asked.octets (reserved_there d.cycle_time stream asked.octets granted.reserved).1)) rest.enough;
   no_seal = let one : seals (with_asked d entries asked) ≡ seals entries + 0 = counted entries 0 (Admits asked) (reply_to d entries (Admits asked)) in
       let there : seals after ≡ seals (with_asked d entries asked) = ap seals granted.entered in
       let behind : seals end ≡ seals after = rest.no_seal in

@@ -113,10 +113,6 @@ record IsChosen (cycle_time : ℕ) (traffic : Option TrafficText) (every phase :
   is_every : every ≡ every_of (t.interval / cycle_time)
   early : phase < every_of (t.interval / cycle_time)
 
--- of two the first is taken
-holds_of_first : {A : Type 0} (P : A → Type 0) (b : Bool) (x y : A) → b ≡ true → P (if b then x else y) → P x
-holds_of_first P b x y is = subst (λ (c : Bool). P (if c then x else y)) is
-
 is_chosen : (cycle_time : ℕ) (given : Pacing) (traffic : Option TrafficText) (every phase : ℕ) →
     option_map_or (is_in_step cycle_time given) traffic false ≡ true → every ≡ every_in (turns_by cycle_time given traffic) →
     MayBeFirst (turns_by cycle_time given traffic) phase → IsChosen cycle_time traffic every phase
@@ -127,8 +123,8 @@ is_chosen cycle_time pacing.InStep (Some t) every phase chosen is may =
       t = t;
       has = refl;
       keeps = chosen;
-      is_every = holds_of_first (λ turns. every ≡ every_in turns) (keeps_step cycle_time t) _ _ chosen is;
-      early = holds_of_first (λ turns. MayBeFirst turns phase) (keeps_step cycle_time t) _ _ chosen may;
+      is_every = is;
+      early = may;
     }
 
 -- what is offered of it comes in its cycles

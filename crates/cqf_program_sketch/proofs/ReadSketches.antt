@@ -15,7 +15,7 @@ use Rattle.cqf_sketch.proofs.InsideLemmas.{all_joined}
 use Rattle.cqf_sketch.proofs.OpenLemmas.{passed_is_sketch}
 use Rattle.cqf_sketch.proofs.ReadLemmas.{draft_limits, sketch_readable}
 use Rattle.cqf_sketch.specs.StreamsText.{sketch_streams_of_text}
-use Rattle.cqf_program_offers.specs.OffersOutput.{flows_line}
+use Rattle.cqf_program_plans.specs.Reserving.{flows_line}
 use Rattle.cqf_program_scenario.specs.Parts.{two_parts}
 use Rattle.cqf_press.specs.Stops.{or_line}
 use Rattle.cqf_program_placing.specs.Room.{MayBeWays, PlacedWhereThereIsRoom}

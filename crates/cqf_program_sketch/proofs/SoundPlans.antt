@@ -1,5 +1,7 @@
 -- A plan of a sketch is a sound one.
-use Rattle.std.proofs.Common.{◌≡◌, ◌∙◌, ℕ, true, List, [], Option, None, Ok, ap, map, subst, subst₂, sym}
+use Rattle.std.proofs.Common.{◌≡◌, ◌∙◌, ◌+◌, ◌≤◌, ℕ, suc, All, false, true, List, [], ◌∷◌, Option, Some, None, Ok, ap, arith, map, nat_lt, refl, subst, subst₂, sym}
+use Rattle.std.specs.Option.{ForSome, option_or}
+use Rattle.std.proofs.lemmas.Bool.{cond-false, le-ltb}
 use Rattle.std.proofs.lemmas.Simd.{map-map}
 use Rattle.std.specs.Prelude.{option_map}
 use Rattle.cqf_lists.specs.Results.{and_then, refuse}
@@ -9,6 +11,9 @@ use Rattle.cqf_model.specs.Domain.{Domain}
 use Rattle.cqf_model.specs.History.{Asked, Recorded, held_in}
 use Rattle.cqf_sketch.specs.SketchDomain.{SketchDomain}
 use Rattle.cqf_traffic.specs.FlowsText.{FlowText}
+use Rattle.cqf_traffic.specs.TrafficText.{TrafficText, promise_of}
+use Rattle.cqf_laws_timing.specs.Traffic.{needed}
+use Rattle.cqf_program_plans.specs.Reserving.{first_lack, lack_at, planned_octets}
 use Rattle.cqf_program_plans.specs.Compile.Output.{admitted_from}
 use Rattle.cqf_program_plans.specs.Latency.Output.{latency_of_plan, unless_strict}
 use Rattle.cqf_program_plans.specs.Latency.Text.{first_not_sure, latencies_of, latency_text, not_sure_line}
@@ -17,7 +22,7 @@ use Rattle.cqf_program_placing.specs.Placing.{PlacedStreams}
 use Rattle.cqf_program_placing.specs.Settled.{SettledStream}
 use Rattle.cqf_program_sketch.specs.Choosing.{IsPlanned}
 use Rattle.cqf_program_sketch.specs.Judging.{deadlines_placed, first_late, first_unplaced, flow_of, flows_placed, latencies_placed, those_placed}
-use Rattle.cqf_program_sketch.specs.PlanLaws.{IsSoundPlan, ToldPlanIsAdmitted, deadlines_of}
+use Rattle.cqf_program_sketch.specs.PlanLaws.{IsSoundPlan, ReservesEnough, ToldPlanIsAdmitted, deadlines_of}
 use Rattle.cqf_program_sketch.proofs.AllPlaced.{AreAllGranted, all_granted, all_in_time, neither, none_late}
 
 -- what latency says strictly of a plan that is admitted, where no frame may be late
@@ -29,6 +34,23 @@ strict_ok d flows entries admitted in_time =
     (latency_text d (held_in d there 0) (deadlines_of flows)))) admitted
     ∙ ap (λ found. refuse (option_map not_sure_line found) (λ (first : List ℕ). first) (Ok (latency_text d (held_in d entries 0) (deadlines_of flows))))
     (none_late (latencies_of d (held_in d entries 0) (deadlines_of flows)) in_time)
+
+-- a stream that reserves enough lacks nothing
+lacks_nothing : (cycle_time place octets : ℕ) (traffic : Option TrafficText) → ForSome traffic (λ (t : TrafficText). needed cycle_time (promise_of t) ≤ octets) →
+    lack_at cycle_time place octets traffic ≡ None
+lacks_nothing cycle_time place octets None enough = refl
+lacks_nothing cycle_time place octets (Some t) enough =
+    let need : ℕ = needed cycle_time (promise_of t) in
+    let no_less : nat_lt octets need ≡ false = le-ltb octets need (enough t refl) in
+    cond-false (nat_lt octets need) _ None no_less
+
+none_lacks : (cycle_time place : ℕ) (flows : List FlowText) → All (ReservesEnough cycle_time) flows → first_lack cycle_time place (map planned_octets flows) ≡ None
+none_lacks cycle_time place [] enough = refl
+none_lacks cycle_time place (flow ∷ flows) enough =
+    let first : ReservesEnough cycle_time flow = enough 0 flow (omega arith) in
+    let rest : All (ReservesEnough cycle_time) flows = λ k other within. enough (suc k) other (omega (arith, within)) in
+    ap (λ o. option_or o (first_lack cycle_time (place + 1) (map planned_octets flows))) (lacks_nothing cycle_time place flow.0.0.octets flow.1 first)
+    ∙ none_lacks cycle_time (place + 1) flows rest
 
 -- streams that are all placed, without any that may be late, are a sound plan
 sound_of : (streams : List SettledStream) (placed : PlacedStreams) →
@@ -49,6 +71,7 @@ sound_of streams placed all in_time =
       entries = placed.entries;
       admitted = all.admitted 1;
       enough = all.enough;
+      none_lacks = none_lacks d.cycle_time 1 flows all.enough;
       in_time = all_in_time (latencies_of d (held_in d placed.entries 0) (deadlines_of flows)) there;
       strict = strict_ok d flows placed.entries (all.admitted 1) there;
     }

@@ -1,5 +1,5 @@
 -- What a told plan keeps (profile).
-use Rattle.std.specs.Prelude.{ℕ, ◌≡◌, ◌+◌, ◌*◌, ◌%◌, ◌≤◌, List, [], All, Contains, IfSome, Option, Some, Ok, false, length, map, option_map, slice_get, true}
+use Rattle.std.specs.Prelude.{ℕ, ◌≡◌, ◌+◌, ◌*◌, ◌%◌, ◌≤◌, List, [], All, Contains, IfSome, Option, Some, None, Ok, false, length, map, option_map, slice_get, true}
 use Rattle.std.specs.Option.{ForSome}
 use Rattle.cqf_laws_timing.specs.Traffic.{needed, offers_named}
 use Rattle.cqf_model.specs.declared.frames.Offer.{Offer}
@@ -7,6 +7,7 @@ use Rattle.cqf_model.specs.declared.limits.Limits.{Limits}
 use Rattle.cqf_model.specs.Domain.{Domain, cycle_of}
 use Rattle.cqf_model.specs.History.{Recorded, held_in, pace_of}
 use Rattle.cqf_model.specs.Paces.{is_turn}
+use Rattle.cqf_sketch.specs.declared.pacing.Pacing.TheVariants as pacing
 use Rattle.cqf_sketch.specs.SketchDomain.{AreCandidates, IsOpenCycle, SketchDomain}
 use Rattle.cqf_traffic.specs.FlowsText.{FlowText}
 use Rattle.cqf_traffic.specs.TrafficText.{TrafficText, promise_of}
@@ -15,6 +16,7 @@ use Rattle.cqf_program_plans.specs.Compile.Output.{admitted_from}
 use Rattle.cqf_program_plans.specs.declared.latency.latencies.Latency.{Latency}
 use Rattle.cqf_program_plans.specs.Latency.Output.{latency_of_plan}
 use Rattle.cqf_program_plans.specs.Latency.Text.{is_not_sure, latencies_of, latency_text}
+use Rattle.cqf_program_plans.specs.Reserving.{first_lack, planned_octets}
 use Rattle.cqf_program_offers.specs.OffersOutput.{asked_in, sender_of}
 use Rattle.cqf_program_placing.specs.Placing.{PlacedStreams, is_chosen_on, turns_on}
 use Rattle.cqf_program_placing.specs.Room.{ArePlacedByRoom, MayBeWays}
@@ -29,13 +31,14 @@ abbrev pub deadlines_of : List FlowText → List (Option ℕ)
 deadlines_of flows = map (λ (flow : FlowText). flow.0.1) flows
 
 -- what a plan on a cycle time takes over of a settled stream: its name, its deadline, in which cycles it is offered, but for a phase that is to
--- be chosen, and what its talker promises; all of its traffic where no phase is; and else its offers begin in the first of its cycles, as far
+-- be chosen, as it is wherever its talker is to be in step, and what its talker promises; all of its traffic where no phase is; and else its offers begin in the first of its cycles, as far
 -- behind the cycle's beginning as they would have begun behind that of another
 pub record IsTakenOver (cycle_time : ℕ) (stream : SettledStream) (flow : FlowText) : Type 0 where
   pub name : flow.0.0.name ≡ stream.name
   pub deadline : flow.0.1 ≡ stream.deadline
   pub every : flow.0.0.every ≡ every_in (turns_on cycle_time stream)
   pub phase : MayBeFirst (turns_on cycle_time stream) flow.0.0.phase
+  pub in_step : stream.pacing ≡ pacing.InStep → is_chosen_on cycle_time stream ≡ true
   pub promise : option_map promise_of flow.1 ≡ option_map promise_of stream.traffic
   pub whole : is_chosen_on cycle_time stream ≡ false → flow.1 ≡ stream.traffic
   pub chosen : is_chosen_on cycle_time stream ≡ true →
@@ -51,13 +54,14 @@ pub record AreTakenOver (cycle_time : ℕ) (streams : List SettledStream) (flows
 abbrev pub ReservesEnough : ℕ → FlowText → Type 0
 ReservesEnough cycle_time flow = ForSome flow.1 (λ (t : TrafficText). needed cycle_time (promise_of t) ≤ flow.0.0.octets)
 
--- a plan of all of these streams, in their order: each is admitted before cycle 0, and reserves what its talker needs of a cycle; the
--- frames of none may miss its deadline, and `latency --strict` says so
+-- a plan of all of these streams, in their order: each is admitted before cycle 0, and reserves what its talker needs of a cycle, so that none
+-- is refused for less; the frames of none may miss its deadline, and `latency --strict` says so
 pub record IsSoundPlan (streams : List SettledStream) (d : Domain) (flows : List FlowText) : Type 0 where
   pub taken_over : AreTakenOver d.cycle_time streams flows
   pub entries : List Recorded
   pub admitted : admitted_from d [] 1 (map asked_in flows) ≡ Ok entries
   pub enough : All (ReservesEnough d.cycle_time) flows
+  pub none_lacks : first_lack d.cycle_time 1 (map planned_octets flows) ≡ None
   pub in_time : All (λ (latency : Latency). is_not_sure latency ≡ false) (latencies_of d (held_in d entries 0) (deadlines_of flows))
   pub strict : latency_of_plan true d (map asked_in flows) (deadlines_of flows) ≡ Ok (latency_text d (held_in d entries 0) (deadlines_of flows))
 

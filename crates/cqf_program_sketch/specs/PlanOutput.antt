@@ -16,7 +16,7 @@ use Rattle.cqf_press.specs.declared.stops.Stop.{Stop}
 use Rattle.cqf_press.specs.Stops.{fault_line, or_line}
 use Rattle.cqf_program_scenario.specs.Parts.{two_parts}
 use Rattle.cqf_program_plans.specs.Compile.Output.{stream_line}
-use Rattle.cqf_program_offers.specs.OffersOutput.{flows_line}
+use Rattle.cqf_program_plans.specs.Reserving.{flows_line}
 use Rattle.cqf_program_placing.specs.declared.settled.Unsettled.{Unsettled}
 use Rattle.cqf_program_placing.specs.declared.settled.Unsettled.TheVariants as unsettled
 use Rattle.cqf_program_placing.specs.Faults.{plan_fault_text}

@@ -62,6 +62,7 @@ fn copied(fault: &PlanFault) -> PlanFault
         PlanFault::NoListener(name) => PlanFault::NoListener(name.copied()),
         PlanFault::NoWay(name) => PlanFault::NoWay(name.copied()),
         PlanFault::TooSoon => PlanFault::TooSoon,
+        PlanFault::BadInStep => PlanFault::BadInStep,
         PlanFault::TooMuch(needed) => PlanFault::TooMuch(*needed),
         PlanFault::TooLittle(needed) => PlanFault::TooLittle(*needed),
         PlanFault::Short { from, to, left } => PlanFault::Short {

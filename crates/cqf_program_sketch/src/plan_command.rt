@@ -1,6 +1,6 @@
 //! The command `plan`.
 ghost use Rattle.std.specs.Prelude.{◌≡◌, ◌≢◌, [], All, IfErr, IfOk, IfSome, Some, Ok, false, length, map, option_map, string_bytes};
-ghost use Rattle.cqf_program_offers.specs.OffersOutput.{flows_line};
+ghost use Rattle.cqf_program_plans.specs.Reserving.{flows_line};
 ghost use Rattle.cqf_program_placing.specs.Settled.{settled_of, settled_value};
 ghost use Rattle.cqf_press.specs.Stops.{EndsWith, IsRefused, or_line};
 ghost use Rattle.cqf_sketch.specs.SketchDomain.{AreCandidates, sketch_domain_of_text};
@@ -21,9 +21,8 @@ use crate::trying::{Tried, judge_all};
 use cqf_model::{Limits, Refused};
 use cqf_plants::write_plant;
 use cqf_press::{REFUSED, Stop};
-use cqf_program_offers::flows_stop;
 use cqf_program_placing::{PlanFault, Settled, Unsettled, settle};
-use cqf_program_plans::stream_stop;
+use cqf_program_plans::{flows_stop, stream_stop};
 use cqf_program_scenario::two_parts;
 use cqf_sketch::{SketchDomain, SketchFault, Stream, read_sketch_streams};
 use cqf_topology::DomainFault;

@@ -1,4 +1,5 @@
-mod Sorts
+pub mod Order
+pub mod Strict
 mod Early
 mod Changed
 mod Tallied
@@ -10,3 +11,12 @@ mod Told
 mod Within
 mod Found
 mod Named
+mod Known
+mod InRounds
+mod Going
+mod OfDrops
+mod Pushing
+mod Laid
+mod Telling
+mod OfBook
+mod OfHops

@@ -1,5 +1,6 @@
 -- Lines that grow.
-use Rattle.std.proofs.Common.{◌≡◌, ℕ, ◌++◌, List, [], ap, sym, ◌∙◌, append_assoc, append-nil}
+use Rattle.std.proofs.Common.{◌≡◌, ℕ, ◌++◌, List, [], ◌∷◌, ap, codes, sym, ◌∙◌, append_assoc, append-nil}
+use Rattle.cqf_press.specs.Stops.{line_of}
 use Rattle.cqf_program_words.specs.Shown.{Lengthens}
 
 -- nothing stands behind them yet
@@ -16,3 +17,14 @@ lengthens_more old new newer more so_far is = record {
 -- one growth behind another
 pub lengthens_twice : (old new newer : List ℕ) → Lengthens old new → Lengthens new newer → Lengthens old newer
 lengthens_twice old new newer first second = lengthens_more old new newer second.more first second.is
+
+-- a line of three texts behind its beginning
+pub line_of_three : (line before shown behind text : List ℕ) → line ≡ codes "cqf: words: " ++ (before ++ (shown ++ (behind ++ 10 ∷ [])))
+    → before ++ (shown ++ behind) ≡ text → line ≡ line_of (codes "cqf: words: " ++ text)
+line_of_three line before shown behind text is told =
+    let feed : List ℕ = 10 ∷ [] in
+    let inner : shown ++ (behind ++ feed) ≡ (shown ++ behind) ++ feed = sym (append_assoc shown behind feed) in
+    let outer : before ++ (shown ++ (behind ++ feed)) ≡ (before ++ (shown ++ behind)) ++ feed =
+    ap (λ (t : List ℕ). before ++ t) inner ∙ sym (append_assoc before (shown ++ behind) feed) in
+    is ∙ ap (λ (t : List ℕ). codes "cqf: words: " ++ t) (outer ∙ ap (λ (t : List ℕ). t ++ feed) told)
+    ∙ sym (append_assoc (codes "cqf: words: ") text feed)

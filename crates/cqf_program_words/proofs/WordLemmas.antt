@@ -1,7 +1,7 @@
 -- Values of a command, and the jobs that they rule out.
 use Rattle.std.specs.Prelude.{String}
 use Rattle.std.specs.declared.alloc.Global.{Global}
-use Rattle.std.proofs.Common.{◌≡◌, ◌≢◌, ◌∙◌, ◌+◌, ◌*◌, ℕ, true, false, refl, List, [], Option, Some, None, sym, ap, ap₂, subst}
+use Rattle.std.proofs.Common.{◌≡◌, ◌≢◌, ◌∙◌, ◌+◌, ◌*◌, ◌++◌, ℕ, true, false, refl, List, [], Option, Some, None, sym, ap, ap₂, subst}
 use Rattle.std.proofs.Common.{slice_index, codes, arith, inl, inr, ◌⊎◌, Bool}
 use Rattle.clap.specs.Words.{App, Row, Text, first_of, fault_of, is_simple, is_simple_and_free, HasKind, HasMatchesOf, IsAmong, Kinds, kind_of, subcommand_of}
 use Rattle.clap.specs.Words.{Rule, rule_of, subcommand_rows_of}
@@ -21,8 +21,9 @@ use Rattle.cqf_press.specs.Stops.{EndsWith, line_of}
 use Rattle.cqf_press.specs.declared.stops.Stop.{Stop}
 use Rattle.cqf_program_words.specs.Candidates.{AreNamed}
 use Rattle.cqf_program_words.specs.Commands.{cqf_app}
-use Rattle.cqf_program_words.specs.Words.{app_for, ask_for_large, format_text, rate_text, IsJob, IsFreeIn, IsJobOf, IsNumberIn, AreGiven}
-use Rattle.cqf_program_words.specs.Words.{Mean, AskForHelp, EndsBy, EndsWords, TellsNoCandidates, is_plan}
+use Rattle.cqf_program_words.specs.Mistakes.{mistake_of}
+use Rattle.cqf_program_words.specs.Words.{app_for, ask_for_large, rate_text, IsJob, IsFormat, IsFormatOf, IsFreeIn, IsJobOf, IsNumberIn, AreGiven}
+use Rattle.cqf_program_words.specs.Words.{Mean, AskForHelp, EndsBy, EndsWords, TellsMistake}
 
 -- an option whose parser was set goes by the rule that it went by, but for the parser
 pub with_parser : (before after : Arg) (rule : Rule) (parser : ValueParser) → after ≡ record before { value_parser = after.value_parser } →
@@ -136,10 +137,8 @@ pub no_port-rate : (rows : List Row) (text : Option Text) → text ≡ first_of 
 no_port-rate rows text same none = only_port rows (λ until rate job. none rate (same ∙ job.2))
 
 -- with no format there is no job of `compile`
-pub no_compile-format : (rows : List Row) (text : Option Text) → text ≡ first_of (codes "format") rows →
-    ((format : Format) → ¬ (text ≡ Some (format_text format))) →
-    (job : Job) → ¬ IsJobOf job (codes "compile") rows
-no_compile-format rows text same none = only_compile rows (λ format job. none format (same ∙ job.1))
+pub no_compile-format : (rows : List Row) → ((format : Format) → ¬ IsFormatOf format rows) → (job : Job) → ¬ IsJobOf job (codes "compile") rows
+no_compile-format rows none = only_compile rows (λ format job. none format job.1)
 
 -- with no number of cycles there is no job of a command that takes them alone
 pub no_cycles : (name : Text) (rows : List Row) → name ≢ codes "port" → name ≢ codes "compile" → name ≢ codes "load" → name ≢ codes "latency" →
@@ -309,18 +308,29 @@ EndsWords-told words stop told e (inr three) memory = record {
   memory = memory;
 }
 
--- where clap takes the words, its matches say whether they are for `plan`
-pub TellsNoCandidates-by_matches : (app : App) (words : List Text) (matches : ArgMatches) (stop : Stop) → app ≡ app_for words → HasMatchesOf app words matches →
-    (is_plan (subcommand_rows_of matches) ≡ true → EndsWith 2 (line_of (codes "cqf: words")) stop) → TellsNoCandidates words stop
-TellsNoCandidates-by_matches app words matches stop same has ends = λ taken plan two.
+-- where clap takes the words, its matches say which command they name, with which values
+pub TellsMistake-by_matches : (app : App) (words : List Text) (matches : ArgMatches) (stop : Stop) → app ≡ app_for words → HasMatchesOf app words matches →
+    EndsWith 2 (line_of (codes "cqf: words: " ++ mistake_of (subcommand_rows_of matches))) stop → TellsMistake words stop
+TellsMistake-by_matches app words matches stop same has ends = λ taken two.
     let rows : subcommand_rows_of matches ≡ subcommand_of (app_for words) words = (has (ap is_simple same ∙ simple_app (ask_for_large words))).1 ∙ ap (λ (a : App). subcommand_of a words) same in
-    (ends (ap is_plan rows ∙ plan)).line_is two
+    ends.line_is two ∙ ap (λ (r : Option (Text × List Row)). line_of (codes "cqf: words: " ++ mistake_of r)) rows
 
 -- where clap refuses the words, it doesn't take them
-pub TellsNoCandidates-by_error : (app : App) (words : List Text) (error : Error) (stop : Stop) → app ≡ app_for words →
-    (is_simple_and_free app ≡ true → HasKind (fault_of app words) error) → EndsBy (kind_of error) stop → TellsNoCandidates words stop
-TellsNoCandidates-by_error app words error stop same fails e = λ taken plan two.
+pub TellsMistake-by_error : (app : App) (words : List Text) (error : Error) (stop : Stop) → app ≡ app_for words →
+    (is_simple_and_free app ≡ true → HasKind (fault_of app words) error) → EndsBy (kind_of error) stop → TellsMistake words stop
+TellsMistake-by_error app words error stop same fails e = λ taken two.
     let P : App → Type 0 = λ a. HasKind (fault_of a words) error in
     let among = among_faults words (kind_of error) (subst P same (fails (ap is_simple_and_free same ∙ simple words))) (e.known (λ three. omega arith)) in
     let Q : Kinds → Type 0 = λ kinds. IsAmong (kind_of error) kinds in
     absurd (subst Q taken among)
+
+-- a mistake that is told by another text ends so too
+pub EndsBy-helped : (kind : ErrorKind) (stop told : Stop) → EndsBy kind stop → stop.status ≡ 2 → (told.status ≡ 2) ⊎ (told.status ≡ 3)
+    → (told.status ≡ 3 → told.text.items ≡ []) → EndsBy kind told
+EndsBy-helped kind stop told e two statuses memory = record {
+  statuses = inr statuses;
+  help = λ zero_is. elim statuses [ inl is ↦ absurd (omega arith) | inr is ↦ absurd (omega arith) ];
+  mistake = λ _. e.mistake two;
+  known = λ _. e.known (λ three. omega arith);
+  memory = memory;
+}

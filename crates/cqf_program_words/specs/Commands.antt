@@ -31,7 +31,7 @@ name_of Plan = codes "plan"
 
 -- their options: `port --until N [--rate RATE]`,
 -- `line --cycles N`,
--- `compile [--format FORMAT] [--large]`,
+-- `compile [--format FORMAT] [--bridge NAME] [--software] [--large]`,
 -- `load [--large]`,
 -- `latency [--strict] [--large]`,
 -- `run --cycles N [--threads] [--large]`,
@@ -45,7 +45,7 @@ name_of Plan = codes "plan"
 abbrev pub options_of : Subcommand → List CommandOption
 options_of Port = options.Until ∷ options.Rate ∷ []
 options_of Line = options.Cycles ∷ []
-options_of Compile = options.Format ∷ options.Large ∷ []
+options_of Compile = options.Format ∷ options.Bridge ∷ options.Software ∷ options.Large ∷ []
 options_of Load = options.Large ∷ []
 options_of Latency = options.Strict ∷ options.Large ∷ []
 options_of Run = options.Cycles ∷ options.Threads ∷ options.Large ∷ []

@@ -1,6 +1,7 @@
 pub mod Options
 pub mod Commands
 pub mod Operands
+pub mod Mistakes
 pub mod Words
 pub mod Candidates
 pub mod Composing

@@ -7,7 +7,7 @@ use Rattle.clap.specs.declared.builder.value_parser.ValueParser.{ValueParser}
 use Rattle.clap.specs.declared.builder.value_parser.ValueParser.TheVariants.{Unsigned}
 use Rattle.cqf_model.specs.Limits.{last_until, limits_where, most_cycles}
 use Rattle.cqf_program_words.specs.declared.options.CommandOption.{CommandOption}
-use Rattle.cqf_program_words.specs.declared.options.CommandOption.TheVariants.{Until, Rate, Cycles, Format, Seed, Stream, Frame, Cycle, Strict, Threads, Table, Large}
+use Rattle.cqf_program_words.specs.declared.options.CommandOption.TheVariants.{Until, Rate, Cycles, Format, Bridge, Seed, Stream, Frame, Cycle, Strict, Threads, Table, Software, Large}
 
 -- an option `--NAME N` that has to be given
 abbrev pub wanted_rule : Text → Rule
@@ -31,6 +31,7 @@ option_rule Until = wanted_rule (codes "until")
 option_rule Rate = default_rule (codes "rate") (codes "1000")
 option_rule Cycles = wanted_rule (codes "cycles")
 option_rule Format = default_rule (codes "format") (codes "list")
+option_rule Bridge = free_rule (codes "bridge")
 option_rule Seed = free_rule (codes "seed")
 option_rule Stream = free_rule (codes "stream")
 option_rule Frame = free_rule (codes "frame")
@@ -38,6 +39,7 @@ option_rule Cycle = free_rule (codes "cycle")
 option_rule Strict = flag_rule (codes "strict")
 option_rule Threads = flag_rule (codes "threads")
 option_rule Table = flag_rule (codes "table")
+option_rule Software = flag_rule (codes "software")
 option_rule Large = flag_rule (codes "large")
 
 -- the name that stands behind `--` where an option is given

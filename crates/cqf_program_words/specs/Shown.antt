@@ -1,28 +1,18 @@
 -- Lines of the program's own that show a text which may hold anything (profile).
-use Rattle.std.specs.Prelude.{ℕ, ◌≡◌, ◌⊎◌, ◌++◌, ◌&&◌, ◌||◌, Bool, false, List, [], codes, length, nat_le, not}
-use Rattle.std.specs.Char.{is_control}
+use Rattle.std.specs.Prelude.{ℕ, ◌≡◌, ◌⊎◌, ◌++◌, ◌&&◌, Bool, false, List, [], codes, length, nat_le}
 use Rattle.std.specs.List.{list_all}
 use Rattle.std.specs.Str.{chars}
 use Rattle.clap.specs.Words.{Text}
 use Rattle.cqf_press.specs.Stops.{line_of}
 use Rattle.cqf_press.specs.declared.stops.Stop.{Stop}
 
--- the character is one from the first of two to the last
-abbrev pub is_among : ℕ → ℕ → ℕ → Bool
-is_among first last character = nat_le first character && nat_le character last
+-- a printable character of ASCII. With others a terminal may do something else than print them, or print what looks like another
+abbrev pub is_plain : ℕ → Bool
+is_plain character = nat_le 32 character && nat_le character 126
 
--- a character that isn't seen, joins, divides lines, or turns the direction of the text
-abbrev pub is_unseen : ℕ → Bool
-is_unseen character = is_among 8203 8207 character || (is_among 8232 8238 character || (is_among 8288 8303 character
-    || (is_among 65279 65279 character || (is_among 65529 65531 character || is_among 917504 917631 character))))
-
--- one with which a terminal would do something else than print it: such a one, or a control character
-abbrev pub is_unprintable : ℕ → Bool
-is_unprintable character = is_control character || is_unseen character
-
--- a text without such a character, and such texts
+-- a text of such characters, and such texts
 abbrev pub is_printable : Text → Bool
-is_printable text = list_all (λ character. not (is_unprintable character)) (chars text)
+is_printable text = list_all is_plain (chars text)
 
 abbrev pub are_printable : List Text → Bool
 are_printable words = list_all is_printable words

@@ -1,10 +1,11 @@
 -- What the words of a command line mean (profile): clap's reading of them, for the command that is written out here.
-use Rattle.std.specs.Prelude.{ℕ, ◌≡◌, ◌≢◌, ◌⊎◌, ◌≤◌, Bool, true, false, List, [], Option, Some, None, codes, bytes_eq, option_map, string_bytes}
+use Rattle.std.specs.Prelude.{ℕ, ◌≡◌, ◌≢◌, ◌⊎◌, ◌≤◌, ◌++◌, Bool, true, false, List, [], Option, Some, None, IsTrue, codes, bytes_eq, option_map, string_bytes}
 use Rattle.std.specs.List.{list_any}
 use Rattle.std.specs.Str.Parse.{IsNumeral, digits_value, without_leading_plus}
 use Rattle.clap.specs.Words.{App, Row, Text, first_of, fault_of, subcommand_of, IsAmong}
 use Rattle.clap.specs.declared.error.kind.ErrorKind.{ErrorKind}
 use Rattle.clap.specs.declared.error.kind.ErrorKind.TheVariants.{DisplayHelp, DisplayVersion, OutOfMemory}
+use Rattle.cqf_units.specs.Name.{is_name}
 use Rattle.cqf_units.specs.declared.timing.Rate.{Rate}
 use Rattle.cqf_units.specs.declared.timing.Rate.TheVariants.{Mb10, Mb100, Mb1000}
 use Rattle.cqf_program_words.specs.declared.candidates.Candidates.{Candidates}
@@ -19,6 +20,7 @@ use Rattle.cqf_model.specs.declared.limits.Limits.{Limits}
 use Rattle.cqf_model.specs.Limits.{large, limits_where, most_cycles}
 use Rattle.cqf_program_words.specs.Candidates.{AreNamed}
 use Rattle.cqf_program_words.specs.Commands.{cqf_app}
+use Rattle.cqf_program_words.specs.Mistakes.{mistake_of}
 
 -- whether words ask for large plants: one of them is `--large`
 abbrev pub is_large_word : Text → Bool
@@ -47,15 +49,25 @@ rate_text Mb10 = codes "10"
 rate_text Mb100 = codes "100"
 rate_text Mb1000 = codes "1000"
 
--- the text of a format
-abbrev pub format_text : Format → Text
-format_text form.List = codes "list"
-format_text form.Tc = codes "tc"
-
 -- a flag is given just where its value is `true`
 abbrev pub IsFlagGiven : Bool → Option Text → Type 0
 IsFlagGiven true value = value ≡ Some (codes "true")
 IsFlagGiven false value = value ≢ Some (codes "true")
+
+-- whether the text is the format that is of one bridge
+abbrev pub is_of_bridge : Option Text → Bool
+is_of_bridge None = false
+is_of_bridge (Some format) = bytes_eq format (codes "env")
+
+-- the form of a configuration by the values of its options: `env` is of the bridge of a name, and `tc` may be for software
+abbrev pub IsFormat : Format → Option Text → Option Text → Option Text → Type 0
+IsFormat form.List format bridge software = (format ≡ Some (codes "list")) × (bridge ≡ None) × IsFlagGiven false software
+IsFormat (form.Tc is_software) format bridge software = (format ≡ Some (codes "tc")) × (bridge ≡ None) × IsFlagGiven is_software software
+IsFormat (form.Env node) format bridge software = (format ≡ Some (codes "env")) × (bridge ≡ Some node) × IsTrue (is_name node) × IsFlagGiven false software
+IsFormat form.Json format bridge software = (format ≡ Some (codes "json")) × (bridge ≡ None) × IsFlagGiven false software
+
+abbrev pub IsFormatOf : Format → List Row → Type 0
+IsFormatOf format rows = IsFormat format (first_of (codes "format") rows) (first_of (codes "bridge") rows) (first_of (codes "software") rows)
 
 -- a number from least to most that may be given
 abbrev pub IsFreeIn : ℕ → ℕ → Option ℕ → Option Text → Type 0
@@ -79,7 +91,7 @@ IsJobOf (Port until rate) name rows = (name ≡ codes "port")
 IsJobOf (Line cycles) name rows = (name ≡ codes "line")
     × IsNumberIn 1 most_cycles cycles (first_of (codes "cycles") rows)
 IsJobOf (Compile format) name rows = (name ≡ codes "compile")
-    × (first_of (codes "format") rows ≡ Some (format_text format))
+    × IsFormatOf format rows
 IsJobOf Load name rows = name ≡ codes "load"
 IsJobOf (Latency strict) name rows = (name ≡ codes "latency")
     × IsFlagGiven strict (first_of (codes "strict") rows)
@@ -152,12 +164,7 @@ pub record EndsWords (words : List Text) (stop : Stop) : Type 0 where
   pub mistake : stop.status ≡ 2 → AreMistaken words
   pub memory : stop.status ≡ 3 → stop.text.items ≡ []
 
--- the command that was named is `plan`
-abbrev pub is_plan : Option (Text × List Row) → Bool
-is_plan None = false
-is_plan (Some command) = bytes_eq command.0 (codes "plan")
-
--- where clap takes the words, for `plan`, and they are a mistake, the word for candidates names none: the line is the program's own
-abbrev pub TellsNoCandidates : List Text → Stop → Type 0
-TellsNoCandidates words stop = fault_of (app_for words) words ≡ [] → is_plan (subcommand_of (app_for words) words) ≡ true → stop.status ≡ 2
-    → stop.text.items ≡ line_of (codes "cqf: words")
+-- where clap takes the words, and they are a mistake, the line is the program's own: which value is wrong, and what is wanted
+abbrev pub TellsMistake : List Text → Stop → Type 0
+TellsMistake words stop = fault_of (app_for words) words ≡ [] → stop.status ≡ 2
+    → stop.text.items ≡ line_of (codes "cqf: words: " ++ mistake_of (subcommand_of (app_for words) words))

@@ -23,7 +23,7 @@ pub(crate) enum Subcommand {
     Port,
     /// `line --cycles N`.
     Line,
-    /// `compile [--format FORMAT] [--large]`.
+    /// `compile [--format FORMAT] [--bridge NAME] [--software] [--large]`.
     Compile,
     /// `load [--large]`.
     Load,
@@ -93,7 +93,12 @@ impl Subcommand {
         match self {
             Subcommand::Port => &[CommandOption::Until, CommandOption::Rate],
             Subcommand::Line => &[CommandOption::Cycles],
-            Subcommand::Compile => &[CommandOption::Format, CommandOption::Large],
+            Subcommand::Compile => &[
+                CommandOption::Format,
+                CommandOption::Bridge,
+                CommandOption::Software,
+                CommandOption::Large,
+            ],
             Subcommand::Load => &[CommandOption::Large],
             Subcommand::Latency => &[CommandOption::Strict, CommandOption::Large],
             Subcommand::Run => &[

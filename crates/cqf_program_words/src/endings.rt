@@ -1,14 +1,16 @@
 //! The end of a run whose words mean no job.
-ghost use Rattle.std.specs.Prelude.{◌≡◌, ◌<◌, Some, codes, false, true};
+ghost use Rattle.std.specs.Prelude.{◌≡◌, ◌⊎◌, ◌++◌, [], IfOk, codes, string_bytes};
 ghost use Rattle.clap.specs.declared.error.kind.ErrorKind.TheVariants.{InvalidValue};
 ghost use Rattle.clap.specs.Words.{kind_of, subcommand_rows_of};
 ghost use Rattle.cqf_program_words.specs.Words.{EndsBy};
 ghost use Rattle.cqf_press.specs.Stops.{EndsWith, line_of};
-ghost use Rattle.cqf_program_words.specs.Words.{is_plan};
+ghost use Rattle.cqf_program_words.specs.Mistakes.{mistake_of};
 
+use crate::mistakes::mistake_of;
 use clap::error::ErrorKind;
 use clap::{ArgMatches, Command};
 use cqf_press::{DONE, Stop, USAGE};
+use cqf_units::Memory;
 use std::alloc::Global;
 
 /// The text of an error of clap's, or what there is of it where memory lacks.
@@ -29,42 +31,54 @@ pub(crate) fn stop_of(alloc: Global, error: &clap::Error) -> Stop
     }
 }
 
-/// Whether the command that was named is `plan`.
-fn is_plan(matches: &ArgMatches<'_>) -> bool
-    ensures { result ≡ is_plan (subcommand_rows_of matches.now) }
+/// Whether the words are one that is empty, as those of an empty line are.
+fn are_nothing(words: &[&str]) -> bool {
+    match *words {
+        [word] => word.is_empty(),
+        _ => false,
+    }
+}
+
+/// The end of a mistake, with the program's help for its text.
+fn helped(alloc: Global, command: &mut Command<'_>) -> Stop
+    ensures statuses { (result.status ≡ 2) ⊎ (result.status ≡ 3) }
+    ensures memory { result.status ≡ 3 → result.text.items ≡ [] }
 {
-    match matches.subcommand() {
-        Some((name, _)) => name == "plan",
-        None => false,
-    }
+    Stop::with_text(alloc, USAGE, command.render_help())
 }
 
-/// What a value has to be that clap takes and no job is read of: the format of `compile`, and else the rate of `port`.
-fn wanted_value(matches: &ArgMatches<'_>) -> &'static str {
-    match matches.subcommand() {
-        Some(("compile", _)) => "the format is list or tc",
-        _ => "the rate is 10, 100 or 1000",
-    }
-}
-
-/// The end where a value isn't what it has to be, with that and clap's usage.
-fn no_such_value(alloc: Global, command: &mut Command<'_>, wanted: &str) -> Stop
-    ensures { EndsBy InvalidValue result }
+/// The end of words that clap refuses: its text, or of one empty word the program's help, and what there is of it where memory lacks.
+pub(crate) fn refused_by_clap(
+    alloc: Global,
+    command: &mut Command<'_>,
+    words: &[&str],
+    error: &clap::Error,
+) -> Stop
+    ensures { EndsBy (kind_of error.now) result }
 {
-    match command.error(ErrorKind::InvalidValue, wanted) {
-        Ok(error) => stop_of(alloc, &error),
-        Err(_) => Stop::memory(alloc),
+    let stop = stop_of(alloc, error);
+    if stop.status != USAGE {
+        return stop;
     }
+    if !are_nothing(words) {
+        return stop;
+    }
+    helped(alloc, command)
 }
 
-/// The end where clap takes the words, and no job is read of them: for `plan`, whose word for candidates names none, with the line
-/// `cqf: words`, and else with what the value has to be.
-pub(crate) fn no_job(alloc: Global, command: &mut Command<'_>, matches: &ArgMatches<'_>) -> Stop
+/// The line of words that clap takes, and of which no job is read.
+fn line_of_mistake(alloc: Global, matches: &ArgMatches<'_>) -> Result<String, Memory>
+    ensures { IfOk result (λ line. string_bytes line ≡ line_of (codes "cqf: words: " ++ mistake_of (subcommand_rows_of matches.now))) }
+{
+    let (before, shown, behind) = mistake_of(matches);
+    let line = format!(in alloc; "cqf: words: {before}{shown}{behind}\n")?;
+    Ok(line)
+}
+
+/// The end where clap takes the words, and no job is read of them, with a line that says which value is wrong, and what is wanted.
+pub(crate) fn no_job(alloc: Global, matches: &ArgMatches<'_>) -> Stop
     ensures ends { EndsBy InvalidValue result }
-    ensures plan { is_plan (subcommand_rows_of matches.now) ≡ true → EndsWith 2 (line_of (codes "cqf: words")) result }
+    ensures line { EndsWith 2 (line_of (codes "cqf: words: " ++ mistake_of (subcommand_rows_of matches.now))) result }
 {
-    if is_plan(matches) {
-        return Stop::with_line(alloc, USAGE, "cqf: words\n");
-    }
-    no_such_value(alloc, command, wanted_value(matches))
+    Stop::with_text(alloc, USAGE, line_of_mistake(alloc, matches))
 }

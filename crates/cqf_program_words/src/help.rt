@@ -41,8 +41,13 @@ pub(crate) const COMPILE_INPUT: &str = plant_input!(
 With --format tc the output is a shell script that sets the same gates in Linux
 by its command tc. Each bridge runs it as root, with its own name as the only
 argument; what it needs besides stands in its first lines. It is for hardware
-that does all of this itself (full offload). What is proved ends with the lists
-of the script: the CAVEATS of cqf(1) say what is left to doubt."
+that does all of this itself (full offload), or, with --software, for gates in
+Linux itself. What is proved ends with the lists of the script: the CAVEATS of
+cqf(1) say what is left to doubt.
+
+With --format env and --bridge NAME the output is the variables that the script
+reads at this bridge. With --format json it is the configuration for other
+programs."
 );
 
 /// What the help of `load` says of standard input and of its output.
@@ -135,9 +140,10 @@ pub(crate) const CHECK_INPUT: &str =
     r"Standard input has the four or five parts of the command run, or they are files:
   cqf check --cycles 5 plant.toml calls.txt offers.csv
 
-The status is 0 where no call is refused, every frame is offered in a cycle that
-is run, none is dropped, and each is whole at all its listeners, at none of them
-later after its offer than its stream's deadline. The output is then one line:
+The status is 0 where no call is refused, some frame is offered, every one in a
+cycle that is run, none is dropped, and each is whole at all its listeners, at
+none of them later after its offer than its stream's deadline. The output is
+then one line:
   well: frames F, deliveries D, with a deadline W
 Else the status is 1, and standard error has the first call that is refused, by
 its place among the calls (seals are none), with the reason as run has it:
@@ -146,8 +152,11 @@ or, where there is none, the first frame that is dropped or late:
   cqf: check: frame F of S, offered to B at AT: dropped, REASON
   cqf: check: frame F of S, offered to B at AT: late at LISTENER, LATENCY after
   its offer, deadline DEADLINE (in one line)
-or, where there is none, how many deliveries are still under way and how many
-offers are of cycles that aren't run, so that it takes more cycles to tell:
+or, where there is none, that there is no offer; that nothing has come yet, and
+how many cycles would do; or how many deliveries are still under way and how
+many offers are of cycles that aren't run, so that it takes more cycles to tell:
+  cqf: check: no frame is offered
+  cqf: check: no frame; N cycles would do
   cqf: check: unfinished, under way U, not run O
 An input that is refused has status 1 too, and a line that begins otherwise.
 Nothing is said of background frames, nor of offers other than these: latency
@@ -193,7 +202,8 @@ as FROM>TO, and the instants at which the frame starts and ends there and is
 whole at the link's end, in ns. A frame that is dropped at its edge has one
 line, with the bridge and the reason. With --stream, with --frame, only the
 lines of that stream, of that frame are told, and with both those of both.
-Background frames have no line.";
+Where no stream of the plant has the name and no offer claims it, or there are
+fewer offers than F, the status is 1. Background frames have no line.";
 
 /// What the help of `plan` says of standard input and of its output.
 pub(crate) const PLAN_INPUT: &str =

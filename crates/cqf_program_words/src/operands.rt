@@ -149,15 +149,19 @@ fn is_standard_twice(files: &[&str]) -> bool
     files.iter().filter(|file| is_standard(file)).count() >= 2
 }
 
-/// Nothing where at most one of the files is standard input, whose text can be read once. `Err` with status 2 and the line `cqf: words` where
-/// two are (profile).
+/// Nothing where at most one of the files is standard input, whose text can be read once. `Err` with status 2 and a line that says so
+/// where two are (profile).
 pub fn check_files(alloc: Global, files: &[&str]) -> Result<(), Stop>
     ensures ok { OnOk result (is_standard_twice (map (λ file. file.now) files.now) ≡ false) }
     ensures twice { OnErr result (is_standard_twice (map (λ file. file.now) files.now) ≡ true) }
-    ensures err { IfErr result (EndsWith 2 (line_of (codes "cqf: words"))) }
+    ensures err { IfErr result (EndsWith 2 (line_of (codes "cqf: words: - is named twice: standard input is read once"))) }
 {
     if is_standard_twice(files) {
-        return Err(Stop::with_line(alloc, USAGE, "cqf: words\n"));
+        return Err(Stop::with_line(
+            alloc,
+            USAGE,
+            "cqf: words: - is named twice: standard input is read once\n",
+        ));
     }
     Ok(())
 }

@@ -18,6 +18,7 @@ pub(crate) enum CommandOption {
     Rate,
     Cycles,
     Format,
+    Bridge,
     Seed,
     Stream,
     Frame,
@@ -25,6 +26,7 @@ pub(crate) enum CommandOption {
     Strict,
     Threads,
     Table,
+    Software,
     Large,
 }
 
@@ -46,6 +48,7 @@ impl CommandOption {
             CommandOption::Rate => long!("rate"),
             CommandOption::Cycles => long!("cycles"),
             CommandOption::Format => long!("format"),
+            CommandOption::Bridge => long!("bridge"),
             CommandOption::Seed => long!("seed"),
             CommandOption::Stream => long!("stream"),
             CommandOption::Frame => long!("frame"),
@@ -53,6 +56,7 @@ impl CommandOption {
             CommandOption::Strict => long!("strict"),
             CommandOption::Threads => long!("threads"),
             CommandOption::Table => long!("table"),
+            CommandOption::Software => long!("software"),
             CommandOption::Large => long!("large"),
         }
     }
@@ -73,6 +77,7 @@ impl CommandOption {
             | CommandOption::Rate
             | CommandOption::Cycles
             | CommandOption::Format
+            | CommandOption::Bridge
             | CommandOption::Seed
             | CommandOption::Stream
             | CommandOption::Frame
@@ -80,6 +85,7 @@ impl CommandOption {
             CommandOption::Strict
             | CommandOption::Threads
             | CommandOption::Table
+            | CommandOption::Software
             | CommandOption::Large => false,
         }
     }
@@ -98,11 +104,13 @@ impl CommandOption {
             }
             CommandOption::Rate
             | CommandOption::Format
+            | CommandOption::Bridge
             | CommandOption::Stream
             | CommandOption::Cycle
             | CommandOption::Strict
             | CommandOption::Threads
             | CommandOption::Table
+            | CommandOption::Software
             | CommandOption::Large => None,
         }
     }
@@ -114,12 +122,13 @@ impl CommandOption {
             CommandOption::Rate => "RATE",
             CommandOption::Format => "FORMAT",
             CommandOption::Seed => "S",
-            CommandOption::Stream => "NAME",
+            CommandOption::Bridge | CommandOption::Stream => "NAME",
             CommandOption::Frame => "F",
             CommandOption::Cycle => "WORD",
             CommandOption::Strict
             | CommandOption::Threads
             | CommandOption::Table
+            | CommandOption::Software
             | CommandOption::Large => "",
         }
     }
@@ -130,7 +139,8 @@ impl CommandOption {
             CommandOption::Until => "starts before this instant, in nanoseconds, 1 to 100000000",
             CommandOption::Rate => "the link's rate in Mb/s: 10, 100 or 1000",
             CommandOption::Cycles => "the number of cycles, 1 to 100000",
-            CommandOption::Format => "the form of the output: list or tc",
+            CommandOption::Format => "the form of the output: list, tc, env or json",
+            CommandOption::Bridge => "the bridge whose variables are written, with --format env",
             CommandOption::Seed => "how blocks are late by chance, 0 to 4294967295",
             CommandOption::Stream => "only frames of this stream",
             CommandOption::Frame if is_large => "only this frame, 1 to 10000000",
@@ -140,6 +150,8 @@ impl CommandOption {
             CommandOption::Threads =>
                 "a thread for each bridge and each administrator of the script",
             CommandOption::Table => "a line for each candidate in place of a plant",
+            CommandOption::Software =>
+                "gates in Linux itself in place of hardware, with --format tc",
             CommandOption::Large => "a plant of up to 1024 bridges, 4096 links and 16384 streams",
         }
     }
@@ -218,11 +230,15 @@ fn bare_argument<'a>(alloc: Global, option: CommandOption) -> Arg<'a>
         }
         CommandOption::Rate => default_option(alloc, option.name(), "1000", option.value()),
         CommandOption::Format => default_option(alloc, option.name(), "list", option.value()),
-        CommandOption::Seed | CommandOption::Stream | CommandOption::Frame | CommandOption::Cycle =>
-            free_option(alloc, option.name(), option.value()),
+        CommandOption::Bridge
+        | CommandOption::Seed
+        | CommandOption::Stream
+        | CommandOption::Frame
+        | CommandOption::Cycle => free_option(alloc, option.name(), option.value()),
         CommandOption::Strict
         | CommandOption::Threads
         | CommandOption::Table
+        | CommandOption::Software
         | CommandOption::Large => flag(alloc, option.name()),
     }
 }

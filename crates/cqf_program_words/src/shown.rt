@@ -2,8 +2,8 @@
 ghost use Rattle.std.specs.Prelude.{◌≡◌, ◌≢◌, ◌⊎◌, [], IfOk, OnOk, false, length, map, string_bytes, true};
 ghost use Rattle.std.specs.List.{list_all};
 ghost use Rattle.std.specs.Str.{chars};
-ghost use Rattle.cqf_program_words.specs.Shown.{EndsShown, Lengthens, ShowsBehind, ShowsLine, ShowsWords, are_printable, is_among, is_printable};
-ghost use Rattle.cqf_program_words.specs.Shown.{is_shown_whole, is_unprintable, is_unseen, no_command, no_words};
+ghost use Rattle.cqf_program_words.specs.Shown.{EndsShown, Lengthens, ShowsBehind, ShowsLine, ShowsWords, are_printable, is_plain, is_printable};
+ghost use Rattle.cqf_program_words.specs.Shown.{is_shown_whole, no_command, no_words};
 
 use cqf_press::{FAULT, Stop, USAGE};
 use cqf_units::Memory;
@@ -12,39 +12,20 @@ use std::alloc::Global;
 /// The most characters of a text that a line shows.
 const SHOWN: usize = 200;
 
-/// Whether the character is one from the first of two to the last.
-fn is_among(first: u32, last: u32, character: char) -> bool
-    ensures { result ≡ is_among first last character }
+/// Whether the character is a printable one of ASCII. With others a terminal may do something else than print them, or print what looks
+/// like another.
+fn is_plain(character: char) -> bool
+    ensures { result ≡ is_plain character }
 {
     let code = u32::from(character);
-    first <= code && code <= last
+    0x20 <= code && code <= 0x7e
 }
 
-/// Whether the character isn't seen, joins, divides lines, or turns the direction of the text.
-fn is_unseen(character: char) -> bool
-    ensures { result ≡ is_unseen character }
-{
-    is_among(0x200b, 0x200f, character)
-        || is_among(0x2028, 0x202e, character)
-        || is_among(0x2060, 0x206f, character)
-        || is_among(0xfeff, 0xfeff, character)
-        || is_among(0xfff9, 0xfffb, character)
-        || is_among(0xe0000, 0xe007f, character)
-}
-
-/// Whether a terminal would do something else than print the character: a control character, or one that turns the direction of the text,
-/// joins, divides lines or isn't seen.
-fn is_unprintable(character: char) -> bool
-    ensures { result ≡ is_unprintable character }
-{
-    character.is_control() || is_unseen(character)
-}
-
-/// Whether a terminal prints each character of the text.
+/// Whether each character of the text is a printable one of ASCII.
 fn is_printable(text: &str) -> bool
     ensures { result ≡ is_printable text.now }
 {
-    text.chars().all(|character| !is_unprintable(character))
+    text.chars().all(|character| is_plain(character))
 }
 
 /// How many characters the text has.
@@ -61,11 +42,11 @@ fn is_shown_whole(text: &str) -> bool
     is_printable(text) && count_of(text) <= SHOWN
 }
 
-/// Puts a character as a line shows it: an unprintable one as `\u{..}`, with its number in hexadecimal digits.
+/// Puts a character as a line shows it: one that isn't a printable one of ASCII as `\u{..}`, with its number in hexadecimal digits.
 fn show(line: &mut String, character: char) -> Result<(), Memory>
     ensures { OnOk result (Lengthens (string_bytes line.old) (string_bytes line.new)) }
 {
-    if !is_unprintable(character) {
+    if is_plain(character) {
         return line.push(character);
     }
     for escaped in character.escape_unicode() {
@@ -74,7 +55,7 @@ fn show(line: &mut String, character: char) -> Result<(), Memory>
     Ok(())
 }
 
-/// Puts what a line shows of a text: its first 200 characters, unprintable ones escaped, and `..` behind them where there are more.
+/// Puts what a line shows of a text: its first 200 characters, others than printable ones of ASCII escaped, and `..` behind them where there are more.
 fn show_front(line: &mut String, text: &str) -> Result<(), Memory>
     ensures { OnOk result (Lengthens (string_bytes line.old) (string_bytes line.new)) }
 {
@@ -97,21 +78,23 @@ fn line_of_text(alloc: Global, text: &str) -> Result<String, Memory>
     Ok(line)
 }
 
-/// The line of a file that can't be read.
-fn line_of_file(alloc: Global, name: &str) -> Result<String, Memory> {
+/// The line of a file that can't be read, and why.
+fn line_of_file(alloc: Global, name: &str, cause: &str) -> Result<String, Memory> {
     let mut line = String::from_str(alloc, "cqf: ")?;
     show_front(&mut line, name)?;
-    line.push_str(": input fault\n")?;
+    line.push_str(": input fault: ")?;
+    show_front(&mut line, cause)?;
+    line.push('\n')?;
     Ok(line)
 }
 
-/// The end where the file of this name can't be read: status 4, and the line `cqf: NAME: input fault` with what a line shows of the name;
-/// or for want of memory for it.
-pub fn stop_of_file(alloc: Global, name: &str) -> Stop
+/// The end where the file of this name can't be read: status 4, and the line `cqf: NAME: input fault: CAUSE` with what a line shows of the
+/// name and of the cause, which is the system's; or for want of memory for it.
+pub fn stop_of_file(alloc: Global, name: &str, cause: &str) -> Stop
     ensures status { (result.status ≡ 4) ⊎ (result.status ≡ 3) }
     ensures memory { result.status ≡ 3 → result.text.items ≡ [] }
 {
-    Stop::with_text(alloc, FAULT, line_of_file(alloc, name))
+    Stop::with_text(alloc, FAULT, line_of_file(alloc, name, cause))
 }
 
 /// The end of a run whose first line has words that are a mistake, with `stop` for these words alone: that stop, which echoes some of them,

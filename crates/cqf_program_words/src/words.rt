@@ -1,37 +1,41 @@
 //! The job that the words of a command line mean (profile).
-ghost use Rattle.std.specs.Prelude.{◌≡◌, ◌≢◌, ◌<◌, ◌^◌, IfOk, IfErr, MatchOption, Option, ℕ, Some, codes, false, map, option_map, string_bytes, true};
+ghost use Rattle.std.specs.Prelude.{◌≡◌, ◌≢◌, ◌<◌, ◌^◌, IfOk, IfErr, MatchOption, None, Option, ℕ, Some, codes, false, map, option_map, string_bytes, true};
 ghost use Rattle.cqf_units.specs.declared.timing.Rate.{Rate};
-ghost use Rattle.clap.specs.Words.{first_of, found_of, rows_of, subcommand_rows_of};
+ghost use Rattle.clap.specs.Words.{Text, first_of, found_of, rows_of, subcommand_rows_of};
 ghost use Rattle.cqf_program_words.specs.declared.words.Format.{Format};
 ghost use Rattle.cqf_program_words.specs.declared.words.Job.{Job};
-ghost use Rattle.cqf_program_words.specs.Words.{format_text, rate_text};
-ghost use Rattle.cqf_program_words.specs.Words.{AreGiven, IsFlagGiven, IsFreeIn, IsJob, IsJobOf, IsNumberIn, Mean};
+ghost use Rattle.cqf_program_words.specs.Words.{rate_text};
+ghost use Rattle.cqf_program_words.specs.Words.{AreGiven, IsFlagGiven, IsFormat, IsFormatOf, IsFreeIn, IsJob, IsJobOf, IsNumberIn, Mean};
 ghost use Rattle.cqf_program_words.specs.declared.candidates.Candidates.{Candidates};
 ghost use Rattle.cqf_program_words.specs.Shown.{ShowsWords, are_printable};
-ghost use Rattle.cqf_program_words.specs.Words.{EndsWords, TellsNoCandidates, takes_domain};
+ghost use Rattle.cqf_program_words.specs.Words.{EndsWords, TellsMistake, is_of_bridge, takes_domain};
 ghost use Rattle.std.specs.List.{list_any};
 ghost use Rattle.cqf_model.specs.Limits.{large, most_cycles};
 ghost use Rattle.cqf_program_words.specs.Words.{ask_for_large, is_large_word, limits_of};
 
 use crate::candidates::Candidates;
 use crate::commands::commands;
-use crate::endings::{no_job, stop_of};
+use crate::endings::{no_job, refused_by_clap};
 use crate::naming::candidates_named;
 use crate::options::LAST_SEED;
 use crate::shown::stop_of_words;
 use clap::ArgMatches;
 use cqf_model::{LARGE, LAST_UNTIL, Limits, MOST_CYCLES};
 use cqf_press::Stop;
-use cqf_units::Rate;
+use cqf_units::{Name, Rate};
 use std::alloc::{AllocError, Global};
 
 /// The form of a configuration.
-#[derive(Clone, Copy, Debug, PartialEq, Eq)]
+#[derive(Clone, Debug, Drop, PartialEq, Eq)]
 pub enum Format {
     /// Its gate lists and stream gates, line by line.
     List,
-    /// A shell script that sets them in Linux by `tc`.
-    Tc,
+    /// A shell script that sets them in Linux by `tc`, in hardware, or in software where that is asked for.
+    Tc { is_software: bool },
+    /// The variables that the script reads at one bridge, by its name.
+    Env { bridge: Name },
+    /// All of it, for programs, as JSON.
+    Json,
 }
 
 /// What the program is asked to do.
@@ -141,20 +145,88 @@ fn rate_of(text: Option<&str>) -> Option<Rate>
     }
 }
 
-/// The format of the text, if it is one of the two.
-fn format_of(text: Option<&str>) -> Option<Format>
-    ensures { MatchOption result ((format : Format) → ¬ (option_map (λ text. text.now) text.entry ≡ Some (format_text format)))
-        (λ format. option_map (λ text. text.now) text.entry ≡ Some (format_text format)) }
+/// The format of the text, where no bridge is named and software isn't asked for.
+fn plain_format(text: Option<&str>) -> Option<Format>
+    ensures { (software : Option Text) → IsFlagGiven false software →
+        MatchOption result ((format : Format) → ¬ IsFormat format (option_map (λ text. text.now) text.entry) None software)
+        (λ format. IsFormat format (option_map (λ text. text.now) text.entry) None software) }
 {
     match text? {
         "list" => Some(Format::List),
-        "tc" => Some(Format::Tc),
+        "tc" => Some(Format::Tc { is_software: false }),
+        "json" => Some(Format::Json),
         _ => None,
     }
 }
 
+/// The format of the text, where no bridge is named and software is asked for.
+fn software_format(text: Option<&str>) -> Option<Format>
+    ensures { (software : Option Text) → IsFlagGiven true software →
+        MatchOption result ((format : Format) → ¬ IsFormat format (option_map (λ text. text.now) text.entry) None software)
+        (λ format. IsFormat format (option_map (λ text. text.now) text.entry) None software) }
+{
+    match text? {
+        "tc" => Some(Format::Tc { is_software: true }),
+        _ => None,
+    }
+}
+
+/// The format of the text, where no bridge is named.
+fn format_alone(text: Option<&str>, is_software: bool) -> Option<Format>
+    ensures { (software : Option Text) → IsFlagGiven is_software software →
+        MatchOption result ((format : Format) → ¬ IsFormat format (option_map (λ text. text.now) text.entry) None software)
+        (λ format. IsFormat format (option_map (λ text. text.now) text.entry) None software) }
+{
+    if is_software {
+        software_format(text)
+    } else {
+        plain_format(text)
+    }
+}
+
+/// Whether the text is the format that is of one bridge.
+fn is_of_bridge(text: Option<&str>) -> bool
+    ensures { result ≡ is_of_bridge (option_map (λ text. text.now) text.entry) }
+{
+    match text {
+        Some(text) => text == "env",
+        None => false,
+    }
+}
+
+/// The format of the text, where this bridge is named.
+fn format_of_bridge(text: Option<&str>, bridge: &str, is_software: bool) -> Option<Format>
+    ensures { (software : Option Text) → IsFlagGiven is_software software →
+        MatchOption result ((format : Format) → ¬ IsFormat format (option_map (λ text. text.now) text.entry) (Some bridge.now) software)
+        (λ format. IsFormat format (option_map (λ text. text.now) text.entry) (Some bridge.now) software) }
+{
+    if is_software {
+        return None;
+    }
+    if !is_of_bridge(text) {
+        return None;
+    }
+    match Name::new(bridge.as_bytes()) {
+        Some(bridge) => Some(Format::Env { bridge }),
+        None => None,
+    }
+}
+
+/// The format of the command with these values.
+fn format_of(values: &ArgMatches<'_>) -> Option<Format>
+    ensures { MatchOption result ((format : Format) → ¬ IsFormatOf format (rows_of (found_of values.now)))
+        (λ format. IsFormatOf format (rows_of (found_of values.now))) }
+{
+    let is_software = is_given(values, "software");
+    let text = text_of(values, "format");
+    match text_of(values, "bridge") {
+        Some(bridge) => format_of_bridge(text, bridge, is_software),
+        None => format_alone(text, is_software),
+    }
+}
+
 /// The text of the value, if it has one.
-fn text_of<'a>(values: &ArgMatches<'a>, id: &str) -> Option<&'a str>
+pub(crate) fn text_of<'a>(values: &ArgMatches<'a>, id: &str) -> Option<&'a str>
     ensures { option_map (λ text. text.now) result ≡ first_of id.now (rows_of (found_of values.now)) }
 {
     values.get_str(id)
@@ -179,7 +251,7 @@ fn compile_job(values: &ArgMatches<'_>) -> Option<Job>
     ensures { MatchOption result ((job : Job) → ¬ IsJobOf job (codes "compile") (rows_of (found_of values.now)))
         (λ job. IsJobOf job (codes "compile") (rows_of (found_of values.now))) }
 {
-    let Some(format) = format_of(text_of(values, "format")) else {
+    let Some(format) = format_of(values) else {
         return None;
     };
     Some(Job::Compile { format })
@@ -405,7 +477,7 @@ pub fn limits_of(words: &[&str]) -> Limits
 fn read_plainly<'a>(alloc: Global, words: &'a [&'a str]) -> Result<Job, Stop>
     ensures ok { IfOk result (Mean (map (λ word. word.now) words.now)) }
     ensures err { IfErr result (EndsWords (map (λ word. word.now) words.now)) }
-    ensures line { IfErr result (TellsNoCandidates (map (λ word. word.now) words.now)) }
+    ensures line { IfErr result (TellsMistake (map (λ word. word.now) words.now)) }
 {
     let Ok(mut command) = commands(alloc, ask_for_large(words)) else {
         return Err(Stop::memory(alloc));
@@ -413,22 +485,22 @@ fn read_plainly<'a>(alloc: Global, words: &'a [&'a str]) -> Result<Job, Stop>
     match command.try_get_matches_from_mut(words) {
         Ok(matches) => match job_of(alloc, &matches) {
             Ok(Some(job)) => Ok(job),
-            Ok(None) => Err(no_job(alloc, &mut command, &matches)),
+            Ok(None) => Err(no_job(alloc, &matches)),
             Err(_) => Err(Stop::memory(alloc)),
         },
-        Err(error) => Err(stop_of(alloc, &error)),
+        Err(error) => Err(refused_by_clap(alloc, &mut command, words, &error)),
     }
 }
 
 /// The job that the words mean, which come without the program's name. `Err` with status 2 and clap's text where clap refuses them, with
-/// the line `cqf: words` where candidates for `plan` are named by a word that names none, or where one has a character that a terminal
-/// would not print, a line that shows them escaped; with status 0 and clap's text where they ask for help, and with status 3 for want of
-/// memory.
+/// a line that begins with `cqf: words: ` where clap takes them and a value is none that its command takes, or where one has a character
+/// that a terminal would not print, a line that shows them escaped; with status 0 and clap's text where they ask for help, and with status 3
+/// for want of memory. Of one empty word clap's text is its help.
 pub fn read_words<'a>(alloc: Global, words: &'a [&'a str]) -> Result<Job, Stop>
     ensures ok { IfOk result (Mean (map (λ word. word.now) words.now)) }
     ensures err { IfErr result (EndsWords (map (λ word. word.now) words.now)) }
     ensures own { IfErr result (ShowsWords (map (λ word. word.now) words.now)) }
-    ensures line { IfErr result (λ stop. are_printable (map (λ word. word.now) words.now) ≡ true → TellsNoCandidates (map (λ word. word.now) words.now) stop) }
+    ensures line { IfErr result (λ stop. are_printable (map (λ word. word.now) words.now) ≡ true → TellsMistake (map (λ word. word.now) words.now) stop) }
 {
     match read_plainly(alloc, words) {
         Ok(job) => Ok(job),

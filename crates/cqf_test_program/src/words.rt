@@ -4,11 +4,13 @@ use cqf_program_words::{Format, Job, candidates_named, read_words};
 use cqf_units::Rate;
 use std::alloc::Global;
 
-/// A job whose words name no stream and no candidates: a job of `cqf_program_words` may hold what no table can.
+/// A job whose words name no stream, no bridge and no candidates: a job of `cqf_program_words` may hold what no table can.
 enum Meant {
     Port { until: u64, rate: Rate },
     Line { cycles: u32 },
-    Compile { format: Format },
+    CompileList,
+    CompileTc { is_software: bool },
+    CompileJson,
     Load,
     Latency { strict: bool },
     Run { cycles: u32, threads: bool },
@@ -26,7 +28,15 @@ fn job_of(meant: &Meant) -> Job {
     match *meant {
         Meant::Port { until, rate } => Job::Port { until, rate },
         Meant::Line { cycles } => Job::Line { cycles },
-        Meant::Compile { format } => Job::Compile { format },
+        Meant::CompileList => Job::Compile {
+            format: Format::List,
+        },
+        Meant::CompileTc { is_software } => Job::Compile {
+            format: Format::Tc { is_software },
+        },
+        Meant::CompileJson => Job::Compile {
+            format: Format::Json,
+        },
         Meant::Load => Job::Load,
         Meant::Latency { strict } => Job::Latency { strict },
         Meant::Run { cycles, threads } => Job::Run { cycles, threads },
@@ -59,11 +69,9 @@ const MOST_AT_THE_MIDDLE_RATE: Meant = Meant::Port {
     rate: Rate::Mb100,
 };
 
-const LISTED: Meant = Meant::Compile {
-    format: Format::List,
-};
+const AS_SCRIPT: Meant = Meant::CompileTc { is_software: false };
 
-const AS_SCRIPT: Meant = Meant::Compile { format: Format::Tc };
+const IN_SOFTWARE: Meant = Meant::CompileTc { is_software: true };
 
 /// Words, the job that they mean, and the status that they end with where they mean none.
 const CASES: &[(&[&str], Option<Meant>, u8)] = &[
@@ -83,11 +91,48 @@ const CASES: &[(&[&str], Option<Meant>, u8)] = &[
         Some(Meant::Line { cycles: 100_000 }),
         DONE,
     ),
-    (&["compile"], Some(LISTED), DONE),
-    (&["compile", "--format", "list"], Some(LISTED), DONE),
+    (&["compile"], Some(Meant::CompileList), DONE),
+    (
+        &["compile", "--format", "list"],
+        Some(Meant::CompileList),
+        DONE,
+    ),
     (&["compile", "--format", "tc"], Some(AS_SCRIPT), DONE),
     (&["compile", "--format=tc"], Some(AS_SCRIPT), DONE),
-    // the format is of `compile` alone, has one of two values, and stands once
+    (
+        &["compile", "--software", "--format", "tc"],
+        Some(IN_SOFTWARE),
+        DONE,
+    ),
+    (
+        &["compile", "--format", "json"],
+        Some(Meant::CompileJson),
+        DONE,
+    ),
+    // a bridge goes with `env` alone, and software with `tc`
+    (&["compile", "--format", "env"], None, USAGE),
+    (&["compile", "--bridge", "a"], None, USAGE),
+    (&["compile", "--format", "tc", "--bridge", "a"], None, USAGE),
+    (
+        &["compile", "--format", "json", "--bridge", "a"],
+        None,
+        USAGE,
+    ),
+    (&["compile", "--software"], None, USAGE),
+    (&["compile", "--format", "json", "--software"], None, USAGE),
+    (
+        &["compile", "--format", "env", "--bridge", "a", "--software"],
+        None,
+        USAGE,
+    ),
+    (
+        &["compile", "--format", "tc", "--software=true"],
+        None,
+        USAGE,
+    ),
+    (&["load", "--bridge", "a"], None, USAGE),
+    (&["latency", "--software"], None, USAGE),
+    // the format is of `compile` alone, has one of four values, and stands once
     (&["compile", "--format"], None, USAGE),
     (&["compile", "--format", "TC"], None, USAGE),
     (&["compile", "--format", "lists"], None, USAGE),
@@ -295,6 +340,91 @@ fn hops_are_of_a_stream_of_any_name(rt: HostRuntime) {
     assert!(rt; is_of_stream(alloc, &["hops", "--stream=-x", "--cycles=5"], "-x"));
 }
 
+/// Whether a format is that of the variables of the bridge of this name.
+fn is_env_of(format: &Format, name: &str) -> bool {
+    match *format {
+        Format::Env { ref bridge } => bridge.as_str() == name,
+        _ => false,
+    }
+}
+
+/// Whether a job is to write the variables of the bridge of this name.
+fn writes_env_of(job: &Job, name: &str) -> bool {
+    match *job {
+        Job::Compile { ref format } => is_env_of(format, name),
+        _ => false,
+    }
+}
+
+/// Whether the words mean that.
+fn is_of_bridge(alloc: Global, words: &[&str], name: &str) -> bool {
+    match read_words(alloc, words) {
+        Ok(job) => writes_env_of(&job, name),
+        Err(_) => false,
+    }
+}
+
+#[test]
+fn variables_are_of_a_bridge(rt: HostRuntime) {
+    let alloc = rt.alloc();
+    assert!(rt;
+        is_of_bridge(
+            alloc,
+            &["compile", "--format", "env", "--bridge", "stage"],
+            "stage"
+        )
+    );
+    assert!(rt; is_of_bridge(alloc, &["compile", "--bridge=-x", "--format=env"], "-x"));
+}
+
+/// Words that clap takes and that mean no job, and what their line says.
+const MISTAKES: &[(&[&str], &str)] = &[
+    (
+        &["plan", "--cycle", "125us"],
+        "cqf: words: --cycle 125us names no candidates: N, or FROM..TO/STEP with FROM up to TO and at most 1000 of them, in ns, \
+            10000 to 10000000\n",
+    ),
+    (
+        &["port", "--until", "5", "--rate", "20"],
+        "cqf: words: --rate 20 is no rate: 10, 100 or 1000 (Mb/s)\n",
+    ),
+    (
+        &["compile", "--format", "TC"],
+        "cqf: words: --format TC is no format: list, tc, env or json\n",
+    ),
+    (
+        &["compile", "--format", "env"],
+        "cqf: words: --format env wants its bridge: --bridge NAME\n",
+    ),
+    (
+        &["compile", "--bridge", "a", "--software"],
+        "cqf: words: --bridge goes with --format env alone\n",
+    ),
+    (
+        &["compile", "--bridge", "A", "--format", "env"],
+        "cqf: words: --bridge A is no name: 1 to 32 of a to z, 0 to 9, - and _\n",
+    ),
+    (
+        &["compile", "--bridge", "a", "--software", "--format", "env"],
+        "cqf: words: --software goes with --format tc alone\n",
+    ),
+];
+
+/// Whether the words end with status 2 and this line.
+fn is_told(alloc: Global, words: &[&str], line: &str) -> bool {
+    match read_words(alloc, words) {
+        Ok(_) => false,
+        Err(stop) => stop.status == USAGE && stop.text.as_slice() == line.as_bytes(),
+    }
+}
+
+#[test]
+fn mistakes_say_what_is_wanted(rt: HostRuntime) {
+    for (words, line) in MISTAKES {
+        assert!(rt; is_told(rt.alloc(), words, line));
+    }
+}
+
 /// Words for candidates, and the cycle times that they name: none where they name none.
 const CANDIDATES: &[(&str, &[u32])] = &[
     ("10000", &[10_000]),
@@ -382,6 +512,10 @@ fn help_has(alloc: Global, words: &[&str], text: &str) -> bool {
 /// Words that ask for help, and a text in it.
 const HELP: &[(&[&str], &str)] = &[
     (&["--help"], "Usage: cqf <COMMAND>"),
+    // of an empty line too
+    (&[""], "Usage: cqf <COMMAND>"),
+    (&["compile", "--help"], "--bridge <NAME> "),
+    (&["compile", "--help"], "--software "),
     (&["compile", "--help"], "Usage: cqf compile [OPTIONS]\n"),
     (
         &["compile", "--help"],

@@ -1,5 +1,6 @@
 pub mod Keys
 pub mod TrafficText
 pub mod FlowsText
+pub mod PacedFlows
 pub mod Offering
 pub mod Conforming

@@ -76,7 +76,7 @@ fn first_lack_among(values: &[Value]) -> Option<FlowsFault>
 }
 
 /// What a document's streams lack first.
-fn first_lack_of(table: &Table) -> Option<FlowsFault>
+pub(crate) fn first_lack_of(table: &Table) -> Option<FlowsFault>
     ensures { result ≡ first_lack_of (table_view table.now) }
 {
     match value_at(table, Key::Streams).and_then(Value::as_array) {
@@ -86,7 +86,7 @@ fn first_lack_of(table: &Table) -> Option<FlowsFault>
 }
 
 /// The traffic of a stream's table, or the fault of its first bad value.
-fn read_traffic(table: &Table) -> Result<Option<Traffic>, FlowsFault>
+pub(crate) fn read_traffic(table: &Table) -> Result<Option<Traffic>, FlowsFault>
     ensures { result ≡ traffic_or (table_view table.now) }
 {
     match traffic_of(table) {

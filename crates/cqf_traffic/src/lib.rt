@@ -3,7 +3,7 @@
 //! - **Promises.** [`Traffic`] is one: in each interval at most so many frames of at most so many octets, each at most so late.
 //!   [`Traffic::needed`] is what it needs of a cycle.
 //! - **Read.** [`read_flows`] gives the streams of a text, each a [`Flow`], with its deadline and its traffic, or a [`FlowsFault`], the first
-//!   thing wrong. [`traffic_of`] and [`first_owed`] read a single stream's table, by each [`TrafficKey`].
+//!   thing wrong; [`read_paced_flows`] passes over deadlines, and gives each as a [`PacedFlow`]. [`traffic_of`] and [`first_owed`] read a single stream's table, by each [`TrafficKey`].
 //! - **Offered.** A [`TalkerStream`] is a stream as its talker sees it: its name, its edge bridge and its traffic. [`offers_before`] gives what senders
 //!   offer before an instant, as [`Until`] has it: blocks of frames on a regular grid, or, with a seed, each late by chance. [`are_few`] says
 //!   whether these are as few as a run takes.
@@ -30,6 +30,7 @@ mod keys;
 mod laws;
 mod making;
 mod owed;
+mod paced_flows;
 mod senders;
 mod talkers;
 mod traffic;
@@ -41,5 +42,6 @@ pub use keys::TrafficKey;
 pub use laws::{offers_come_in_turns, offers_conform};
 pub use making::offers_before;
 pub use owed::first_owed;
+pub use paced_flows::{PacedFlow, read_paced_flows};
 pub use senders::{TalkerStream, Until};
 pub use traffic::{Traffic, traffic_of};

@@ -8,17 +8,17 @@ use Rattle.cqf_model.specs.History.{Admits, Asked, Recorded, held_in, IsLegalHis
 use Rattle.cqf_text.specs.Parts.{parts_of}
 use Rattle.cqf_topology.specs.DomainText.{domain_within}
 use Rattle.cqf_lists.specs.Results.{and_then, refuse}
-use Rattle.cqf_topology.specs.PacedText.{paced_of_text}
 use Rattle.cqf_laws_history.specs.StateLaws.{with_entry}
 use Rattle.cqf_admission.specs.Admission.{Administration}
 use Rattle.cqf_admission.specs.Asking.{asked_by}
 use Rattle.cqf_compile.specs.ConfigText.{config_text}
-use Rattle.cqf_program_scenario.specs.Lines.{domain_line, streams_line}
+use Rattle.cqf_program_scenario.specs.Lines.{domain_line}
 use Rattle.cqf_program_scenario.specs.Parts.{two_parts}
 use Rattle.cqf_model.specs.Refusals.{text_of_refusal}
 use Rattle.cqf_model.specs.declared.history.Refused.{Refused}
 use Rattle.cqf_press.specs.Stops.{line_of, or_line}
 use Rattle.cqf_model.specs.Limits.{most_streams}
+use Rattle.cqf_program_plans.specs.Reserving.{requests_in}
 
 -- why a stream isn't admitted, by its place among the streams, from 1
 abbrev pub stream_line : ℕ → Refused → List ℕ
@@ -35,11 +35,11 @@ admitted_from d entries place (asked ∷ more) =
     refuse (refusal_of d (held_in d entries (seals entries)) asked) (stream_line place) (admitted_from d (with_asked d entries asked) (place + 1) more)
 
 -- the domain and the streams of an input, or the line of the first fault: of the parts, then of the domain, then of the
--- streams
+-- streams, and of the first of them that reserves less than its traffic needs
 abbrev pub compile_input : Limits → List ℕ → Result (Domain × List Asked) (List ℕ)
 compile_input limits input = and_then (two_parts (parts_of input)) (λ parts.
     and_then (or_line domain_line (domain_within limits parts.0)) (λ domain.
-    and_then (or_line streams_line (paced_of_text parts.1)) (λ requests. Ok (domain, map asked_by requests))))
+    and_then (requests_in domain parts.1) (λ requests. Ok (domain, map asked_by requests))))
 
 -- the configuration of a domain with all of these streams admitted before cycle 0
 abbrev pub configuration_of : Domain → List Asked → Result (List ℕ) (List ℕ)

@@ -6,19 +6,20 @@ use Rattle.cqf_model.specs.Domain.{Domain}
 use Rattle.cqf_model.specs.History.{Asked}
 use Rattle.cqf_text.specs.Parts.{parts_of}
 use Rattle.cqf_topology.specs.DomainText.{domain_within}
-use Rattle.cqf_topology.specs.PlannedText.{PlannedText, planned_of_text}
+use Rattle.cqf_topology.specs.PlannedText.{PlannedText}
 use Rattle.cqf_admission.specs.Asking.{asked_by}
-use Rattle.cqf_program_scenario.specs.Lines.{domain_line, streams_line}
+use Rattle.cqf_program_scenario.specs.Lines.{domain_line}
 use Rattle.cqf_program_scenario.specs.Parts.{two_parts}
 use Rattle.cqf_press.specs.Stops.{or_line}
 use Rattle.cqf_program_plans.specs.Latency.Output.{latency_of_plan}
+use Rattle.cqf_program_plans.specs.Reserving.{planned_in}
 
 -- the domain and the streams of an input with their deadlines, or the line of the first fault: of the parts, then of the
--- domain, then of the streams
+-- domain, then of the streams, and of the first of them that reserves less than its traffic needs
 abbrev pub latency_input : Limits → List ℕ → Result (Domain × List PlannedText) (List ℕ)
 latency_input limits input = and_then (two_parts (parts_of input)) (λ parts.
     and_then (or_line domain_line (domain_within limits parts.0)) (λ domain.
-    and_then (or_line streams_line (planned_of_text parts.1)) (λ streams. Ok (domain, streams))))
+    and_then (planned_in domain parts.1) (λ streams. Ok (domain, streams))))
 
 -- what streams ask for, and their deadlines, by number
 abbrev pub asked_in : List PlannedText → List Asked

@@ -14,12 +14,13 @@ ghost use Rattle.cqf_admission.specs.Orders.{request_at};
 ghost use Rattle.cqf_press.specs.Stops.{EndsWith, IsRefused};
 
 use crate::compile::outputs::ConfigOutput;
+use crate::reserving::requests_in;
 use cqf_admission::{Ledger, Receipt, Refused, count_places, judge_paced};
 use cqf_compile::{compile, port_text};
 use cqf_laws_history::state_follows_history;
 use cqf_model::{Limits, Row};
 use cqf_press::{REFUSED, Sheet, Stop};
-use cqf_program_scenario::{domain_part, streams_part, two_parts};
+use cqf_program_scenario::{domain_part, two_parts};
 use cqf_topology::{Domain, PacedRequest};
 use cqf_units::{Cycle, Memory};
 use std::alloc::Global;
@@ -27,11 +28,12 @@ use std::alloc::Global;
 /// The administrator that the streams of `compile` are admitted by.
 const SEAT: u16 = 0;
 
-/// The domain and the streams of the input, which is read within some limits.
+/// The domain and the streams of the input, which is read within some limits. Each stream that has traffic reserves what it needs of a
+/// cycle.
 ///
 /// # Errors
-/// With status 1 and the line of the first fault of the input: of its parts, of the domain, or of the streams; and with status 3
-/// for want of memory.
+/// With status 1 and the line of the first fault of the input: of its parts, of the domain, of the streams, their traffic too, or of the
+/// first stream that reserves less than its traffic needs; and with status 3 for want of memory.
 pub fn read_plan(
     alloc: Global,
     limits: Limits,
@@ -42,7 +44,7 @@ pub fn read_plan(
 {
     let (domain_text, streams_text) = two_parts(alloc, input)?;
     let domain = domain_part(alloc, limits, domain_text)?;
-    let requests = streams_part(alloc, streams_text)?;
+    let requests = requests_in(alloc, &domain, streams_text)?;
     Ok((domain, requests))
 }
 

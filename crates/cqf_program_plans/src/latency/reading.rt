@@ -5,14 +5,16 @@ ghost use Rattle.cqf_program_plans.specs.Latency.Input.{asked_in, deadlines_in, 
 ghost use Rattle.cqf_press.specs.Stops.{IsRefused};
 ghost use Rattle.cqf_topology.specs.PlannedText.{planned_text};
 
+use crate::reserving::planned_in;
 use cqf_model::Limits;
 use cqf_press::Stop;
-use cqf_program_scenario::{domain_part, planned_part, two_parts};
+use cqf_program_scenario::{domain_part, two_parts};
 use cqf_topology::{Domain, PacedRequest, Planned};
 use cqf_units::Memory;
 use std::alloc::Global;
 
-/// The domain and the streams of the input, read within some limits, with their deadlines.
+/// The domain and the streams of the input, read within some limits, with their deadlines. Each stream that has traffic reserves what it
+/// needs of a cycle.
 pub(crate) fn read_planned(
     alloc: Global,
     limits: Limits,
@@ -23,7 +25,7 @@ pub(crate) fn read_planned(
 {
     let (domain_text, streams_text) = two_parts(alloc, input)?;
     let domain = domain_part(alloc, limits, domain_text)?;
-    let streams = planned_part(alloc, streams_text)?;
+    let streams = planned_in(alloc, &domain, streams_text)?;
     Ok((domain, streams))
 }
 

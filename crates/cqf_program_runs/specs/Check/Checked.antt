@@ -1,18 +1,24 @@
 -- Whether all goes well in a run, by the calls of its history and its deliveries (profile).
-use Rattle.std.specs.Prelude.{ℕ, ◌++◌, ◌==◌, ◌&&◌, Bool, true, false, List, Result, Ok, Err, codes, count_by, decimal}
-use Rattle.std.specs.Prelude.{find, if◌then◌else◌, is_some, length, nat_le}
+use Rattle.std.specs.Prelude.{ℕ, ◌+◌, ◌++◌, ◌==◌, ◌&&◌, Bool, true, false, List, Result, Ok, Err, codes, count_by, decimal}
+use Rattle.std.specs.Prelude.{find, fold, if◌then◌else◌, is_some, length, max, nat_le}
+use Rattle.cqf_units.specs.Timing.{cycle_at}
 use Rattle.cqf_lists.specs.Results.{refuse}
+use Rattle.cqf_model.specs.declared.frames.Offer.{Offer}
 use Rattle.cqf_model.specs.declared.frames.Offered.{Offered}
+use Rattle.cqf_model.specs.declared.topology.Row.{Row}
 use Rattle.cqf_model.specs.Book.{Contents}
-use Rattle.cqf_model.specs.History.{Recorded}
+use Rattle.cqf_model.specs.Domain.{Domain}
+use Rattle.cqf_model.specs.History.{Recorded, streams_of}
 use Rattle.cqf_model.specs.Run.{Run}
 use Rattle.cqf_model.specs.Shift.{offer_cycle}
+use Rattle.cqf_model.specs.Table.{residence}
 use Rattle.cqf_model.specs.Traffic.{numbered}
 use Rattle.cqf_topology.specs.PlannedText.{PlannedText}
 use Rattle.cqf_report.specs.Books.{name_of_reason}
 use Rattle.cqf_program_plans.specs.Latency.Text.{text_of_deadline}
 use Rattle.cqf_press.specs.Stops.{fault_line, line_of}
 use Rattle.cqf_program_runs.specs.declared.check.checked.CheckCounts.{CheckCounts}
+use Rattle.cqf_program_runs.specs.declared.check.checked.OfferCounts.{OfferCounts}
 use Rattle.cqf_program_runs.specs.declared.deliveries.delivery.Passage.{Passage}
 use Rattle.cqf_program_runs.specs.declared.deliveries.delivery.Passage.TheVariants as passage
 use Rattle.cqf_program_runs.specs.declared.deliveries.delivery.Delivery.{Delivery}
@@ -64,47 +70,77 @@ complaint_line delivery = fault_line (codes "check")
     ++ (codes ", offered to "
     ++ (delivery.bridge ++ (codes " at " ++ (decimal delivery.at.0 ++ (codes ": " ++ complaint_of delivery.at.0 delivery.passage)))))))))
 
+-- for how many cycles behind its own a frame of one of some rows may be under way
+abbrev pub deepest : List Row → ℕ
+deepest rows = fold (λ most (row : Row). max most (residence row)) 0 rows
+
+-- the cycle of the latest offer
+abbrev pub latest_cycle : Domain → List Offer → ℕ
+latest_cycle d offers = fold (λ most (offer : Offer). max most (cycle_at d.cycle_time offer.at.0)) 0 offers
+
+-- how many offers there are in a run over so many cycles, how many are of cycles that aren't run, and how many cycles would do: as many that a
+-- frame of the latest offer comes to each listener of its row, whichever of these that is
+abbrev pub offer_counts : Domain → ℕ → List Row → List Offer → OfferCounts
+offer_counts d cycles rows offers = record {
+  frames = length offers;
+  later = count_by (λ (x : Offered). nat_le cycles (offer_cycle d x)) (numbered offers);
+  enough = latest_cycle d offers + deepest rows + 1;
+}
+
 -- the counts of some deliveries beside those of the offers
-abbrev pub counts_of : ℕ → ℕ → List Delivery → CheckCounts
-counts_of frames later deliveries = record {
-  frames = frames;
-  later = later;
+abbrev pub counts_of : OfferCounts → List Delivery → CheckCounts
+counts_of offers deliveries = record {
+  offers = offers;
   under_way = count_by (λ (delivery : Delivery). is_under_way (fate_of delivery)) deliveries;
   delivered = count_by (λ (delivery : Delivery). is_delivered (fate_of delivery)) deliveries;
   timed = count_by (λ (delivery : Delivery). is_delivered (fate_of delivery) && is_timed delivery.passage) deliveries;
 }
 
--- the line where not all has come
+-- the line where nothing is offered
+abbrev pub none_offered_line : List ℕ
+none_offered_line = fault_line (codes "check") (codes "no frame is offered")
+
+-- where nothing has come, and how many cycles would do
+abbrev pub none_come_line : CheckCounts → List ℕ
+none_come_line counts = fault_line (codes "check") (codes "no frame; " ++ (decimal counts.offers.enough ++ codes " cycles would do"))
+
+-- and where not all has come
+abbrev pub some_come_line : CheckCounts → List ℕ
+some_come_line counts =
+    fault_line (codes "check") (codes "unfinished, under way " ++ (decimal counts.under_way ++ (codes ", not run " ++ decimal counts.offers.later)))
+
 abbrev pub unfinished_line : CheckCounts → List ℕ
-unfinished_line counts =
-    fault_line (codes "check") (codes "unfinished, under way " ++ (decimal counts.under_way ++ (codes ", not run " ++ decimal counts.later)))
+unfinished_line counts = if counts.delivered == 0 then none_come_line counts else some_come_line counts
 
 -- the line where all is well
 abbrev pub well_line : CheckCounts → List ℕ
 well_line counts = line_of
     (codes "well: frames "
-    ++ (decimal counts.frames ++ (codes ", deliveries " ++ (decimal counts.delivered ++ (codes ", with a deadline " ++ decimal counts.timed)))))
+    ++ (decimal counts.offers.frames ++ (codes ", deliveries " ++ (decimal counts.delivered ++ (codes ", with a deadline " ++ decimal counts.timed)))))
 
 -- whether all has come
 abbrev pub is_finished : CheckCounts → Bool
-is_finished counts = (counts.under_way == 0) && (counts.later == 0)
+is_finished counts = (counts.under_way == 0) && (counts.offers.later == 0)
 
+-- all is well where something is offered, and all of it has come
 abbrev pub finished : CheckCounts → Result (List ℕ) (List ℕ)
-finished counts = if is_finished counts then Ok (well_line counts) else Err (unfinished_line counts)
+finished counts =
+    if counts.offers.frames == 0 then Err none_offered_line else (if is_finished counts then Ok (well_line counts) else Err (unfinished_line counts))
 
 -- the line of the first delivery that is bad; else that of what has not come; else all is well
 abbrev pub checked_by : List Delivery → CheckCounts → Result (List ℕ) (List ℕ)
 checked_by deliveries counts = refuse (find (λ (delivery : Delivery). is_bad (fate_of delivery)) deliveries) complaint_line (finished counts)
 
--- how many offers are of cycles that aren't run
-abbrev pub later_offers : Run → ℕ
-later_offers run = count_by (λ (x : Offered). nat_le (length run.tables) (offer_cycle run.domain x)) (numbered run.offers)
+-- what is counted of the offers of a run, whose history granted these rows
+abbrev pub run_offers : List Row → Run → OfferCounts
+run_offers rows run = offer_counts run.domain (length run.tables) rows run.offers
 
 -- of the frames of a run, by its book
-abbrev pub checked_deliveries : Run → List PlannedText → Contents → Result (List ℕ) (List ℕ)
-checked_deliveries run streams book =
-    checked_by (deliveries_of run streams book) (counts_of (length run.offers) (later_offers run) (deliveries_of run streams book))
+abbrev pub checked_deliveries : List Row → Run → List PlannedText → Contents → Result (List ℕ) (List ℕ)
+checked_deliveries rows run streams book =
+    checked_by (deliveries_of run streams book) (counts_of (run_offers rows run) (deliveries_of run streams book))
 
 -- of a history and its run, by the run's book: where a call is refused, the line of the first; else what is told of the frames
 abbrev pub checked_run : List Recorded → Run → List PlannedText → Contents → Result (List ℕ) (List ℕ)
-checked_run entries run streams book = refuse (first_refused entries) refused_call_line (checked_deliveries run streams book)
+checked_run entries run streams book =
+    refuse (first_refused entries) refused_call_line (checked_deliveries (streams_of run.domain entries) run streams book)

@@ -1,11 +1,21 @@
 -- What is told of a scenario that was read.
 use Rattle.std.specs.Prelude.{ℕ, ◌≡◌, ◌⊎◌, List, [], Result, Err}
+use Rattle.cqf_model.specs.History.{streams_of}
 use Rattle.cqf_topology.specs.PlannedText.{PlannedText}
+use Rattle.cqf_program_scenario.specs.Calls.{history_of}
 use Rattle.cqf_program_scenario.specs.Closing.{scenario_given}
 use Rattle.cqf_press.specs.declared.stops.Stop.{Stop}
+use Rattle.cqf_program_runs.specs.declared.check.checked.OfferCounts.{OfferCounts}
 use Rattle.cqf_program_runs.specs.declared.deliveries.reading.PlannedGiven.{PlannedGiven}
+use Rattle.cqf_program_runs.specs.Check.Checked.{offer_counts}
 use Rattle.cqf_program_runs.specs.Check.Output.{IsCheckedScenario}
 use Rattle.cqf_program_runs.specs.Deliveries.Reading.{ArePlannedBeside}
+
+-- this is counted of its offers
+abbrev pub AreOffersCounted : ℕ → PlannedGiven → OfferCounts → Type 0
+AreOffersCounted cycles planned counts =
+    counts ≡ offer_counts planned.given.domain cycles (streams_of planned.given.domain (history_of cycles (scenario_given planned.given)))
+    planned.given.offers.items
 
 -- what was found is told of it, for whatever streams its requests and deadlines are those of
 abbrev pub IsCheckedGiven : ℕ → PlannedGiven → Result (List ℕ) (List ℕ) → Type 0

@@ -1,7 +1,8 @@
 -- What a check has looked at so far.
-use Rattle.std.specs.Prelude.{ℕ, ◌≡◌, ◌*◌, ◌≤◌, List, None, Result, find, length, take}
+use Rattle.std.specs.Prelude.{ℕ, ◌≡◌, ◌*◌, ◌≤◌, List, None, Result, find, take}
 use Rattle.cqf_model.specs.Traffic.{numbered}
 use Rattle.cqf_program_runs.specs.declared.check.checked.CheckCounts.{CheckCounts}
+use Rattle.cqf_program_runs.specs.declared.check.checked.OfferCounts.{OfferCounts}
 use Rattle.cqf_program_runs.specs.declared.deliveries.delivery.Delivery.{Delivery}
 use Rattle.cqf_program_runs.specs.Check.Checked.{checked_by, counts_of, is_bad}
 use Rattle.cqf_program_runs.specs.Deliveries.{fate_of}
@@ -13,16 +14,16 @@ pub record AreCountsBefore (place : ℕ) (counts : CheckCounts) : Type 0 where
   pub delivered : counts.delivered ≤ 200 * place
   pub timed : counts.timed ≤ 200 * place
 
--- what is told of a run that is over, of whose offers so many are of cycles that aren't run
-abbrev pub checked_over : Over → ℕ → Result (List ℕ) (List ℕ)
-checked_over over later = checked_by (deliveries_over over) (counts_of (length over.offers) later (deliveries_over over))
+-- what is told of a run that is over, of whose offers this is counted
+abbrev pub checked_over : Over → OfferCounts → Result (List ℕ) (List ℕ)
+checked_over over offers = checked_by (deliveries_over over) (counts_of offers (deliveries_over over))
 
 -- none of some deliveries is bad
 abbrev pub NoneBad : List Delivery → Type 0
 NoneBad deliveries = find (λ (delivery : Delivery). is_bad (fate_of delivery)) deliveries ≡ None
 
 -- none of the deliveries of the first offers is bad, and all are counted
-pub record GoesWellSoFar (over : Over) (later place : ℕ) (counts : CheckCounts) : Type 0 where
+pub record GoesWellSoFar (over : Over) (offers : OfferCounts) (place : ℕ) (counts : CheckCounts) : Type 0 where
   pub well : NoneBad (deliveries_among over (take place (numbered over.offers)))
-  pub counted : counts ≡ counts_of (length over.offers) later (deliveries_among over (take place (numbered over.offers)))
+  pub counted : counts ≡ counts_of offers (deliveries_among over (take place (numbered over.offers)))
   pub before : AreCountsBefore place counts

@@ -7,7 +7,7 @@ use Rattle.cqf_model.specs.declared.history.Reply.TheVariants.{Refused as Refuse
 use Rattle.cqf_model.specs.declared.topology.Hop.{Hop}
 use Rattle.cqf_model.specs.declared.topology.Row.{Row}
 use Rattle.cqf_model.specs.Book.{Contents}
-use Rattle.cqf_model.specs.History.{Recorded, is_seal}
+use Rattle.cqf_model.specs.History.{Recorded, is_seal, streams_of}
 use Rattle.cqf_model.specs.Run.{Run}
 use Rattle.cqf_model.specs.Shift.{IsCovered, offer_cycle}
 use Rattle.cqf_model.specs.Traffic.{numbered}
@@ -15,7 +15,7 @@ use Rattle.cqf_model.specs.Promise.{SaysTheShift}
 use Rattle.cqf_topology.specs.PlannedText.{PlannedText}
 use Rattle.cqf_program_plans.specs.Latency.Text.{listeners_of}
 use Rattle.cqf_program_runs.specs.declared.deliveries.delivery.Fate.TheVariants as fate
-use Rattle.cqf_program_runs.specs.Check.Checked.{checked_run, counts_of, later_offers, well_line}
+use Rattle.cqf_program_runs.specs.Check.Checked.{checked_run, counts_of, run_offers, well_line}
 use Rattle.cqf_program_runs.specs.Deliveries.{arrival_at_listener, deadline_named, deliveries_of, start_on, whole_instant}
 
 -- a frame starts on the link of a hop to a listener, and is whole there within its deadline, where it has one
@@ -39,19 +39,21 @@ AllOffersGoWell run streams book = (x : Offered) → Contains (numbered run.offe
 abbrev pub NoneIsRefused : List Recorded → Type 0
 NoneIsRefused entries = (e : Recorded) (refused : Refused) → Contains entries e → is_seal e.act ≡ false → e.reply ≢ RefusedFor refused
 
--- both
+-- both, and there is an offer
 pub record AllGoWell (entries : List Recorded) (run : Run) (streams : List PlannedText) (book : Contents) : Type 0 where
+  pub some : 0 < length run.offers
   pub calls : NoneIsRefused entries
   pub offers : AllOffersGoWell run streams book
 
 -- the line that tells so
-abbrev pub line_of_well : Run → List PlannedText → Contents → List ℕ
-line_of_well run streams book = well_line (counts_of (length run.offers) (later_offers run) (deliveries_of run streams book))
+abbrev pub line_of_well : List Row → Run → List PlannedText → Contents → List ℕ
+line_of_well rows run streams book = well_line (counts_of (run_offers rows run) (deliveries_of run streams book))
 
 -- a check tells that all is well only where all goes well, and then it does
 pub record IsWellExactly (entries : List Recorded) (run : Run) (streams : List PlannedText) (book : Contents) : Type 0 where
   pub only : (line : List ℕ) → checked_run entries run streams book ≡ Ok line → AllGoWell entries run streams book
-  pub where_well : AllGoWell entries run streams book → checked_run entries run streams book ≡ Ok (line_of_well run streams book)
+  pub where_well : AllGoWell entries run streams book → checked_run entries run streams book
+      ≡ Ok (line_of_well (streams_of run.domain entries) run streams book)
 
 -- where a book says the shift
 abbrev pub CheckIsWellExactly : Type 0

@@ -1,23 +1,33 @@
 //! Whether all goes well in a run, by its deliveries.
-ghost use Rattle.std.specs.Prelude.{ℕ, ◌≡◌, ◌+◌, ◌≤◌, ◌++◌, ◌&&◌, [], true, IfOk, List, length, count_by, find, option_copied, string_bytes};
+ghost use Rattle.std.specs.Prelude.{◌≡◌, ◌+◌, ◌≤◌, ◌++◌, ◌&&◌, ℕ, [], true, IfOk, List, length, count_by, find, option_copied, string_bytes};
 ghost use Rattle.cqf_model.specs.Limits.{most_rows};
 ghost use Rattle.cqf_program_runs.specs.Check.Checked.{complaint_line, complaint_of, counts_of, is_bad, is_delivered};
-ghost use Rattle.cqf_program_runs.specs.Check.Checked.{is_finished, is_timed, is_under_way, unfinished_line, well_line};
+ghost use Rattle.cqf_program_runs.specs.Check.Checked.{is_finished, is_timed, is_under_way, none_come_line, none_offered_line, some_come_line};
+ghost use Rattle.cqf_program_runs.specs.Check.Checked.{unfinished_line, well_line};
 ghost use Rattle.cqf_program_runs.specs.Check.Counting.{AreCountsBefore};
 ghost use Rattle.cqf_program_runs.specs.Deliveries.{fate_of};
+ghost use Rattle.cqf_program_runs.specs.declared.check.checked.OfferCounts.{OfferCounts as SomeOffers};
 ghost use Rattle.cqf_program_runs.specs.declared.deliveries.delivery.Delivery.{Delivery as ADelivery};
 
 use crate::deliveries::delivery::{Delivery, Fate, Passage, latency};
 use cqf_report::reason_name;
 use std::alloc::{AllocError, Global};
 
+/// What a check counts of the offers.
+#[derive(Clone, Copy, Debug, PartialEq, Eq)]
+pub struct OfferCounts {
+    /// All of them.
+    pub frames: usize,
+    /// Those of cycles that aren't run.
+    pub later: usize,
+    /// In so many cycles a frame of the latest one would come to its listeners.
+    pub enough: u64,
+}
+
 /// What a check counts.
 #[derive(Clone, Copy, Debug, PartialEq, Eq)]
 pub struct CheckCounts {
-    /// The offers.
-    pub frames: usize,
-    /// The offers of cycles that aren't run.
-    pub later: usize,
+    pub offers: OfferCounts,
     /// The deliveries that are under way.
     pub under_way: usize,
     /// The deliveries that are there, in time where they have a deadline.
@@ -103,13 +113,12 @@ fn count_timed(deliveries: &[Delivery]) -> usize
         .count()
 }
 
-/// What a check counts of no deliveries, beside so many offers of which so many are of cycles that aren't run.
-pub(crate) fn no_counts(frames: usize, later: usize) -> CheckCounts
-    ensures { result ≡ counts_of frames later [] }
+/// What a check counts of no deliveries, beside the offers.
+pub(crate) fn no_counts(offers: OfferCounts) -> CheckCounts
+    ensures { result ≡ counts_of offers [] }
 {
     CheckCounts {
-        frames,
-        later,
+        offers,
         under_way: 0,
         delivered: 0,
         timed: 0,
@@ -121,13 +130,12 @@ impl CheckCounts {
     pub(crate) fn with(self, here: &[Delivery]) -> CheckCounts
         requires few { length here.now ≤ 200 }
         requires early { AreCountsBefore most_rows self }
-        ensures counts { (frames later : ℕ) (done : List ADelivery) → self ≡ counts_of frames later done →
-            result ≡ counts_of frames later (done ++ here.now) }
+        ensures counts { (offers : SomeOffers) (done : List ADelivery) → self ≡ counts_of offers done →
+            result ≡ counts_of offers (done ++ here.now) }
         ensures more { (place : ℕ) → AreCountsBefore place self → AreCountsBefore (place + 1) result }
     {
         CheckCounts {
-            frames: self.frames,
-            later: self.later,
+            offers: self.offers,
             under_way: self.under_way + count_under_way(here),
             delivered: self.delivered + count_delivered(here),
             timed: self.timed + count_timed(here),
@@ -138,7 +146,7 @@ impl CheckCounts {
     pub fn is_finished(self) -> bool
         ensures { result ≡ is_finished self }
     {
-        self.under_way == 0 && self.later == 0
+        self.under_way == 0 && self.offers.later == 0
     }
 }
 
@@ -191,18 +199,49 @@ pub fn complaint_about(alloc: Global, delivery: &Delivery) -> Result<String, All
     Ok(line)
 }
 
-/// The line that tells that not all has come (profile).
+/// The line that tells that nothing is offered (profile).
+///
+/// # Errors
+/// Where a growth is refused.
+pub fn none_offered_line(alloc: Global) -> Result<String, AllocError>
+    ensures { IfOk result (λ line. string_bytes line ≡ none_offered_line) }
+{
+    let line = format!(in alloc; "cqf: check: no frame is offered\n")?;
+    Ok(line)
+}
+
+/// The line that tells that nothing has come, and how many cycles would do.
+fn none_come_line(alloc: Global, counts: CheckCounts) -> Result<String, AllocError>
+    ensures { IfOk result (λ line. string_bytes line ≡ none_come_line counts) }
+{
+    let enough = counts.offers.enough;
+    let line = format!(in alloc; "cqf: check: no frame; {enough} cycles would do\n")?;
+    Ok(line)
+}
+
+/// The line that tells that not all has come.
+fn some_come_line(alloc: Global, counts: CheckCounts) -> Result<String, AllocError>
+    ensures { IfOk result (λ line. string_bytes line ≡ some_come_line counts) }
+{
+    let (under_way, later) = (counts.under_way, counts.offers.later);
+    let line = format!(in alloc;
+        "cqf: check: unfinished, under way {under_way}, not run {later}\n"
+    )?;
+    Ok(line)
+}
+
+/// The line that tells that not all has come, or nothing (profile).
 ///
 /// # Errors
 /// Where a growth is refused.
 pub fn unfinished_line(alloc: Global, counts: CheckCounts) -> Result<String, AllocError>
     ensures { IfOk result (λ line. string_bytes line ≡ unfinished_line counts) }
 {
-    let (under_way, later) = (counts.under_way, counts.later);
-    let line = format!(in alloc;
-        "cqf: check: unfinished, under way {under_way}, not run {later}\n"
-    )?;
-    Ok(line)
+    if counts.delivered == 0 {
+        none_come_line(alloc, counts)
+    } else {
+        some_come_line(alloc, counts)
+    }
 }
 
 /// The line that tells that all is well (profile).
@@ -212,7 +251,7 @@ pub fn unfinished_line(alloc: Global, counts: CheckCounts) -> Result<String, All
 pub fn well_line(alloc: Global, counts: CheckCounts) -> Result<String, AllocError>
     ensures { IfOk result (λ line. string_bytes line ≡ well_line counts) }
 {
-    let (frames, delivered, timed) = (counts.frames, counts.delivered, counts.timed);
+    let (frames, delivered, timed) = (counts.offers.frames, counts.delivered, counts.timed);
     let line = format!(in alloc;
         "well: frames {frames}, deliveries {delivered}, with a deadline {timed}\n"
     )?;

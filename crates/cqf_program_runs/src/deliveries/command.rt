@@ -8,14 +8,14 @@ ghost use Rattle.cqf_program_scenario.specs.Closing.{MayBeRun, scenario_given};
 ghost use Rattle.cqf_program_scenario.specs.Logged.{HasOrders};
 ghost use Rattle.cqf_program_scenario.specs.Outcomes.{IsOutcomeOf};
 ghost use Rattle.cqf_press.specs.Stops.{EndsWith, IsRefused};
-ghost use Rattle.cqf_program_runs.specs.Check.Checked.{complaint_line, finished, is_bad, unfinished_line, well_line};
+ghost use Rattle.cqf_program_runs.specs.Check.Checked.{complaint_line, finished, is_bad, none_offered_line, unfinished_line, well_line};
 ghost use Rattle.cqf_program_runs.specs.Deliveries.{fate_of};
 ghost use Rattle.cqf_program_runs.specs.Check.Output.{IsCheckRefusal, IsChecked};
 ghost use Rattle.cqf_program_runs.specs.Check.Counting.{checked_over};
 ghost use Rattle.cqf_program_runs.specs.Deliveries.Ending.{over_of};
 ghost use Rattle.cqf_program_runs.specs.Deliveries.Following.{AreDeliveriesTold, CanFollow, IsFollowed, IsNotedOf, TellsDeliveriesOf};
 ghost use Rattle.cqf_units.specs.declared.timing.Nanos.{Nanos as AnInstant};
-ghost use Rattle.cqf_program_runs.specs.Check.Checking.{IsCheckedGiven, IsRefusedGiven};
+ghost use Rattle.cqf_program_runs.specs.Check.Checking.{AreOffersCounted, IsCheckedGiven, IsRefusedGiven};
 ghost use Rattle.cqf_program_runs.specs.Deliveries.Output.{IsDeliveriesOutput};
 ghost use Rattle.cqf_program_runs.specs.Deliveries.PlannedScenario.{planned_scenario};
 ghost use Rattle.cqf_program_runs.specs.Check.RefusedCalls.{first_refused, is_refused, refused_call_line};
@@ -25,11 +25,14 @@ use crate::check::checked::no_counts;
 use crate::check::refused_calls::{first_refused, refused_line};
 use crate::deliveries::few::Few;
 use crate::deliveries::made::{CompletedRun, put_those_of};
-use crate::deliveries::noted::{Noted, later_offers, noted_of, noted_of_scenario};
+use crate::deliveries::noted::{Noted, noted_of, noted_of_scenario, offer_counts};
 use crate::deliveries::outputs::DeliveriesOutput;
 use crate::deliveries::reading::{PlannedGiven, read_planned_given};
 use crate::deliveries::under_way::UnderWay;
-use crate::{CheckCounts, Delivery, complaint_about, first_bad, unfinished_line, well_line};
+use crate::{
+    CheckCounts, Delivery, OfferCounts, complaint_about, first_bad, none_offered_line,
+    unfinished_line, well_line,
+};
 use cqf_admission::Logged;
 use cqf_laws_coverage::book_of_history_is_there;
 use cqf_model::Limits;
@@ -81,6 +84,13 @@ pub fn deliveries_output(
     }
 }
 
+/// The end where nothing is offered.
+fn none_offered_stop(alloc: Global) -> Stop
+    ensures { EndsWith 1 none_offered_line result }
+{
+    Stop::with_text(alloc, REFUSED, none_offered_line(alloc))
+}
+
 /// The end where not all has come.
 fn unfinished_stop(alloc: Global, counts: CheckCounts) -> Stop
     ensures { EndsWith 1 (unfinished_line counts) result }
@@ -109,6 +119,9 @@ fn finish(alloc: Global, counts: CheckCounts) -> Result<Vec<u8>, Stop>
     ensures ok { IfOk result (λ line. finished counts ≡ Ok line.items) }
     ensures err { IfErr result (IsRefused (finished counts)) }
 {
+    if counts.offers.frames == 0 {
+        return Err(none_offered_stop(alloc));
+    }
     if !counts.is_finished() {
         return Err(unfinished_stop(alloc, counts));
     }
@@ -118,24 +131,24 @@ fn finish(alloc: Global, counts: CheckCounts) -> Result<Vec<u8>, Stop>
     }
 }
 
-/// What is told of the deliveries of a run that is over, whose frames are followed from the first offer on, and of whose offers so many
-/// are of cycles that aren't run. What was there is room for the deliveries of one offer.
+/// What is told of the deliveries of a run that is over, whose frames are followed from the first offer on, and of whose offers this is
+/// counted. What was there is room for the deliveries of one offer.
 fn check_each(
     alloc: Global,
     here: Few,
     under_way: UnderWay,
     ended: &CompletedRun<'_>,
-    later: usize,
+    offers: OfferCounts,
 ) -> Result<Vec<u8>, Stop>
     requires { CanFollow ended.now 0 under_way }
     ensures ok { IfOk result (λ line. (whole : ℕ → ℕ → Option AnInstant) → IsFollowed (over_of ended.now whole) 0 under_way →
-        checked_over (over_of ended.now whole) later ≡ Ok line.items) }
+        checked_over (over_of ended.now whole) offers ≡ Ok line.items) }
     ensures err { IfErr result (λ stop. (whole : ℕ → ℕ → Option AnInstant) → IsFollowed (over_of ended.now whole) 0 under_way →
-        IsRefused (checked_over (over_of ended.now whole) later) stop) }
+        IsRefused (checked_over (over_of ended.now whole) offers) stop) }
 {
     let (mut here, mut under_way) = (here, under_way);
     let many = ended.offers.len();
-    let mut counts = no_counts(many, later);
+    let mut counts = no_counts(offers);
     for place in 0..many {
         put_those_of(&mut here, ended, &mut under_way, place);
         if let Some(delivery) = first_bad(here.as_slice()) {
@@ -146,24 +159,24 @@ fn check_each(
     finish(alloc, counts)
 }
 
-/// What is told of a scenario of which this is noted, where no call of its history is refused.
+/// What is told of a scenario of which this is noted, where no call of its history is refused, and this is counted of its offers.
 fn check_noted(
     alloc: Global,
     cycles: u32,
     planned: &PlannedGiven,
     noted: &Noted,
     under_way: UnderWay,
+    offers: OfferCounts,
 ) -> Result<Vec<u8>, Stop>
     requires may { MayBeRun cycles (scenario_given planned.now.given) }
+    requires counted { AreOffersCounted cycles planned.now offers }
     requires granted { first_refused (history_of cycles (scenario_given planned.now.given)) ≡ None }
     requires noted { IsNotedOf cycles planned.now noted.now under_way }
     ensures ok { IfOk result (λ line. IsCheckedGiven cycles planned.now (Ok line.items)) }
     ensures err { IfErr result (IsRefusedGiven cycles planned.now) }
 {
-    let offers = planned.given.offers.as_slice();
-    let later = later_offers(&planned.given.domain, cycles, offers);
     match Few::new(alloc) {
-        Ok(here) => check_each(alloc, here, under_way, &noted.over(planned, cycles), later),
+        Ok(here) => check_each(alloc, here, under_way, &noted.over(planned, cycles), offers),
         Err(_) => Err(Stop::memory(alloc)),
     }
 }
@@ -182,8 +195,11 @@ fn check_frames(
     ensures ok { IfOk result (λ line. IsCheckedGiven cycles planned.now (Ok line.items)) }
     ensures err { IfErr result (IsRefusedGiven cycles planned.now) }
 {
+    let offers = planned.given.offers.as_slice();
+    let domain = &planned.given.domain;
+    let counts = offer_counts(domain, cycles, outcome.rows.as_slice(), offers);
     match noted_of(alloc, cycles, planned, outcome) {
-        Ok((noted, under_way)) => check_noted(alloc, cycles, planned, &noted, under_way),
+        Ok((noted, under_way)) => check_noted(alloc, cycles, planned, &noted, under_way, counts),
         Err(_) => Err(Stop::memory(alloc)),
     }
 }
@@ -237,13 +253,13 @@ fn check_scenario(alloc: Global, cycles: u32, planned: &PlannedGiven) -> Result<
 }
 
 /// The line of `check` over so many cycles, 0 to 100,000, for an input that is read within some limits, where all goes well: no call of
-/// the script is refused, and every offer is of a cycle that is run, covered, whole at every listener within the run, and within its
+/// the script is refused, there is an offer, and every offer is of a cycle that is run, covered, whole at every listener within the run, and within its
 /// deadline (profile).
 ///
 /// # Errors
 /// With status 1 and a line: of the first fault of the input, as [`deliveries_output`]; else of the first call that is refused; else
-/// of the first delivery that is dropped or late; else, of how many deliveries are under way and how many offers are of cycles that
-/// aren't run. And with status 3 for want of memory.
+/// of the first delivery that is dropped or late; else, that nothing is offered; that nothing has come, and how many cycles would do; or how
+/// many deliveries are under way and how many offers are of cycles that aren't run. And with status 3 for want of memory.
 pub fn check_output(
     alloc: Global,
     limits: Limits,

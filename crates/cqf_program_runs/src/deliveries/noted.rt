@@ -9,14 +9,17 @@ ghost use Rattle.cqf_model.specs.Traffic.{numbered};
 ghost use Rattle.cqf_program_scenario.specs.Closing.{MayBeRun, scenario_given};
 ghost use Rattle.cqf_program_scenario.specs.Logged.{HasOrders};
 ghost use Rattle.cqf_program_scenario.specs.Outcomes.{IsOutcomeOf};
+ghost use Rattle.cqf_program_runs.specs.Check.Checked.{latest_cycle, offer_counts};
 ghost use Rattle.cqf_program_runs.specs.Deliveries.Deadlines.{deadline_in};
 ghost use Rattle.cqf_program_runs.specs.Deliveries.Ending.{over_by, over_of};
 ghost use Rattle.cqf_program_runs.specs.Deliveries.Following.{IsNotedOf};
 ghost use Rattle.cqf_model.specs.Limits.{end_of_offers, most_cycles};
 
 use crate::Deadlines;
+use crate::check::checked::OfferCounts;
 use crate::deliveries::made::CompletedRun;
 use crate::deliveries::reading::PlannedGiven;
+use crate::deliveries::rooms::deepest;
 use crate::deliveries::under_way::UnderWay;
 use cqf_instants_run::EdgeVerdict;
 use cqf_laws_coverage::offers_are_judged;
@@ -142,7 +145,7 @@ fn is_later(domain: &Domain, cycles: u32, offer: &Offer) -> bool
 }
 
 /// How many offers are of cycles that aren't run.
-pub(crate) fn later_offers(domain: &Domain, cycles: u32, offers: &[Offer]) -> usize
+fn later_offers(domain: &Domain, cycles: u32, offers: &[Offer]) -> usize
     requires { AreOffers domain.now offers.now }
     ensures { result ≡ count_by (λ x. nat_le cycles (offer_cycle domain.now x)) (numbered offers.now) }
 {
@@ -153,4 +156,33 @@ pub(crate) fn later_offers(domain: &Domain, cycles: u32, offers: &[Offer]) -> us
         }
     }
     later
+}
+
+/// The cycle of the latest offer; 0 where there is none.
+fn latest_cycle(domain: &Domain, offers: &[Offer]) -> u32
+    requires { AreOffers domain.now offers.now }
+    ensures { result ≡ latest_cycle domain.now offers.now }
+{
+    let mut most = 0;
+    for offer in offers {
+        most = most.max(cycle_of(offer.at, domain.cycle_time()).0);
+    }
+    most
+}
+
+/// What a check counts of the offers of a run over so many cycles, whose history granted these rows.
+pub(crate) fn offer_counts(
+    domain: &Domain,
+    cycles: u32,
+    rows: &[Row],
+    offers: &[Offer],
+) -> OfferCounts
+    requires { AreOffers domain.now offers.now }
+    ensures { result ≡ offer_counts domain.now cycles rows.now offers.now }
+{
+    OfferCounts {
+        frames: offers.len(),
+        later: later_offers(domain, cycles, offers),
+        enough: u64::from(latest_cycle(domain, offers)) + u64::from(deepest(rows)) + 1,
+    }
 }

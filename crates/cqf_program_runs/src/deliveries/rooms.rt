@@ -4,8 +4,8 @@ ghost use Rattle.cqf_units.specs.Timing.{cycle_at};
 ghost use Rattle.cqf_laws_coverage.specs.Judged.{StandInOrder};
 ghost use Rattle.cqf_model.specs.declared.frames.Offer.{Offer as AnOffer};
 ghost use Rattle.cqf_model.specs.Run.{AreOffers};
-ghost use Rattle.cqf_model.specs.Table.{residence};
 ghost use Rattle.cqf_program_plans.specs.Latency.Text.{listeners_of};
+ghost use Rattle.cqf_program_runs.specs.Check.Checked.{deepest};
 ghost use Rattle.cqf_program_runs.specs.Deliveries.UnderWay.{AreEmptySlots, IsLaid, IsWideFor, slots_of};
 
 use crate::deliveries::under_way::{UnderWay, ends_in_station};
@@ -17,8 +17,8 @@ use std::alloc::Global;
 use std::collections::VecDeque;
 
 /// For how many cycles behind its own a frame of one of some rows may be under way.
-fn deepest(rows: &[Row]) -> u8
-    ensures { result ≡ fold (λ most row. max most (residence row)) 0 rows.now }
+pub fn deepest(rows: &[Row]) -> u8
+    ensures { result ≡ deepest rows.now }
 {
     let mut most = 0;
     for row in rows {

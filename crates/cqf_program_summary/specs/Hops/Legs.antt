@@ -1,7 +1,6 @@
 -- What a book tells of streams' frames, by frame (profile).
-use Rattle.std.specs.Prelude.{ℕ, ◌≡◌, ◌<◌, ◌-◌, ◌==◌, ◌&&◌, ◌++◌, Bool, true, All, List, [], Option, Some, None, IsPermutation, bytes_eq, filter, map, slice_get}
+use Rattle.std.specs.Prelude.{ℕ, ◌≡◌, ◌<◌, ◌-◌, ◌==◌, ◌&&◌, ◌++◌, ◌⊎◌, AllPairs, Bool, true, List, [], Option, Some, None, IsPermutation, bytes_eq, filter, map, slice_get}
 use Rattle.std.specs.Option.{option_map_or}
-use Rattle.cqf_lists.specs.Lists.{each_below}
 use Rattle.cqf_model.specs.declared.frames.Offer.{Offer}
 use Rattle.cqf_model.specs.Book.{Contents}
 use Rattle.cqf_program_summary.specs.declared.hops.legs.Leg.{Leg}
@@ -49,22 +48,16 @@ is_wanted offers wanted frame = is_frame wanted.frame frame && is_stream wanted.
 abbrev pub wanted_legs : List Offer → Wanted → Contents → List Leg
 wanted_legs offers wanted book = filter (λ (x : Leg). is_wanted offers wanted (frame_of x)) (legs_of_book book)
 
--- it tells of this frame, at this instant and on this link
-abbrev pub is_leg_of : ℕ → ℕ → ℕ → Leg → Bool
-is_leg_of frame instant link x = (frame_of x == frame) && ((instant_of x == instant) && (link_of x == link))
+-- it tells of an earlier frame, or of the same frame at an earlier instant, or at the same on a link of a lower number
+abbrev pub IsBefore : Leg → Leg → Type 0
+IsBefore a b = (frame_of a < frame_of b)
+    ⊎ ((frame_of a ≡ frame_of b) × ((instant_of a < instant_of b) ⊎ ((instant_of a ≡ instant_of b) × (link_of a < link_of b))))
 
--- its frame, instant and link are below these
-pub record IsLegBelow (frames instants links : ℕ) (x : Leg) : Type 0 where
-  pub frame : frame_of x < frames
-  pub instant : instant_of x < instants
-  pub link : link_of x < links
+-- no two tell of one frame at one instant on one link
+abbrev pub AreApart : Leg → Leg → Type 0
+AreApart a b = frame_of a ≡ frame_of b → instant_of a ≡ instant_of b → link_of a ≡ link_of b → ⊥
 
--- what is told of each frame, at each instant and on each link below these, in this order
-abbrev pub by_frame : ℕ → ℕ → ℕ → List Leg → List Leg
-by_frame frames instants links legs =
-    each_below (λ frame. each_below (λ instant. each_below (λ link. filter (is_leg_of frame instant link) legs) links) instants) frames
-
--- the same by frame, then instant, then link: whatever these are all below
+-- the same by frame, then instant, then link: of any two one comes before the other
 pub record AreByFrame (legs sorted : List Leg) : Type 0 where
   pub same : IsPermutation legs sorted
-  pub in_order : (frames instants links : ℕ) → All (IsLegBelow frames instants links) legs → sorted ≡ by_frame frames instants links legs
+  pub in_order : AllPairs IsBefore sorted

@@ -3,17 +3,27 @@ use Rattle.cqf_model.specs.declared.limits.Limits.{Limits}
 use Rattle.std.specs.Prelude.{ℕ, ◌≡◌, List, Ok}
 use Rattle.cqf_model.specs.Book.{Contents}
 use Rattle.cqf_program_scenario.specs.Books.{IsBookOfScenario}
-use Rattle.cqf_program_scenario.specs.Scenario.{Scenario, scenario_input}
+use Rattle.cqf_program_scenario.specs.Scenario.{Scenario}
 use Rattle.cqf_program_summary.specs.declared.hops.legs.Leg.{Leg}
+use Rattle.cqf_program_summary.specs.Hops.Known.{wanted_scenario}
 use Rattle.cqf_program_summary.specs.Hops.Legs.{AreByFrame, Wanted, wanted_legs}
+use Rattle.cqf_program_summary.specs.Hops.Rounds.{IsToldText, ToldHops}
 use Rattle.cqf_program_summary.specs.Hops.Text.{text_of_legs}
 
 -- the output is the text of what the one-thread book of the input's scenario tells of the wanted frames, by frame
 pub record IsHopsOutput (limits : Limits) (cycles : ℕ) (wanted : Wanted) (input output : List ℕ) : Type 0 where
   pub scenario : Scenario
-  pub holds : scenario_input limits cycles input ≡ Ok scenario
+  pub holds : wanted_scenario limits cycles wanted input ≡ Ok scenario
   pub book : Contents
   pub is_book : IsBookOfScenario cycles scenario book
   pub legs : List Leg
   pub are : AreByFrame (wanted_legs scenario.offers wanted book) legs
   pub written : output ≡ text_of_legs scenario.domain scenario.offers legs
+
+-- an output tells of the wanted frames of a scenario: its text is that of what the book tells of them, by frame
+pub record TellsHopsOf (cycles : ℕ) (s : Scenario) (wanted : Wanted) (told : ToldHops) : Type 0 where
+  pub book : Contents
+  pub is_book : IsBookOfScenario cycles s book
+  pub legs : List Leg
+  pub are : AreByFrame (wanted_legs s.offers wanted book) legs
+  pub text : IsToldText told (text_of_legs s.domain s.offers legs)

@@ -1,20 +1,21 @@
 //! The command `hops`.
-ghost use Rattle.std.specs.Prelude.{◌≡◌, ◌≤◌, IfErr, IfOk};
+ghost use Rattle.std.specs.Prelude.{ℕ, ◌≤◌, IfErr, IfOk, List};
 ghost use Rattle.cqf_model.specs.Limits.{most_cycles};
 ghost use Rattle.cqf_program_scenario.specs.Closing.{MayBeRun, scenario_given};
 ghost use Rattle.cqf_program_scenario.specs.Logged.{HasOrders};
-ghost use Rattle.cqf_program_scenario.specs.Scenario.{scenario_input};
 ghost use Rattle.cqf_press.specs.Stops.{IsRefused};
-ghost use Rattle.cqf_program_summary.specs.Hops.Gathered.{AreLegsOf, wanted_by};
-ghost use Rattle.cqf_program_summary.specs.Hops.Output.{IsHopsOutput};
-ghost use Rattle.cqf_program_summary.specs.Hops.Text.{text_of_legs};
+ghost use Rattle.cqf_program_summary.specs.Hops.Gathered.{wanted_by};
+ghost use Rattle.cqf_program_summary.specs.Hops.Known.{wanted_scenario};
+ghost use Rattle.cqf_program_summary.specs.Hops.Output.{IsHopsOutput, TellsHopsOf};
+ghost use Rattle.cqf_program_summary.specs.Hops.Rounds.{IsToldText};
 
-use crate::hops::gathered::legs_of_scenario;
 use crate::hops::outputs::HopsOutput;
+use crate::hops::preparing::prepare;
+use crate::hops::reading::read_wanted;
 use crate::hops::wanting::FrameFilter;
 use cqf_model::Limits;
 use cqf_press::{Sheet, Stop};
-use cqf_program_scenario::{RunInput, read_given};
+use cqf_program_scenario::{RunInput, outcome_of};
 use cqf_units::Memory;
 use std::alloc::Global;
 
@@ -28,17 +29,16 @@ fn output_of(
     requires short { cycles ≤ most_cycles }
     requires may { MayBeRun cycles (scenario_given given) }
     requires stand { HasOrders given }
-    ensures domain { IfOk result (λ output. output.domain ≡ given.domain) }
-    ensures offers { IfOk result (λ output. output.offers ≡ given.offers.items) }
-    ensures legs { IfOk result (λ output. AreLegsOf cycles (scenario_given given) (wanted_by choice.entry) output.legs) }
+    ensures { IfOk result (TellsHopsOf cycles (scenario_given given) (wanted_by choice.entry)) }
 {
-    let legs = legs_of_scenario(alloc, cycles, choice, &given)?;
+    let outcome = outcome_of(alloc, cycles, &given)?;
+    let prepared = prepare(alloc, cycles, choice, &given, &outcome)?;
     let sheet = Sheet::new(alloc)?;
     let RunInput { domain, offers, .. } = given;
     Ok(HopsOutput {
         domain,
         offers,
-        legs,
+        prepared,
         sheet,
     })
 }
@@ -48,7 +48,8 @@ fn output_of(
 ///
 /// # Errors
 /// With status 1 and the line of the first fault of the input: of its parts, of the domain, the streams, the script, the
-/// offers, or the background frames; and with status 3 for want of memory.
+/// offers, or the background frames; else, where a stream is asked about that neither the plant nor an offer names, or a frame whose number
+/// no offer has, with the line that tells so; and with status 3 for want of memory.
 pub fn hops_output(
     alloc: Global,
     limits: Limits,
@@ -57,11 +58,10 @@ pub fn hops_output(
     input: &[u8],
 ) -> Result<HopsOutput, Stop>
     requires { cycles ≤ most_cycles }
-    ensures ok { IfOk result (λ output. IsHopsOutput limits cycles (wanted_by choice.entry) input.now
-        (text_of_legs output.domain output.offers output.legs)) }
-    ensures err { IfErr result (IsRefused (scenario_input limits cycles input.now)) }
+    ensures ok { IfOk result (λ output. (text : List ℕ) × IsToldText output text × IsHopsOutput limits cycles (wanted_by choice.entry) input.now text) }
+    ensures err { IfErr result (IsRefused (wanted_scenario limits cycles (wanted_by choice.entry) input.now)) }
 {
-    let given = read_given(alloc, limits, cycles, input)?;
+    let given = read_wanted(alloc, limits, cycles, choice, input)?;
     match output_of(alloc, cycles, choice, given) {
         Ok(output) => Ok(output),
         Err(_) => Err(Stop::memory(alloc)),

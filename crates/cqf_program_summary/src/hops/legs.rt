@@ -1,9 +1,8 @@
 //! What a book tells of a frame.
-ghost use Rattle.std.specs.Prelude.{◌≡◌, OnOk};
-ghost use Rattle.cqf_program_summary.specs.Hops.Legs.{AreByFrame, frame_of, instant_of, link_of};
+ghost use Rattle.std.specs.Prelude.{◌≡◌, AllPairs, vec_capacity};
+ghost use Rattle.cqf_program_summary.specs.Hops.Legs.{AreApart, AreByFrame, frame_of, instant_of, link_of};
 
 use cqf_model::{Dropped, Started};
-use cqf_units::Memory;
 
 /// What a book tells of a stream's frame.
 #[derive(Clone, Copy, Debug, PartialEq, Eq)]
@@ -36,10 +35,11 @@ impl Leg {
     }
 }
 
-/// Puts legs in order: by frame, then instant, then link, and legs of the same three as they were.
-pub(crate) fn sort_legs(legs: &mut Vec<Leg>) -> Result<(), Memory>
-    ensures { OnOk result (AreByFrame legs.old.items legs.new.items) }
+/// Puts legs in order, of which no two tell of one frame at one instant on one link: by frame, then instant, then link. It takes no memory.
+pub(crate) fn sort_legs(legs: &mut Vec<Leg>)
+    requires { AllPairs AreApart legs.old.items }
+    ensures order { AreByFrame legs.old.items legs.new.items }
+    ensures capacity { vec_capacity legs.new ≡ vec_capacity legs.old }
 {
-    legs.sort_by_key(|leg| key_of(leg))?;
-    Ok(())
+    legs.sort_unstable_by_key(|leg| key_of(leg));
 }

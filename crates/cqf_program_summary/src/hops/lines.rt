@@ -1,14 +1,21 @@
 //! What a book tells of frames, told line by line.
-ghost use Rattle.std.specs.Prelude.{◌≡◌, ◌<◌, ◌^◌, ◌∷◌, [], All};
+ghost use Rattle.std.specs.Prelude.{◌≡◌, ◌≤◌, ◌<◌, ◌^◌, ◌∷◌, [], All, List, length, min};
+ghost use Rattle.cqf_model.specs.declared.frames.Started.{Started as AStart};
+ghost use Rattle.cqf_instants.specs.Progress.{AreStartsOf};
 ghost use Rattle.cqf_model.specs.Domain.{delay_of, octet_time_of};
 ghost use Rattle.cqf_laws_timing.specs.Latency.{whole_of};
 ghost use Rattle.cqf_press.specs.Press.{Puts};
 ghost use Rattle.cqf_report.specs.Written.{line_of_fields};
 ghost use Rattle.cqf_program_summary.specs.Hops.Gathered.{IsLegInTime};
+ghost use Rattle.cqf_program_summary.specs.declared.hops.legs.Leg.{Leg as ALeg};
+ghost use Rattle.cqf_program_summary.specs.Hops.Rounds.{AreToldLegs, CanBeTold, IsLater, RoundCanBeTold, SomeCanBeTold, SomeRoundCanBeTold};
+ghost use Rattle.cqf_program_summary.specs.Hops.Rounds.{StandsAt, TellsRound, no_round, source_of, told_from};
 ghost use Rattle.cqf_program_summary.specs.Hops.Text.{dropped_fields, end_of_start, hops_header, leg_fields};
 ghost use Rattle.cqf_program_summary.specs.Hops.Text.{lines_of_legs, started_fields, text_of_legs};
 
 use crate::hops::legs::Leg;
+use crate::hops::rounds::Round;
+use crate::hops::steps::{HopsRun, LegsUnderWay};
 use crate::hops::wanting::stream_of;
 use cqf_model::{Dropped, Offer, Started};
 use cqf_press::{Press, Sink};
@@ -136,16 +143,47 @@ fn put_each<W: Sink>(press: &mut Press<'_, W>, domain: &Domain, offers: &[Offer]
     }
 }
 
-/// Puts the text of what is told of the offers' frames.
-pub(crate) fn put_legs<W: Sink>(
+/// Puts what is told of frames in a round, in order.
+fn put_round<W: Sink>(
     press: &mut Press<'_, W>,
     domain: &Domain,
-    offers: &[Offer],
-    legs: &[Leg],
+    run: &HopsRun<'_>,
+    round: &Round,
+    under_way: &mut LegsUnderWay,
 )
-    requires { All (IsLegInTime domain.now) legs.now }
-    ensures { Puts W.contents press.old press.new (text_of_legs domain.now offers.now legs.now) }
+    requires told { under_way.old.pass.told ≡ min under_way.old.at.cycles under_way.old.pass.basis.cycles }
+    requires next { IsLater under_way.old.at round.now }
+    requires drops { round.now.drops ≤ length run.now.drops.now }
+    requires can { SomeRoundCanBeTold domain.now (source_of run.now) round.now under_way.old }
+    ensures { (starts : List AStart) → RoundCanBeTold starts domain.now (source_of run.now) round.now under_way.old →
+        TellsRound starts domain.now (source_of run.now) round.now under_way.old under_way.new (Puts W.contents press.old press.new) }
 {
+    match under_way.go_through(run, round) {
+        Ok(()) => {}
+        Err(_) => unreachable!(),
+    }
+    under_way.sort_here();
+    put_each(press, domain, run.offers, under_way.here.as_slice());
+}
+
+/// Puts the text of what is told of frames, round by round.
+pub(crate) fn put_rounds<W: Sink>(
+    press: &mut Press<'_, W>,
+    domain: &Domain,
+    run: &HopsRun<'_>,
+    rounds: &[Round],
+    under_way: LegsUnderWay,
+)
+    requires first { under_way.at ≡ no_round }
+    requires stands { (starts : List AStart) → AreStartsOf under_way.pass.basis starts → StandsAt starts (source_of run.now) under_way }
+    requires can { SomeCanBeTold (told_from domain.now run.now rounds.now under_way) }
+    ensures { (starts : List AStart) (legs : List ALeg) → CanBeTold starts (told_from domain.now run.now rounds.now under_way) →
+        AreToldLegs starts (told_from domain.now run.now rounds.now under_way) legs →
+        Puts W.contents press.old press.new (text_of_legs domain.now run.now.offers.now legs) }
+{
+    let mut under_way = under_way;
     put_header(press);
-    put_each(press, domain, offers, legs);
+    for round in rounds {
+        put_round(press, domain, run, round, &mut under_way);
+    }
 }

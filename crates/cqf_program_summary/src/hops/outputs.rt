@@ -1,48 +1,63 @@
 //! The output of `hops`, before it is told.
+ghost use Rattle.std.specs.Prelude.{ℕ, List};
 ghost use Rattle.cqf_press.specs.Edge.{HasTold, writing};
-ghost use Rattle.cqf_program_summary.specs.Hops.Text.{text_of_legs};
+ghost use Rattle.cqf_program_summary.specs.Hops.Rounds.{IsToldText};
 
-use crate::hops::legs::Leg;
-use crate::hops::lines::put_legs;
+use crate::hops::lines::put_rounds;
+use crate::hops::preparing::Prepared;
+use crate::hops::steps::{HopsRun, LegsUnderWay};
 use cqf_model::Offer;
 use cqf_press::{Press, Sheet, Sink, Told};
 use cqf_topology::Domain;
 use std::marker::Model;
 
-/// What the output of `hops` is told from: a domain, the offers, what is told of their frames, and a sheet.
+/// What the output of `hops` is told from: a domain, the offers, what was prepared for their frames, and a sheet.
 #[derive(Drop)]
 pub struct HopsOutput {
     pub(crate) domain: Domain,
     pub(crate) offers: Vec<Offer>,
-    /// By frame.
-    pub(crate) legs: Vec<Leg>,
+    pub(crate) prepared: Prepared,
     pub(crate) sheet: Sheet,
 }
 
 impl Model for HopsOutput {
-    ghost use Rattle.std.specs.Prelude.{All};
-    ghost use Rattle.cqf_program_summary.specs.Hops.Gathered.{IsLegInTime, ToldLegs};
+    ghost use Rattle.cqf_program_summary.specs.Hops.Prepared.{told_with};
+    ghost use Rattle.cqf_program_summary.specs.Hops.Rounds.{SomeCanBeTold, ToldHops};
 
-    ghost Value = { ToldLegs };
+    ghost Value = { ToldHops };
 
-    ghost view = { λ o. record { domain = o.domain; offers = o.offers.items; legs = o.legs.items } };
+    ghost view = { λ o. told_with o.domain o.offers.items o.prepared };
 
-    ghost invariant = { λ o. All (IsLegInTime o.domain) o.legs.items };
+    ghost invariant = { λ o. SomeCanBeTold (told_with o.domain o.offers.items o.prepared) };
 }
 
 impl HopsOutput {
     /// Tells the output: what a book tells of frames, in its order (profile). It asks for no memory.
     pub fn tell<W: Sink>(self, told: &mut Told<W>)
-        ensures { HasTold (writing W.contents told.old told.new) (text_of_legs self.domain self.offers self.legs) }
+        ensures { (text : List ℕ) → IsToldText self text → HasTold (writing W.contents told.old told.new) text }
     {
         let HopsOutput {
             domain,
             offers,
-            legs,
+            prepared,
             sheet,
         } = self;
+        let Prepared {
+            wanted,
+            drops,
+            rounds,
+            pass,
+            kept,
+            here,
+        } = prepared;
+        let run = HopsRun {
+            offers: offers.as_slice(),
+            choice: wanted.choice(),
+            drops: drops.as_slice(),
+        };
+        let under_way = LegsUnderWay::at_first(pass, kept, here);
         let mut press = Press::new(told, sheet);
-        put_legs(&mut press, &domain, offers.as_slice(), legs.as_slice());
+        put_rounds(&mut press, &domain, &run, rounds.as_slice(), under_way);
         let _told = press.close();
     }
 }

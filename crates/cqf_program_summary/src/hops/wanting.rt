@@ -1,9 +1,12 @@
 //! Of which frames is told.
-ghost use Rattle.std.specs.Prelude.{◌≡◌, option_map};
+ghost use Rattle.std.specs.Prelude.{◌≡◌, IfOk, option_map, string_bytes};
 ghost use Rattle.cqf_program_summary.specs.Hops.Gathered.{wanted_by};
 ghost use Rattle.cqf_program_summary.specs.Hops.Legs.{is_frame, is_stream, is_wanted, stream_of};
 
 use cqf_model::Offer;
+use cqf_units::Memory;
+use std::alloc::Global;
+use std::marker::Model;
 
 /// Of which frames is told: where a stream is named, of those that claim it, and where a number is given, of that one alone; else of all.
 #[derive(Clone, Copy, Debug)]
@@ -11,6 +14,60 @@ pub struct FrameFilter<'c> {
     pub stream: Option<&'c str>,
     /// The place of its offer among the offers, from 1.
     pub frame: Option<u32>,
+}
+
+/// The same, with a copy of the stream's name.
+#[derive(Debug, Drop)]
+pub struct WantedFrames {
+    stream: Option<String>,
+    frame: Option<u32>,
+}
+
+impl Model for WantedFrames {
+    ghost use Rattle.std.specs.Prelude.{option_map, string_bytes};
+    ghost use Rattle.cqf_program_summary.specs.Hops.Legs.{Wanted};
+
+    ghost Value = { Wanted };
+
+    ghost view = { λ w. record { stream = option_map string_bytes w.stream; frame = w.frame } };
+}
+
+/// A copy of a name, where there is one.
+fn copy_of(alloc: Global, name: Option<&str>) -> Result<Option<String>, Memory>
+    ensures { IfOk result (λ copy. option_map string_bytes copy ≡ option_map (λ name. name.now) name.entry) }
+{
+    match name {
+        Some(name) => Ok(Some(String::from_str(alloc, name)?)),
+        None => Ok(None),
+    }
+}
+
+impl WantedFrames {
+    /// A copy of a choice.
+    ///
+    /// # Errors
+    /// Where a growth is refused.
+    pub(crate) fn copy(alloc: Global, choice: FrameFilter<'_>) -> Result<WantedFrames, Memory>
+        ensures { IfOk result (λ wanted. wanted ≡ wanted_by choice.entry) }
+    {
+        Ok(WantedFrames {
+            stream: copy_of(alloc, choice.stream)?,
+            frame: choice.frame,
+        })
+    }
+
+    /// The choice.
+    pub(crate) fn choice(&self) -> FrameFilter<'_>
+        ensures { wanted_by result ≡ self.now }
+    {
+        FrameFilter {
+            stream: match &self.stream {
+                Some(name) => Some(name.as_str()),
+                None => None,
+            },
+            frame: self.frame,
+        }
+    }
 }
 
 /// The name of the stream that a frame claims. A number that no offer has claims none.

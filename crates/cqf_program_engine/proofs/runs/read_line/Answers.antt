@@ -1,6 +1,6 @@
 use Rattle.std.proofs.Common.{map, subst, sym}
 use Rattle.cqf_press.specs.declared.stops.Stop.{Stop}
-use Rattle.cqf_program_engine.specs.Run.{TellsCandidates}
+use Rattle.cqf_program_engine.specs.Run.{TellsPlainly}
 use Rattle.cqf_program_words.proofs.WordLemmas.{EndsWords-told}
 use Rattle.cqf_program_engine.proofs.runs.read_line.Goals as goal
 
@@ -9,5 +9,5 @@ returns-in-Err-clause-err c = EndsWords-told (map (λ word. word.now) c.args.wor
     c.in-Err.ensures.err c.stop_of_line.ensures.status c.stop_of_line.ensures.memory
 
 pub returns-in-Err-clause-tells : goal.returns-in-Err-clause-tells
-returns-in-Err-clause-tells c = λ whole. subst (λ (stop : Stop). TellsCandidates (map (λ word. word.now) c.args.words.now) stop)
+returns-in-Err-clause-tells c = λ whole. subst (λ (stop : Stop). TellsPlainly (map (λ word. word.now) c.args.words.now) stop)
     (sym (c.stop_of_line.ensures.whole whole)) c.in-Err.ensures.line

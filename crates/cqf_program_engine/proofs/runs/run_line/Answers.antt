@@ -5,7 +5,7 @@ use Rattle.std.specs.Str.{IsUtf8}
 use Rattle.cqf_program_engine.specs.Run.{is_space, most_line, words_of}
 use Rattle.cqf_program_words.specs.Shown.{ShowsLine}
 use Rattle.cqf_program_words.specs.Words.{EndsWords, limits_of}
-use Rattle.cqf_program_engine.proofs.RunLemmas.{HasCause-by_line, HasCause-by_line_end, IsDone-by_line, IsWithin-means, TellsCandidates-of}
+use Rattle.cqf_program_engine.proofs.RunLemmas.{HasCause-by_line, HasCause-by_line_end, IsDone-by_line, IsWithin-means, TellsPlainly-of}
 use Rattle.cqf_program_engine.proofs.runs.run_line.Goals as goal
 
 pub returns-in-Err-clause-err : goal.returns-in-Err-clause-err
@@ -18,7 +18,7 @@ returns-in-Err-clause-err g c =
     (record { text = subst IsUtf8 c.split_first_line.ensures.line c.in-Ok.ensures.cases.1; short = subst (λ (text : List ℕ). length text ≤ most_line) line c.if-line-gt-MOST_LINE.false })
     (subst (λ (words : List (List ℕ)). EndsWords words c.in-Err.stop) same c.in-Err.ensures.err)
     (subst (λ (text : List ℕ). ShowsLine text c.in-Err.stop) line c.in-Err.ensures.shows)
-    (TellsCandidates-of c.in-Err.stop line same c.in-Err.ensures.tells)
+    (TellsPlainly-of c.in-Err.stop line same c.in-Err.ensures.tells)
 
 pub output_of-requires-after_bounds : goal.output_of-requires-after_bounds
 output_of-requires-after_bounds g c = λ _ _. IsWithin-means (map (λ word. word.now) c.as_slice.result.now) c.in-Ok-read_line.job c.in-Ok-read_line.ensures.ok

@@ -10,7 +10,7 @@ returns-in-Ok-clause-ok c =
     let texts = map (λ text. text.now) c.args.texts.now in
     let first : map (λ text. text.now) (take c.leading.result c.args.texts.now) ≡ take (leading names) texts =
     sym (take-map (λ text. text.now) c.leading.result c.args.texts.now) ∙ ap (λ n. take n texts) c.leading.ensures.value in
-    plant_is_good names texts (string_bytes c.in-Ok.text) c.in_ok-check_texts.ensures.ok (sym c.if-not-are_several.ensures)
+    plant_is_good names texts (string_bytes c.in-Ok.text) c.in_ok-check_texts.ensures.ok c.in_ok-check_first.ensures.ok (sym c.if-not-are_several.ensures)
     (subst (λ front. joint_refusal (tables_of front) ≡ None) first c.in-Ok.ensures.sound)
     (subst (λ front. IsPlantText front (string_bytes c.in-Ok.text)) first c.in-Ok.ensures.ok)
 
@@ -20,5 +20,5 @@ returns-in-Err-clause-err c =
     let texts = map (λ text. text.now) c.args.texts.now in
     let first : map (λ text. text.now) (take c.leading.result c.args.texts.now) ≡ take (leading names) texts =
     sym (take-map (λ text. text.now) c.leading.result c.args.texts.now) ∙ ap (λ n. take n texts) c.leading.ensures.value in
-    plant_ends names texts c.in-Err.stop c.in_ok-check_texts.ensures.ok (sym c.if-not-are_several.ensures)
+    plant_ends names texts c.in-Err.stop c.in_ok-check_texts.ensures.ok c.in_ok-check_first.ensures.ok (sym c.if-not-are_several.ensures)
     (subst (λ front. EndsTogether front c.in-Err.stop) first c.in-Err.ensures.err)

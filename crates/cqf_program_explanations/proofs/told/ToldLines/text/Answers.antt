@@ -7,7 +7,8 @@ use Rattle.cqf_program_explanations.proofs.told.ToldLines.text.Goals as goal
 
 pub returns : goal.returns
 returns c =
+    let start = c.args.start.now in
     let few : length (map string_bytes c.args.self.now.lines.items) ≤ 20 = grind (arith, common_steps) in
-    let text : c.in_ok-text.text.items ≡ flat_map told_line (map string_bytes c.args.self.now.lines.items) = grind (arith, common_steps) in
-    let more : c.put_line.new.text.items ≡ c.in_ok-text.text.items ++ told_line c.as_str.result.now = grind (arith, common_steps) in
-    one_more (map string_bytes c.args.self.now.lines.items) c.as_str.result.now c.put_line.new.text.items few (grind (arith, common_steps))
+    let text : c.in_ok-text.text.items ≡ flat_map (told_line start) (map string_bytes c.args.self.now.lines.items) = grind (arith, common_steps) in
+    let more : c.put_line.new.text.items ≡ c.in_ok-text.text.items ++ told_line start c.as_str.result.now = grind (arith, common_steps) in
+    one_more start (map string_bytes c.args.self.now.lines.items) c.as_str.result.now c.put_line.new.text.items few (grind (arith, common_steps))

@@ -5,4 +5,4 @@ use Rattle.cqf_program_runs.proofs.check.checked.well_line.Goals as goal
 
 pub returns : goal.returns
 returns c =
-    c.in_ok-line.ensures.ok ∙ well_told (decimal c.args.counts.frames) (decimal c.args.counts.delivered) (decimal c.args.counts.timed)
+    c.in_ok-line.ensures.ok ∙ well_told (decimal c.args.counts.offers.frames) (decimal c.args.counts.delivered) (decimal c.args.counts.timed)

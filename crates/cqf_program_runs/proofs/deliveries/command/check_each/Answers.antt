@@ -41,8 +41,8 @@ returns-in-Some-clause-err c = λ whole followed.
     let within : place < length over.offers = omega (arith, c.loop-place-test.true) in
     let found : find ends_it c.put_those_of.new.here ≡ Some bad =
     ap (find ends_it) (sym c.as_slice.ensures.value) ∙ sym c.first_bad.ensures ∙ ap option_copied c.in-Some.is in
-    IsRefused-line (checked_over over c.args.later) (complaint_line bad) _
-    (checked_some (deliveries_over over) (counts_of (length over.offers) c.args.later (deliveries_over over)) bad
+    IsRefused-line (checked_over over c.args.offers) (complaint_line bad) _
+    (checked_some (deliveries_over over) (counts_of c.args.offers (deliveries_over over)) bad
     (first_bad_of_all over place c.put_those_of.new.here within (c.put_those_of.ensures.here whole so_far.0) so_far.1.well bad found))
     c.complaint_stop.ensures
 
@@ -61,9 +61,9 @@ loop-place-preserved c = λ whole followed.
       c.put_those_of.ensures.next whole is_followed,
       record {
         well = none_bad_more over place here within are so_far.well found;
-        counted = c.with-counts.ensures.counts (length over.offers) c.args.later done so_far.counted
-            ∙ ap (λ (more : List Delivery). counts_of (length over.offers) c.args.later (done ++ more)) c.as_slice-in-loop-place.ensures.value
-            ∙ ap (counts_of (length over.offers) c.args.later) (among_more over place here within are);
+        counted = c.with-counts.ensures.counts c.args.offers done so_far.counted
+            ∙ ap (λ (more : List Delivery). counts_of c.args.offers (done ++ more)) c.as_slice-in-loop-place.ensures.value
+            ∙ ap (counts_of c.args.offers) (among_more over place here within are);
         before = c.with-counts.ensures.more place so_far.before;
       },
     )
@@ -73,13 +73,12 @@ returns-clause-ok c =
     IfOk-weaker c.finish.result _ _
     (λ line told. λ whole followed.
     let over = over_of c.args.ended.now whole in
-    let n = length over.offers in
     let so_far = (c.loop-place.invariant whole followed).1 in
     let all : take c.loop-place.place (numbered over.offers) ≡ numbered over.offers =
     take_all c.loop-place.place (numbered over.offers) (omega (arith, c.loop-place-test.false, numbered_all over.offers)) in
     let well : NoneBad (deliveries_over over) = subst (λ (xs : List Offered). NoneBad (deliveries_among over xs)) all so_far.well in
-    let counted = so_far.counted ∙ ap (λ (xs : List Offered). counts_of n c.args.later (deliveries_among over xs)) all in
-    checked_none (deliveries_over over) (counts_of n c.args.later (deliveries_over over)) well ∙ ap finished (sym counted) ∙ told)
+    let counted = so_far.counted ∙ ap (λ (xs : List Offered). counts_of c.args.offers (deliveries_among over xs)) all in
+    checked_none (deliveries_over over) (counts_of c.args.offers (deliveries_over over)) well ∙ ap finished (sym counted) ∙ told)
     c.finish.ensures.ok
 
 pub returns-clause-err : goal.returns-clause-err
@@ -87,12 +86,11 @@ returns-clause-err c =
     IfErr-weaker c.finish.result _ _
     (λ stop refused. λ whole followed.
     let over = over_of c.args.ended.now whole in
-    let n = length over.offers in
     let so_far = (c.loop-place.invariant whole followed).1 in
     let all : take c.loop-place.place (numbered over.offers) ≡ numbered over.offers =
     take_all c.loop-place.place (numbered over.offers) (omega (arith, c.loop-place-test.false, numbered_all over.offers)) in
     let well : NoneBad (deliveries_over over) = subst (λ (xs : List Offered). NoneBad (deliveries_among over xs)) all so_far.well in
-    let counted = so_far.counted ∙ ap (λ (xs : List Offered). counts_of n c.args.later (deliveries_among over xs)) all in
-    IsRefused-same (checked_over over c.args.later) (finished c.loop-place.counts) stop
-    (checked_none (deliveries_over over) (counts_of n c.args.later (deliveries_over over)) well ∙ ap finished (sym counted)) refused)
+    let counted = so_far.counted ∙ ap (λ (xs : List Offered). counts_of c.args.offers (deliveries_among over xs)) all in
+    IsRefused-same (checked_over over c.args.offers) (finished c.loop-place.counts) stop
+    (checked_none (deliveries_over over) (counts_of c.args.offers (deliveries_over over)) well ∙ ap finished (sym counted)) refused)
     c.finish.ensures.err

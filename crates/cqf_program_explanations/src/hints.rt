@@ -1,0 +1,61 @@
+//! What may be done about a refusal: another command, or larger limits (profile).
+
+use crate::given::CommandInput;
+use crate::parts::takes_domain;
+use crate::places::Grouped;
+use crate::plant::{KeyOwner, WrittenItem};
+use crate::sketch::reads_sketch;
+use cqf_model::PROFILE;
+use std::alloc::AllocError;
+
+/// What is said behind a limit of how many there may be with `--large`: nothing where that is given, or no word of the command.
+pub(crate) fn larger_words(given: &CommandInput<'_>, most: u64) -> Result<String, AllocError> {
+    if given.limits != PROFILE || !takes_domain(given.command) {
+        return Ok(String::new(given.alloc));
+    }
+    let most = Grouped(most);
+    format!(in given.alloc; ", and with --large {most}")
+}
+
+/// The names of the files that the plant is read from.
+fn plant_files(given: &CommandInput<'_>) -> Result<String, AllocError> {
+    let mut names = String::new(given.alloc);
+    let mut before = None;
+    for file in &given.plant.files {
+        if before != Some(file.part.file) {
+            names.push(' ')?;
+            names.push_str(file.part.file)?;
+        }
+        before = Some(file.part.file);
+    }
+    Ok(names)
+}
+
+/// Whether a stream has ends and no path, or reserves nothing yet.
+fn is_open_stream(item: &WrittenItem<'_>) -> bool {
+    item.get("from").is_some() || item.get("to").is_some() || item.get("octets").is_none()
+}
+
+/// Whether the plant is a sketch: it has several cycle times, or a stream is open.
+pub(crate) fn is_open(given: &CommandInput<'_>) -> Result<bool, AllocError> {
+    let has_several = given
+        .plant
+        .top("cycle")
+        .is_some_and(|found| found.value.is_array());
+    let streams = given.plant.items(KeyOwner::Stream)?;
+    Ok(has_several || streams.iter().any(is_open_stream))
+}
+
+/// What is said of a part that is open, which `plan` alone reads: nothing for that command.
+pub(crate) fn plan_hint(given: &CommandInput<'_>) -> Result<String, AllocError> {
+    if reads_sketch(given) {
+        return Ok(String::new(given.alloc));
+    }
+    let files = plant_files(given)?;
+    let word = if given.limits == PROFILE {
+        ""
+    } else {
+        " --large"
+    };
+    format!(in given.alloc; "; run 'cqf plan{word}{files}'")
+}

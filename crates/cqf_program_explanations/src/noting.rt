@@ -1,0 +1,191 @@
+//! What is worth a word though nothing is refused.
+ghost use Rattle.std.specs.Prelude.{IfOk};
+ghost use Rattle.cqf_program_explanations.specs.Explanations.{AreNotes};
+
+use crate::explaining::NamedFile;
+use crate::given::{CommandInput, given_of};
+use crate::parts::takes_domain;
+use crate::places::Grouped;
+use crate::plant::{FoundKey, KeyOwner, WrittenItem};
+use crate::refusal::refusal_of;
+use crate::sketch::listeners_of;
+use crate::stream_faults::{WrittenStream, streams_of};
+use crate::told::ToldLines;
+use crate::words::shortened;
+use cqf_model::Limits;
+use std::alloc::{AllocError, Global};
+use std::collections::BTreeSet;
+
+/// How many bridges a note names.
+const MOST_NAMED: usize = 8;
+
+/// Values in nanoseconds that may be meant in microseconds where all of a plant are below a bound.
+#[derive(Clone, Copy, Debug)]
+struct NanosKey {
+    owner: KeyOwner,
+    key: &'static str,
+    below: u64,
+}
+
+/// Below 20 ns are cables of 4 m, which are 1 to 20 microseconds where they have 200 m to 4 km; below 10,000 ns is the shortest cycle time.
+const NANOS_KEYS: [NanosKey; 4] = [
+    NanosKey {
+        owner: KeyOwner::Link,
+        key: "delay",
+        below: 20,
+    },
+    NanosKey {
+        owner: KeyOwner::Stream,
+        key: "interval",
+        below: 10_000,
+    },
+    NanosKey {
+        owner: KeyOwner::Stream,
+        key: "jitter",
+        below: 10,
+    },
+    NanosKey {
+        owner: KeyOwner::Stream,
+        key: "deadline",
+        below: 10_000,
+    },
+];
+
+/// Notes the first value at a key, where one is above 0 and all are below the bound.
+fn note_nanos(
+    given: &CommandInput<'_>,
+    told: &mut ToldLines,
+    nanos: NanosKey,
+) -> Result<(), AllocError> {
+    let (mut most, mut first): (u64, Option<WrittenItem<'_>>) = (0, None);
+    let items = given.plant.items(nanos.owner)?;
+    for item in &items {
+        let value = item.number(nanos.key);
+        if most == 0 && value > 0 {
+            first = Some(*item);
+        }
+        most = most.max(value);
+    }
+    let Some(item) = first else {
+        return Ok(());
+    };
+    if most >= nanos.below {
+        return Ok(());
+    }
+    let (key, value, below) = (nanos.key, item.number(nanos.key), Grouped(nanos.below));
+    let (place, label) = (item.place_of(key), item.label(given.alloc)?);
+    told.tell(format!(in given.alloc;
+        "{place}: {label}: {key} = {value}: each {key} is below {below} ns; is it meant in microseconds?"
+    )?)
+}
+
+/// The names of bridges, with `..` behind them where there are more.
+fn names_of(alloc: Global, bridges: &[FoundKey<'_>]) -> Result<String, AllocError> {
+    let mut names = String::new(alloc);
+    for found in bridges.iter().take(MOST_NAMED) {
+        let name = shortened(alloc, found.value.as_str().unwrap_or(""))?;
+        if !names.is_empty() {
+            names.push_str(", ")?;
+        }
+        names.push_str(name.as_str())?;
+    }
+    if bridges.len() > MOST_NAMED {
+        names.push_str(", ..")?;
+    }
+    Ok(names)
+}
+
+/// Notes the bridges that have no link.
+fn note_bridges(given: &CommandInput<'_>, told: &mut ToldLines) -> Result<(), AllocError> {
+    let mut linked: BTreeSet<&str> = BTreeSet::new(given.alloc);
+    let network = given.network()?;
+    for link in &network.links {
+        linked.insert(link.from)?;
+        linked.insert(link.to)?;
+    }
+    let mut apart = Vec::new(given.alloc);
+    for found in &given.plant.names("bridges")? {
+        if !linked.contains(found.value.as_str().unwrap_or("")) {
+            apart.push(*found)?;
+        }
+    }
+    let Some(first) = apart.first() else {
+        return Ok(());
+    };
+    let (place, count) = (first.place, apart.len());
+    let names = names_of(given.alloc, apart.as_slice())?;
+    told.tell(if count == 1 {
+        format!(in given.alloc; "{place}: the bridge {names} has no link")?
+    } else {
+        format!(in given.alloc; "{place}: {count} bridges have no link: {names}")?
+    })
+}
+
+/// Whether a stream has its own talker among its listeners: at the end of a path, or among its ends.
+fn hears_itself(
+    alloc: Global,
+    asked: &WrittenStream<'_>,
+    talker: &str,
+) -> Result<bool, AllocError> {
+    let listeners = listeners_of(alloc, &asked.item)?;
+    let is_end = |path: &Vec<&str>| path.last().copied() == Some(talker);
+    Ok(listeners.contains(&talker) || asked.paths.iter().any(is_end))
+}
+
+/// Notes each stream whose talker is one of its listeners.
+fn note_talkers(given: &CommandInput<'_>, told: &mut ToldLines) -> Result<(), AllocError> {
+    for asked in &streams_of(given)? {
+        let Some(talker) = asked.item.text("from") else {
+            continue;
+        };
+        if !hears_itself(given.alloc, asked, talker)? || told.is_counted() {
+            continue;
+        }
+        let (place, label) = (asked.item.place_of("from"), asked.item.label(given.alloc)?);
+        let talker = shortened(given.alloc, talker)?;
+        told.tell(format!(in given.alloc;
+            "{place}: {label}: {talker} is the talker and a listener too"
+        )?)?;
+    }
+    Ok(())
+}
+
+/// Whether a command that told this on standard error may have notes: it was done, or says how deliveries are.
+fn may_have_notes(line: &[u8]) -> bool {
+    if line.is_empty() {
+        return true;
+    }
+    match refusal_of(line) {
+        Some(refusal) => matches!(refusal.part, "check" | "latency"),
+        None => false,
+    }
+}
+
+/// What is worth a word of a plant that isn't refused: a line each, at most 20, and behind these how many more there are. Each begins with
+/// `note: ` and ends with LF, and has printable characters of ASCII alone. It is empty where there is nothing to say, where the command
+/// takes no plant, and where the input is refused.
+///
+/// `command`, `limits` and `sources` are those of [`explanation`](crate::explanation), and `line` is what the command told on standard error.
+///
+/// # Errors
+/// Where a growth is refused.
+pub fn notes(
+    alloc: Global,
+    command: &str,
+    limits: Limits,
+    sources: &[NamedFile<'_>],
+    line: &[u8],
+) -> Result<Vec<u8>, AllocError>
+    ensures { IfOk result (λ text. AreNotes text.items) }
+{
+    let mut told = ToldLines::new(alloc);
+    if may_have_notes(line) && takes_domain(command) && !sources.is_empty() {
+        let given = given_of(alloc, command, None, limits, sources, "note")?;
+        note_bridges(&given, &mut told)?;
+        note_talkers(&given, &mut told)?;
+        for nanos in &NANOS_KEYS {
+            note_nanos(&given, &mut told, *nanos)?;
+        }
+    }
+    told.text("note: ")
+}

@@ -1,0 +1,36 @@
+//! Branches with their tree.
+ghost use Rattle.std.specs.Prelude.{◌≡◌, IfOk};
+ghost use Rattle.cqf_program_placing.specs.Known.{IsBranched};
+
+use arrayvec::ArrayVec;
+use cqf_admission::{count_places, find_tree};
+use cqf_model::Hop;
+use cqf_topology::Domain;
+use cqf_units::Memory;
+use std::alloc::AllocError;
+
+/// Branches, and their tree, where they make one.
+#[derive(Debug, Drop)]
+pub(crate) struct Branched {
+    pub(crate) paths: Vec<Vec<String>>,
+    pub(crate) tree: Option<ArrayVec<Hop, 200>>,
+}
+
+/// Branches with their tree.
+///
+/// # Errors
+/// Where they are more than memory holds.
+pub(crate) fn branched_by(domain: &Domain, paths: Vec<Vec<String>>) -> Result<Branched, Memory>
+    ensures tree { IfOk result (IsBranched domain.now) }
+    ensures paths { IfOk result (λ branched. branched.paths ≡ paths) }
+{
+    // as admission tells it
+    if count_places(paths.as_slice()).is_none() {
+        return Err(AllocError);
+    }
+    let tree = match find_tree(domain, paths.as_slice()) {
+        Ok(tree) => Some(tree),
+        Err(_) => None,
+    };
+    Ok(Branched { paths, tree })
+}

@@ -1,0 +1,53 @@
+-- Streams that are read with their traffic, and reserve what it needs (profile).
+use Rattle.std.specs.Prelude.{ℕ, ◌+◌, ◌++◌, List, [], ◌∷◌, Option, Some, None, Result, Ok, codes, decimal, if◌then◌else◌, map, nat_lt}
+use Rattle.std.specs.Option.{option_or}
+use Rattle.cqf_lists.specs.Results.{and_then, refuse}
+use Rattle.cqf_laws_timing.specs.Traffic.{needed}
+use Rattle.cqf_model.specs.Domain.{Domain}
+use Rattle.cqf_topology.specs.PacedText.{PacedText}
+use Rattle.cqf_topology.specs.PlannedText.{PlannedText}
+use Rattle.cqf_traffic.specs.declared.faults.FlowsFault.{FlowsFault}
+use Rattle.cqf_traffic.specs.FlowsText.{FlowText, flows_fault_text, flows_of_text}
+use Rattle.cqf_traffic.specs.PacedFlows.{PacedFlowText, paced_flows_of_text}
+use Rattle.cqf_traffic.specs.TrafficText.{TrafficText, promise_of}
+use Rattle.cqf_press.specs.Stops.{fault_line, line_of, or_line}
+use Rattle.cqf_program_plans.specs.declared.reserving.Lack.{Lack}
+
+-- why streams with traffic are refused
+abbrev pub flows_line : FlowsFault → List ℕ
+flows_line fault = fault_line (codes "streams") (flows_fault_text fault)
+
+-- what a stream at a place, from 1, lacks that reserves so many octets: its traffic needs more of a cycle
+abbrev pub lack_at : ℕ → ℕ → ℕ → Option TrafficText → Option Lack
+lack_at cycle_time place octets None = None
+lack_at cycle_time place octets (Some t) =
+    if nat_lt octets (needed cycle_time (promise_of t))
+    then Some (record { place = place; octets = octets; needed = needed cycle_time (promise_of t) })
+    else None
+
+-- what the first of some streams lacks that does, where the first of them has this place; each is given by its octets and its traffic
+abbrev pub first_lack : ℕ → ℕ → List (ℕ × Option TrafficText) → Option Lack
+first_lack cycle_time place [] = None
+first_lack cycle_time place (stream ∷ more) = option_or (lack_at cycle_time place stream.0 stream.1) (first_lack cycle_time (place + 1) more)
+
+-- why it is refused
+abbrev pub lack_line : Lack → List ℕ
+lack_line lack =
+    line_of (codes "cqf: stream " ++ (decimal lack.place ++ (codes ": BelowTraffic " ++ (decimal lack.octets ++ (codes " " ++ decimal lack.needed)))))
+
+-- the streams of a text for a domain, or the line of the first fault: of the text, then of the first stream that reserves less than its
+-- traffic needs
+abbrev pub reserved_octets : PacedFlowText → ℕ × Option TrafficText
+reserved_octets flow = (flow.0.octets, flow.1)
+
+abbrev pub requests_in : Domain → List ℕ → Result (List PacedText) (List ℕ)
+requests_in d text = and_then (or_line flows_line (paced_flows_of_text text)) (λ flows.
+    refuse (first_lack d.cycle_time 1 (map reserved_octets flows)) lack_line (Ok (map (λ (flow : PacedFlowText). flow.0) flows)))
+
+-- and with their deadlines
+abbrev pub planned_octets : FlowText → ℕ × Option TrafficText
+planned_octets flow = (flow.0.0.octets, flow.1)
+
+abbrev pub planned_in : Domain → List ℕ → Result (List PlannedText) (List ℕ)
+planned_in d text = and_then (or_line flows_line (flows_of_text text)) (λ flows.
+    refuse (first_lack d.cycle_time 1 (map planned_octets flows)) lack_line (Ok (map (λ (flow : FlowText). flow.0) flows)))

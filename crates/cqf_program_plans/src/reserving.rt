@@ -1,0 +1,166 @@
+//! Streams that are read with their traffic, and reserve what it needs.
+ghost use Rattle.std.specs.Prelude.{◌≡◌, ◌≢◌, ◌+◌, ◌<◌, ◌^◌, [], IfErr, IfOk, Ok, map, string_bytes};
+ghost use Rattle.cqf_press.specs.Stops.{EndsWith, IsRefused};
+ghost use Rattle.cqf_program_plans.specs.Reserving.{first_lack, flows_line, lack_at, lack_line, planned_in, planned_octets, requests_in, reserved_octets};
+ghost use Rattle.cqf_topology.specs.PacedText.{paced_text};
+ghost use Rattle.cqf_topology.specs.PlannedText.{planned_text};
+ghost use Rattle.cqf_traffic.specs.FlowsText.{flow_text};
+ghost use Rattle.cqf_traffic.specs.PacedFlows.{paced_flow_text};
+
+use cqf_press::{REFUSED, Stop};
+use cqf_topology::{Domain, PacedRequest, Planned, StreamsFault};
+use cqf_traffic::{Flow, FlowsFault, PacedFlow, Traffic, read_flows, read_paced_flows};
+use cqf_units::{Memory, Nanos};
+use std::alloc::Global;
+
+/// What a stream lacks: its place among the streams, from 1, the octets that it reserves of a cycle, and how many its traffic needs.
+#[derive(Clone, Copy, Debug)]
+pub(crate) struct Lack {
+    place: usize,
+    octets: u32,
+    needed: u128,
+}
+
+/// The end where streams with traffic are refused: with status 1 and the line of the fault, or with status 3 for want of memory.
+pub fn flows_stop(alloc: Global, fault: FlowsFault) -> Stop
+    ensures refused { fault ≢ FlowsFault.Streams StreamsFault.Memory → EndsWith 1 (flows_line fault) result }
+    ensures memory { fault ≡ FlowsFault.Streams StreamsFault.Memory → EndsWith 3 [] result }
+{
+    match fault {
+        FlowsFault::Streams(StreamsFault::Memory) => Stop::memory(alloc),
+        _ => Stop::refused(alloc, "streams", &fault),
+    }
+}
+
+/// What a stream at a place, from 1, lacks that reserves so many octets of a cycle.
+fn lack_at(cycle_time: Nanos, place: usize, octets: u32, traffic: Option<Traffic>) -> Option<Lack>
+    ensures { result ≡ lack_at cycle_time.0 place octets traffic }
+{
+    let Some(traffic) = traffic else {
+        return None;
+    };
+    let needed = traffic.needed(cycle_time);
+    if u128::from(octets) < needed {
+        return Some(Lack {
+            place,
+            octets,
+            needed,
+        });
+    }
+    None
+}
+
+/// What the first of some streams lacks that does.
+fn first_lack(cycle_time: Nanos, flows: &[PacedFlow]) -> Option<Lack>
+    ensures { result ≡ first_lack cycle_time.0 1 (map reserved_octets (map paced_flow_text flows.now)) }
+{
+    for place in 0..flows.len() {
+        let flow = &flows[place];
+        let lack = lack_at(cycle_time, place + 1, flow.request.octets, flow.traffic);
+        if lack.is_some() {
+            return lack;
+        }
+    }
+    None
+}
+
+/// What the first of some streams with deadlines lacks that does.
+fn first_planned_lack(cycle_time: Nanos, flows: &[Flow]) -> Option<Lack>
+    ensures { result ≡ first_lack cycle_time.0 1 (map planned_octets (map flow_text flows.now)) }
+{
+    for place in 0..flows.len() {
+        let flow = &flows[place];
+        let octets = flow.planned.request.octets;
+        let lack = lack_at(cycle_time, place + 1, octets, flow.traffic);
+        if lack.is_some() {
+            return lack;
+        }
+    }
+    None
+}
+
+/// The line of a stream that lacks something.
+fn line_of_lack(alloc: Global, lack: Lack) -> Result<String, Memory>
+    ensures { IfOk result (λ line. string_bytes line ≡ lack_line lack) }
+{
+    let Lack {
+        place,
+        octets,
+        needed,
+    } = lack;
+    let line = format!(in alloc; "cqf: stream {place}: BelowTraffic {octets} {needed}\n")?;
+    Ok(line)
+}
+
+/// The end where a stream lacks something.
+fn lack_stop(alloc: Global, lack: Lack) -> Stop
+    ensures { EndsWith 1 (lack_line lack) result }
+{
+    Stop::with_text(alloc, REFUSED, line_of_lack(alloc, lack))
+}
+
+/// The requests of streams.
+fn requests_of(alloc: Global, flows: Vec<PacedFlow>) -> Result<Vec<PacedRequest>, Memory>
+    ensures { IfOk result (λ requests. map paced_text requests.items ≡ map (λ flow. flow.0) (map paced_flow_text flows.items)) }
+{
+    let mut requests = Vec::with_capacity(alloc, flows.len())?;
+    for flow in flows {
+        requests.push(flow.request)?;
+    }
+    Ok(requests)
+}
+
+/// Streams with their deadlines alone.
+fn planned_of(alloc: Global, flows: Vec<Flow>) -> Result<Vec<Planned>, Memory>
+    ensures { IfOk result (λ streams. map planned_text streams.items ≡ map (λ flow. flow.0) (map flow_text flows.items)) }
+{
+    let mut streams = Vec::with_capacity(alloc, flows.len())?;
+    for flow in flows {
+        streams.push(flow.planned)?;
+    }
+    Ok(streams)
+}
+
+/// The streams of a part for a domain: each reserves what its traffic needs of a cycle, where it has traffic (profile).
+///
+/// # Errors
+/// With status 1 and the line of the first fault of the part, of its traffic too; or else of the first stream that reserves less than its
+/// traffic needs; and with status 3 for want of memory.
+pub(crate) fn requests_in(
+    alloc: Global,
+    domain: &Domain,
+    text: &[u8],
+) -> Result<Vec<PacedRequest>, Stop>
+    ensures ok { IfOk result (λ requests. requests_in domain.now text.now ≡ Ok (map paced_text requests.items)) }
+    ensures err { IfErr result (IsRefused (requests_in domain.now text.now)) }
+{
+    let flows = match read_paced_flows(alloc, text) {
+        Ok(flows) => flows,
+        Err(fault) => return Err(flows_stop(alloc, fault)),
+    };
+    if let Some(lack) = first_lack(domain.cycle_time(), flows.as_slice()) {
+        return Err(lack_stop(alloc, lack));
+    }
+    match requests_of(alloc, flows) {
+        Ok(requests) => Ok(requests),
+        Err(_) => Err(Stop::memory(alloc)),
+    }
+}
+
+/// The streams of a part for a domain with their deadlines, likewise.
+pub(crate) fn planned_in(alloc: Global, domain: &Domain, text: &[u8]) -> Result<Vec<Planned>, Stop>
+    ensures ok { IfOk result (λ streams. planned_in domain.now text.now ≡ Ok (map planned_text streams.items)) }
+    ensures err { IfErr result (IsRefused (planned_in domain.now text.now)) }
+{
+    let flows = match read_flows(alloc, text) {
+        Ok(flows) => flows,
+        Err(fault) => return Err(flows_stop(alloc, fault)),
+    };
+    if let Some(lack) = first_planned_lack(domain.cycle_time(), flows.as_slice()) {
+        return Err(lack_stop(alloc, lack));
+    }
+    match planned_of(alloc, flows) {
+        Ok(streams) => Ok(streams),
+        Err(_) => Err(Stop::memory(alloc)),
+    }
+}

@@ -1,0 +1,9 @@
+-- The cycles so far are told, or all, and the room is no less.
+use Rattle.cqf_program_summary.specs.Hops.Rounds.{KeepsRoom, TellsKept, source_of}
+use Rattle.cqf_program_summary.proofs.hops.steps.LegsUnderWay.tell_up_to.Given as goal
+
+abbrev pub invariant-loop-cycle : goal.invariant-loop-cycle
+invariant-loop-cycle l = record {
+  kept : TellsKept (source_of l.run) l._cycle l.initial.self l.self;
+  room : KeepsRoom l.initial.self l.self;
+}

@@ -1,0 +1,66 @@
+-- Whether there is what `hops` is asked about (profile).
+use Rattle.cqf_model.specs.declared.limits.Limits.{Limits}
+use Rattle.std.specs.Prelude.{ℕ, ◌++◌, ◌||◌, Bool, List, [], Option, Some, None, Result, Ok, bytes_eq, codes, decimal, if◌then◌else◌, length, map, nat_le}
+use Rattle.std.specs.List.{list_any}
+use Rattle.cqf_lists.specs.Lists.{or_else}
+use Rattle.cqf_lists.specs.Results.{and_then, refuse}
+use Rattle.cqf_units.specs.Name.{is_name}
+use Rattle.cqf_model.specs.declared.frames.Offer.{Offer}
+use Rattle.cqf_model.specs.History.{Asked}
+use Rattle.cqf_text.specs.Parts.{parts_of}
+use Rattle.cqf_topology.specs.DomainText.{domain_within}
+use Rattle.cqf_topology.specs.PacedText.{paced_of_text}
+use Rattle.cqf_admission.specs.Asking.{asked_by}
+use Rattle.cqf_press.specs.Stops.{fault_line, or_line}
+use Rattle.cqf_program_scenario.specs.Lines.{domain_line, streams_line}
+use Rattle.cqf_program_scenario.specs.Parts.{RunTexts, run_parts}
+use Rattle.cqf_program_scenario.specs.Scenario.{Scenario, scenario_behind}
+use Rattle.cqf_program_summary.specs.Hops.Legs.{Wanted}
+
+-- the scenario of some parts over so many cycles, and the plant's streams; or the line of the parts' first fault
+abbrev pub paced_scenario_of : Limits → ℕ → RunTexts → Result (Scenario × List Asked) (List ℕ)
+paced_scenario_of limits cycles texts = and_then (or_line domain_line (domain_within limits texts.domain)) (λ d.
+    and_then (or_line streams_line (paced_of_text texts.streams)) (λ streams.
+    and_then (scenario_behind cycles d (map asked_by streams) texts) (λ scenario. Ok (scenario, map asked_by streams))))
+
+-- that of an input, or the line of its first fault
+abbrev pub paced_scenario : Limits → ℕ → List ℕ → Result (Scenario × List Asked) (List ℕ)
+paced_scenario limits cycles input = and_then (run_parts (parts_of input)) (paced_scenario_of limits cycles)
+
+-- a stream of the plant has the name, or an offer claims it
+abbrev pub is_planned : List Asked → List ℕ → Bool
+is_planned streams name = list_any (λ (asked : Asked). bytes_eq asked.name name) streams
+
+abbrev pub is_claimed : List Offer → List ℕ → Bool
+is_claimed offers name = list_any (λ (offer : Offer). bytes_eq offer.stream name) offers
+
+-- the line where neither is so, with the name where it has the form of one
+abbrev pub name_shown : List ℕ → List ℕ
+name_shown name = if is_name name then codes " " ++ name else []
+
+abbrev pub unknown_stream_line : List ℕ → List ℕ
+unknown_stream_line name = fault_line (codes "hops") (codes "UnknownStream" ++ name_shown name)
+
+-- the line where no offer has the number
+abbrev pub no_frame_line : ℕ → List ℕ
+no_frame_line frame = fault_line (codes "hops") (codes "NoFrame " ++ decimal frame)
+
+-- the line of what is asked about and isn't there: the stream, then the frame
+abbrev pub stream_refusal : List Asked → List Offer → Option (List ℕ) → Option (List ℕ)
+stream_refusal streams offers None = None
+stream_refusal streams offers (Some name) = if is_planned streams name || is_claimed offers name then None else Some (unknown_stream_line name)
+
+abbrev pub frame_refusal : List Offer → Option ℕ → Option (List ℕ)
+frame_refusal offers None = None
+frame_refusal offers (Some frame) = if nat_le frame (length offers) then None else Some (no_frame_line frame)
+
+abbrev pub wanted_refusal : List Asked → List Offer → Wanted → Option (List ℕ)
+wanted_refusal streams offers wanted = or_else (stream_refusal streams offers wanted.stream) (frame_refusal offers wanted.frame)
+
+-- the scenario of an input, of whose frames those are told that are wanted; or the line of the input's first fault, or else of what is asked
+-- about and isn't there
+abbrev pub wanted_of_scenario : Wanted → Scenario × List Asked → Result Scenario (List ℕ)
+wanted_of_scenario wanted read = refuse (wanted_refusal read.1 read.0.offers wanted) (λ line. line) (Ok read.0)
+
+abbrev pub wanted_scenario : Limits → ℕ → Wanted → List ℕ → Result Scenario (List ℕ)
+wanted_scenario limits cycles wanted input = and_then (paced_scenario limits cycles input) (wanted_of_scenario wanted)

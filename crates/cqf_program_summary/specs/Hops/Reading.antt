@@ -1,0 +1,36 @@
+-- What `hops` reads.
+use Rattle.std.specs.Prelude.{◌≡◌, ℕ, List, Option, Ok, Some, map}
+use Rattle.cqf_model.specs.declared.limits.Limits.{Limits}
+use Rattle.cqf_admission.specs.Asking.{asked_paced}
+use Rattle.cqf_press.specs.declared.stops.Stop.{Stop}
+use Rattle.cqf_press.specs.Stops.{EndsWith}
+use Rattle.cqf_program_scenario.specs.declared.given.RunInput.{RunInput}
+use Rattle.cqf_program_scenario.specs.Closing.{MayBeRun, scenario_given}
+use Rattle.cqf_program_scenario.specs.Logged.{HasOrders}
+use Rattle.cqf_program_scenario.specs.Parts.{RunTexts}
+use Rattle.cqf_program_summary.specs.Hops.Known.{paced_scenario, paced_scenario_of, wanted_scenario}
+use Rattle.cqf_program_summary.specs.Hops.Legs.{Wanted}
+
+-- there is a line by which something is refused, and an end has it
+pub record EndsWithThat (refusal : Option (List ℕ)) (stop : Stop) : Type 0 where
+  pub line : List ℕ
+  pub is : refusal ≡ Some line
+  pub ends : EndsWith 1 line stop
+
+-- what a run is given is what some parts have, with the plant's streams, and may be run; what its orders name stands there
+pub record IsPacedIn (limits : Limits) (cycles : ℕ) (texts : RunTexts) (given : RunInput) : Type 0 where
+  pub holds : paced_scenario_of limits cycles texts ≡ Ok (scenario_given given, map asked_paced given.requests.items)
+  pub may : MayBeRun cycles (scenario_given given)
+  pub stand : HasOrders given
+
+-- it is what the input has
+pub record IsPacedGiven (limits : Limits) (cycles : ℕ) (input : List ℕ) (given : RunInput) : Type 0 where
+  pub holds : paced_scenario limits cycles input ≡ Ok (scenario_given given, map asked_paced given.requests.items)
+  pub may : MayBeRun cycles (scenario_given given)
+  pub stand : HasOrders given
+
+-- and has what is asked about
+pub record IsWantedGiven (limits : Limits) (cycles : ℕ) (wanted : Wanted) (input : List ℕ) (given : RunInput) : Type 0 where
+  pub holds : wanted_scenario limits cycles wanted input ≡ Ok (scenario_given given)
+  pub may : MayBeRun cycles (scenario_given given)
+  pub stand : HasOrders given

@@ -1,0 +1,204 @@
+-- In which rounds frames are told, so that none but those under way are kept.
+use Rattle.std.specs.Prelude.{ℕ, ◌≡◌, ◌≢◌, ◌+◌, ◌-◌, ◌≤◌, ◌<◌, ◌++◌, All, AllPairs, Contains, List, Some, suc, zero, drop, filter}
+use Rattle.std.specs.Prelude.{length, map, min, nat_le, nat_lt, slice_get, slice_index_or, take, vec_capacity}
+use Rattle.std.specs.Global.{Global}
+use Rattle.std.specs.declared.vec.Vec.{Vec}
+use Rattle.cqf_units.specs.Timing.{cycle_at}
+use Rattle.cqf_instants.specs.Progress.{AreStartsOf, Progress}
+use Rattle.cqf_model.specs.declared.frames.Dropped.{Dropped}
+use Rattle.cqf_model.specs.declared.frames.Offer.{Offer}
+use Rattle.cqf_model.specs.declared.frames.Started.{Started}
+use Rattle.cqf_model.specs.Domain.{Domain}
+use Rattle.cqf_program_runs.specs.Deliveries.UnderWay.{IsInTime}
+use Rattle.cqf_program_summary.specs.declared.hops.legs.Leg.{Leg}
+use Rattle.cqf_program_summary.specs.declared.hops.legs.Leg.TheVariants as leg
+use Rattle.cqf_program_summary.specs.declared.hops.rounds.Round.{Round}
+use Rattle.cqf_program_summary.specs.declared.hops.steps.HopsRun.{HopsRun}
+use Rattle.cqf_program_summary.specs.declared.hops.steps.LegsUnderWay.{LegsUnderWay}
+use Rattle.cqf_program_summary.specs.Hops.Gathered.{IsLegInTime, kept_legs, wanted_by}
+use Rattle.cqf_program_summary.specs.Hops.Legs.{AreApart, AreByFrame, IsBefore, Wanted, frame_of}
+use Rattle.cqf_program_summary.specs.Hops.Text.{lines_of_legs, text_of_legs}
+
+-- of what is told: some offers, of whose frames some are wanted, and the drops by frame
+pub record Source : Type 0 where
+  pub offers : List Offer
+  pub wanted : Wanted
+  pub drops : List Dropped
+
+abbrev pub source_of : HopsRun → Source
+source_of run = record { offers = run.offers.now; wanted = wanted_by run.choice; drops = run.drops.now }
+
+-- what is told of some starts, and of some drops, where it is wanted
+abbrev pub started_legs : Source → List Started → List Leg
+started_legs source starts = kept_legs source.offers source.wanted (map leg.Started starts)
+
+abbrev pub dropped_legs : Source → List Dropped → List Leg
+dropped_legs source drops = kept_legs source.offers source.wanted (map leg.Dropped drops)
+
+-- that of frames behind the first ones, and that of these
+abbrev pub legs_behind : ℕ → List Leg → List Leg
+legs_behind frames legs = filter (λ (x : Leg). nat_lt frames (frame_of x)) legs
+
+abbrev pub legs_up_to : ℕ → List Leg → List Leg
+legs_up_to frames legs = filter (λ (x : Leg). nat_le (frame_of x) frames) legs
+
+-- all of a run whose starts these are
+abbrev pub legs_of_run : Source → List Started → List Leg
+legs_of_run source starts = started_legs source starts ++ dropped_legs source source.drops
+
+-- before the first round, and before the round at a place
+abbrev pub no_round : Round
+no_round = record { cycles = 0; frames = 0; drops = 0 }
+
+abbrev pub round_before : List Round → ℕ → Round
+round_before rounds zero = no_round
+round_before rounds (suc k) = slice_index_or rounds k no_round
+
+-- what is kept in a round of the starts so far, and what is told in it
+abbrev pub kept_in : Source → Round → List Started → List Leg
+kept_in source before starts = legs_behind before.frames (started_legs source starts)
+
+abbrev pub told_in : Source → Round → Round → List Started → List Leg
+told_in source before round starts =
+    legs_up_to round.frames (kept_in source before starts) ++ dropped_legs source (take (round.drops - before.drops) (drop before.drops source.drops))
+
+-- behind a round the drops are parted by frame, and each of the frames of which all is told is whole
+pub record GoesOnFrom (d : Domain) (depth : ℕ) (offers : List Offer) (drops : List Dropped) (round : Round) : Type 0 where
+  pub frames_within : round.frames ≤ length offers
+  pub drops_within : round.drops ≤ length drops
+  pub whole : (place : ℕ) (offer : Offer) → place < round.frames → slice_get offers place ≡ Some offer →
+      cycle_at d.cycle_time offer.at.0 + depth < round.cycles
+  pub dropped : (x : Dropped) → Contains (take round.drops drops) x → x.frame ≤ round.frames
+  pub not_yet : (x : Dropped) → Contains (drop round.drops drops) x → round.frames < x.frame
+
+-- so it is behind a round that goes on from the one before it
+pub record IsNextRound (d : Domain) (depth : ℕ) (offers : List Offer) (drops : List Dropped) (before round : Round) : Type 0 where
+  pub cycles_later : before.cycles ≤ round.cycles
+  pub frames_later : before.frames ≤ round.frames
+  pub drops_later : before.drops ≤ round.drops
+  pub goes_on : GoesOnFrom d depth offers drops round
+
+-- each goes on from the one before it, and behind the last all is told
+pub record AreRounds (d : Domain) (depth : ℕ) (offers : List Offer) (drops : List Dropped) (rounds : List Round) : Type 0 where
+  pub first : GoesOnFrom d depth offers drops no_round
+  pub each : (k : ℕ) → k < length rounds → IsNextRound d depth offers drops (round_before rounds k) (slice_index_or rounds k no_round)
+  pub all : (round_before rounds (length rounds)).frames ≡ length offers
+
+-- the starts of a run's first cycles
+abbrev pub starts_before : ℕ → List Started → List Started
+starts_before cycles starts = filter (λ (s : Started). nat_lt s.cycle.0 cycles) starts
+
+-- what is kept stands as the round says, in a run that has these starts
+pub record StandsAt (starts : List Started) (source : Source) (under_way : LegsUnderWay) : Type 0 where
+  pub is : AreStartsOf under_way.pass.basis starts
+  pub told : under_way.pass.told ≡ min under_way.at.cycles under_way.pass.basis.cycles
+  pub kept : under_way.kept.items ≡ kept_in source under_way.at (starts_before under_way.at.cycles starts)
+
+-- neither room is less than it was
+pub record KeepsRoom (old new : LegsUnderWay) : Type 0 where
+  pub kept : vec_capacity old.kept ≤ vec_capacity new.kept
+  pub here : vec_capacity old.here ≤ vec_capacity new.here
+
+-- the starts of so many cycles are told, or of all, and what is kept of them is there
+pub record TellsKept (source : Source) (cycles : ℕ) (old new : LegsUnderWay) : Type 0 where
+  pub basis : new.pass.basis ≡ old.pass.basis
+  pub told : new.pass.told ≡ min cycles new.pass.basis.cycles
+  pub at : new.at ≡ old.at
+  pub here : new.here ≡ old.here
+  pub kept : (starts : List Started) → StandsAt starts source old → new.kept.items ≡ kept_in source old.at (starts_before cycles starts)
+
+-- there is room in a round for what is kept in it, and told
+pub record HasRoom (starts : List Started) (source : Source) (before round : Round) (kept here : ℕ) : Type 0 where
+  pub for_kept : length (kept_in source before (starts_before round.cycles starts)) ≤ kept
+  pub for_here : length (told_in source before round (starts_before round.cycles starts)) ≤ here
+
+-- a round is gone through: what is told in it is there
+pub record HasGone (starts : List Started) (source : Source) (round : Round) (old new : LegsUnderWay) : Type 0 where
+  pub stands : StandsAt starts source new
+  pub here : new.here.items ≡ told_in source old.at round (starts_before round.cycles starts)
+  pub room : HasRoom starts source old.at round (vec_capacity new.kept) (vec_capacity new.here)
+
+pub record GoesThrough (source : Source) (round : Round) (old new : LegsUnderWay) : Type 0 where
+  pub told : new.pass.told ≡ min round.cycles new.pass.basis.cycles
+  pub at : new.at ≡ round
+  pub gone : (starts : List Started) → StandsAt starts source old → HasGone starts source round old new
+
+-- a round is no earlier than another
+pub record IsLater (before round : Round) : Type 0 where
+  pub cycles : before.cycles ≤ round.cycles
+  pub frames : before.frames ≤ round.frames
+  pub drops : before.drops ≤ round.drops
+
+-- a round can be told: there is room for it, and what is told in it is apart and in time
+pub record RoundCanBeTold (starts : List Started) (d : Domain) (source : Source) (round : Round) (under_way : LegsUnderWay) : Type 0 where
+  pub stands : StandsAt starts source under_way
+  pub room : HasRoom starts source under_way.at round (vec_capacity under_way.kept) (vec_capacity under_way.here)
+  pub apart : AllPairs AreApart (told_in source under_way.at round (starts_before round.cycles starts))
+  pub in_time : All (IsLegInTime d) (told_in source under_way.at round (starts_before round.cycles starts))
+
+abbrev pub SomeRoundCanBeTold : Domain → Source → Round → LegsUnderWay → Type 0
+SomeRoundCanBeTold d source round under_way = (starts : List Started) × RoundCanBeTold starts d source round under_way
+
+-- it is told in order
+pub record TellsRound (starts : List Started) (d : Domain) (source : Source) (round : Round) (old new : LegsUnderWay) (IsPut : List ℕ → Type 0) : Type 0 where
+  pub stands : StandsAt starts source new
+  pub at : new.at ≡ round
+  pub room : KeepsRoom old new
+  pub legs : List Leg
+  pub are : AreByFrame (told_in source old.at round (starts_before round.cycles starts)) legs
+  pub put : IsPut (lines_of_legs d source.offers legs)
+
+-- there is room in each of some rounds
+abbrev pub HaveRoom : List Started → Source → List Round → ℕ → ℕ → Type 0
+HaveRoom starts source rounds kept here = (k : ℕ) → k < length rounds →
+    HasRoom starts source (round_before rounds k) (slice_index_or rounds k no_round) kept here
+
+-- what an output of `hops` is told from: with the room for what is kept in a round, and told
+pub record ToldHops : Type 0 where
+  pub domain : Domain
+  pub source : Source
+  pub rounds : List Round
+  pub pass : Progress
+  pub kept_room : ℕ
+  pub here_room : ℕ
+
+-- it can be told, in a run that has these starts: in each round there is room, and all that is told of a run is in time and apart
+pub record CanBeTold (starts : List Started) (told : ToldHops) : Type 0 where
+  pub is : AreStartsOf told.pass.basis starts
+  pub fresh : told.pass.told ≡ 0
+  pub depth : ℕ
+  pub rounds : AreRounds told.domain depth told.source.offers told.source.drops told.rounds
+  pub soon : (s : Started) → Contains starts s →
+      (place : ℕ) × (offer : Offer) × (slice_get told.source.offers place ≡ Some offer) × (s.frame ≡ place + 1)
+      × (s.cycle.0 ≤ cycle_at told.domain.cycle_time offer.at.0 + depth)
+  pub of_offers : (x : Dropped) → Contains told.source.drops x → x.frame ≤ length told.source.offers
+  pub once : AllPairs (λ (a b : Started). a.frame ≡ b.frame → a.link ≢ b.link) starts
+  pub rise : AllPairs (λ (a b : Dropped). a.frame < b.frame) told.source.drops
+  pub apart : (s : Started) (x : Dropped) → Contains starts s → Contains told.source.drops x → s.frame ≢ x.frame
+  pub in_time : All (IsInTime told.domain) starts
+  pub room : HaveRoom starts told.source told.rounds told.kept_room told.here_room
+
+abbrev pub SomeCanBeTold : ToldHops → Type 0
+SomeCanBeTold told = (starts : List Started) × CanBeTold starts told
+
+-- what is told from what was lent, and from what is owned
+abbrev pub told_by : Domain → Source → List Round → Progress → Vec Leg Global → Vec Leg Global → ToldHops
+told_by d source rounds pass kept here =
+    record { domain = d; source = source; rounds = rounds; pass = pass; kept_room = vec_capacity kept; here_room = vec_capacity here }
+
+abbrev pub told_from : Domain → HopsRun → List Round → LegsUnderWay → ToldHops
+told_from d run rounds under_way = told_by d (source_of run) rounds under_way.pass under_way.kept under_way.here
+
+-- what is told of it, in order
+pub record AreToldLegs (starts : List Started) (told : ToldHops) (legs : List Leg) : Type 0 where
+  pub in_order : AllPairs IsBefore legs
+  pub each : (x : Leg) → Contains (legs_of_run told.source starts) x → Contains legs x
+  pub only : (x : Leg) → Contains legs x → Contains (legs_of_run told.source starts) x
+
+-- the text of an output
+pub record IsToldText (told : ToldHops) (text : List ℕ) : Type 0 where
+  pub starts : List Started
+  pub can : CanBeTold starts told
+  pub legs : List Leg
+  pub are : AreToldLegs starts told legs
+  pub is : text ≡ text_of_legs told.domain told.source.offers legs

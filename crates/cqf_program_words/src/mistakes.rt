@@ -1,0 +1,123 @@
+//! What is said of words that clap takes and that mean no job: which value is wrong, and what is wanted.
+ghost use Rattle.std.specs.Prelude.{◌≡◌, option_map};
+ghost use Rattle.clap.specs.Words.{found_of, rows_of, subcommand_rows_of};
+ghost use Rattle.cqf_units.specs.Name.{is_name};
+ghost use Rattle.cqf_program_words.specs.Mistakes.{mistake_in, mistake_of, mistake_of_candidates, mistake_of_env, mistake_of_format, mistake_of_others};
+ghost use Rattle.cqf_program_words.specs.Mistakes.{is_form, mistake_of_rate, told_of, value_of};
+
+use crate::words::text_of;
+use clap::ArgMatches;
+use cqf_units::Name;
+
+/// What is said before a word that is shown, the word, and what is said behind it.
+type Mistake<'v> = (&'static str, &'v str, &'static str);
+
+/// The value of an option, none where it isn't given.
+fn value_of<'v>(values: &ArgMatches<'v>, option: &str) -> &'v str
+    ensures { result.now ≡ value_of option.now (rows_of (found_of values.now)) }
+{
+    match text_of(values, option) {
+        Some(text) => text,
+        None => "",
+    }
+}
+
+/// Of `port`: the rate isn't one of the three.
+fn mistake_of_rate(rate: &str) -> Mistake<'_>
+    ensures { told_of result ≡ mistake_of_rate rate.now }
+{
+    ("--rate ", rate, " is no rate: 10, 100 or 1000 (Mb/s)")
+}
+
+/// Of `plan`: the word names no candidates.
+fn mistake_of_candidates(word: &str) -> Mistake<'_>
+    ensures { told_of result ≡ mistake_of_candidates word.now }
+{
+    (
+        "--cycle ",
+        word,
+        " names no candidates: N, or FROM..TO/STEP with FROM up to TO and at most 1000 of them, in ns, 10000 to 10000000",
+    )
+}
+
+/// Whether the text is one of the four formats.
+fn is_form(format: &str) -> bool
+    ensures { result ≡ is_form format.now }
+{
+    format == "list" || format == "tc" || format == "env" || format == "json"
+}
+
+/// Whether the text has the form of a name.
+fn is_name(text: &str) -> bool
+    ensures { result ≡ is_name text.now }
+{
+    match Name::new(text.as_bytes()) {
+        Some(_) => true,
+        None => false,
+    }
+}
+
+/// Of `compile --format env`.
+fn mistake_of_env(bridge: Option<&str>) -> Mistake<'_>
+    ensures { told_of result ≡ mistake_of_env (option_map (λ text. text.now) bridge.entry) }
+{
+    match bridge {
+        None => ("--format env wants its bridge: --bridge NAME", "", ""),
+        Some(bridge) if is_name(bridge) => ("--software goes with --format tc alone", "", ""),
+        Some(bridge) => (
+            "--bridge ",
+            bridge,
+            " is no name: 1 to 32 of a to z, 0 to 9, - and _",
+        ),
+    }
+}
+
+/// Of `compile` with another format.
+fn mistake_of_others(bridge: Option<&str>) -> &'static str
+    ensures { result.now ≡ mistake_of_others (option_map (λ text. text.now) bridge.entry) }
+{
+    match bridge {
+        None => "--software goes with --format tc alone",
+        Some(_) => "--bridge goes with --format env alone",
+    }
+}
+
+/// Of `compile`.
+fn mistake_of_format<'v>(format: &'v str, bridge: Option<&'v str>) -> Mistake<'v>
+    ensures { told_of result ≡ mistake_of_format format.now (option_map (λ text. text.now) bridge.entry) }
+{
+    if !is_form(format) {
+        return ("--format ", format, " is no format: list, tc, env or json");
+    }
+    if format == "env" {
+        mistake_of_env(bridge)
+    } else {
+        (mistake_of_others(bridge), "", "")
+    }
+}
+
+/// Of a command by its name and its values.
+fn mistake_in<'v>(name: &str, values: &ArgMatches<'v>) -> Mistake<'v>
+    ensures { told_of result ≡ mistake_in name.now (rows_of (found_of values.now)) }
+{
+    if name == "port" {
+        return mistake_of_rate(value_of(values, "rate"));
+    }
+    if name == "plan" {
+        return mistake_of_candidates(value_of(values, "cycle"));
+    }
+    if name == "compile" {
+        return mistake_of_format(value_of(values, "format"), text_of(values, "bridge"));
+    }
+    ("a value is not one that the command takes", "", "")
+}
+
+/// Of the command that was named.
+pub(crate) fn mistake_of<'v>(matches: &ArgMatches<'v>) -> Mistake<'v>
+    ensures { told_of result ≡ mistake_of (subcommand_rows_of matches.now) }
+{
+    match matches.subcommand() {
+        Some((name, values)) => mistake_in(name, values),
+        None => ("a command is wanted", "", ""),
+    }
+}
