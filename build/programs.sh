@@ -1,6 +1,9 @@
 # What ./cqf, ./prove and ./test share: what the program's sources are, where its builds are kept, and how one is made. It is read, and not
 # run; `top` is the repository's top.
 
+# a file that may grow no more (`ulimit -f`) is a write that fails, an output fault of the program, and no signal that ends it
+trap '' XFSZ
+
 # the folder of temporary files, from the root on
 temporary=${TMPDIR:-/tmp}
 [[ $temporary == /* ]] || temporary=$PWD/$temporary
@@ -79,7 +82,7 @@ find_hash() {
         [ -r "$folder/stamp" ] && read -r told hash <"$folder/stamp" && [ "$told" = "$stamp" ] && [ "${#hash}" -eq 64 ] && return
     done
     hash=$(hash_of "$top") || exit 2
-    [ -z "$kept" ] || echo "$stamp $hash" >"$kept/stamp"
+    [ -z "$kept" ] || { echo "$stamp $hash" >"$kept/stamp"; } 2>/dev/null || true
 }
 
 # finds the `program` of a name, `proved` or `quick`, that was built of the sources as they stand, if it is kept
@@ -172,6 +175,16 @@ lay_out() {
     done
 }
 
+# ends where a folder stands at the place of one of these files
+want_files() {
+    local file
+    for file; do
+        [ -d "$file" ] || continue
+        echo "cqf: $file is a folder, and a build is kept there: remove it" >&2
+        exit 2
+    done
+}
+
 # builds the `program` of a name, where it isn't kept once the lock is had: by words that are run in a copy of the sources, and leave it in
 # the file that they are told. What is built is kept with the hash of that copy; a source that changes meanwhile is none of it
 build() {
@@ -183,6 +196,7 @@ build() {
         exit 2
     fi
     making=$kept/$name
+    want_files "$making" "$making.lock" "$making.next" "$making.sources"
     trap clean_up EXIT
     trap 'exit 129' HUP
     trap 'exit 130' INT
