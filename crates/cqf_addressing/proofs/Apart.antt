@@ -1,4 +1,4 @@
--- If no index is told as used twice, no two streams have the same index.
+-- If no repeated index is reported, all indexes differ.
 use Rattle.std.proofs.Common.{ℕ, zero, suc, ◌≡◌, ◌≢◌, ◌<◌, ◌+◌, ◌++◌, ◌==◌, ◌∙◌, Bool, true, false, List, [], ◌∷◌, Some, None, Result, Ok}
 use Rattle.std.proofs.Common.{ap, arith, cond, eq-eqb, length, refl, slice_get, subst}
 use Rattle.std.specs.List.{list_any}

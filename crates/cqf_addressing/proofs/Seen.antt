@@ -66,7 +66,7 @@ module _ (addresses : List StreamAddress) (k : ℕ) (x : StreamAddress) (inside 
       ap (gates_from k) (drop-cons addresses k x inside ∙ ap (λ (y : StreamAddress). y ∷ drop (suc k) addresses) (sym at))
       ∙ ap (λ (n : ℕ). gate_of k x ∷ gates_from (k + 1) (drop n addresses)) (sym (add-one k))
 
-  -- what is told at this place: the stream and its index, if the index was used before
+  -- reported at this stream: its index, if an earlier stream has it
   told_here : cond (stood (gate_of k x) (gates_before addresses k)) (Some (length (gates_before addresses k) + 1, gate_of k x))
       (first_again (gates_before addresses k ++ gate_of k x ∷ []) (gates_from (k + 1) (drop (k + 1) addresses)))
       ≡ first_again (gates_before addresses k) (gates_from k (drop k addresses))
@@ -80,7 +80,7 @@ module _ (addresses : List StreamAddress) (k : ℕ) (x : StreamAddress) (inside 
       | inr high ↦ get_or_past seen gate false (omega (arith, high, now.size)) ∙ sym (now.past gate (omega (arith, high, range)) (omega (arith, high)))
     ]
 
-    -- if the index was used before, it is told
+    -- a repeated index is reported
     pub told_twice : get_or seen gate false ≡ true → first_gate_twice addresses ≡ Some (k + 1, gate)
     told_twice found =
         let here : stood (gate_of k x) (gates_before addresses k) ≡ true = ap (λ (g : ℕ). stood g (gates_before addresses k)) (sym is) ∙ sym noted_where_stood ∙ found in
@@ -139,7 +139,7 @@ module _ (addresses : List StreamAddress) (k : ℕ) (x : StreamAddress) (inside 
               ∙ told_here ∙ now.rest;
         }
 
--- after the last stream, nothing is told
+-- after the last stream nothing is reported
 pub told_none : (addresses : List StreamAddress) (k : ℕ) (seen : List Bool) → HasSeen addresses k seen → length addresses ≤ k →
     first_gate_twice addresses ≡ None
 told_none addresses k seen now past =
