@@ -34,7 +34,7 @@ interfaces_in table = and_then (or_text (read_at key.Links as_array table)) inte
 abbrev pub interfaces_of_text : List ℕ → Result (List LinkInterfaces) AddressingFault
 interfaces_of_text text = and_then (or_text (whole_document (key.Links ∷ []) key.Links [] text)) interfaces_in
 
--- the interface by which the link of a number leaves its bridge, and that by which it comes to its far end
+-- the interfaces at the `from` end and at the `to` end of a link
 abbrev pub near_interface : List LinkInterfaces → ℕ → Option (List ℕ)
 near_interface links link = option_and_then (λ (l : LinkInterfaces). l.near) (slice_get links link)
 

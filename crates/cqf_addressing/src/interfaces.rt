@@ -8,8 +8,8 @@ use arrayvec::ArrayVec;
 use cqf_press::{Press, Sink};
 use std::marker::Model;
 
-/// The name of an interface of a bridge: 1 to 15 bytes of `a` to `z`, `A` to `Z`, `0` to `9`, `.`, `_`, `-` and `@`, of which the first is a
-/// letter or a digit (profile). Linux allows each of these names, and a shell needs no quoting for any.
+/// The name of an interface of a bridge: 1 to 15 bytes, each `a` to `z`, `A` to `Z`, `0` to `9`, `.`, `_`, `-` or `@`. The first byte is a
+/// letter or a digit (profile). Linux allows each of these names, and no shell has to quote one.
 #[derive(Drop)]
 pub struct InterfaceName {
     bytes: ArrayVec<u8, 15>,

@@ -14,9 +14,9 @@ pub enum AddressKey {
     Vlan,
     /// The index of a stream's gate. It begins as the user's own keys do, so that other tools pass it over.
     Gate,
-    /// The interface by which a link leaves its `from`.
+    /// The interface at the `from` end of a link.
     Interface,
-    /// The interface by which it comes to its `to`.
+    /// The interface at its `to` end.
     FarInterface,
 }
 

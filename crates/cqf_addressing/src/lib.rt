@@ -7,7 +7,7 @@
 //!   each link; or an [`AddressingFault`], the first thing wrong, at an [`AddressKey`]. [`interfaces_part`] and [`addresses_part`] do so for the parts
 //!   of a command's input, and end with the line of the fault.
 //! - **By number.** [`gate_index`] is the index of a stream's gate, [`mac_of_stream`] and [`vlan_of_stream`] are its frames' address and VLAN;
-//!   [`near_interface`] is the interface by which a link leaves its bridge, and [`far_interface`] that by which it comes to its far end.
+//!   [`near_interface`] and [`far_interface`] are the interfaces at the two ends of a link.
 //! - **Written.** [`put_mac`] and [`put_interface`] put an address and a name as texts.
 //! - **Laws**, functions that do nothing: no two streams have one gate index ([`gate_indexes_are_apart`]), and an address that is put reads
 //!   back ([`macs_read_back`]).

@@ -81,7 +81,7 @@ pub fn read_link_interfaces(
     interfaces_of_table(alloc, &table)
 }
 
-/// The interface by which the link of a number leaves its bridge, where the text names it.
+/// Returns the interface at the `from` end of a link, if the text names it.
 pub fn near_interface(links: &[LinkInterfaces], link: u16) -> Option<&InterfaceName>
     ensures { option_map (λ name. name.now) result ≡ near_interface links.now link }
 {
@@ -91,7 +91,7 @@ pub fn near_interface(links: &[LinkInterfaces], link: u16) -> Option<&InterfaceN
     }
 }
 
-/// The interface by which it comes to its far end, likewise.
+/// Returns the interface at the `to` end of a link, if the text names it.
 pub fn far_interface(links: &[LinkInterfaces], link: u16) -> Option<&InterfaceName>
     ensures { option_map (λ name. name.now) result ≡ far_interface links.now link }
 {
