@@ -5,13 +5,14 @@ use Rattle.std.proofs.lemmas.Bool.{leb-false}
 use Rattle.std.proofs.lemmas.List.{length-map, map-append}
 use Rattle.cqf_model.specs.declared.history.Receipt.{Receipt}
 use Rattle.cqf_model.specs.declared.history.Refused.{Refused}
+use Rattle.cqf_units.specs.Timing.{cost_of}
 use Rattle.cqf_model.specs.Domain.{Domain}
 use Rattle.cqf_model.specs.History.{Act, Admits, Asked, Recorded, admit_reply, held_in, next_number, seals}
 use Rattle.cqf_model.specs.Limits.{most_calls}
 use Rattle.cqf_laws_history.specs.StateLaws.{HistoryGoesOn, SealsAreCounted, with_entry}
 use Rattle.cqf_admission.specs.declared.entries.Entry.{Entry}
 use Rattle.cqf_admission.specs.Admission.{Administration, Answers, HoldsOneMore, act_of, calls, recorded_of}
-use Rattle.cqf_admission.specs.Judging.{IsOfGoodForm, form_refusal}
+use Rattle.cqf_admission.specs.Judging.{IsJudgedOf, IsOfGoodForm, form_refusal}
 use Rattle.cqf_admission.specs.declared.judged.JudgedRequest.{JudgedRequest}
 use Rattle.cqf_model.specs.declared.topology.Row.{Row}
 use Rattle.cqf_admission.specs.declared.state.GoodForm.{GoodForm}
@@ -86,6 +87,18 @@ good_form d asked row form is name octets paced tree = record {
   tree = tree ∙ ap (λ (r : Row). r.tree.items) is.is;
   most_octets = is.most_octets;
   paced = paced ∙ ap (λ (r : Row). r.pace) is.is;
+}
+
+-- and so is what is judged by its row
+pub judged_by_row : (d : Domain) (asked : Asked) (row : Row) (judged : JudgedRequest) → IsRowOfGoodForm d asked row → IsJudgedOf row judged →
+    IsOfGoodForm d asked judged
+judged_by_row d asked row judged is by = record {
+  none = is.none;
+  named = by.named ∙ ap (λ (r : Row). r.name) is.is;
+  costs = by.costs ∙ ap (λ (r : Row). cost_of r.octets) is.is;
+  linked = by.linked ∙ ap (λ (r : Row). r.tree.items) is.is;
+  paced = by.paced ∙ ap (λ (r : Row). r.pace) is.is;
+  most_octets = is.most_octets;
 }
 
 -- and so is one that was judged

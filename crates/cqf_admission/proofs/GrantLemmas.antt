@@ -50,7 +50,7 @@ or_else_more a b rest behind same = ap (or_else a) same ∙ or_else_two a b rest
 pub refusal_in_two : (d : Domain) (rows : List Row) (asked : Asked) → refusal_of d rows asked ≡ or_else (form_refusal d asked) (state_refusal d rows asked)
 refusal_in_two d rows asked =
     let name = refused_if (not (is_name asked.name)) BadName in
-    let octets = refused_if (not (nat_le 64 asked.octets && nat_le asked.octets 60000)) BadOctets in
+    let octets = refused_if (not (nat_le 64 asked.octets && nat_le asked.octets most_reserved)) BadOctets in
     let pace = refused_if (not (is_pace asked.every asked.phase)) BadPace in
     let unknown = refused_at (λ place. UnknownNode place) (position (λ n. is_none (node_named d n)) (flat_map (λ branch. branch) asked.paths)) in
     let broken = refused_at (λ place. BrokenPath place) (broken_place d asked.paths) in
@@ -72,7 +72,7 @@ refusal_in_two d rows asked =
 -- a request of good form asks for a good pace
 pub form_paced : (d : Domain) (asked : Asked) → form_refusal d asked ≡ None → is_pace asked.every asked.phase ≡ true
 form_paced d asked none =
-    let in_range = nat_le 64 asked.octets && nat_le asked.octets 60000 in
+    let in_range = nat_le 64 asked.octets && nat_le asked.octets most_reserved in
     let paced = is_pace asked.every asked.phase in
     let behind = or_else_none (refused_if (not (is_name asked.name)) BadName)
     (or_else (refused_if (not in_range) BadOctets) (or_else (refused_if (not paced) BadPace) (tree_refusal d asked.paths))) none in
@@ -82,22 +82,22 @@ form_paced d asked none =
 -- and for octets within the limits
 pub form_octets : (d : Domain) (asked : Asked) → form_refusal d asked ≡ None → asked.octets ≤ most_reserved
 form_octets d asked none =
-    let in_range = nat_le 64 asked.octets && nat_le asked.octets 60000 in
+    let in_range = nat_le 64 asked.octets && nat_le asked.octets most_reserved in
     let paced = is_pace asked.every asked.phase in
     let behind = or_else_none (refused_if (not (is_name asked.name)) BadName)
     (or_else (refused_if (not in_range) BadOctets) (or_else (refused_if (not paced) BadPace) (tree_refusal d asked.paths))) none in
     let octets = or_else_none (refused_if (not in_range) BadOctets) (or_else (refused_if (not paced) BadPace) (tree_refusal d asked.paths)) behind.1 in
-    let range = and_parts (nat_le 64 asked.octets) (nat_le asked.octets 60000) (not-false in_range (refused_if_none (not in_range) BadOctets octets.0)) in
-    leb-true asked.octets 60000 range.1
+    let range = and_parts (nat_le 64 asked.octets) (nat_le asked.octets most_reserved) (not-false in_range (refused_if_none (not in_range) BadOctets octets.0)) in
+    leb-true asked.octets most_reserved range.1
 
 -- with a good name and a good pace, and octets within the limits, the branches decide on the form
-pub form_by_tree : (d : Domain) (asked : Asked) → is_name asked.name ≡ true → is_pace asked.every asked.phase ≡ true → 64 ≤ asked.octets → asked.octets ≤ 60000 →
+pub form_by_tree : (d : Domain) (asked : Asked) → is_name asked.name ≡ true → is_pace asked.every asked.phase ≡ true → 64 ≤ asked.octets → asked.octets ≤ most_reserved →
     form_refusal d asked ≡ tree_refusal d asked.paths
 form_by_tree d asked name paced least_octets most_octets =
-    let in_range : (nat_le 64 asked.octets && nat_le asked.octets 60000) ≡ true =
-    and_from (nat_le 64 asked.octets) (nat_le asked.octets 60000) (le-leb 64 asked.octets least_octets) (le-leb asked.octets 60000 most_octets) in
+    let in_range : (nat_le 64 asked.octets && nat_le asked.octets most_reserved) ≡ true =
+    and_from (nat_le 64 asked.octets) (nat_le asked.octets most_reserved) (le-leb 64 asked.octets least_octets) (le-leb asked.octets most_reserved most_octets) in
     ap (λ (b : Bool). or_else (refused_if (not b) BadName)
-    (or_else (refused_if (not (nat_le 64 asked.octets && nat_le asked.octets 60000)) BadOctets)
+    (or_else (refused_if (not (nat_le 64 asked.octets && nat_le asked.octets most_reserved)) BadOctets)
     (or_else (refused_if (not (is_pace asked.every asked.phase)) BadPace) (tree_refusal d asked.paths)))) name
     ∙ ap (λ (b : Bool). or_else (refused_if (not b) BadOctets)
     (or_else (refused_if (not (is_pace asked.every asked.phase)) BadPace) (tree_refusal d asked.paths))) in_range

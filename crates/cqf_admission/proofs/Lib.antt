@@ -10,6 +10,7 @@ pub mod Entered
 pub mod Figures
 pub mod Found
 pub mod GrantLemmas
+pub mod Guards
 pub mod HeldNumbers
 pub mod Left
 pub mod LetGo
@@ -37,3 +38,4 @@ mod ReadLines
 mod Words
 mod Few
 mod ByLine
+mod SpelledApart

@@ -18,7 +18,7 @@ use Rattle.cqf_model.specs.declared.topology.Row.{Row}
 use Rattle.cqf_model.specs.Domain.{Domain, is_text, node_named}
 use Rattle.cqf_model.specs.History.{Act, Asked, Recorded, Seals, broken_place, first_place, is_loop_at, is_pace, is_seal, is_stray, left_on, pace_of, refusal_of}
 use Rattle.cqf_model.specs.History.{refused_at, refused_if, reply_to, short_link, tree_of, withdraw_reply, withdraw_row}
-use Rattle.cqf_model.specs.Limits.{hops_within, most_calls, streams_within}
+use Rattle.cqf_model.specs.Limits.{hops_within, most_calls, most_reserved, streams_within}
 use Rattle.cqf_model.specs.Table.{is_held}
 use Rattle.cqf_laws_history.specs.StateLaws.{HistoryGoesOn, IsState, SealLetsGo, SealsAreCounted, with_entry}
 use Rattle.cqf_admission.specs.Admission.{Administration, Answers, IsRunning, calls, is_entered, reply_of}
@@ -65,10 +65,10 @@ refusal_is_entered d rows asked =
     let after_unknown = or_else unknown after_broken in
     let pace_refusal = refused_if (not (is_pace asked.every asked.phase)) BadPace in
     let after_pace = or_else pace_refusal after_unknown in
-    let octets = refused_if (not (nat_le 64 asked.octets && nat_le asked.octets 60000)) BadOctets in
+    let octets = refused_if (not (nat_le 64 asked.octets && nat_le asked.octets most_reserved)) BadOctets in
     let name = refused_if (not (is_name asked.name)) BadName in
     either_entered name (or_else octets after_pace) (if_entered (not (is_name asked.name)) BadName refl)
-    (either_entered octets after_pace (if_entered (not (nat_le 64 asked.octets && nat_le asked.octets 60000)) BadOctets refl)
+    (either_entered octets after_pace (if_entered (not (nat_le 64 asked.octets && nat_le asked.octets most_reserved)) BadOctets refl)
     (either_entered pace_refusal after_unknown (if_entered (not (is_pace asked.every asked.phase)) BadPace refl)
     (either_entered unknown after_broken
     (at_entered (λ place. UnknownNode place) (position (λ name. is_none (node_named d name)) (flat_map (λ branch. branch) asked.paths)) (λ k. refl))

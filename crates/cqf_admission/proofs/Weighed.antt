@@ -1,5 +1,5 @@
 -- What a request of good form is beside the figures.
-use Rattle.std.proofs.Common.{◌≡◌, ◌≢◌, ℕ, ◌+◌, ◌-◌, ◌<◌, ◌≤◌, ◌^◌, Bool, true, false, List, Option, None, length, refl, sym, ap, ◌∙◌, subst, arith}
+use Rattle.std.proofs.Common.{◌*◌, ◌≡◌, ◌≢◌, ℕ, ◌+◌, ◌-◌, ◌<◌, ◌≤◌, ◌^◌, Bool, true, false, List, Option, None, length, refl, sym, ap, ◌∙◌, subst, arith}
 use Rattle.std.specs.Prelude.{All, AllPairs, if◌then◌else◌}
 use Rattle.std.proofs.Math.Nat.{div-le_self}
 use Rattle.std.proofs.lemmas.List.{length-map}
@@ -9,7 +9,8 @@ use Rattle.cqf_units.specs.declared.reservations.Cycle.{Cycle}
 use Rattle.cqf_model.specs.declared.history.Refused.{Refused}
 use Rattle.cqf_model.specs.declared.history.Refused.TheVariants.{NameHeld}
 use Rattle.cqf_model.specs.declared.topology.Hop.{Hop}
-use Rattle.cqf_model.specs.Domain.{Domain, IsAccepted, budget, octet_time_of}
+use Rattle.cqf_model.specs.Domain.{Domain, IsAccepted, budget, guard_of}
+use Rattle.cqf_model.proofs.Links.{budget_within}
 use Rattle.cqf_model.specs.History.{Asked, Recorded, held_in, next_number, refusal_of, refused_if, seals, streams_of}
 use Rattle.cqf_model.specs.Limits.{most_hops}
 use Rattle.cqf_model.specs.Table.{cost_on, links_in, uses}
@@ -103,7 +104,7 @@ module _ (d : Domain) (entries : List Recorded) (before : Figures) (r : IsStateO
   fits sound ok l cycle number effect =
       let part : cost_on (row_by form number effect) l cycle ≤ cost_of form.octets =
       part_within (uses form.tree.now form.pace l cycle) (cost_of form.octets) in
-      let most : budget d l ≤ d.cycle_time - d.guard = div-le_self (d.cycle_time - d.guard) (octet_time_of d l) in
+      let most : budget d l ≤ 11 * (d.cycle_time - guard_of d l) = budget_within d l in
       omega (
         arith,
         within d entries before r sound l cycle,

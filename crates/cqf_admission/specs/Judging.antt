@@ -40,6 +40,13 @@ pub record IsOfGoodForm (d : Domain) (asked : Asked) (judged : JudgedRequest) : 
   pub paced : judged.pace ≡ pace_of asked
   pub most_octets : asked.octets ≤ most_reserved
 
+-- what a request of good form is that has a row
+pub record IsJudgedOf (row : Row) (judged : JudgedRequest) : Type 0 where
+  pub named : judged.name ≡ row.name
+  pub costs : judged.cost.0 ≡ cost_of row.octets
+  pub paced : judged.pace ≡ row.pace
+  pub linked : judged.tree.items ≡ row.tree.items
+
 -- the row by what a request of good form is, of a number and from a cycle on
 abbrev pub row_by : JudgedRequest → ℕ → ℕ → Cycle → Row
 row_by judged octets number effect = record {

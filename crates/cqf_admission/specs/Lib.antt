@@ -29,3 +29,5 @@ pub mod LineLaws
 -- what the inner functions say
 pub mod Placed
 pub mod Written
+pub mod Shared
+pub mod Spelled

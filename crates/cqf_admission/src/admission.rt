@@ -11,8 +11,9 @@ ghost use Rattle.cqf_admission.specs.Costs.{left_in_turns, most_cost};
 ghost use Rattle.cqf_admission.specs.Turns.{IsGoodPace};
 
 use crate::count_places;
-use crate::entries::{Call, Entry, SealFault, copied_entries, enter, reply_of, shared_request};
-use crate::judged::{JudgedRequest, judge, judge_paced};
+use crate::entries::{Call, Entry, SealFault, copied_entries, enter, reply_of};
+use crate::judged::{JudgedRequest, judge};
+use crate::shared::{SharedRequest, shared_request};
 use crate::state::{GoodForm, State};
 use crate::table::Table;
 use crate::tabling::Tabling;
@@ -149,11 +150,12 @@ impl Admission {
         self.admit_shared(seat, &asked)
     }
 
-    /// Asks for such a stream likewise, by a request that the history shares with the caller: it isn't copied.
+    /// Asks for such a stream likewise, by a request that the history shares with the caller: it isn't copied, and isn't looked over where it
+    /// was for this very domain.
     pub fn admit_shared(
         &mut self,
         seat: u16,
-        request: &Arc<PacedRequest>,
+        request: &Arc<SharedRequest>,
     ) -> Result<Receipt, Refused>
         ensures answers { Answers self.old self.new seat (Admits (asked_paced (arc_value request.now))) result }
         ensures held { HoldsOneMore self.old self.new (asked_paced (arc_value request.now)) result }
@@ -162,11 +164,12 @@ impl Admission {
             return Err(Refused::HistoryFull);
         }
         let asked = Arc::try_clone(request)?;
-        if count_places(request.paths.as_slice()).is_none() {
+        let wanted = request.request();
+        if count_places(wanted.paths.as_slice()).is_none() {
             return Err(Refused::Memory);
         }
-        let judged = judge_paced(&self.domain, request);
-        self.admit_judged(seat, Call::AdmitPaced(asked), request.octets, judged)
+        let judged = request.judge(&self.domain);
+        self.admit_judged(seat, Call::AdmitPaced(asked), wanted.octets, judged)
     }
 
     /// Answers a call for a stream of so many octets, which was judged by itself, and enters it. The history isn't full.

@@ -15,9 +15,10 @@ ghost use Rattle.cqf_admission.specs.Script.{AreFew, administrators, call_of_lin
 ghost use Rattle.cqf_admission.specs.Script.{called_behind, called_of, script_of, sealed_behind, seats_up_to};
 
 use crate::lines::{Order, Wish, is_seal_line, read_order};
-use crate::{Call, MOST_CALLS, Names, Ordered, ScriptFault, What, shared_request, word_of};
+use crate::shared::{SharedRequest, judged_request, shared_request};
+use crate::{Call, MOST_CALLS, Names, Ordered, ScriptFault, What, word_of};
 use cqf_text::split_line;
-use cqf_topology::{PacedRequest, Request};
+use cqf_topology::{Domain, PacedRequest, Request};
 use cqf_units::Memory;
 use std::alloc::Global;
 use std::sync::Arc;
@@ -196,7 +197,7 @@ pub fn read_orders(
 }
 
 /// Some requests, each copied once, so that calls for its stream can share it, unless memory runs out.
-fn all_shared(alloc: Global, requests: &[PacedRequest]) -> Result<Vec<Arc<PacedRequest>>, Memory>
+fn all_shared(alloc: Global, requests: &[PacedRequest]) -> Result<Vec<Arc<SharedRequest>>, Memory>
     ensures { IfOk result (λ copies. map asked_shared copies.items ≡ map asked_paced requests.now) }
 {
     let mut copies = Vec::with_capacity(alloc, requests.len())?;
@@ -206,11 +207,91 @@ fn all_shared(alloc: Global, requests: &[PacedRequest]) -> Result<Vec<Arc<PacedR
     Ok(copies)
 }
 
+/// Which of so many requests are asked for by orders, unless memory runs out. It decides only when a request is looked over.
+fn asked_for(alloc: Global, requests: usize, orders: &[Ordered]) -> Result<Vec<bool>, Memory> {
+    let mut asked = Vec::with_capacity(alloc, requests)?;
+    for _ in 0..requests {
+        asked.push(false)?;
+    }
+    for order in orders {
+        if let What::Admit(place) = order.what {
+            note(asked.as_mut_slice(), place);
+        }
+    }
+    Ok(asked)
+}
+
+/// Notes that the request at a place is asked for, where there is one.
+fn note(asked: &mut [bool], place: usize) {
+    if place < asked.len() {
+        asked[place] = true;
+    }
+}
+
+/// Whether it was noted so.
+fn is_noted(asked: &[bool], place: usize) -> bool {
+    match asked.get(place) {
+        Some(noted) => *noted,
+        None => false,
+    }
+}
+
+/// A copy of a request that calls for its stream can share, looked over for a domain where it is asked for.
+fn copy_for(
+    alloc: Global,
+    domain: &Arc<Domain>,
+    request: &PacedRequest,
+    is_asked: bool,
+) -> Result<Arc<SharedRequest>, Memory>
+    ensures { IfOk result (λ copy. asked_shared copy ≡ asked_paced request.now) }
+{
+    if is_asked {
+        judged_request(alloc, domain, request)
+    } else {
+        shared_request(alloc, request)
+    }
+}
+
+/// Some requests, each copied once likewise; those that are asked for by orders are looked over for a domain.
+fn all_judged(
+    alloc: Global,
+    domain: &Domain,
+    requests: &[PacedRequest],
+    orders: &[Ordered],
+) -> Result<Vec<Arc<SharedRequest>>, Memory>
+    ensures { IfOk result (λ copies. map asked_shared copies.items ≡ map asked_paced requests.now) }
+{
+    let shared = domain.try_share(alloc)?;
+    let asked = asked_for(alloc, requests.len(), orders)?;
+    let mut copies = Vec::with_capacity(alloc, requests.len())?;
+    for place in 0..requests.len() {
+        let is_asked = is_noted(asked.as_slice(), place);
+        let copy = copy_for(alloc, &shared, &requests[place], is_asked)?;
+        copies.push(copy)?;
+    }
+    Ok(copies)
+}
+
+/// Copies of some requests, which calls for their streams can share, looked over where a domain is given.
+fn all_copies(
+    alloc: Global,
+    domain: Option<&Domain>,
+    requests: &[PacedRequest],
+    orders: &[Ordered],
+) -> Result<Vec<Arc<SharedRequest>>, Memory>
+    ensures { IfOk result (λ copies. map asked_shared copies.items ≡ map asked_paced requests.now) }
+{
+    match domain {
+        Some(domain) => all_judged(alloc, domain, requests, orders),
+        None => all_shared(alloc, requests),
+    }
+}
+
 /// The call that is ordered, with a share of its request or a copy of its name.
 fn call_of(
     alloc: Global,
     text: &[u8],
-    requests: &[Arc<PacedRequest>],
+    requests: &[Arc<SharedRequest>],
     order: Ordered,
 ) -> Result<(u16, Call), Memory>
     requires { StandsIn (map asked_shared requests.now) text.now order.what }
@@ -226,13 +307,10 @@ fn call_of(
     Ok((order.seat, call))
 }
 
-/// The calls that are ordered, each with its seat, and with a share of its request or a copy of its name. What the orders name stands
-/// among these requests, each of which is copied once, and in this text. The time grows with the orders and with what is copied.
-///
-/// # Errors
-/// Where a growth is refused.
-pub fn calls_of(
+/// The calls that are ordered, as [`calls_of`] gives them, where a domain is given.
+fn calls_by(
     alloc: Global,
+    domain: Option<&Domain>,
     text: &[u8],
     requests: &[PacedRequest],
     orders: &[Ordered],
@@ -240,13 +318,32 @@ pub fn calls_of(
     requires { All (λ (ordered : AnOrdered). StandsIn (map asked_paced requests.now) text.now ordered.what) orders.now }
     ensures { IfOk result (λ calls. map called_of calls.items ≡ map (ordered_in (map asked_paced requests.now) text.now) orders.now) }
 {
-    let shared = all_shared(alloc, requests)?;
+    let shared = all_copies(alloc, domain, requests, orders)?;
     let mut calls = Vec::new(alloc);
     for order in orders {
         let call = call_of(alloc, text, shared.as_slice(), *order)?;
         calls.push(call)?;
     }
     Ok(calls)
+}
+
+/// The calls that are ordered, each with its seat, and with a share of its request or a copy of its name. What the orders name stands
+/// among these requests, each of which is copied once, and in this text. Each request that is asked for is looked over once, for the domain
+/// in which it will be. The time grows with the orders, with what is copied, and with what these looks take.
+///
+/// # Errors
+/// Where a growth is refused.
+pub fn calls_of(
+    alloc: Global,
+    domain: &Domain,
+    text: &[u8],
+    requests: &[PacedRequest],
+    orders: &[Ordered],
+) -> Result<Vec<(u16, Call)>, Memory>
+    requires { All (λ (ordered : AnOrdered). StandsIn (map asked_paced requests.now) text.now ordered.what) orders.now }
+    ensures { IfOk result (λ calls. map called_of calls.items ≡ map (ordered_in (map asked_paced requests.now) text.now) orders.now) }
+{
+    calls_by(alloc, Some(domain), text, requests, orders)
 }
 
 /// Some requests, of which each is for a stream that is offered in each cycle, unless memory runs out.
@@ -275,7 +372,7 @@ pub fn read_paced_script(
 {
     let names = Names::new(alloc, requests)?;
     let orders = read_orders(alloc, text, &names, cycles)?;
-    let calls = calls_of(alloc, text, requests, orders.as_slice())?;
+    let calls = calls_by(alloc, None, text, requests, orders.as_slice())?;
     Ok(calls)
 }
 
@@ -285,10 +382,11 @@ fn plain_call(alloc: Global, call: Call) -> Result<Call, Memory>
 {
     match call {
         Call::AdmitPaced(request) => {
-            if request.every != 1 || request.phase != 0 {
+            let wanted = request.request();
+            if wanted.every != 1 || wanted.phase != 0 {
                 return Ok(Call::AdmitPaced(request));
             }
-            let own = request.try_copy(alloc)?;
+            let own = wanted.try_copy(alloc)?;
             Ok(Call::Admit(own.into_request()))
         }
         other => Ok(other),

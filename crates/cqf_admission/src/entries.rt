@@ -1,11 +1,10 @@
 //! The entries of a history.
-ghost use Rattle.std.specs.Arc.{arc_value};
 ghost use Rattle.std.specs.Prelude.{◌≡◌, ◌<◌, ◌++◌, [], ◌∷◌, map, vec_len, vec_capacity, IfOk};
 ghost use Rattle.cqf_admission.specs.Admission.{act_of, recorded_of, reply_of};
-ghost use Rattle.cqf_admission.specs.Asking.{asked_paced};
 
+use crate::shared::SharedRequest;
 use cqf_model::{Receipt, Refused, Reply};
-use cqf_topology::{PacedRequest, Request};
+use cqf_topology::Request;
 use cqf_units::Memory;
 use std::alloc::Global;
 use std::sync::Arc;
@@ -17,7 +16,7 @@ pub enum Command {
     /// To admit a stream that is offered in each cycle.
     Admit(Request),
     /// To admit one that is offered in some. Calls for one stream share its request.
-    AdmitPaced(Arc<PacedRequest>),
+    AdmitPaced(Arc<SharedRequest>),
     /// To withdraw the stream of a name.
     Withdraw(String),
 }
@@ -28,7 +27,7 @@ pub enum Call {
     /// To admit a stream that is offered in each cycle.
     Admit(Request),
     /// To admit one that is offered in some. Calls for one stream share its request.
-    AdmitPaced(Arc<PacedRequest>),
+    AdmitPaced(Arc<SharedRequest>),
     /// To withdraw the stream of a name.
     Withdraw(String),
     /// To close the next cycle to changes.
@@ -74,13 +73,6 @@ pub(crate) fn reply_of(answer: Result<Receipt, Refused>) -> Reply
         Ok(receipt) => Reply::Accepted(receipt),
         Err(refused) => Reply::Refused(refused),
     }
-}
-
-/// A copy of a request that calls for its stream can share, unless memory runs out.
-pub fn shared_request(alloc: Global, request: &PacedRequest) -> Result<Arc<PacedRequest>, Memory>
-    ensures { IfOk result (λ copy. asked_paced (arc_value copy) ≡ asked_paced request.now) }
-{
-    Ok(Arc::new(alloc, request.try_copy(alloc)?)?)
 }
 
 /// Adds an entry to a history behind the others, where there is room.

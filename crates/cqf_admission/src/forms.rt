@@ -11,7 +11,7 @@ use cqf_units::{Cycle, Memory};
 use std::alloc::{AllocError, Global};
 
 /// What is known of a request's form.
-#[derive(Drop)]
+#[derive(Debug, Drop)]
 pub(crate) enum RequestForm {
     /// It wasn't looked at yet.
     Unseen,
@@ -25,7 +25,11 @@ pub(crate) enum RequestForm {
 ///
 /// # Errors
 /// Where a growth is refused, or no `usize` can count the places of its branches.
-fn look_over(alloc: Global, domain: &Domain, request: &PacedRequest) -> Result<RequestForm, Memory>
+pub(crate) fn look_over(
+    alloc: Global,
+    domain: &Domain,
+    request: &PacedRequest,
+) -> Result<RequestForm, Memory>
     ensures seen { IfOk result IsSeen }
     ensures form { IfOk result (IsFormOf domain.now (asked_paced request.now)) }
 {

@@ -1,11 +1,13 @@
 //! What a request is by itself, whatever is held.
-ghost use Rattle.std.specs.Prelude.{◌≡◌, ◌<◌, ◌^◌, IfOk, MatchOption, false};
+ghost use Rattle.std.specs.Prelude.{◌≡◌, ◌<◌, ◌≤◌, ◌^◌, IfOk, MatchOption, false};
 ghost use Rattle.cqf_model.specs.History.{is_pace};
+ghost use Rattle.cqf_model.specs.Limits.{most_reserved};
 ghost use Rattle.cqf_admission.specs.Branches.{branches_of, places_of};
 ghost use Rattle.cqf_admission.specs.Asking.{asked_of, asked_paced, asked_with};
-ghost use Rattle.cqf_admission.specs.Judging.{IsPaceOf, Judges, row_by};
+ghost use Rattle.cqf_admission.specs.Judging.{IsJudgedOf, IsPaceOf, Judges, row_by};
 
 use crate::find_tree;
+use crate::trees::fitted;
 use arrayvec::ArrayVec;
 use cqf_model::{Hop, LEAST_OCTETS, MOST_EVERY, MOST_OCTETS, Pace, Refused, Row, Tree};
 use cqf_topology::{Domain, PacedRequest, Request};
@@ -22,6 +24,19 @@ pub struct JudgedRequest {
 }
 
 impl JudgedRequest {
+    /// The request of good form that has this row, whatever its number and its cycles.
+    pub(crate) fn of_row(row: &Row) -> JudgedRequest
+        requires { row.now.octets ≤ most_reserved }
+        ensures { IsJudgedOf row.now result }
+    {
+        JudgedRequest {
+            name: row.name.copied(),
+            cost: cost(Octets(row.octets)),
+            pace: row.pace,
+            tree: fitted(row.tree.as_slice()),
+        }
+    }
+
     /// The row of the stream, which reserves so many octets, of a number and from a cycle on, unless memory runs out.
     pub fn into_row(
         self,

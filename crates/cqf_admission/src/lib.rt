@@ -14,7 +14,7 @@
 //!   on to a station; no node stands twice in a branch; any two branches begin at one bridge and part for good; and the tree has no more hops
 //!   than may be. Each of these is asked of all branches before the next, and a place counts through the branches as one list, of
 //!   [`count_places`]. No branch at all is `BrokenPath 0`.
-//! - **Sums.** [`CycleSums`] are those by link and cycle of streams that come and go; [`add_on`] adds to sums by link alone.
+//! - **Sums.** [`budget_on`] is what a link has for all, by its guard time, [`guard_on`]. [`CycleSums`] are those by link and cycle of streams that come and go; [`add_on`] adds to sums by link alone.
 //! - **Scripts**, line by line. [`read_script`] reads the calls of one, each with its seat, and [`administrators`] the seat of its Seals;
 //!   [`read_paced_script`] those for streams that are offered in some cycles. [`read_orders`] reads the same without a copy of what is named: an
 //!   [`Ordered`] says [`What`] is called for by where it stands, among the requests, which [`Names`] finds by their names, or in the text, from
@@ -53,6 +53,7 @@
 
 mod admission;
 mod branches;
+mod budgets;
 mod calls;
 mod ends;
 mod entries;
@@ -68,7 +69,9 @@ mod logs;
 mod names;
 mod numbers;
 mod orders;
+mod shared;
 mod slots;
+mod spelling;
 mod state;
 mod sums;
 mod table;
@@ -78,11 +81,11 @@ mod turns;
 
 pub use admission::Admission;
 pub use branches::count_places;
+pub use budgets::{budget_on, guard_on};
 pub use calls::{administrators, calls_of, read_orders, read_paced_script, read_script};
 pub use cqf_model::{
     LEAST_OCTETS, MOST_CALLS, MOST_OCTETS, MOST_SEALS, MOST_STREAMS, Receipt, Refused, Reply, Row,
 };
-pub(crate) use entries::shared_request;
 pub use entries::{Call, Command, Entry, SealFault};
 pub use faults::ScriptFault;
 pub use judged::{JudgedRequest, judge, judge_paced};
@@ -92,6 +95,7 @@ pub use lines::{is_order, is_seal_line};
 pub use logs::Logged;
 pub use names::Names;
 pub use orders::{Ordered, What, word_of};
+pub use shared::SharedRequest;
 pub use sums::add_on;
 pub use table::Table;
 pub use trees::find_tree;

@@ -14,18 +14,19 @@ ghost use Rattle.cqf_admission.specs.Rows.{ended};
 ghost use Rattle.cqf_admission.specs.State.{AdmitsForm, ClosesNext, IsStateOf, SomeDomain, SomeHistory, SomeRequest, StaysSo, WithdrawsName};
 ghost use Rattle.cqf_admission.specs.Weighing.{FindsOpen, left_at, row_by, stand_refusal, stand_short};
 
+use crate::budgets::budget_on;
 use crate::holdings::Holdings;
 use crate::judged::JudgedRequest;
 use crate::slots::{Slots, slot_of};
 use cqf_laws_history::{state_follows_history, streams_follow_history};
 use cqf_model::{Hop, MOST_CALLS, Pace, Receipt, Refused, Row, Tree};
 use cqf_topology::Domain;
-use cqf_units::{Cycle, Memory, Name, Octets, budget, cost};
+use cqf_units::{Cycle, Memory, Name, Octets, cost};
 use std::alloc::Global;
 use std::marker::Model;
 use std::sync::Arc;
 
-/// A request of good form, lent: its name, how many octets its stream reserves in each cycle of its own, 64 to 60,000, its pace, and its
+/// A request of good form, lent: its name, how many octets its stream reserves in each cycle of its own, 64 to 1,000,000, its pace, and its
 /// tree.
 #[derive(Clone, Copy)]
 pub(crate) struct GoodForm<'f> {
@@ -99,8 +100,7 @@ fn left_of(domain: &Domain, holdings: &Holdings, hop: &Hop, pace: Pace) -> u32
     requires good { IsGoodPace pace }
     ensures { result ≡ left_at domain.now holdings.now.rows pace hop.now }
 {
-    let rate = domain.link(hop.link).rate;
-    let most = budget(domain.cycle_time(), domain.guard(), rate);
+    let most = budget_on(domain, hop.link);
     let taken = holdings.most_at(hop, pace);
     prove!(taken <= u64::from(most.0));
     most.0 - taken as u32
@@ -310,8 +310,7 @@ impl State {
         ensures within { result.0 ≤ budget domain.now link }
     {
         state_follows_history();
-        let rate = domain.link(link).rate;
-        let most = budget(domain.cycle_time(), domain.guard(), rate);
+        let most = budget_on(domain, link);
         let taken = self.holdings.most_of(link);
         prove!(taken <= u64::from(most.0));
         Octets(taken as u32)

@@ -75,7 +75,7 @@ fn tree_along(domain: &Domain, nodes: &[Option<Node>], paths: &[Vec<String>]) ->
 }
 
 /// The hops of a tree that has no more of them than are represented.
-fn fitted(hops: &[Hop]) -> ArrayVec<Hop, 200>
+pub(crate) fn fitted(hops: &[Hop]) -> ArrayVec<Hop, 200>
     requires { length hops.now ≤ 200 }
     ensures { result.items ≡ hops.now }
 {

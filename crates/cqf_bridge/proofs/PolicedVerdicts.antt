@@ -12,7 +12,7 @@ use Rattle.cqf_model.specs.declared.frames.Reason.TheVariants.{Octets, OtherBrid
 use Rattle.cqf_model.specs.declared.ports.Arrival.{Arrival}
 use Rattle.cqf_model.specs.declared.topology.Row.{Row}
 use Rattle.cqf_model.specs.Book.{drop_by}
-use Rattle.cqf_model.specs.Domain.{Domain, cycle_of}
+use Rattle.cqf_model.specs.Domain.{Domain, cycle_of, guard_of}
 use Rattle.cqf_model.specs.Network.{IsLoss, QueuedFrame, queued_by, queued_frame, queued_to}
 use Rattle.cqf_model.specs.GateList.{IsOpen}
 use Rattle.cqf_model.specs.Port.{PortRules}
@@ -123,7 +123,7 @@ class_of_stream gives time reserved pace depth t some = either (cycle_at time t 
     either true e = inl e
     either false e = inr e
 
-module _ (d : Domain) (cycle : ℕ) (x : Received) (row : Row) (ports : List PortRecord) (short : d.guard < d.cycle_time) (gives : GateGivesClass)
+module _ (d : Domain) (cycle : ℕ) (x : Received) (row : Row) (ports : List PortRecord) (short : (l : ℕ) → guard_of d l < d.cycle_time) (gives : GateGivesClass)
     (wait : QueuedFramesWait) (here : cycle_of d x.at ≡ cycle) (each_waits : (r : PortRecord) → Contains ports r → IsWaiting d cycle (x.at + 1) r)
     (arrival : Arrival)
     (is : arrival ≡ (queued_frame d x row).arrival) where
@@ -141,11 +141,11 @@ module _ (d : Domain) (cycle : ℕ) (x : Received) (row : Row) (ports : List Por
         let from : x.at ≤ late.instant = omega (arith, late.from_first, ap (λ (a : Arrival). a.at.0) is) in
         let before : late.instant < (cycle_of d x.at + 1) * d.cycle_time =
         omega (arith, late.before_last, waiting.reached, ap (λ (c : ℕ). (c + 1) * d.cycle_time) here) in
-        wait d r.link late.instant (record { received = x; verdict = Queued row } ∷ []) frame short queued from before
+        wait d r.link late.instant (record { received = x; verdict = Queued row } ∷ []) frame (short r.link) queued from before
         (subst (λ rules. IsOpen rules frame.arrival.class late.instant) (ap (λ (rules : PortRules). rules.entries) waiting.rules)
         (subst (λ (a : Arrival). IsOpen r.port.rules.entries a.class late.instant) is late.is_open)),
     not_out_of_order r.port arrival (λ b inside same.
-        let high : 6 ≤ b.class = (elim (class_of_stream gives d.cycle_time row.octets row.pace (depth_behind row (came_by x.way)) x.at (omega (arith, short))) [
+        let high : 6 ≤ b.class = (elim (class_of_stream gives d.cycle_time row.octets row.pace (depth_behind row (came_by x.way)) x.at (omega (arith, short r.link))) [
           | inl six ↦ omega (arith, same, ap (λ (a : Arrival). a.class) is, six)
           | inr seven ↦ omega (arith, same, ap (λ (a : Arrival). a.class) is, seven)
         ]) in

@@ -6,13 +6,13 @@ use Rattle.cqf_lists.proofs.Members.{contains_from_filter, contains_from_map}
 use Rattle.cqf_model.specs.declared.frames.Dropped.{Dropped}
 use Rattle.cqf_model.specs.declared.ports.Arrival.{Arrival}
 use Rattle.cqf_model.specs.Book.{drops_in}
-use Rattle.cqf_model.specs.Domain.{bridge_of, cycle_of, leaves}
+use Rattle.cqf_model.specs.Domain.{bridge_of, cycle_of, guard_of, leaves}
 use Rattle.cqf_model.specs.GateList.{IsOpen}
 use Rattle.cqf_model.specs.Network.{Network, QueuedFrame, arrivals_of, comes_before, compiled_lists, queued_before, queued_to}
 use Rattle.cqf_model.specs.Port.{AreLegal}
 use Rattle.cqf_model.specs.Run.{Run}
 use Rattle.cqf_model.specs.Traffic.{Carried, Policed, police_all}
-use Rattle.cqf_model.proofs.Links.{octet_positive}
+use Rattle.cqf_model.proofs.Links.{guard_within, octet_positive}
 use Rattle.cqf_laws_cycle.specs.BridgeCycle.{CycleBringsItsBatches, IsCompiledNetwork, policed_of}
 use Rattle.cqf_laws_cycle.specs.PortCycle.{ClosedArrivalsChangeNothing, PortGoesOn, QueuedFramesWait, QueuedInItsCycle, waits_in}
 use Rattle.cqf_laws_shift.specs.Edge.{GateIsReservation}
@@ -37,7 +37,7 @@ verdicts_are brings reserves run cycles cycle bridge net compiled =
     ∙ policed_anew run net.carried bridge cycle reserves some
 
 module _ (run : Run) (carried : Carried) (cycle number : ℕ) (goes_on : PortGoesOn) (queued_then : QueuedInItsCycle) (waits : QueuedFramesWait)
-    (closed : ClosedArrivalsChangeNothing) (short : run.domain.guard < run.domain.cycle_time) (r : PortRecord)
+    (closed : ClosedArrivalsChangeNothing) (short : (l : ℕ) → guard_of run.domain l < run.domain.cycle_time) (r : PortRecord)
     (in_links : r.link < length run.domain.links) (leaves_it : leaves run.domain r.link number ≡ true)
     (has : HasTaken run.domain ((cycle + 1) * run.domain.cycle_time) (waits_in run carried r.link cycle) r) where
   -- the verdicts at the bridge in the cycle
@@ -76,7 +76,7 @@ module _ (run : Run) (carried : Carried) (cycle number : ℕ) (goes_on : PortGoe
       let d = run.domain in
       let w = contains_from_map (λ (y : QueuedFrame). y.arrival) queued x h in
       let came = queued_when w.0 w.1 in
-      waits d r.link t policed w.0 short w.1 (omega (arith, from, ap (λ (y : Arrival). y.at.0) w.2))
+      waits d r.link t policed w.0 (short r.link) w.1 (omega (arith, from, ap (λ (y : Arrival). y.at.0) w.2))
       (omega (arith, upto, ap (λ (c : ℕ). (c + 1) * d.cycle_time) came))
       (subst (λ (y : Arrival). IsOpen (compiled_lists d r.link) y.class t) (sym w.2) is_open)
 
@@ -153,7 +153,7 @@ module _ (run : Run) (cycles cycle : ℕ) (net : Network) (before after : Bridge
     ports = λ r held. (let f = contains_from_map (port_queued run taken) before.ports r held in
         let own = port_of_link run before h.has_sent.of_run f.0 f.1 in
         subst (λ (p : PortRecord). HasTaken run.domain ((cycle + 1) * run.domain.cycle_time) (comes_before run net.carried p.link (cycle + 1)) p) f.2
-        (port_has_taken run net.carried cycle before.number goes_on queued_then waits closed h.compiled.accepted.guard_short f.0 own.0 own.1
+        (port_has_taken run net.carried cycle before.number goes_on queued_then waits closed (λ l. guard_within run.domain l h.compiled.accepted) f.0 own.0 own.1
         (port_had f.0 f.1)));
   }
 

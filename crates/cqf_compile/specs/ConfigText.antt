@@ -5,19 +5,23 @@ use Rattle.std.specs.List.{flat_map}
 use Rattle.cqf_gates.specs.GateListText.{text_of_entries}
 use Rattle.cqf_model.specs.declared.topology.Link.{Link}
 use Rattle.cqf_model.specs.declared.topology.Row.{Row}
-use Rattle.cqf_model.specs.Domain.{Domain}
+use Rattle.cqf_model.specs.Domain.{Domain, guard_by}
 use Rattle.cqf_model.specs.GateList.{port_list}
 use Rattle.cqf_model.specs.Table.{bridges_of}
 use Rattle.cqf_topology.specs.NodeNames.{name_of_bridge, name_of_node}
 use Rattle.cqf_gates.specs.StreamText.{text_of_stream_entries}
 use Rattle.cqf_compile.specs.BridgeGates.{gate_at}
 
--- a link: a line with its ends, and the gate list of its port
+-- a link: a line with its ends, and the gate list of its port, by its guard time
 abbrev pub line_of_link : Domain → Link → List ℕ
 line_of_link d link = codes "link " ++ name_of_bridge d link.from ++ codes ">" ++ name_of_node d link.to
 
 abbrev pub text_of_link : Domain → Link → List ℕ
-text_of_link d link = line_of_link d link ++ 10 ∷ text_of_entries (port_list d.cycle_time d.guard)
+text_of_link d link = line_of_link d link ++ 10 ∷ text_of_entries (port_list d.cycle_time (guard_by d.guard link))
+
+-- the links by number
+abbrev pub texts_of_links : Domain → List ℕ
+texts_of_links d = flat_map (text_of_link d) d.links
 
 -- a stream at a bridge: a line with the stream and the bridge, and the stream's gate there
 abbrev pub line_at : Domain → Row → ℕ → List ℕ
@@ -32,4 +36,4 @@ text_of_row d row = flat_map (text_at d row) (bridges_of d row)
 
 -- the configuration: the links by number, and then the streams of a table by number
 abbrev pub config_text : Domain → List Row → List ℕ
-config_text d rows = flat_map (text_of_link d) d.links ++ flat_map (text_of_row d) rows
+config_text d rows = texts_of_links d ++ flat_map (text_of_row d) rows

@@ -1,10 +1,11 @@
 -- What a plan holds beside its domain.
-use Rattle.std.specs.Prelude.{◌≡◌, List, All, length}
-use Rattle.cqf_model.specs.GateList.{Entry, port_list}
+use Rattle.std.specs.Prelude.{◌≡◌, ◌∷◌, [], List, length}
+use Rattle.cqf_lists.specs.Lists.{each_below}
+use Rattle.cqf_model.specs.GateList.{Entry}
 use Rattle.cqf_model.specs.Domain.{Domain, IsAccepted}
+use Rattle.cqf_model.specs.Network.{compiled_lists}
 
--- the domain is accepted, and there is a gate list for each link, which is the port list of the domain (profile)
+-- the domain is accepted, and there is a gate list for each link, which is that of its port (profile)
 pub record IsPlan (d : Domain) (lists : List (List Entry)) : Type 0 where
   pub accepted : IsAccepted d
-  pub one_each : length lists ≡ length d.links
-  pub compiled : All (λ (entries : List Entry). entries ≡ port_list d.cycle_time d.guard) lists
+  pub one_each : lists ≡ each_below (λ l. compiled_lists d l ∷ []) (length d.links)

@@ -4,8 +4,9 @@ ghost use Rattle.std.specs.Arc.{arc_value};
 ghost use Rattle.std.specs.List.{flat_map};
 ghost use Rattle.cqf_admission.specs.Tables.{AreAlongLinks};
 ghost use Rattle.cqf_admission.specs.Turns.{AreOfGoodPaces, IsGoodPace};
-ghost use Rattle.cqf_compile.specs.ConfigLines.{IsReadyConfig, port_list_text};
-ghost use Rattle.cqf_compile.specs.ConfigText.{config_text, text_of_link, text_of_row};
+ghost use Rattle.cqf_compile.specs.ConfigLines.{IsReadyConfig};
+ghost use Rattle.cqf_compile.specs.ConfigText.{config_text, text_of_row, texts_of_links};
+ghost use Rattle.cqf_gates.specs.GateListText.{line_of_gates, text_of_entries};
 ghost use Rattle.cqf_model.specs.Table.{links_of};
 ghost use Rattle.cqf_press.specs.Press.{Puts};
 ghost use Rattle.cqf_topology.specs.NodeNames.{ends_of_link, name_of_bridge};
@@ -15,7 +16,7 @@ use crate::gates::{gate_of, port_list_of};
 use crate::leaving::bridges_of;
 use crate::plan::Plan;
 use cqf_admission::Table;
-use cqf_gates::{put_stream, write_tx};
+use cqf_gates::{TxList, hex_digit_of, put_stream};
 use cqf_model::{Link, Row};
 use cqf_press::{Press, Sheet, Sink, Told, told_text};
 use cqf_topology::{Domain, put_bridge, put_ends};
@@ -23,31 +24,44 @@ use cqf_units::Memory;
 use std::alloc::Global;
 use std::sync::Arc;
 
-/// The text of the gate list that each port of a domain has. The error is want of memory.
-pub fn port_text(alloc: Global, domain: &Domain) -> Result<Vec<u8>, Memory>
-    ensures { IfOk result (λ text. text.items ≡ port_list_text domain.now) }
+/// Puts an entry of a gate list: its states in two upper case hexadecimal digits, where bit k is class k, a space, and its interval in
+/// nanoseconds.
+pub fn put_gates<W: Sink>(press: &mut Press<'_, W>, states: u8, interval: u32)
+    ensures { Puts W.contents press.old press.new (line_of_gates (states, interval)) }
 {
-    write_tx(alloc, &port_list_of(domain))
+    press.put_byte(hex_digit_of(states / 16));
+    press.put_byte(hex_digit_of(states % 16));
+    press.put_byte(b' ');
+    press.put_number(interval);
 }
 
-/// Puts the line of a link, and a text behind it.
-fn put_port<W: Sink>(press: &mut Press<'_, W>, domain: &Domain, link: Link, port_text: &[u8])
-    ensures { Puts W.contents press.old press.new (codes "link " ++ (ends_of_link domain.now link ++ 10 ∷ port_text.now)) }
+/// Puts a gate list, an entry a line.
+fn put_list<W: Sink>(press: &mut Press<'_, W>, list: &TxList)
+    ensures { Puts W.contents press.old press.new (text_of_entries list.now) }
+{
+    for entry in list.entries() {
+        put_gates(press, entry.0, entry.1);
+        press.put_byte(b'\n');
+    }
+}
+
+/// Puts the line of a link, and a gate list behind it.
+fn put_port<W: Sink>(press: &mut Press<'_, W>, domain: &Domain, link: Link, list: &TxList)
+    ensures { Puts W.contents press.old press.new (codes "link " ++ (ends_of_link domain.now link ++ 10 ∷ text_of_entries list.now)) }
 {
     press.put(b"link ");
     put_ends(press, domain, link);
     press.put_byte(b'\n');
-    press.put(port_text);
+    put_list(press, list);
 }
 
-/// Puts each link's line, and the gate list of its port, by the text that each port has.
-fn put_ports<W: Sink>(press: &mut Press<'_, W>, domain: &Domain, port_text: &[u8])
-    requires { port_text.now ≡ port_list_text domain.now }
-    ensures { Puts W.contents press.old press.new (flat_map (text_of_link domain.now) domain.now.links) }
+/// Puts each link's line, and the gate list of its port.
+fn put_ports<W: Sink>(press: &mut Press<'_, W>, domain: &Domain)
+    ensures { Puts W.contents press.old press.new (texts_of_links domain.now) }
 {
     for link in 0..domain.links() {
-        let ends = domain.link(link);
-        put_port(press, domain, ends, port_text);
+        let list = port_list_of(domain, link);
+        put_port(press, domain, domain.link(link), &list);
     }
 }
 
@@ -86,13 +100,12 @@ fn put_rows<W: Sink>(press: &mut Press<'_, W>, plan: &Plan, rows: &[Row])
     }
 }
 
-/// Puts the configuration of a plan and the streams of some rows, as [`write_config`] gives that of a table, where the text is that
-/// of the gate list of each port ([`port_text`]). It asks for no memory.
-pub fn put_config<W: Sink>(press: &mut Press<'_, W>, plan: &Plan, rows: &[Row], port_text: &[u8])
-    requires { IsReadyConfig plan.now rows.now port_text.now }
+/// Puts the configuration of a plan and the streams of some rows, as [`write_config`] gives that of a table. It asks for no memory.
+pub fn put_config<W: Sink>(press: &mut Press<'_, W>, plan: &Plan, rows: &[Row])
+    requires { IsReadyConfig plan.now rows.now }
     ensures { Puts W.contents press.old press.new (config_text plan.now rows.now) }
 {
-    put_ports(press, plan.domain(), port_text);
+    put_ports(press, plan.domain());
     put_rows(press, plan, rows);
 }
 
@@ -116,11 +129,9 @@ pub fn write_config(alloc: Global, plan: &Plan, table: &Table) -> Result<Vec<u8>
     requires paced { AreOfGoodPaces table.now.rows }
     ensures { IfOk result (λ text. text.items ≡ config_text plan.now table.now.rows) }
 {
-    let domain = plan.domain();
-    let port = port_text(alloc, domain)?;
     let mut told = Told::new(Vec::new(alloc));
     let mut press = Press::new(&mut told, Sheet::new(alloc)?);
-    put_ports(&mut press, domain, port.as_slice());
+    put_ports(&mut press, plan.domain());
     put_shared(&mut press, plan, table.rows());
     let _told = press.close();
     told_text(told)

@@ -1,21 +1,23 @@
 //! The gate lists that a domain and a reservation determine (profile).
-ghost use Rattle.std.specs.Prelude.{◌≡◌};
-ghost use Rattle.cqf_model.specs.GateList.{port_list};
+ghost use Rattle.std.specs.Prelude.{◌≡◌, ◌<◌, length};
+ghost use Rattle.cqf_model.specs.Network.{compiled_lists};
 ghost use Rattle.cqf_compile.specs.BridgeGates.{gate_at};
 ghost use Rattle.cqf_admission.specs.Turns.{IsGoodPace};
 
 use crate::leaving::way_to;
+use cqf_admission::guard_on;
 use cqf_gates::{StreamList, TxList, compiled_list, gate_of_reservation};
 use cqf_model::Row;
 use cqf_topology::Domain;
 use cqf_units::Octets;
 
-/// The gate list of each port of the domain: class 7 is open in even cycles, class 6 in odd ones, classes 0 to 5 in both,
-/// and no class in the guard time.
-pub(crate) fn port_list_of(domain: &Domain) -> TxList
-    ensures { result ≡ port_list domain.now.cycle_time domain.now.guard }
+/// The gate list of the port of a link of the domain: class 7 is open in even cycles, class 6 in odd ones, classes 0 to 5 in both,
+/// and no class in the link's guard time.
+pub fn port_list_of(domain: &Domain, link: u16) -> TxList
+    requires { link < length domain.now.links }
+    ensures { result ≡ compiled_lists domain.now link }
 {
-    compiled_list(domain.cycle_time(), domain.guard())
+    compiled_list(domain.cycle_time(), guard_on(domain, link))
 }
 
 /// The gate of a stream at a bridge of its tree: in the cycles of its own, as many later as its frames are deep there on their way,

@@ -3,7 +3,8 @@
 //! - [`compile`] makes a [`Plan`] of a domain: the gate list of the port of each link.
 //! - [`gate_of`] gives the gate of a stream at a bridge of its tree. A stream that is offered in each cycle has the same at each; the gate of one
 //!   that pauses is as many cycles late as its frames are deep on their way there.
-//! - [`write_config`] writes both as one text, and [`put_config`] puts it on a press, by the text that each port has ([`port_text`]).
+//!   [`port_list_of`] gives the gate list of the port of a link.
+//! - [`write_config`] writes both as one text, and [`put_config`] puts it on a press; [`put_gates`] puts an entry of a gate list.
 //!   `bridges_of` has the bridges at which a stream has a gate, in its order. [`leaves`] tells whether a link leaves a bridge, and
 //!   [`first_hop`] by which hop a stream does so first.
 //! - [`written_gates_are_the_networks`] is a law, a function that does nothing: what is written for a stream at a bridge passes what the gate
@@ -42,8 +43,8 @@ mod leaving;
 mod plan;
 mod written_gates;
 
-pub use config::{port_text, put_config, write_config};
-pub use gates::gate_of;
+pub use config::{put_config, put_gates, write_config};
+pub use gates::{gate_of, port_list_of};
 pub use leaving::{first_hop, leaves};
 pub use plan::{Plan, compile};
 pub use written_gates::written_gates_are_the_networks;

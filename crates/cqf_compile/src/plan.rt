@@ -48,7 +48,7 @@ impl Plan {
     }
 
     /// The gate list of the link's port: class 7 is open in even cycles, class 6 in odd ones, classes 0 to 5 in both, and
-    /// no class is in the guard time, which ends each cycle (IEEE 802.1Q, Annex T; the guard time and the classes: profile).
+    /// no class is in the link's guard time, which ends each cycle (IEEE 802.1Q, Annex T; the guard time and the classes: profile).
     pub fn list(&self, link: u16) -> &TxList
         requires { link < length self.now.links }
         ensures { result.now ≡ compiled_lists self.now link }
@@ -62,8 +62,8 @@ pub fn compile(alloc: Global, domain: &Domain) -> Result<Plan, Memory>
     ensures { IfOk result (λ plan. plan ≡ domain.now) }
 {
     let mut lists = Vec::new(alloc);
-    for _link in 0..domain.links() {
-        lists.push(port_list_of(domain))?;
+    for link in 0..domain.links() {
+        lists.push(port_list_of(domain, link))?;
     }
     Ok(Plan {
         domain: domain.try_copy(alloc)?,

@@ -1,11 +1,10 @@
 -- Requests, rows and domains that compare as the same are the same.
-use Rattle.std.proofs.Common.{◌≡◌, ℕ, ◌+◌, ◌<◌, Bool, true, List, Some, [], ◌∷◌, map, nat_eq, take, drop, get_or, length, refl, ap, sym, ◌∙◌}
+use Rattle.std.proofs.Common.{◌≡◌, ℕ, ◌<◌, Bool, true, List, [], ◌∷◌, map, nat_eq, drop, get_or, length, refl, ap, sym, ◌∙◌}
 use Rattle.std.specs.Prelude.{String, Vec, option_map, slice_get, string_bytes}
 use Rattle.std.specs.Cmp.Lexicographic.{pointwise}
 use Rattle.std.specs.declared.alloc.Global.{Global}
 use Rattle.std.proofs.lemmas.Bool.{and_from, and_parts}
-use Rattle.std.proofs.lemmas.List.{take_more_same}
-use Rattle.std.proofs.lemmas.Option.{get_or_from_slice_get, same_Some, slice_get-map, slice_get_within}
+use Rattle.std.proofs.lemmas.Option.{same_Some, slice_get-map}
 use Rattle.std.proofs.lemmas.Slice.Eq.{bytes_eq-Decides}
 use Rattle.cqf_admission.specs.Branches.{branch_of, branches_of}
 use Rattle.cqf_desk.proofs.Rests.{is_at}
@@ -30,17 +29,6 @@ same_branches xs ys h =
     (λ (x : Vec (String Global) Global). branch_of x.items)
     (λ x y same. same_made (λ (s t : String Global). pointwise nat_eq (string_bytes s) (string_bytes t)) (λ (s : String Global). string_bytes s)
     (λ s t alike. (bytes_eq-Decides (string_bytes s) (string_bytes t)).0 alike) x.items y.items same) xs ys h
-
--- lists that are the same up to a place, and there, are so with one element more
-pub one_more_same : {X : Type 0} (xs ys : List X) (k : ℕ) (x y : X) → take k xs ≡ take k ys → slice_get xs k ≡ Some x → slice_get ys k ≡ Some y → x ≡ y →
-    take (k + 1) xs ≡ take (k + 1) ys
-one_more_same xs ys k x y so_far there also same =
-    take_more_same xs ys k x (slice_get_within xs k x there) (slice_get_within ys k y also) so_far
-    (get_or_from_slice_get xs k x x there ∙ same ∙ sym (get_or_from_slice_get ys k y x also))
-
--- elements at one place of the same lists are the same
-pub alike_in : {X : Type 0} (xs ys : List X) (k : ℕ) (x y : X) → slice_get xs k ≡ Some x → slice_get ys k ≡ Some y → xs ≡ ys → x ≡ y
-alike_in {X} xs ys k x y there also same = same_Some x y (sym there ∙ ap (λ (zs : List X). slice_get zs k) same ∙ also)
 
 -- lists of which the same is made compare as the same
 pub made_same : {X Y : Type 0} (E : X → X → Bool) (f : X → Y) → ((x y : X) → f x ≡ f y → E x y ≡ true) → (xs ys : List X) → map f xs

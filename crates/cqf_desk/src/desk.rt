@@ -10,8 +10,8 @@ use crate::closing::{are_its_seats, settle};
 use crate::faults::CloseFault;
 use crate::history::History;
 use crate::seats::{Seat, unasked};
-use cqf_admission::{Admission, Receipt, Refused, SealFault};
-use cqf_topology::{PacedRequest, Request};
+use cqf_admission::{Admission, Receipt, Refused, SealFault, SharedRequest};
+use cqf_topology::Request;
 use cqf_units::Memory;
 use std::alloc::Global;
 use std::marker::Model;
@@ -77,7 +77,7 @@ impl Desk {
         &self,
         rt: &R,
         seat: &mut Seat,
-        request: &Arc<PacedRequest>,
+        request: &Arc<SharedRequest>,
     ) -> Result<Receipt, Refused>
         ensures keeps { Keeps seat.old seat.new (Admits (asked_paced (arc_value request.now))) result }
         ensures answered { IsAnsweredSomewhere seat.old.number (Admits (asked_paced (arc_value request.now))) result }

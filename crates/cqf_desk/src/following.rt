@@ -8,7 +8,6 @@ ghost use Rattle.cqf_admission.specs.Tables.{CycleTable};
 ghost use Rattle.cqf_desk.specs.Following.{AreFollowed, AreFollowedWith, ClosesOwn, FollowsSeat, HasFollowed, HasTables, IsUpToSeal, StayFollowed};
 
 use crate::again::{Made, has_tables, make};
-use crate::domains::is_same_domain;
 use crate::same::are_same_entries;
 use cqf_admission::{Admission, Call, Entry, Reply, Table};
 use cqf_laws_history::{closed_tables_stay, state_follows_history};
@@ -65,7 +64,7 @@ fn are_up_to_seal(followed: &[Entry], rest: &[Entry], number: u16) -> bool
 pub(crate) fn entries_behind<'a>(opening: &Admission, held: &'a Admission) -> Option<&'a [Entry]>
     ensures { MatchOption result (HasOpening opening.now held.now → ⊥) (λ rest. FollowerHasGone opening.now held.now (map recorded_of rest.now)) }
 {
-    if !is_same_domain(held.domain(), opening.domain()) {
+    if !held.domain().is_same(opening.domain()) {
         return None;
     }
     let history = held.history();

@@ -17,7 +17,6 @@
 mod again;
 mod closing;
 mod desk;
-mod domains;
 mod faults;
 mod following;
 mod history;

@@ -5,7 +5,7 @@ ghost use Rattle.cqf_admission.specs.Admission.{act_of, recorded_of};
 ghost use Rattle.cqf_admission.specs.Asking.{asked_of, asked_paced};
 ghost use Rattle.cqf_admission.specs.Branches.{branches_of};
 
-use cqf_admission::{Call, Entry, Row, Table};
+use cqf_admission::{Call, Entry, Row, SharedRequest, Table};
 use cqf_model::Hop;
 use cqf_topology::{PacedRequest, Request};
 use std::sync::Arc;
@@ -37,17 +37,29 @@ fn is_same_request(one: &Request, other: &Request) -> bool
     are_same_paths(one.paths.as_slice(), other.paths.as_slice())
 }
 
+/// Whether two requests have the same branches. Where both were looked over, it takes little time.
+fn have_same_branches(one: &SharedRequest, other: &SharedRequest) -> bool
+    ensures { (result ≡ true) ↔ (branches_of one.now.paths.items ≡ branches_of other.now.paths.items) }
+{
+    if let Some(same) = one.has_same_branches(other) {
+        return same;
+    }
+    let (these, those) = (one.request(), other.request());
+    are_same_paths(these.paths.as_slice(), those.paths.as_slice())
+}
+
 /// Whether two requests with paces ask for the same.
-fn is_same_paced(one: &PacedRequest, other: &PacedRequest) -> bool
+fn is_same_shared(one: &SharedRequest, other: &SharedRequest) -> bool
     ensures { (result ≡ true) ↔ (asked_paced one.now ≡ asked_paced other.now) }
 {
-    if !is_same_text(one.name.as_str(), other.name.as_str()) {
+    let (this, that) = (one.request(), other.request());
+    if !is_same_text(this.name.as_str(), that.name.as_str()) {
         return false;
     }
-    if one.octets != other.octets || one.every != other.every || one.phase != other.phase {
+    if this.octets != that.octets || this.every != that.every || this.phase != that.phase {
         return false;
     }
-    are_same_paths(one.paths.as_slice(), other.paths.as_slice())
+    have_same_branches(one, other)
 }
 
 /// Whether a request asks for a stream of each cycle, and for that which another asks for.
@@ -69,9 +81,9 @@ fn is_same_call(one: &Call, other: &Call) -> bool
 {
     match (one, other) {
         (Call::Admit(asked), Call::Admit(again)) => is_same_request(asked, again),
-        (Call::AdmitPaced(asked), Call::AdmitPaced(again)) => is_same_paced(asked, again),
-        (Call::AdmitPaced(asked), Call::Admit(again)) => is_plainly(asked, again),
-        (Call::Admit(asked), Call::AdmitPaced(again)) => is_plainly(again, asked),
+        (Call::AdmitPaced(asked), Call::AdmitPaced(again)) => is_same_shared(asked, again),
+        (Call::AdmitPaced(asked), Call::Admit(again)) => is_plainly(asked.request(), again),
+        (Call::Admit(asked), Call::AdmitPaced(again)) => is_plainly(again.request(), asked),
         (Call::Withdraw(name), Call::Withdraw(again)) => is_same_text(
             name.as_str(),
             again.as_str(),

@@ -11,9 +11,10 @@ ghost use Rattle.cqf_model.specs.Limits.{most_calls};
 
 use crate::following::{Follower, catch_up, close_own, kept};
 use cqf_admission::{
-    Admission, Call, Entry, MOST_CALLS, MOST_SEALS, Receipt, Refused, Reply, SealFault, Table,
+    Admission, Call, Entry, MOST_CALLS, MOST_SEALS, Receipt, Refused, Reply, SealFault,
+    SharedRequest, Table,
 };
-use cqf_topology::{PacedRequest, Request};
+use cqf_topology::Request;
 use std::alloc::Global;
 use std::marker::Model;
 use std::sync::Arc;
@@ -125,8 +126,8 @@ impl Seat {
     pub(crate) fn admit_shared(
         &mut self,
         admission: &mut Admission,
-        asked: Arc<PacedRequest>,
-        request: &Arc<PacedRequest>,
+        asked: Arc<SharedRequest>,
+        request: &Arc<SharedRequest>,
     ) -> Result<Receipt, Refused>
         requires { arc_value asked ≡ arc_value request.now }
         ensures legal { IsLegalHistory admission.old.domain admission.old.entries }

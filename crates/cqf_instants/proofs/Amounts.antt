@@ -4,7 +4,7 @@ use Rattle.std.specs.Global.{Global}
 use Rattle.std.specs.declared.vec.Vec.{Vec}
 use Rattle.std.proofs.lemmas.List.{length-append}
 use Rattle.std.proofs.lemmas.List.Sorted.{length_permutation}
-use Rattle.cqf_units.specs.Timing.{wire_of}
+use Rattle.cqf_units.specs.Timing.{slot_of}
 use Rattle.cqf_model.specs.declared.frames.Started.{Started}
 use Rattle.cqf_instants.specs.declared.lanes.LaidHop.{LaidHop}
 use Rattle.cqf_instants.specs.declared.lanes.Waiting.{Waiting}
@@ -36,7 +36,7 @@ sums_rise f m n upto =
 one_each : (cycle link begins r t : ℕ) (xs : List Waiting) → length (in_pace (start_of_lane cycle link begins) r t xs) ≡ length xs
 one_each cycle link begins r t [] = refl
 one_each cycle link begins r t (x ∷ xs) =
-    let n = t + r * wire_of x.octets in
+    let n = t + slot_of x.octets r in
     omega (
       arith,
       length-append (start_of_lane cycle link begins t x) (in_pace (start_of_lane cycle link begins) r n xs),

@@ -13,7 +13,7 @@ use Rattle.cqf_instants.specs.Lanes.{caps_below, sum_below}
 use Rattle.cqf_instants.specs.Laws.{TheLaws}
 use Rattle.cqf_instants.specs.Meaning.{CanSend, Given, SendsAll, SomeCanSend}
 use Rattle.cqf_instants.specs.Progress.{IsBasisOf, IsUnderWay, SomeBasis, starts_of_cycle}
-use Rattle.cqf_instants.specs.Telling.{AreEmptyLanes, IsReadyFor, frames_at}
+use Rattle.cqf_instants.specs.Telling.{AreEmptyLanes, IsReadyFor, room_at}
 use Rattle.cqf_instants.proofs.Telling.{can_put, can_send, ready_first, ready_next, room_for_all, same_room, starts_are}
 
 -- the starts of the cycles told, and of one more
@@ -23,9 +23,10 @@ starts_more given cycle = ap (λ (n : ℕ). starts_of given.run.domain n given.n
 
 -- a pass before its first cycle
 pub first_way : TheLaws → (basis : Basis) → SomeBasis basis → (now next : Vec (Vec Waiting Global) Global) (starts : Vec Started Global) (frames : ℕ) →
-    AreEmptyLanes basis.links.items basis.cycle_time basis.guard (length basis.links.items) now.items →
-    AreEmptyLanes basis.links.items basis.cycle_time basis.guard (length basis.links.items) next.items →
-    frames ≡ sum_below (frames_at basis.links.items basis.cycle_time basis.guard) (length basis.links.items) → vec_capacity starts ≡ frames →
+    AreEmptyLanes basis.links.items basis.cycle_time basis.guard (length basis.offers.items) (length basis.links.items) now.items →
+    AreEmptyLanes basis.links.items basis.cycle_time basis.guard (length basis.offers.items) (length basis.links.items) next.items →
+    frames ≡ sum_below (room_at basis.links.items basis.cycle_time basis.guard (length basis.offers.items)) (length basis.links.items) →
+    vec_capacity starts ≡ frames →
     IsUnderWay basis 0 (record { now = now; next = next; from = 0; begins = 0; starts = starts })
 first_way laws basis some now next starts frames one two are cap = record {
   some = some;

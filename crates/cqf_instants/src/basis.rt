@@ -11,7 +11,7 @@ pub struct Basis {
     pub links: Vec<Link>,
     /// How long a cycle is, in nanoseconds.
     pub cycle_time: u32,
-    /// How long a link is kept idle before a cycle ends, in nanoseconds.
+    /// How long a link is kept idle before a cycle ends, where it has no guard time of its own, in nanoseconds.
     pub guard: u32,
     /// How many cycles are run.
     pub cycles: u32,

@@ -1,50 +1,56 @@
 //! Room for all frames that can wait.
-ghost use Rattle.std.specs.Prelude.{◌≡◌, ◌≤◌, ◌<◌, ◌^◌, IfOk, length};
-ghost use Rattle.cqf_units.specs.Timing.{nanos_of_octet};
+ghost use Rattle.std.specs.Prelude.{◌≡◌, ◌≤◌, ◌<◌, ◌^◌, IfOk, length, min};
+ghost use Rattle.cqf_units.specs.Timing.{ticks_of_octet};
 ghost use Rattle.cqf_instants.specs.Lanes.{sum_below};
-ghost use Rattle.cqf_instants.specs.Telling.{AreEmptyLanes, frames_at, frames_in};
+ghost use Rattle.cqf_model.specs.Domain.{guard_by};
+ghost use Rattle.cqf_instants.specs.Telling.{AreEmptyLanes, AreGuardsShort, frames_in, room_at};
 
 use crate::lanes::Waiting;
 use cqf_model::Link;
-use cqf_units::{Memory, octet_time};
+use cqf_units::{Memory, Nanos, budget_octets};
 use std::alloc::Global;
 
-/// How many frames of the shortest size have room in a link's budget.
-fn frames_in(link: &Link, cycle_time: u32, guard: u32) -> usize
-    requires { guard ≤ cycle_time }
-    ensures value { result ≡ frames_in cycle_time guard (nanos_of_octet link.now.rate) }
+/// How many frames a link sends in a cycle at most: as many of the shortest size as have room in its budget, and each of so many
+/// offers once.
+fn frames_in(link: &Link, cycle_time: u32, guard: u32, offers: usize) -> usize
+    requires { guard_by guard link.now ≤ cycle_time }
+    ensures value { result ≡ min (frames_in cycle_time (guard_by guard link.now) (ticks_of_octet link.now.rate)) offers }
     ensures few { result < 2 ^ 32 }
 {
-    let octets = u64::from(cycle_time - guard) / octet_time(link.rate);
-    (octets / 84) as usize
+    let own = link.guard_by(guard);
+    let (cycle_time, guard) = (Nanos(u64::from(cycle_time)), Nanos(u64::from(own)));
+    let octets = budget_octets(cycle_time, guard, link.rate);
+    let frames = (octets / 84) as usize;
+    frames.min(offers)
 }
 
-/// How many have room in the budgets of all links together.
-pub(crate) fn frames_in_all(links: &[Link], cycle_time: u32, guard: u32) -> usize
-    requires forth { guard ≤ cycle_time }
+/// How many all links send together.
+pub(crate) fn frames_in_all(links: &[Link], cycle_time: u32, guard: u32, offers: usize) -> usize
+    requires forth { AreGuardsShort links.now cycle_time guard }
     requires few { length links.now ≤ 4096 }
-    ensures { result ≡ sum_below (frames_at links.now cycle_time guard) (length links.now) }
+    ensures { result ≡ sum_below (room_at links.now cycle_time guard offers) (length links.now) }
 {
     let mut frames = 0;
     for place in 0..links.len() {
-        frames += frames_in(&links[place], cycle_time, guard);
+        frames += frames_in(&links[place], cycle_time, guard, offers);
     }
     frames
 }
 
-/// A lane for each link, with room for all that it can hold, and nothing in it.
+/// A lane for each link, with room for all that it can hold of so many offers, and nothing in it.
 pub(crate) fn empty_lanes(
     alloc: Global,
     links: &[Link],
     cycle_time: u32,
     guard: u32,
+    offers: usize,
 ) -> Result<Vec<Vec<Waiting>>, Memory>
-    requires { guard ≤ cycle_time }
-    ensures { IfOk result (λ lanes. AreEmptyLanes links.now cycle_time guard (length links.now) lanes.items) }
+    requires { AreGuardsShort links.now cycle_time guard }
+    ensures { IfOk result (λ lanes. AreEmptyLanes links.now cycle_time guard offers (length links.now) lanes.items) }
 {
     let mut lanes = Vec::new(alloc);
     for place in 0..links.len() {
-        let frames = frames_in(&links[place], cycle_time, guard);
+        let frames = frames_in(&links[place], cycle_time, guard, offers);
         lanes.push(Vec::with_capacity(alloc, frames)?)?;
     }
     Ok(lanes)

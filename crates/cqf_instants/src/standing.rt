@@ -47,9 +47,11 @@ pub(crate) fn stand_at_first(alloc: Global, basis: &Basis) -> Result<Standing, M
 {
     the_laws();
     let links = basis.links.as_slice();
-    let now = empty_lanes(alloc, links, basis.cycle_time, basis.guard)?;
-    let next = empty_lanes(alloc, links, basis.cycle_time, basis.guard)?;
-    let frames = frames_in_all(links, basis.cycle_time, basis.guard);
+    let entering = basis.offers.as_slice();
+    let offers = entering.len();
+    let now = empty_lanes(alloc, links, basis.cycle_time, basis.guard, offers)?;
+    let next = empty_lanes(alloc, links, basis.cycle_time, basis.guard, offers)?;
+    let frames = frames_in_all(links, basis.cycle_time, basis.guard, offers);
     let starts = Vec::with_capacity(alloc, frames)?;
     Ok(Standing {
         now,

@@ -11,7 +11,8 @@ use Rattle.cqf_model.specs.declared.frames.Offered.{Offered}
 use Rattle.cqf_model.specs.declared.frames.Reason.TheVariants.{Unknown}
 use Rattle.cqf_model.specs.declared.topology.Hop.{Hop}
 use Rattle.cqf_model.specs.declared.topology.Row.{Row}
-use Rattle.cqf_model.specs.Domain.{Domain, IsAccepted, octet_time_of}
+use Rattle.cqf_model.specs.Domain.{Domain, IsAccepted}
+use Rattle.cqf_model.proofs.Links.{budget_within}
 use Rattle.cqf_model.specs.History.{IsLegalHistory, Recorded, seals}
 use Rattle.cqf_model.specs.Run.{AreOffers}
 use Rattle.cqf_model.specs.Shift.{offer_cycle}
@@ -89,7 +90,7 @@ module _ (d : Domain) (entries : List Recorded) (rows : List Row) (offers : List
         arith,
         octets_same link cycle in_run,
         fit d entries offers cycles link cycle accepted legal offered ordered closed is_link in_run,
-        div-le_self (d.cycle_time - d.guard) (octet_time_of d link),
+        budget_within d link,
         accepted.cycle_most,
       )
 

@@ -11,12 +11,12 @@ use Rattle.cqf_units.proofs.Cycles.{cycle_from, cycle_upto}
 use Rattle.cqf_model.specs.declared.frames.Sent.{Sent}
 use Rattle.cqf_model.specs.declared.ports.Arrival.{Arrival}
 use Rattle.cqf_model.specs.declared.ports.Start.{Start}
-use Rattle.cqf_model.specs.Domain.{Domain, IsAccepted, octet_time_of}
-use Rattle.cqf_model.specs.GateList.{port_list}
+use Rattle.cqf_model.specs.Domain.{Domain, IsAccepted, guard_of, octet_time_of}
 use Rattle.cqf_model.specs.Network.{QueuedFrame, Sends, arrivals_of, backed_by, backed_of, compiled_lists, no_frame, sent_by, sent_of}
 use Rattle.cqf_model.specs.Port.{AreLegal, PortRules, Transmission, class_of, no_arrival, octets_of}
 use Rattle.cqf_model.specs.Turn.{is_streams}
-use Rattle.cqf_model.proofs.Links.{octet_positive}
+use Rattle.cqf_model.proofs.Legal.{ends_later}
+use Rattle.cqf_model.proofs.Links.{delay_within, guard_within, octet_positive}
 use Rattle.cqf_lists.proofs.Filters.{filter-map, filter_alike}
 use Rattle.cqf_lists.proofs.Kept.{flat_none}
 use Rattle.cqf_lists.proofs.Members.{contains_filter, contains_from_filter}
@@ -113,7 +113,7 @@ module _ (law : PortListSends) (d : Domain) (end l : ℕ) (queued : List QueuedF
     (sends : Sends d (compiled_lists d l) end l queued sents backed) where
   -- the port's rules
   abbrev rules : PortRules
-  rules = record { entries = port_list d.cycle_time d.guard; octet_time = octet_time_of d l }
+  rules = record { entries = compiled_lists d l; octet_time = octet_time_of d l }
 
   -- what comes to it
   abbrev mixed : List Arrival
@@ -220,8 +220,10 @@ module _ (law : PortListSends) (d : Domain) (end l : ℕ) (queued : List QueuedF
   class_sent : (p s : ℕ) → Contains starts (p, s) → 6 ≤ class_of mixed p → class_of mixed p ≡ open_class (s / d.cycle_time)
   class_sent p s c high =
       let some_cycle : 0 < d.cycle_time = omega (arith, accepted.cycle_least) in
-      let sent = (law d.cycle_time d.guard (s / d.cycle_time) s (ending_of s (octets_of mixed p) (octet_time_of d l)) (class_of mixed p) accepted.guard_some
-      accepted.guard_short (cycle_from d.cycle_time s, cycle_upto d.cycle_time s some_cycle) (omega (arith, octet_positive d l is_link))).0
+      let some_guard : 0 < guard_of d l = omega (arith, delay_within d l accepted is_link) in
+      let sent = (law d.cycle_time (guard_of d l) (s / d.cycle_time) s (ending_of s (octets_of mixed p) (octet_time_of d l)) (class_of mixed p) some_guard
+      (guard_within d l accepted) (cycle_from d.cycle_time s, cycle_upto d.cycle_time s some_cycle)
+      (ends_later s (octets_of mixed p) (octet_time_of d l) (octet_positive d l is_link))).0
       (sends.legal.eligible p s c) in
       elim (sent.0) [
         | inl is ↦ is

@@ -9,7 +9,7 @@ use Rattle.cqf_lists.proofs.Members.{contains_here}
 use Rattle.cqf_model.specs.declared.ports.Arrival.{Arrival}
 use Rattle.cqf_model.specs.declared.ports.Start.{Start}
 use Rattle.cqf_model.specs.Domain.{Domain, octet_time_of}
-use Rattle.cqf_model.specs.GateList.{port_list}
+use Rattle.cqf_model.specs.Network.{compiled_lists}
 use Rattle.cqf_model.specs.Port.{AreLegal, Transmission}
 use Rattle.cqf_port.specs.PortState.{start_of}
 use Rattle.cqf_tape.specs.declared.tape.Mark.{Mark}
@@ -72,7 +72,7 @@ nothing_taken d end frames tape none = record {
 
     -- where nothing comes no start is legal
     no_starts : (starts : List Transmission) →
-        AreLegal (record { entries = port_list d.cycle_time d.guard; octet_time = octet_time_of d tape.link }) [] end starts → starts ≡ []
+        AreLegal (record { entries = compiled_lists d tape.link; octet_time = octet_time_of d tape.link }) [] end starts → starts ≡ []
     no_starts [] legal = refl
     no_starts (x ∷ starts) legal = absurd (omega (arith, (legal.first x.0 x.1 (contains_here x starts)).waits.inside))
 

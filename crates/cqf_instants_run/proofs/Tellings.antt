@@ -12,14 +12,15 @@ use Rattle.std.proofs.lemmas.List.{get_or-map, length-append, map-append, take_m
 use Rattle.std.proofs.lemmas.List.Elements.{filter-append}
 use Rattle.cqf_lists.specs.Lists.{each_below}
 use Rattle.cqf_lists.proofs.Members.{all_from_members, contains_from_map}
-use Rattle.cqf_units.specs.Timing.{cycle_at, nanos_of_octet}
+use Rattle.cqf_units.specs.Timing.{cycle_at, ticks_of_octet}
 use Rattle.cqf_units.proofs.Cycles.{cycles_ordered}
 use Rattle.cqf_model.specs.declared.frames.Started.{Started}
 use Rattle.cqf_model.specs.declared.ports.Arrival.{Arrival}
 use Rattle.cqf_model.specs.declared.ports.Start.{Start}
 use Rattle.cqf_model.specs.declared.topology.Link.{Link}
-use Rattle.cqf_model.specs.Domain.{Domain, octet_time_of}
+use Rattle.cqf_model.specs.Domain.{Domain, IsAccepted, guard_by, guard_of, octet_time_of}
 use Rattle.cqf_model.specs.GateList.{Entry, port_list}
+use Rattle.cqf_model.specs.Network.{compiled_lists}
 use Rattle.cqf_model.specs.Port.{PortRules, Transmission}
 use Rattle.cqf_port.specs.PortState.{Advances, AreOnly, AreTaken, IsPort, PortState, rules_of, start_of}
 use Rattle.cqf_lists.specs.ByNumber.{lists_of}
@@ -48,14 +49,29 @@ module _ {X Y : Type 0} (f : X → Y) (keep : X → Bool) (xs : List X) (k : ℕ
 
 -- the rules of a link's port
 abbrev rules_on : Domain → ℕ → PortRules
-rules_on d l = record { entries = port_list d.cycle_time d.guard; octet_time = octet_time_of d l }
+rules_on d l = record { entries = compiled_lists d l; octet_time = octet_time_of d l }
 
 -- are those of its list and rate
-rules_same : (d : Domain) (l : ℕ) (list : List Entry) (link : Link) → list ≡ port_list d.cycle_time d.guard → slice_get d.links l ≡ Some link →
+rules_same : (d : Domain) (l : ℕ) (list : List Entry) (link : Link) → list ≡ compiled_lists d l → slice_get d.links l ≡ Some link →
     rules_of list link.rate ≡ rules_on d l
 rules_same d l list link is there =
-    let octet : nanos_of_octet link.rate ≡ octet_time_of d l = ap (λ o. option_map_or (λ (x : Link). nanos_of_octet x.rate) o 0) (sym there) in
+    let octet : ticks_of_octet link.rate ≡ octet_time_of d l = ap (λ o. option_map_or (λ (x : Link). ticks_of_octet x.rate) o 0) (sym there) in
     λ i. record { entries = is i; octet_time = octet i }
+
+-- the guard time of a link is some time within the cycle, and its list goes by it
+pub own_guard : (d : Domain) (l : ℕ) (link : Link) (guard own : ℕ) → IsAccepted d → slice_get d.links l ≡ Some link → guard ≡ d.guard →
+    own ≡ guard_by guard link → (0 < own) × (own < d.cycle_time)
+own_guard d l link guard own accepted there is told =
+    let good = accepted.links_good l link there in
+    let same : own ≡ guard_by d.guard link = told ∙ ap (λ (g : ℕ). guard_by g link) is in
+    (omega (arith, same, good.delay_short), omega (arith, same, good.guard_short))
+
+pub own_list : (d : Domain) (l : ℕ) (link : Link) (cycle_time guard own : ℕ) (list : List Entry) → slice_get d.links l ≡ Some link → cycle_time ≡ d.cycle_time →
+    guard ≡ d.guard → own ≡ guard_by guard link → list ≡ port_list cycle_time own → list ≡ compiled_lists d l
+own_list d l link cycle_time guard own list there time is told listed =
+    let same : own ≡ guard_of d l =
+    told ∙ ap (λ (g : ℕ). guard_by g link) is ∙ ap (λ (o : Option Link). option_map_or (guard_by d.guard) o d.guard) (sym there) in
+    listed ∙ (λ i. port_list (time i) (same i))
 
 -- a port that has taken arrivals and is at instant 0
 abbrev pub fed_port : PortRules → List Arrival → PortState
@@ -89,7 +105,7 @@ module _ (d : Domain) (end l : ℕ) (arrivals : List Arrival) (after : PortState
 
 -- the same of the port that was made
 pub hands : (d : Domain) (end l : ℕ) (arrivals : List Arrival) (list : List Entry) (link : Link) (before after : PortState) (given made : List Start) →
-    list ≡ port_list d.cycle_time d.guard → slice_get d.links l ≡ Some link → before ≡ fed_port (rules_of list link.rate) arrivals → given ≡ [] →
+    list ≡ compiled_lists d l → slice_get d.links l ≡ Some link → before ≡ fed_port (rules_of list link.rate) arrivals → given ≡ [] →
     IsPort after → AreOnly after → (before.reached < end → Advances before after end given made) →
     (end ≤ before.reached → (after ≡ before) × (made ≡ given)) → Hands d end l arrivals made
 hands d end l arrivals list link before after given made is there new none facts only on past =

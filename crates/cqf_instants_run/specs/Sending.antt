@@ -8,7 +8,6 @@ use Rattle.cqf_model.specs.declared.ports.Arrival.{Arrival}
 use Rattle.cqf_model.specs.declared.ports.Start.{Start}
 use Rattle.cqf_model.specs.Book.{started_backed}
 use Rattle.cqf_model.specs.Domain.{Domain, IsAccepted, octet_time_of}
-use Rattle.cqf_model.specs.GateList.{port_list}
 use Rattle.cqf_model.specs.Network.{QueuedFrame, Sends, compiled_lists}
 use Rattle.cqf_model.specs.Port.{AreLegal, Transmission}
 use Rattle.cqf_laws_cycle.specs.Beside.{IsToldByClass}
@@ -22,15 +21,15 @@ is_low start = nat_lt start.class 6
 -- the background frames that a port of a link under the compiled gate list starts, up to an end, of what it is given
 pub record Backs (d : Domain) (end l : ℕ) (arrivals : List Arrival) (backed : List Start) : Type 0 where
   pub starts : List Transmission
-  pub legal : AreLegal (record { entries = port_list d.cycle_time d.guard; octet_time = octet_time_of d l }) arrivals end starts
+  pub legal : AreLegal (record { entries = compiled_lists d l; octet_time = octet_time_of d l }) arrivals end starts
   pub are_backed : backed ≡ filter is_low (map (start_of arrivals) starts)
 
 -- a port hands out, up to an end, starts that are legal for what it is given, and no others are
 pub record Hands (d : Domain) (end l : ℕ) (arrivals : List Arrival) (made : List Start) : Type 0 where
   pub starts : List Transmission
-  pub legal : AreLegal (record { entries = port_list d.cycle_time d.guard; octet_time = octet_time_of d l }) arrivals end starts
+  pub legal : AreLegal (record { entries = compiled_lists d l; octet_time = octet_time_of d l }) arrivals end starts
   pub only : (others : List Transmission) →
-      AreLegal (record { entries = port_list d.cycle_time d.guard; octet_time = octet_time_of d l }) arrivals end others → others ≡ starts
+      AreLegal (record { entries = compiled_lists d l; octet_time = octet_time_of d l }) arrivals end others → others ≡ starts
   pub are : made ≡ map (start_of arrivals) starts
 
 -- a port starts the same background frames where the streams' frames come to it when they start, and where one has no background

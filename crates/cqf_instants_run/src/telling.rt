@@ -1,11 +1,12 @@
 //! What the ports start of background frames.
 ghost use Rattle.std.specs.Prelude.{◌≡◌, ◌++◌, ◌^◌, ◌<◌, ◌≤◌, All, IfOk, OnOk, filter, length, map, slice_index_or, ℕ, []};
 ghost use Rattle.cqf_units.specs.Timing.{cycle_at};
+ghost use Rattle.cqf_model.specs.Network.{compiled_lists};
 ghost use Rattle.cqf_port.specs.PortState.{AreTaken};
 ghost use Rattle.cqf_lists.specs.ByNumber.{lists_of};
 ghost use Rattle.cqf_instants_run.specs.Sending.{Hands, TellsLink, TellsLinks, is_low, told};
 
-use cqf_gates::compiled_list;
+use cqf_gates::{TxList, compiled_list};
 use cqf_model::{Arrival, Start, Started};
 use cqf_port::Port;
 use cqf_topology::Domain;
@@ -56,6 +57,16 @@ fn tell_starts(
     Ok(())
 }
 
+/// The gate list of the port of a link, by its guard time.
+fn port_list_of(domain: &Domain, link: u16) -> TxList
+    requires { link < length domain.now.links }
+    ensures { result ≡ compiled_lists domain.now link }
+{
+    let (cycle_time, guard) = (domain.cycle_time(), domain.guard());
+    let own = domain.link(link).guard_by(guard.0 as u32);
+    compiled_list(cycle_time, Nanos(u64::from(own)))
+}
+
 /// What the port of a link starts up to an end of what it is given.
 pub(crate) fn starts_of_port(
     alloc: Global,
@@ -69,7 +80,7 @@ pub(crate) fn starts_of_port(
     requires taken { AreTaken arrivals.items }
     ensures { IfOk result (λ made. Hands domain.now end.0 link arrivals.items made.items) }
 {
-    let list = compiled_list(domain.cycle_time(), domain.guard());
+    let list = port_list_of(domain, link);
     let mut port = Port::with_arrivals(alloc, list, domain.link(link).rate, arrivals);
     let mut made = Vec::new(alloc);
     port.advance(end, &mut made)?;

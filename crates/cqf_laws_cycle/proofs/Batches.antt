@@ -8,20 +8,21 @@ use Rattle.cqf_lists.proofs.Filters.{filter_weaker}
 use Rattle.cqf_lists.proofs.Made.{pairs_of_flat}
 use Rattle.cqf_lists.proofs.Members.{contains_from_filter, contains_from_flat, contains_none}
 use Rattle.cqf_lists.proofs.Pairs.{pairs_none}
-use Rattle.cqf_units.specs.Timing.{ending_of}
+use Rattle.cqf_units.specs.Timing.{ending_of, idle_after, slot_of, time_of}
+use Rattle.cqf_units.proofs.Times.{slot_parts, time_some}
 use Rattle.cqf_units.proofs.Cycles.{cycle_from, cycle_is, cycle_upto}
 use Rattle.cqf_model.specs.declared.frames.Sent.{Sent}
 use Rattle.cqf_model.specs.declared.ports.Arrival.{Arrival}
 use Rattle.cqf_model.specs.declared.ports.Start.{Start}
 use Rattle.cqf_model.specs.Book.{batch}
-use Rattle.cqf_model.specs.Domain.{Domain, cycle_of, delay_of, enters, octet_time_of}
+use Rattle.cqf_model.specs.Domain.{Domain, cycle_of, delay_of, enters, guard_of, octet_time_of}
 use Rattle.cqf_model.specs.GateList.{Entry}
 use Rattle.cqf_model.specs.Network.{IsLegalNetwork, Network, QueuedFrame, Sends, arrivals_of, comes_before, no_frame, sent_of}
 use Rattle.cqf_model.specs.Port.{Transmission, class_of, no_arrival, octets_of}
 use Rattle.cqf_model.specs.Run.{Run}
 use Rattle.cqf_model.specs.Traffic.{Carried, Received, offered_at, received_at, relayed_at, sent_received, whole_at}
 use Rattle.cqf_model.proofs.Legal.{ends_later}
-use Rattle.cqf_model.proofs.Links.{delay_within, octet_positive}
+use Rattle.cqf_model.proofs.Links.{delay_within, guard_within, octet_positive}
 use Rattle.cqf_model.proofs.Sending.{sent_of_octets, sent_of_once, sent_of_when}
 use Rattle.cqf_laws_cycle.specs.Compiled.{PortListSends}
 use Rattle.cqf_laws_cycle.specs.BridgeCycle.{IsCompiledNetwork, received_in}
@@ -51,14 +52,14 @@ module _ (run : Run) (cycles : ℕ) (net : Network) (compiled : IsCompiledNetwor
       let same_start : start ≡ sent.start.0 = sym (sent_of_when queued w.0 sent w.2) in
       let same_octets : octets ≡ sent.octets = octets_sent queued place (s.legal.first place start w.1).waits.inside
       ∙ sym (sent_of_octets queued w.0 sent w.2) in
-      let same_time : (octets + 8) * octet_time ≡ (sent.octets + 8) * octet_time = ap (λ (n : ℕ). (n + 8) * octet_time) same_octets in
-      let ended = ((sends d.cycle_time d.guard cycle start (ending_of start octets octet_time)
-      (class_of (arrivals_of queued) place) compiled.accepted.guard_some compiled.accepted.guard_short
+      let same_time : time_of (octets + 8) octet_time ≡ time_of (sent.octets + 8) octet_time = ap (λ (n : ℕ). time_of (n + 8) octet_time) same_octets in
+      let delay = delay_within d m compiled.accepted in_links in
+      let ended = ((sends d.cycle_time (guard_of d m) cycle start (ending_of start octets octet_time)
+      (class_of (arrivals_of queued) place) (omega (arith, delay)) (guard_within d m compiled.accepted)
       (cycle_from d.cycle_time start, cycle_upto d.cycle_time start some) (ends_later start octets octet_time (octet_positive d m in_links))).0
       (s.legal.eligible place start w.1)).1 in
-      let delay = delay_within d m compiled.accepted in_links in
       cycle_is d.cycle_time cycle (whole_at d m sent) (omega (arith, cycle_from d.cycle_time start, same_start))
-      (omega (arith, ended, same_start, same_time, delay, compiled.accepted.guard_short))
+      (omega (arith, ended, same_start, same_time, delay, guard_within d m compiled.accepted))
       ∙ ap (cycle_of d) same_start
 
   -- so is what any link sends
@@ -107,8 +108,8 @@ module _ (run : Run) (cycles : ℕ) (net : Network) (compiled : IsCompiledNetwor
         (same_below (relayed_at d batches bridge t) (relayed_at d net.carried bridge t) (length d.links) (λ m h. brings_at t m here)))
 
 -- a later transmission is whole later
-later_whole : (s t r o p delay : ℕ) → 0 < r → s + (o + 20) * r ≤ t → s + (o + 8) * r + delay < t + (p + 8) * r + delay
-later_whole s t r o p delay positive free = grind arith
+later_whole : (s t r o p delay : ℕ) → 0 < r → idle_after s o r ≤ t → ending_of s o r + delay < ending_of t p r + delay
+later_whole s t r o p delay positive free = omega (arith, free, slot_parts o r, time_some (p + 8) r (omega arith) positive)
 
 -- the frames of a link are whole in the order in which they were sent
 link_in_order : (d : Domain) (entries : List Entry) (end m : ℕ) (queued : List QueuedFrame) (sents : List Sent) (backed : List Start) → 0 < octet_time_of d m →
@@ -123,7 +124,7 @@ link_in_order d entries end m queued sents backed positive s =
     ∙ sym (sent_of_octets queued x u of_x) in
     let began : u.start.0 ≡ x.1 = sent_of_when queued x u of_x in
     let begins : v.start.0 ≡ y.1 = sent_of_when queued y v of_y in
-    later_whole u.start.0 v.start.0 r u.octets v.octets (delay_of d m) positive (omega (arith, free, began, begins, ap (λ (n : ℕ). (n + 20) * r) same)))
+    later_whole u.start.0 v.start.0 r u.octets v.octets (delay_of d m) positive (omega (arith, free, began, begins, ap (λ (n : ℕ). slot_of n r) same)))
     s.legal.in_order)
 
 -- so are those of each link of a legal network

@@ -4,6 +4,7 @@ use Rattle.std.proofs.Common.{le_trans}
 use Rattle.std.proofs.lemmas.Bool.{cases_eq, cases_lt, cases_order, leb-true}
 use Rattle.std.proofs.lemmas.List.Kept.{AllPairs-filter}
 use Rattle.cqf_units.specs.Timing.{ending_of, idle_after}
+use Rattle.cqf_model.proofs.Legal.{ends_later}
 use Rattle.cqf_model.specs.declared.ports.Arrival.{Arrival}
 use Rattle.cqf_model.specs.GateList.{IsOpenThrough, port_list}
 use Rattle.cqf_model.specs.Port.{IsEligible, IsFirst, IsIdle, PortRules, Transmission, Waits, class_of, instant_of, no_arrival, octets_of}
@@ -132,7 +133,7 @@ module _ (n g r : ℕ) (mixed alone : List Arrival) (place_of : ℕ → ℕ) (cy
   came_before p t streams waits eligible =
       let some_cycle : 0 < n = omega (arith, port.guard_short) in
       let sent = (port_list_sends_until n g (t / n) t (ending_of t (octets_of mixed p) r) (class_of mixed p) port.some_guard port.guard_short
-      (cycle_from n t, cycle_upto n t some_cycle) (omega (arith, port.some_octet))).0 eligible in
+      (cycle_from n t, cycle_upto n t some_cycle) (ends_later t (octets_of mixed p) r port.some_octet)).0 eligible in
       let no_later = cycles_ordered n (instant_of mixed p) t some_cycle waits.come in
       elim (sent.0) [
         | inr low ↦ absurd (omega (arith, low, streams))

@@ -5,13 +5,15 @@ use Rattle.std.proofs.Common.{le-div_iff_mul-le, eq-eqb, ne_eqb, add-one, take-t
 use Rattle.std.proofs.lemmas.Bool.{cases_eq, cases_lt, cases_order, cond-true, cond-false, lt-leb}
 use Rattle.std.proofs.lemmas.List.{get_or_default}
 use Rattle.std.proofs.lemmas.List.Sums.{sum_by_more, sum_by_more_le, sum_by-take-le}
-use Rattle.cqf_units.specs.Timing.{wire_of, ending_of, idle_after}
+use Rattle.cqf_units.specs.Timing.{slot_of, ending_of, idle_after}
 use Rattle.cqf_model.specs.declared.ports.Arrival.{Arrival}
 use Rattle.cqf_model.specs.GateList.{port_list}
 use Rattle.cqf_model.specs.Port.{Transmission, Waits, IsFirst, IsIdle, IsEligible, no_arrival, instant_of, class_of, octets_of}
-use Rattle.cqf_model.specs.Turn.{due, load, wire_in}
+use Rattle.cqf_model.specs.Turn.{busy, due, slot_in}
 use Rattle.cqf_laws_cycle.specs.Compiled.{given_class, open_class, guard_from, IsIn, IsSentIn}
 use Rattle.cqf_laws_cycle.specs.OnePort.{PortIsOneCycleLate, BackgroundKeepsBehind, IsWithinBudget, AreSent, AreDue, KeepsBehind, StreamsAt}
+use Rattle.cqf_units.proofs.Times.{slot_joins, slot_parts, slot_some}
+use Rattle.cqf_model.proofs.Legal.{ends_later}
 use Rattle.cqf_units.proofs.Cycles.{cycle_below, cycle_from, cycle_is, cycle_upto, cycles_ordered, from_next}
 use Rattle.cqf_laws_cycle.proofs.GateLists.{classes_take_turns, port_list_sends_until, sends_no_own}
 
@@ -34,23 +36,22 @@ one_at starts p q s in_order first second = elim (cases_order first.0 second.0) 
     clash ea eb l = omega (arith, ea, eb, l)
 
 -- a frame that starts when it is due fills the cycle up to the load with it
-filled : (n r c before with_it wire s first : ℕ) → with_it ≡ before + wire → first ≡ (c + 1) * n + r * before → first + wire * r ≤ s →
-    (c + 1) * n + r * with_it ≤ s
-filled n r c before with_it wire s first total is_due free = omega (arith, ap (λ z. r * z) total, is_due, free)
+filled : (n c before with_it wire s first : ℕ) → with_it ≡ before + wire → first ≡ (c + 1) * n + before → first + wire ≤ s → (c + 1) * n + with_it ≤ s
+filled n c before with_it wire s first total is_due free = omega (arith, total, is_due, free)
 
 -- one that adds nothing leaves it as it was
-unfilled : (n r c before with_it s : ℕ) → with_it ≡ before → (c + 1) * n + r * before ≤ s → (c + 1) * n + r * with_it ≤ s
-unfilled n r c before with_it s same so_far = subst (λ z. (c + 1) * n + r * z ≤ s) (sym same) so_far
+unfilled : (n c before with_it s : ℕ) → with_it ≡ before → (c + 1) * n + before ≤ s → (c + 1) * n + with_it ≤ s
+unfilled n c before with_it s same so_far = subst (λ z. (c + 1) * n + z ≤ s) (sym same) so_far
 
 module _ (n g r : ℕ) (arrivals : List Arrival) (cycles upto : ℕ) (starts : List Transmission)
     (port : IsWithinBudget n g r arrivals upto) (legal : AreSent n g r arrivals cycles starts) where
-  -- the cycle of a place, its wire octets, and when it is due
+  -- the cycle of a place
   abbrev cyc : ℕ → ℕ
   cyc p = instant_of arrivals p / n
 
-  -- the wire octets of a place
+  -- its slot
   abbrev wires : ℕ → ℕ
-  wires p = wire_of (octets_of arrivals p)
+  wires p = slot_of (octets_of arrivals p) r
 
   -- when a place is due
   abbrev due_at : ℕ → ℕ
@@ -70,16 +71,16 @@ module _ (n g r : ℕ) (arrivals : List Arrival) (cycles upto : ℕ) (starts : L
       cycles_ordered n (instant_of arrivals p) (instant_of arrivals q) some_cycle (port.come.in_order p q no_arrival order inside p_streams q_streams)
 
   -- what a stream's place adds to the load of its cycle
-  own_wire : (p c : ℕ) → Streams p → cyc p ≡ c → wire_in n c (get_or arrivals p no_arrival) ≡ wires p
+  own_wire : (p c : ℕ) → Streams p → cyc p ≡ c → slot_in r n c (get_or arrivals p no_arrival) ≡ wires p
   own_wire p c streams same = cond-true (cyc p == c) (if leb 6 (class_of arrivals p) then wires p else 0) 0 (eq-eqb (cyc p) c same)
       ∙ cond-true (leb 6 (class_of arrivals p)) (wires p) 0 (le-leb 6 (class_of arrivals p) streams)
 
   -- a place of another cycle adds nothing
-  other_wire : (p c : ℕ) → (cyc p ≡ c → ⊥) → wire_in n c (get_or arrivals p no_arrival) ≡ 0
+  other_wire : (p c : ℕ) → (cyc p ≡ c → ⊥) → slot_in r n c (get_or arrivals p no_arrival) ≡ 0
   other_wire p c differ = cond-false (cyc p == c) (if leb 6 (class_of arrivals p) then wires p else 0) 0 (ne_eqb (cyc p) c differ)
 
   -- and a background frame adds nothing to any cycle
-  background_wire : (p c : ℕ) → class_of arrivals p < 6 → wire_in n c (get_or arrivals p no_arrival) ≡ 0
+  background_wire : (p c : ℕ) → class_of arrivals p < 6 → slot_in r n c (get_or arrivals p no_arrival) ≡ 0
   background_wire p c low = nothing (cyc p == c) (leb 6 (class_of arrivals p)) (wires p) (lt-leb 6 (class_of arrivals p) low)
     where
       nothing : (own counts : Bool) (wire : ℕ) → counts ≡ false → (if own then (if counts then wire else 0) else 0) ≡ 0
@@ -87,17 +88,17 @@ module _ (n g r : ℕ) (arrivals : List Arrival) (cycles upto : ℕ) (starts : L
       nothing false counts wire is_false = refl
 
   -- one place more
-  load_more : (k c : ℕ) → k < length arrivals → load n c (take (suc k) arrivals) ≡ load n c (take k arrivals) + wire_in n c (get_or arrivals k no_arrival)
-  load_more k c inside = ap (λ z. load n c (take z arrivals)) (sym (add-one k)) ∙ sum_by_more (wire_in n c) arrivals k no_arrival inside
+  load_more : (k c : ℕ) → k < length arrivals → busy r n c (take (suc k) arrivals) ≡ busy r n c (take k arrivals) + slot_in r n c (get_or arrivals k no_arrival)
+  load_more k c inside = ap (λ z. busy r n c (take z arrivals)) (sym (add-one k)) ∙ sum_by_more (slot_in r n c) arrivals k no_arrival inside
 
   -- with it, the load before it is within the whole load
-  own_part : (p : ℕ) → Streams p → p < length arrivals → load n (cyc p) (take p arrivals) + wires p ≤ load n (cyc p) arrivals
-  own_part p streams inside = omega (arith, sum_by_more_le (wire_in n (cyc p)) arrivals p no_arrival inside, own_wire p (cyc p) streams refl)
+  own_part : (p : ℕ) → Streams p → p < length arrivals → busy r n (cyc p) (take p arrivals) + wires p ≤ busy r n (cyc p) arrivals
+  own_part p streams inside = omega (arith, sum_by_more_le (slot_in r n (cyc p)) arrivals p no_arrival inside, own_wire p (cyc p) streams refl)
 
   -- and within the load before a later place of its cycle
-  earlier_part : (q p : ℕ) → Streams q → q < p → p < length arrivals → load n (cyc q) (take q arrivals) + wires q ≤ load n (cyc q) (take p arrivals)
+  earlier_part : (q p : ℕ) → Streams q → q < p → p < length arrivals → busy r n (cyc q) (take q arrivals) + wires q ≤ busy r n (cyc q) (take p arrivals)
   earlier_part q p streams order inside =
-      let f = wire_in n (cyc q) in
+      let f = slot_in r n (cyc q) in
       let more = sum_by_more f arrivals q no_arrival (omega (arith, order, inside)) in
       let whole : sum_by f (take (q + 1) (take p arrivals)) ≤ sum_by f (take p arrivals) = sum_by-take-le f (take p arrivals) (q + 1) in
       let part : sum_by f (take (q + 1) (take p arrivals)) ≡ sum_by f (take (q + 1) arrivals) =
@@ -105,12 +106,9 @@ module _ (n g r : ℕ) (arrivals : List Arrival) (cycles upto : ℕ) (starts : L
       omega (arith, more, whole, part, own_wire q (cyc q) streams refl)
 
   -- the gap behind it is over by the guard time, and it is due in the next cycle
-  over : (p : ℕ) → p < length arrivals → Streams p → cyc p < upto → due_at p + wires p * r ≤ guard_from n g (cyc p + 1)
+  over : (p : ℕ) → p < length arrivals → Streams p → cyc p < upto → due_at p + wires p ≤ guard_from n g (cyc p + 1)
   over p inside streams good =
-      let fits : load n (cyc p) arrivals * r ≤ n - g =
-      (le-div_iff_mul-le {k = r} {x = load n (cyc p) arrivals} {y = n - g} port.some_octet).0 (port.loads (cyc p) good) in
-      let part : (load n (cyc p) (take p arrivals) + wires p) * r ≤ load n (cyc p) arrivals * r = mul-le-mul_right r (own_part p streams inside) in
-      omega (arith, fits, part)
+      omega (arith, port.loads (cyc p) good, own_part p streams inside)
 
   -- its due instant is in the next cycle
   due_in : (p : ℕ) → p < length arrivals → Streams p → cyc p < upto → IsIn n (cyc p + 1) (due_at p)
@@ -123,11 +121,11 @@ module _ (n g r : ℕ) (arrivals : List Arrival) (cycles upto : ℕ) (starts : L
   -- what starts in a cycle has an open class, and is sent before the guard time
   sent_in : (p s : ℕ) → Contains starts (p, s) → IsSentIn (s / n) (class_of arrivals p) × (ending_of s (octets_of arrivals p) r ≤ guard_from n g (s / n))
   sent_in p s c = (port_list_sends_until n g (s / n) s (ending_of s (octets_of arrivals p) r) (class_of arrivals p) port.some_guard port.guard_short
-      (cycle_from n s, cycle_upto n s some_cycle) (omega (arith, port.some_octet))).0 (legal.eligible p s c)
+      (cycle_from n s, cycle_upto n s some_cycle) (ends_later s (octets_of arrivals p) r port.some_octet)).0 (legal.eligible p s c)
 
   -- and the gap behind it is over when the next cycle begins
   free_by : (p s : ℕ) → Contains starts (p, s) → idle_after s (octets_of arrivals p) r ≤ (s / n + 1) * n
-  free_by p s c = omega (arith, (sent_in p s c).1, port.gap_short, port.guard_short)
+  free_by p s c = omega (arith, (sent_in p s c).1, port.gap_short, port.guard_short, slot_joins (octets_of arrivals p) r)
 
   -- so the wire is free at any instant of a later cycle
   free_before : (p s c t : ℕ) → Contains starts (p, s) → s / n < c → c * n ≤ t → idle_after s (octets_of arrivals p) r ≤ t
@@ -156,23 +154,23 @@ module _ (n g r : ℕ) (arrivals : List Arrival) (cycles upto : ℕ) (starts : L
   -- the streams' frames of a cycle fill the next from its beginning: where those before a place start when they are due, no
   -- other start is among them
   behind : (q s c m : ℕ) → Contains starts (q, s) → (c + 1) * n ≤ s → m ≤ length arrivals →
-      ((k : ℕ) → k < m → Streams k → cyc k ≡ c → Contains starts (k, due_at k) × (k ≡ q → ⊥)) → (c + 1) * n + r * load n c (take m arrivals) ≤ s
+      ((k : ℕ) → k < m → Streams k → cyc k ≡ c → Contains starts (k, due_at k) × (k ≡ q → ⊥)) → (c + 1) * n + busy r n c (take m arrivals) ≤ s
   behind q s c zero started from inside before = omega (arith, from)
   behind q s c (suc m) started from inside before =
       let so_far = behind q s c m started from (omega (arith, inside)) (λ k l. before k (omega (arith, l))) in
       let more = load_more m c (omega (arith, inside)) in
       elim (cases_lt (class_of arrivals m) 6) [
-        | inl low ↦ unfilled n r c (load n c (take m arrivals)) (load n c (take (suc m) arrivals)) s (omega (arith, more, background_wire m c low)) so_far
+        | inl low ↦ unfilled n c (busy r n c (take m arrivals)) (busy r n c (take (suc m) arrivals)) s (omega (arith, more, background_wire m c low)) so_far
         | inr streams ↦ elim (cases_eq (cyc m) c) [
-          | inr differ ↦ unfilled n r c (load n c (take m arrivals)) (load n c (take (suc m) arrivals)) s (omega (arith, more, other_wire m c differ)) so_far
+          | inr differ ↦ unfilled n c (busy r n c (take m arrivals)) (busy r n c (take (suc m) arrivals)) s (omega (arith, more, other_wire m c differ)) so_far
           | inl same ↦
               let m_before = before m (omega arith) streams same in
-              let m_due : due_at m ≡ (c + 1) * n + r * load n c (take m arrivals) = ap (λ z. (z + 1) * n + r * load n z (take m arrivals)) same in
+              let m_due : due_at m ≡ (c + 1) * n + busy r n c (take m arrivals) = ap (λ z. (z + 1) * n + busy r n z (take m arrivals)) same in
               elim (cases_lt (due_at m) s) [
                 | inl sooner ↦
-                    let free : due_at m + wires m * r ≤ s = legal.idle q s started m (due_at m) m_before.0 sooner in
-                    let total : load n c (take (suc m) arrivals) ≡ load n c (take m arrivals) + wires m = omega (arith, more, own_wire m c streams same) in
-                    filled n r c (load n c (take m arrivals)) (load n c (take (suc m) arrivals)) (wires m) s (due_at m) total m_due free
+                    let free : due_at m + wires m ≤ s = legal.idle q s started m (due_at m) m_before.0 sooner in
+                    let total : busy r n c (take (suc m) arrivals) ≡ busy r n c (take m arrivals) + wires m = omega (arith, more, own_wire m c streams same) in
+                    filled n c (busy r n c (take m arrivals)) (busy r n c (take (suc m) arrivals)) (wires m) s (due_at m) total m_due free
                 | inr not_sooner ↦
                     let at_once : due_at m ≡ s = omega (arith, not_sooner, so_far, m_due) in
                     absurd (m_before.1 (one_at starts m q s legal.in_order (subst (λ z. Contains starts (m, z)) at_once m_before.0) started))
@@ -181,15 +179,14 @@ module _ (n g r : ℕ) (arrivals : List Arrival) (cycles upto : ℕ) (starts : L
       ]
 
   -- a place before another one, no later in its cycle, is over when that one is due
-  sooner : (q p : ℕ) → Streams q → Streams p → q < p → p < length arrivals → cyc p < upto → due_at q + wires q * r ≤ due_at p
+  sooner : (q p : ℕ) → Streams q → Streams p → q < p → p < length arrivals → cyc p < upto → due_at q + wires q ≤ due_at p
   sooner q p q_streams p_streams order inside good =
       let q_inside : q < length arrivals = omega (arith, order, inside) in
       let no_later = later q p q_streams p_streams order inside in
       elim (cases_eq (cyc q) (cyc p)) [
         | inl same ↦
-            let part : r * (load n (cyc q) (take q arrivals) + wires q) ≤ r * load n (cyc q) (take p arrivals) =
-            mul-le-mul_left r (earlier_part q p q_streams order inside) in
-            let p_due : due_at p ≡ (cyc q + 1) * n + r * load n (cyc q) (take p arrivals) = ap (λ z. (z + 1) * n + r * load n z (take p arrivals)) (sym same) in
+            let part = earlier_part q p q_streams order inside in
+            let p_due : due_at p ≡ (cyc q + 1) * n + busy r n (cyc q) (take p arrivals) = ap (λ z. (z + 1) * n + busy r n z (take p arrivals)) (sym same) in
             omega (arith, part, p_due)
         | inr differ ↦
             let less : cyc q + 1 ≤ cyc p = omega (arith, no_later, differ) in
@@ -223,8 +220,8 @@ module _ (n g r : ℕ) (arrivals : List Arrival) (cycles upto : ℕ) (starts : L
       before q l q_streams = let no_later = later q p q_streams streams l inside in
           ih q l (omega (arith, l, inside)) q_streams (omega (arith, no_later, good)) (omega (arith, no_later, early))
 
-      some_wire : (q : ℕ) → 0 < wires q * r
-      some_wire q = omega (arith, port.some_octet)
+      some_wire : (q : ℕ) → 0 < wires q
+      some_wire q = slot_some (octets_of arrivals q) r port.some_octet
 
       -- what starts from the next cycle on, and isn't a stream's place before, is behind those
       not_among : (q s : ℕ) → Contains starts (q, s) → (cyc p + 1) * n ≤ s → ((k : ℕ) → k < p → Streams k → k ≡ q → ⊥) → t ≤ s
@@ -290,7 +287,8 @@ module _ (n g r : ℕ) (arrivals : List Arrival) (cycles upto : ℕ) (starts : L
       eligible =
           let class_here : class_of arrivals p ≡ open_class (cyc p + 1) = port.come.classes p inside streams ∙ sym (classes_take_turns (cyc p)) in
           (port_list_sends_until n g (cyc p + 1) t (ending_of t (octets_of arrivals p) r) (class_of arrivals p) port.some_guard port.guard_short t_in
-          (omega (arith, port.some_octet))).1 (inl class_here, omega (arith, over p inside streams good))
+          (ends_later t (octets_of arrivals p) r port.some_octet)).1
+          (inl class_here, omega (arith, over p inside streams good, slot_parts (octets_of arrivals p) r))
 
       in_run : t < cycles * n
       in_run = omega (arith, t_in.1, mul-le-mul_right n early)
@@ -325,20 +323,20 @@ module _ (n g r : ℕ) (arrivals : List Arrival) (cycles upto : ℕ) (starts : L
 
   -- a background frame starts behind each stream's frame of an earlier cycle
   background_behind : (p s other : ℕ) → Contains starts (p, s) → class_of arrivals p < 6 → s / n ≤ upto → other < length arrivals → Streams other →
-      cyc other < s / n → due_at other + wires other * r ≤ s
+      cyc other < s / n → due_at other + wires other ≤ s
   background_behind p s other c low early inside streams less =
       let from = from_next n (cyc other) (s / n) s less (cycle_from n s) in
       let among = behind p s (cyc other) (suc other) c from (omega (arith, inside)) each_of_cycle in
-      let total : load n (cyc other) (take (suc other) arrivals) ≡ load n (cyc other) (take other arrivals) + wires other = load_more other (cyc other) inside
-      ∙ ap (λ z. load n (cyc other) (take other arrivals) + z) (own_wire other (cyc other) streams refl) in
-      parts (load n (cyc other) (take other arrivals)) (load n (cyc other) (take (suc other) arrivals)) (wires other) total among
+      let total : busy r n (cyc other) (take (suc other) arrivals) ≡ busy r n (cyc other) (take other arrivals) + wires other = load_more other (cyc other) inside
+      ∙ ap (λ z. busy r n (cyc other) (take other arrivals) + z) (own_wire other (cyc other) streams refl) in
+      parts (busy r n (cyc other) (take other arrivals)) (busy r n (cyc other) (take (suc other) arrivals)) (wires other) total among
     where
       each_of_cycle : (k : ℕ) → k < suc other → Streams k → cyc k ≡ cyc other → Contains starts (k, due_at k) × (k ≡ p → ⊥)
       each_of_cycle k l k_streams same =
           (each_by k p s c early (omega (arith, l, inside)) k_streams (omega (arith, same, less)), λ e. omega (arith, subst (λ z. Streams z) e k_streams, low))
 
-      parts : (before with_it wire : ℕ) → with_it ≡ before + wire → (cyc other + 1) * n + r * with_it ≤ s → (cyc other + 1) * n + r * before + wire * r ≤ s
-      parts before with_it wire total among = omega (arith, ap (λ z. r * z) total, among)
+      parts : (before with_it wire : ℕ) → with_it ≡ before + wire → (cyc other + 1) * n + with_it ≤ s → (cyc other + 1) * n + before + wire ≤ s
+      parts before with_it wire total among = omega (arith, total, among)
 
   -- so of the streams' frames only one of the cycle itself can wait
   none_waits : (p s other : ℕ) → Contains starts (p, s) → class_of arrivals p < 6 → s / n ≤ upto → Streams other → Waits arrivals starts other s →
@@ -350,7 +348,7 @@ module _ (n g r : ℕ) (arrivals : List Arrival) (cycles upto : ℕ) (starts : L
           arith,
           waits.not_started (due_at other) (each_by other p s c early waits.inside streams less),
           background_behind p s other c low early waits.inside streams less,
-          port.some_octet,
+          slot_some (octets_of arrivals other) r port.some_octet,
         ))
         | inr more ↦ omega (arith, no_later, more)
       ]

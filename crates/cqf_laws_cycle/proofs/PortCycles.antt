@@ -14,7 +14,7 @@ use Rattle.cqf_units.proofs.Cycles.{cycle_from, cycle_is, cycle_upto, parity}
 use Rattle.cqf_model.specs.declared.frames.Sent.{Sent}
 use Rattle.cqf_model.specs.declared.ports.Arrival.{Arrival}
 use Rattle.cqf_model.specs.declared.ports.Start.{Start}
-use Rattle.cqf_model.specs.Domain.{Domain, bridge_of, cycle_of, octet_time_of}
+use Rattle.cqf_model.specs.Domain.{Domain, bridge_of, cycle_of, guard_of, octet_time_of}
 use Rattle.cqf_model.specs.GateList.{Entry, IsOpen}
 use Rattle.cqf_model.specs.Network.{Network, QueuedFrame, Sends, arrivals_of, backed_of, comes_before, compiled_lists, no_frame, queued_before, queued_by}
 use Rattle.cqf_model.specs.Network.{queued_frame, queued_in, queued_to, sent_of}
@@ -22,7 +22,7 @@ use Rattle.cqf_model.specs.Port.{AreLegal, PortRules, Transmission}
 use Rattle.cqf_model.specs.Run.{Run}
 use Rattle.cqf_model.specs.Table.{depth_behind, goes_to}
 use Rattle.cqf_model.specs.Traffic.{Carried, DroppedFor, ExceedsGate, LacksRow, Policed, Queued, Received, Verdict, came_by, policed_before}
-use Rattle.cqf_model.proofs.Links.{octet_positive}
+use Rattle.cqf_model.proofs.Links.{guard_within, octet_positive}
 use Rattle.cqf_model.proofs.Sending.{backed_same, backed_then, sent_same, sent_then}
 use Rattle.cqf_laws_network.specs.PortLaws.{LateArrivalChangesNothing, LegalStartsAreUnique}
 use Rattle.cqf_laws_network.specs.NetworkLaws.{BeginningIsLegal, HaveOnePast, IsShorter, PortsGetThePast, backed_before, carried_before, sent_before}
@@ -59,7 +59,7 @@ queued_class gives d l x LacksRow q some h = absurd (contains_none q h)
 queued_class gives d l x ExceedsGate q some h = absurd (contains_none q h)
 
 -- so its class is closed up to the end of the cycle
-pub queued_waits : GateGivesClass → PortListIsOpen → (d : Domain) (l t : ℕ) (policed : List Policed) (q : QueuedFrame) → d.guard < d.cycle_time →
+pub queued_waits : GateGivesClass → PortListIsOpen → (d : Domain) (l t : ℕ) (policed : List Policed) (q : QueuedFrame) → guard_of d l < d.cycle_time →
     Contains (queued_to d l policed) q → q.arrival.at.0 ≤ t → t < (cycle_of d q.arrival.at.0 + 1) * d.cycle_time →
     IsOpen (compiled_lists d l) q.arrival.class t → ⊥
 queued_waits gives opens d l t policed q short h from upto is_open =
@@ -67,11 +67,11 @@ queued_waits gives opens d l t policed q short h from upto is_open =
     let given = queued_class gives d l w.0.received w.0.verdict q (omega (arith, short)) w.2 in
     let c = cycle_of d q.arrival.at.0 in
     let begins : c * d.cycle_time ≤ t = omega (arith, cycle_from d.cycle_time q.arrival.at.0, from) in
-    let sends = (opens d.cycle_time d.guard c t q.arrival.class short (begins, omega (arith, upto))).0 is_open in
+    let sends = (opens d.cycle_time (guard_of d l) c t q.arrival.class short (begins, omega (arith, upto))).0 is_open in
     gives_no_open c (subst (λ (class : ℕ). (class ≡ open_class c) ⊎ (class < 6)) given sends.0)
 
 -- of what is queued in a cycle each gate is closed up to the cycle's end
-closed_in_cycle : GateGivesClass → PortListIsOpen → (run : Run) (carried : Carried) (l cycle : ℕ) → run.domain.guard < run.domain.cycle_time → (x : Arrival) →
+closed_in_cycle : GateGivesClass → PortListIsOpen → (run : Run) (carried : Carried) (l cycle : ℕ) → guard_of run.domain l < run.domain.cycle_time → (x : Arrival) →
     Contains (arrivals_of (queued_in run carried l cycle)) x →
     IsClosedUntil (record { entries = compiled_lists run.domain l; octet_time = octet_time_of run.domain l }) ((cycle + 1) * run.domain.cycle_time) x
 closed_in_cycle gives opens run carried l cycle short x h t came upto is_open =
@@ -131,7 +131,7 @@ module _ (d : Domain) (entries : List Entry) (end l : ℕ) (front more : List Qu
 -- where a port sends up to the end of a cycle what its gate list demands for what it has when it sends the cycle, it sends
 -- what that demands for all that comes by then
 pub sends_of_all : LateArrivalChangesNothing → GateGivesClass → PortListIsOpen →
-    (run : Run) (carried : Carried) (cycle l : ℕ) (sents : List Sent) (backed : List Start) → run.domain.guard < run.domain.cycle_time →
+    (run : Run) (carried : Carried) (cycle l : ℕ) (sents : List Sent) (backed : List Start) → guard_of run.domain l < run.domain.cycle_time →
     l < length run.domain.links →
     Sends run.domain (compiled_lists run.domain l) ((cycle + 1) * run.domain.cycle_time) l (waits_in run carried l cycle) sents backed →
     Sends run.domain (compiled_lists run.domain l) ((cycle + 1) * run.domain.cycle_time) l (comes_before run carried l (cycle + 1)) sents backed
@@ -175,7 +175,7 @@ module _ (run : Run) (cycles cycle l : ℕ) (net : Network) (compiled : IsCompil
       let so_far : Sends d (compiled_lists d l) last l (comes_before run net.carried l (cycle + 1)) sents backed =
       subst (λ (xs : List QueuedFrame). Sends d (compiled_lists d l) last l xs sents backed) (sym same) (begins.sends l in_links) in
       fewer_sends d (compiled_lists d l) last l queue (queued_in run net.carried l cycle) sents backed (octet_positive d l in_links)
-      (closed_in_cycle gives opens run net.carried l cycle compiled.accepted.guard_short)
+      (closed_in_cycle gives opens run net.carried l cycle (guard_within run.domain l compiled.accepted))
       (subst (λ (xs : List QueuedFrame). Sends d (compiled_lists d l) last l xs sents backed) (waits_on run net.carried l cycle) so_far)
 
   module _ (unique : LegalStartsAreUnique) (before made : List Transmission) (is : StartsInCycle run.domain l cycle queue before made) where

@@ -7,7 +7,7 @@ use Rattle.std.proofs.lemmas.List.Elements.{All-contains, Contains-get_or}
 use Rattle.cqf_model.specs.declared.frames.Sent.{Sent}
 use Rattle.cqf_model.specs.declared.ports.Arrival.{Arrival}
 use Rattle.cqf_model.specs.declared.ports.Start.{Start}
-use Rattle.cqf_model.specs.Domain.{Domain, octet_time_of}
+use Rattle.cqf_model.specs.Domain.{Domain, guard_of, octet_time_of}
 use Rattle.cqf_model.specs.GateList.{port_list}
 use Rattle.cqf_model.specs.Network.{QueuedFrame, Sends, arrivals_of, backed_by, backed_of, no_frame, sent_by, sent_of}
 use Rattle.cqf_model.specs.Port.{Transmission, class_of, no_arrival}
@@ -83,9 +83,9 @@ module _ (queued : List QueuedFrame) (told : All IsToldByClass queued) where
 
   -- so what is sent beside background frames is sent alone
   sent_alone : (d : Domain) (cycles l : ℕ) (sents : List Sent) (backed : List Start) →
-      IsWithinBudget d.cycle_time d.guard (octet_time_of d l) (arrivals_of queued) cycles →
-      Sends d (port_list d.cycle_time d.guard) (cycles * d.cycle_time) l queued sents backed →
-      Sends d (port_list d.cycle_time d.guard) (cycles * d.cycle_time) l alone sents []
+      IsWithinBudget d.cycle_time (guard_of d l) (octet_time_of d l) (arrivals_of queued) cycles →
+      Sends d (port_list d.cycle_time (guard_of d l)) (cycles * d.cycle_time) l queued sents backed →
+      Sends d (port_list d.cycle_time (guard_of d l)) (cycles * d.cycle_time) l alone sents []
   sent_alone d cycles l sents backed port sends = record {
     starts = starts_alone (arrivals_of queued) sends.starts;
     legal = legal;
@@ -97,10 +97,10 @@ module _ (queued : List QueuedFrame) (told : All IsToldByClass queued) where
       has_place : (start : Transmission) → Contains sends.starts start → start.0 < length queued
       has_place start c = subst (λ z. start.0 < z) (length-map queued (λ (x : QueuedFrame). x.arrival)) (sends.legal.first start.0 start.1 c).waits.inside
 
-      legal : AreSent d.cycle_time d.guard (octet_time_of d l) (arrivals_of alone) cycles (starts_alone (arrivals_of queued) sends.starts)
-      legal = subst (λ z. AreSent d.cycle_time d.guard (octet_time_of d l) z cycles (starts_alone (arrivals_of queued) sends.starts))
+      legal : AreSent d.cycle_time (guard_of d l) (octet_time_of d l) (arrivals_of alone) cycles (starts_alone (arrivals_of queued) sends.starts)
+      legal = subst (λ z. AreSent d.cycle_time (guard_of d l) (octet_time_of d l) z cycles (starts_alone (arrivals_of queued) sends.starts))
           (filter-map (λ (x : QueuedFrame). x.arrival) is_streams queued)
-          (streams_start_as_alone d.cycle_time d.guard (octet_time_of d l) (arrivals_of queued) cycles sends.starts port sends.legal)
+          (streams_start_as_alone d.cycle_time (guard_of d l) (octet_time_of d l) (arrivals_of queued) cycles sends.starts port sends.legal)
 
       has_place_alone : (start : Transmission) → Contains (starts_alone (arrivals_of queued) sends.starts) start → start.0 < length alone
       has_place_alone start c = subst (λ z. start.0 < z) (length-map alone (λ (x : QueuedFrame). x.arrival)) (legal.first start.0 start.1 c).waits.inside
@@ -108,5 +108,5 @@ module _ (queued : List QueuedFrame) (told : All IsToldByClass queued) where
 -- the law
 pub streams_are_sent_as_alone : StreamsAreSentAsAlone
 streams_are_sent_as_alone d cycles l queued sents backed told port sends =
-    subst (λ z. Sends d (port_list d.cycle_time d.guard) (cycles * d.cycle_time) l z sents []) (same_alone queued told)
+    subst (λ z. Sends d (port_list d.cycle_time (guard_of d l)) (cycles * d.cycle_time) l z sents []) (same_alone queued told)
     (sent_alone queued told d cycles l sents backed port sends)

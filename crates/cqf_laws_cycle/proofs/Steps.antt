@@ -1,4 +1,5 @@
 -- A run goes on cycle by cycle.
+use Rattle.cqf_model.proofs.Links.{guard_within}
 use Rattle.std.proofs.Common.{◌≡◌, ℕ, ◌+◌, ◌*◌, ◌/◌, ◌<◌, ◌≤◌, List, sym, refl, ap, ◌∙◌, arith, subst, true, eqb-true, Contains}
 use Rattle.std.specs.Prelude.{[], ◌++◌, ◌==◌, nat_lt, zero, suc}
 use Rattle.std.proofs.Math.Nat.{mul-le-mul_right}
@@ -13,7 +14,7 @@ use Rattle.cqf_model.specs.declared.frames.Sent.{Sent}
 use Rattle.cqf_model.specs.declared.ports.Start.{Start}
 use Rattle.cqf_model.specs.declared.topology.Row.{Row}
 use Rattle.cqf_model.specs.Book.{backed_batch, batch}
-use Rattle.cqf_model.specs.Domain.{cycle_of, octet_time_of}
+use Rattle.cqf_model.specs.Domain.{cycle_of, guard_of, octet_time_of}
 use Rattle.cqf_model.specs.GateList.{Entry}
 use Rattle.cqf_model.specs.Network.{IsLegalNetwork, IsLost, Network, QueuedFrame, Sends, arrivals_of, backed_in, comes_before, compiled_lists}
 use Rattle.cqf_model.specs.Port.{AreLegal, PortRules}
@@ -52,7 +53,7 @@ begins exist run lists =
 
 -- with one more cycle it is legal again
 pub run_goes_on : PortGoesByThePast → PortsGetThePast → LateArrivalChangesNothing → GateGivesClass → PortListIsOpen →
-    (run : Run) (cycles : ℕ) (net more : Network) → run.domain.guard < run.domain.cycle_time → IsLegalNetwork run (compiled_lists run.domain) cycles net →
+    (run : Run) (cycles : ℕ) (net more : Network) → ((l : ℕ) → guard_of run.domain l < run.domain.cycle_time) → IsLegalNetwork run (compiled_lists run.domain) cycles net →
     SendsOneMore run cycles net more → IsLegalNetwork run (compiled_lists run.domain) (cycles + 1) more
 run_goes_on port ports late gives opens run cycles net more short legal one_more =
     let d = run.domain in
@@ -78,7 +79,7 @@ run_goes_on port ports late gives opens run cycles net more short legal one_more
       sends = λ l h.
           let same : waits_in run net.carried l cycles ≡ waits_in run more.carried l cycles =
           ap (λ (xs : List QueuedFrame). xs ++ backed_in d run.background l cycles) (ports run run.tables net.carried more.carried cycles l past) in
-          sends_of_all late gives opens run more.carried cycles l (more.carried l) (more.backed l) short h
+          sends_of_all late gives opens run more.carried cycles l (more.carried l) (more.backed l) (short l) h
           (subst (λ (xs : List QueuedFrame). Sends d (compiled_lists d l) last l xs (more.carried l) (more.backed l)) same (one_more.sends l h));
       no_others = one_more.no_others;
     }
@@ -148,7 +149,7 @@ last_table_waits beginning port ports late gives opens run others cycles net sam
     } in
     record {
       accepted = compiled.accepted;
-      legal = run_goes_on port ports late gives opens other cycles short net compiled.accepted.guard_short
+      legal = run_goes_on port ports late gives opens other cycles short net (λ l. guard_within run.domain l compiled.accepted)
           (beginning run others (compiled_lists d) cycles (cycles + 1) net shorter compiled.legal) one_more;
     }
 

@@ -1,6 +1,7 @@
 -- Laws that say exactly what has come to a bridge and to a port, and in which order, in a planner's words (IEEE Std 802.1Q,
 -- Annex T, for the cycle in which a frame is received and that in which it waits; the rest is the profile's).
 use Rattle.std.specs.Prelude.{ℕ, ◌≡◌, ◌≢◌, ◌+◌, ◌*◌, ◌<◌, ◌≤◌, ◌⊎◌, List, Some, None, map, slice_get, AllPairs, Contains}
+use Rattle.cqf_units.specs.Timing.{time_of}
 use Rattle.cqf_model.specs.declared.frames.Background.{Background}
 use Rattle.cqf_model.specs.declared.frames.Offer.{Offer}
 use Rattle.cqf_model.specs.declared.frames.Sent.{Sent}
@@ -22,12 +23,12 @@ pub data Source : Type 0 where
   OfOffers : ℕ → Source
 
 -- a frame of a link that ends in the bridge comes there when 8 octets of preamble and start delimiter and its own octets have
--- been sent, and the link's delay is over: start + (octets + 8) * octet time + delay, in nanoseconds
+-- been sent, and the link's delay is over: start + the time of (octets + 8) octets + delay, in nanoseconds
 pub record ComesByLink (run : Run) (carried : Carried) (bridge link place : ℕ) (x : Received) : Type 0 where
   pub sent : Sent
   pub is_carried : slice_get (carried link) place ≡ Some sent
   pub ends_here : end_of run.domain link ≡ Some (Bridge bridge)
-  pub instant : x.at ≡ sent.start.0 + (sent.octets + 8) * octet_time_of run.domain link + delay_of run.domain link
+  pub instant : x.at ≡ sent.start.0 + time_of (sent.octets + 8) (octet_time_of run.domain link) + delay_of run.domain link
   pub octets : x.octets ≡ sent.octets
   pub frame : x.frame ≡ sent.frame
   pub way : x.way ≡ Relayed link sent.stream

@@ -3,7 +3,7 @@ use Rattle.std.specs.Prelude.{ℕ, ◌≡◌, ◌*◌, ◌<◌, ◌↔◌, All, 
 use Rattle.cqf_model.specs.declared.frames.Sent.{Sent}
 use Rattle.cqf_model.specs.declared.ports.Arrival.{Arrival}
 use Rattle.cqf_model.specs.declared.ports.Start.{Start}
-use Rattle.cqf_model.specs.Domain.{Domain, octet_time_of}
+use Rattle.cqf_model.specs.Domain.{Domain, guard_of, octet_time_of}
 use Rattle.cqf_model.specs.Network.{QueuedFrame, Sends, arrivals_of, compiled_lists}
 use Rattle.cqf_model.specs.Port.{Transmission, no_arrival}
 use Rattle.cqf_model.specs.Turn.{is_streams}
@@ -49,6 +49,6 @@ IsToldByClass x = (x.stream ≡ None) ↔ (x.arrival.class < 6)
 abbrev pub StreamsAreSentAsAlone : Type 0
 StreamsAreSentAsAlone = (d : Domain) (cycles l : ℕ) (queued : List QueuedFrame) (sents : List Sent) (backed : List Start) →
     All IsToldByClass queued →
-    IsWithinBudget d.cycle_time d.guard (octet_time_of d l) (arrivals_of queued) cycles →
+    IsWithinBudget d.cycle_time (guard_of d l) (octet_time_of d l) (arrivals_of queued) cycles →
     Sends d (compiled_lists d l) (cycles * d.cycle_time) l queued sents backed →
     Sends d (compiled_lists d l) (cycles * d.cycle_time) l (filter is_of_stream queued) sents []

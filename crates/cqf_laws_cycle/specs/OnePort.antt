@@ -1,10 +1,10 @@
 -- One port whose streams' frames come in cycles, with background frames among them in any order of places.
 use Rattle.std.specs.Prelude.{ℕ, ◌≡◌, ◌+◌, ◌*◌, ◌<◌, ◌≤◌, List, length, AllPairs, Contains}
-use Rattle.cqf_units.specs.Timing.{ending_of, idle_after, budget_of, cycle_at}
+use Rattle.cqf_units.specs.Timing.{ending_of, idle_after, time_of, cycle_at}
 use Rattle.cqf_model.specs.declared.ports.Arrival.{Arrival}
 use Rattle.cqf_model.specs.GateList.{port_list}
 use Rattle.cqf_model.specs.Port.{Transmission, AreLegal, Waits, class_of, octets_of}
-use Rattle.cqf_model.specs.Turn.{cycle_of_place, due, load}
+use Rattle.cqf_model.specs.Turn.{busy, cycle_of_place, due}
 use Rattle.cqf_laws_cycle.specs.Compiled.{given_class, guard_from}
 
 -- a stream's frame: it has class 6 or 7, and a background frame one of 0 to 5
@@ -60,14 +60,14 @@ pub record KeepsBehind (cycle_time guard octet_time : ℕ) (arrivals : List Arri
       idle_after s (octets_of arrivals place) octet_time ≤ (cycle_at cycle_time s + 1) * cycle_time
 
 -- what the laws of one port ask: a guard time in which a least gap fits, and streams' frames that come in cycles, in each
--- cycle before one within the link's budget. Of background frames nothing is asked
+-- cycle before one so many that the next can send them before its guard time. Of background frames nothing is asked
 pub record IsWithinBudget (cycle_time guard octet_time : ℕ) (arrivals : List Arrival) (upto : ℕ) : Type 0 where
   pub some_guard : 0 < guard
   pub guard_short : guard < cycle_time
   pub some_octet : 0 < octet_time
-  pub gap_short : 12 * octet_time ≤ guard
+  pub gap_short : time_of 12 octet_time ≤ guard
   pub come : ComeInCycles cycle_time arrivals
-  pub loads : (cycle : ℕ) → cycle < upto → load cycle_time cycle arrivals ≤ budget_of cycle_time guard octet_time
+  pub loads : (cycle : ℕ) → cycle < upto → busy octet_time cycle_time cycle arrivals + guard ≤ cycle_time
 
 -- the transmissions are legal under the compiled gate list, up to the end of so many cycles
 abbrev pub AreSent : ℕ → ℕ → ℕ → List Arrival → ℕ → List Transmission → Type 0

@@ -3,7 +3,7 @@ use Rattle.std.specs.Prelude.{ℕ, ◌≡◌, ◌+◌, ◌*◌, ◌≤◌, ◌<�
 use Rattle.std.specs.List.{flat_map}
 use Rattle.cqf_model.specs.declared.ports.Arrival.{Arrival}
 use Rattle.cqf_model.specs.Book.{backed_batch, batch}
-use Rattle.cqf_model.specs.Domain.{Domain, bridge_of, cycle_of, octet_time_of}
+use Rattle.cqf_model.specs.Domain.{Domain, bridge_of, cycle_of, guard_of, octet_time_of}
 use Rattle.cqf_model.specs.GateList.{IsOpen}
 use Rattle.cqf_model.specs.Network.{Network, QueuedFrame, Sends, arrivals_of, backed_in, backed_of, comes_before, compiled_lists, queued_in, queued_to, sent_of}
 use Rattle.cqf_model.specs.Port.{AreLegal, PortRules, Transmission}
@@ -22,7 +22,7 @@ ClosedArrivalsChangeNothing = (rules : PortRules) (arrivals closed : List Arriva
 -- a stream's frame that is queued in a cycle waits at least to the cycle's end: no port opens its class before
 abbrev pub QueuedFramesWait : Type 0
 QueuedFramesWait = (d : Domain) (l t : ℕ) (policed : List Policed) (frame : QueuedFrame) →
-    d.guard < d.cycle_time → Contains (queued_to d l policed) frame →
+    guard_of d l < d.cycle_time → Contains (queued_to d l policed) frame →
     frame.arrival.at.0 ≤ t → t < (cycle_of d frame.arrival.at.0 + 1) * d.cycle_time → ¬ IsOpen (compiled_lists d l) frame.arrival.class t
 
 -- what a port has when it sends a cycle: what came before the cycle, and then the background frames of the cycle

@@ -1,4 +1,5 @@
 -- Laws about a run that goes on cycle by cycle, in a planner's words.
+use Rattle.cqf_model.specs.Domain.{guard_of}
 use Rattle.std.specs.Prelude.{ℕ, ◌≡◌, ◌+◌, ◌*◌, ◌<◌, ◌≤◌, ◌↔◌, List, [], length, Contains}
 use Rattle.cqf_lists.specs.Lists.{each_below}
 use Rattle.cqf_model.specs.declared.topology.Row.{Row}
@@ -29,7 +30,7 @@ pub record SendsOneMore (run : Run) (cycles : ℕ) (net more : Network) : Type 0
 
 -- then the network of the longer run is legal
 abbrev pub RunGoesOn : Type 0
-RunGoesOn = (run : Run) (cycles : ℕ) (net more : Network) → run.domain.guard < run.domain.cycle_time →
+RunGoesOn = (run : Run) (cycles : ℕ) (net more : Network) → ((l : ℕ) → guard_of run.domain l < run.domain.cycle_time) →
     IsLegalNetwork run (compiled_lists run.domain) cycles net → SendsOneMore run cycles net more →
     IsLegalNetwork run (compiled_lists run.domain) (cycles + 1) more
 

@@ -35,7 +35,7 @@ pub record Goes (d : Domain) (l bridge : ℕ) (to : Node) : Type 0 where
 
 -- a link to read past an end
 some_link : Link
-some_link = record { from = 0; to = Bridge 0; rate = Mb10; delay = 0 }
+some_link = record { from = 0; to = Bridge 0; rate = Mb10; delay = 0; least = 0; guard = None }
 
 -- a link that is found between two ends goes there
 between_goes : (d : Domain) (bridge : ℕ) (to : Node) (l : ℕ) → link_between d bridge to ≡ Some l → Goes d l bridge to

@@ -22,7 +22,7 @@ use Rattle.cqf_model.specs.Domain.{Domain, is_text, node_named}
 use Rattle.cqf_model.specs.History.{is_pace, pace_of}
 use Rattle.cqf_model.specs.History.{Asked, Branch, broken_place, first_place, is_bridge, is_broken_at, is_loop_at, is_stray, left_on, node_at, refusal_of}
 use Rattle.cqf_model.specs.History.{refused_at, refused_if, short_link, tree_of}
-use Rattle.cqf_model.specs.Limits.{hops_within, streams_within}
+use Rattle.cqf_model.specs.Limits.{hops_within, most_reserved, streams_within}
 use Rattle.cqf_model.specs.Table.{IsTree}
 use Rattle.cqf_laws_history.specs.HistoryLaws.{GrantedFitsARow, GrantedIsATree, TreeIsItsBranches}
 use Rattle.cqf_laws_history.specs.StateLaws.{GrantedFindsRoom}
@@ -47,7 +47,7 @@ below_bound bound n h = grind (arith, common_steps)
 pub record IsGranted (d : Domain) (rows : List Row) (asked : Asked) : Type 0 where
   pub named : is_name asked.name ≡ true
   pub least_octets : 64 ≤ asked.octets
-  pub most_octets : asked.octets ≤ 60000
+  pub most_octets : asked.octets ≤ most_reserved
   pub known : position (λ name. is_none (node_named d name)) (flat_map (λ branch. branch) asked.paths) ≡ None
   pub whole : broken_place d asked.paths ≡ None
   pub simple : first_place (is_loop_at d) asked.paths ≡ None
@@ -73,7 +73,7 @@ granted d rows asked e =
     let after_unknown = or_else (refused_at (λ place. UnknownNode place) unknown) after_broken in
     let paced = is_pace asked.every asked.phase in
     let after_pace = or_else (refused_if (not paced) BadPace) after_unknown in
-    let in_range = nat_le 64 asked.octets && nat_le asked.octets 60000 in
+    let in_range = nat_le 64 asked.octets && nat_le asked.octets most_reserved in
     let name = or_else_none (refused_if (not (is_name asked.name)) BadName) (or_else (refused_if (not in_range) BadOctets) after_pace) e in
     let octets = or_else_none (refused_if (not in_range) BadOctets) after_pace name.1 in
     let pace = or_else_none (refused_if (not paced) BadPace) after_unknown octets.1 in
@@ -84,11 +84,11 @@ granted d rows asked e =
     let hops = or_else_none (refused_if (nat_lt (hops_within d.limits) (length (tree_of d asked.paths))) TooManyHops) after_held stray.1 in
     let held = or_else_none (refused_if (list_any (λ (row : Row). is_text row.name asked.name) rows) NameHeld) after_many hops.1 in
     let many = or_else_none (refused_if (nat_le (streams_within d.limits) (length rows)) TooManyStreams) budget_short held.1 in
-    let range = and_parts (nat_le 64 asked.octets) (nat_le asked.octets 60000) (not-false in_range (refused_if_none (not in_range) BadOctets octets.0)) in
+    let range = and_parts (nat_le 64 asked.octets) (nat_le asked.octets most_reserved) (not-false in_range (refused_if_none (not in_range) BadOctets octets.0)) in
     record {
       named = not-false (is_name asked.name) (refused_if_none (not (is_name asked.name)) BadName name.0);
       least_octets = leb-true 64 asked.octets range.0;
-      most_octets = leb-true asked.octets 60000 range.1;
+      most_octets = leb-true asked.octets most_reserved range.1;
       pace = not-false paced (refused_if_none (not paced) BadPace pace.0);
       known = refused_at_none (λ place. UnknownNode place) unknown known.0;
       whole = refused_at_none (λ place. BrokenPath place) (broken_place d asked.paths) broken.0;

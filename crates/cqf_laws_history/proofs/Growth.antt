@@ -18,6 +18,7 @@ use Rattle.cqf_model.specs.declared.topology.Row.{Row}
 use Rattle.cqf_model.specs.Domain.{Domain, budget}
 use Rattle.cqf_model.specs.History.{Act, Admits, Asked, IsLegalHistory, Recorded, Seals, Withdraws, admit_reply, held_in, is_seal, next_number, refusal_of}
 use Rattle.cqf_model.specs.History.{reply_to, seal_places, seals, stream_by, streams_of, withdraw_reply, withdraw_row, withdrawal_by}
+use Rattle.cqf_model.specs.Limits.{most_reserved}
 use Rattle.cqf_model.specs.Table.{IsTree, is_held, link_cost, residence, row_named}
 use Rattle.cqf_model.proofs.Residence.{residence_some}
 use Rattle.cqf_lists.proofs.Filters.{filter_weaker}
@@ -448,7 +449,7 @@ held_sound d entries legal =
       trees = λ row h. tree_now d entries row legal (stream row h);
       named = λ row h. let t = stream_of d entries row (stream row h) in subst (λ (r : Row). is_name r.name ≡ true) t.2 (s.named t.0 t.1);
       least_octets = λ row h. let t = stream_of d entries row (stream row h) in subst (λ (r : Row). 64 ≤ r.octets) t.2 (s.least_octets t.0 t.1);
-      most_octets = λ row h. let t = stream_of d entries row (stream row h) in subst (λ (r : Row). r.octets ≤ 60000) t.2 (s.most_octets t.0 t.1);
+      most_octets = λ row h. let t = stream_of d entries row (stream row h) in subst (λ (r : Row). r.octets ≤ most_reserved) t.2 (s.most_octets t.0 t.1);
       below = λ row h.
           let t = stream_of d entries row (stream row h) in
           omega (arith, number_below d entries n t.0 s t.1, ap (λ (r : Row). r.no) t.2, ap length streams, length-map old (with_end w));

@@ -16,7 +16,7 @@ use Rattle.cqf_lists.proofs.Any.{none_member, position_any}
 use Rattle.cqf_lists.proofs.EachBelow.{none_below}
 use Rattle.cqf_lists.proofs.Members.{any_member, contains_at, contains_flat, contains_from_flat, contains_here, contains_later, member_any, place_of_member}
 use Rattle.cqf_lists.proofs.Places.{first_stays, slice_get-take, slice_get_front}
-use Rattle.cqf_model.specs.Limits.{hops_within, streams_within}
+use Rattle.cqf_model.specs.Limits.{hops_within, most_reserved, streams_within}
 use Rattle.cqf_model.specs.declared.history.Refused.{Refused}
 use Rattle.cqf_model.specs.declared.history.Refused.TheVariants.{BadPace}
 use Rattle.cqf_model.specs.declared.history.Refused.TheVariants.{BadName, BadOctets, UnknownNode, BrokenPath, LoopingPath, NotATree, NameHeld, TooManyStreams}
@@ -523,7 +523,7 @@ stray asked = refused_at (λ branch. NotATree branch) (least (is_stray asked.pat
 
 -- what the refusals before it test
 abbrev in_range : Asked → Bool
-in_range asked = nat_le 64 asked.octets && nat_le asked.octets 60000
+in_range asked = nat_le 64 asked.octets && nat_le asked.octets most_reserved
 
 abbrev unknown : Domain → Asked → Option ℕ
 unknown d asked = position (λ name. is_none (node_named d name)) (flat_map (λ branch. branch) asked.paths)
@@ -595,7 +595,7 @@ many_hops_are_late = record { name = λ e. cc; octets = λ e. cc; pace = λ e. c
 -- where nothing earlier is refused, a request is in order so far
 in_order : (d : Domain) (asked : Asked) → AreNone d asked → HasNoEarlierFault d asked
 in_order d asked n =
-    let range = and_parts (nat_le 64 asked.octets) (nat_le asked.octets 60000)
+    let range = and_parts (nat_le 64 asked.octets) (nat_le asked.octets most_reserved)
     (not-false (in_range asked) (refused_if_none (not (in_range asked)) BadOctets n.octets)) in
     let names = flat_map (λ (branch : Branch). branch) asked.paths in
     let none_unknown : list_any (λ name. is_none (node_named d name)) names ≡ false =
@@ -606,7 +606,7 @@ in_order d asked n =
     record {
       named = not-false (is_name asked.name) (refused_if_none (not (is_name asked.name)) BadName n.name);
       least_octets = leb-true 64 asked.octets range.0;
-      most_octets = leb-true asked.octets 60000 range.1;
+      most_octets = leb-true asked.octets most_reserved range.1;
       paced = not-false (is_pace asked.every asked.phase) (refused_if_none (not (is_pace asked.every asked.phase)) BadPace n.pace);
       some_branch = omega (arith, (first_branch d asked.paths not_broken).1.1);
       known = λ branch name c k e. both_ways (is_none (node_named d name))
@@ -646,7 +646,7 @@ are_none : (d : Domain) (asked : Asked) → HasNoEarlierFault d asked → AreNon
 are_none d asked h =
     let names = flat_map (λ (branch : Branch). branch) asked.paths in
     let range : in_range asked ≡ true =
-    and_from (nat_le 64 asked.octets) (nat_le asked.octets 60000) (le-leb 64 asked.octets h.least_octets) (le-leb asked.octets 60000 h.most_octets) in
+    and_from (nat_le 64 asked.octets) (nat_le asked.octets most_reserved) (le-leb 64 asked.octets h.least_octets) (le-leb asked.octets most_reserved h.most_octets) in
     let none_unknown : list_any (λ name. is_none (node_named d name)) names ≡ false =
     false_from_ne_true (list_any (λ name. is_none (node_named d name)) names) (λ t.
     let m = any_member (λ name. is_none (node_named d name)) names t in

@@ -19,6 +19,7 @@ use Rattle.cqf_model.specs.Domain.{Domain, budget, is_text}
 use Rattle.cqf_lists.specs.Lists.{each_below}
 use Rattle.cqf_model.specs.History.{Act, Admits, Asked, Recorded, Seals, Withdraws, admit_reply, held_in, left_on, pace_of, refusal_of, reply_to, short_link, stream_by}
 use Rattle.cqf_model.specs.History.{streams_of, tree_of, withdraw_reply, withdraw_row, withdrawal_by}
+use Rattle.cqf_model.specs.Limits.{most_reserved}
 use Rattle.cqf_model.specs.Table.{IsTree, cost_on, is_held, link_cost, links_of, residence, row_named, uses}
 use Rattle.cqf_lists.proofs.Members.{contains_cases, contains_filter, contains_from_filter, contains_from_map, contains_here, contains_later, contains_map}
 use Rattle.cqf_lists.proofs.Members.{contains_none}
@@ -135,7 +136,7 @@ pub record Sound (d : Domain) (entries : List Recorded) (n : ℕ) : Type 0 where
   pub trees : (row : Row) → Contains (admitted_before d entries n) row → IsTree d row.tree.items
   pub named : (row : Row) → Contains (admitted_before d entries n) row → is_name row.name ≡ true
   pub least_octets : (row : Row) → Contains (admitted_before d entries n) row → 64 ≤ row.octets
-  pub most_octets : (row : Row) → Contains (admitted_before d entries n) row → row.octets ≤ 60000
+  pub most_octets : (row : Row) → Contains (admitted_before d entries n) row → row.octets ≤ most_reserved
   pub ends : (number : ℕ) (x : Cycle) → withdrawn_before entries n number ≡ Some x → number < length (admitted_before d entries n)
   pub begun : (row : Row) → Contains (admitted_before d entries n) row → row.admitted.0 ≤ sealed_before entries n
   pub names : AllPairs (λ (a b : Row). held_before entries n a ≡ true → held_before entries n b ≡ true → a.name ≢ b.name) (admitted_before d entries n)
@@ -261,7 +262,7 @@ sound_admitted d entries n asked h is ends g s =
       named = λ row k. elim (back row k) [ inl m ↦ s.named row m | inr m ↦ subst (λ (r : Row). is_name r.name ≡ true) m granted_here.named ];
       paces = λ row k. elim (back row k) [ inl m ↦ s.paces row m | inr m ↦ subst (λ (r : Row). IsPaced r.pace) m new_paced ];
       least_octets = λ row k. elim (back row k) [ inl m ↦ s.least_octets row m | inr m ↦ subst (λ (r : Row). 64 ≤ r.octets) m granted_here.least_octets ];
-      most_octets = λ row k. elim (back row k) [ inl m ↦ s.most_octets row m | inr m ↦ subst (λ (r : Row). r.octets ≤ 60000) m granted_here.most_octets ];
+      most_octets = λ row k. elim (back row k) [ inl m ↦ s.most_octets row m | inr m ↦ subst (λ (r : Row). r.octets ≤ most_reserved) m granted_here.most_octets ];
       ends = λ number x e. omega (arith, s.ends number x (sym (ends number) ∙ e), ap (λ (xs : List Row). length xs) same, length-append rows (new ∷ []));
       begun = λ row k. elim (back row k) [ inl m ↦ omega (arith, later, s.begun row m) | inr m ↦ subst (λ (r : Row). r.admitted.0 ≤ e) m later ];
       names = subst (λ (xs : List Row). AllPairs apart_later xs) (sym same)

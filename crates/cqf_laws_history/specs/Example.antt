@@ -17,9 +17,10 @@ one_link limits = record {
   limits = limits;
   cycle_time = 250000;
   guard = 5000;
+  sync = 0;
   bridges = codes "a" ∷ [];
   stations = codes "s" ∷ [];
-  links = record { from = 0; to = Station 0; rate = Mb1000; delay = 500 } ∷ [];
+  links = record { from = 0; to = Station 0; rate = Mb1000; delay = 500; least = 500; guard = None } ∷ [];
 }
 
 -- a request for a stream over it that takes two thirds of its budget in the cycles of its own

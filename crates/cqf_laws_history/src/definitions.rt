@@ -25,7 +25,7 @@ ghost use Rattle.cqf_laws_history.specs.TableLaws.{
   OtherwiseItIsLive,
   ClosedTablesStay,
 };
-ghost use Rattle.cqf_laws_history.specs.TimingLaws.{DelayCounts, EndingIsCounted, GapIsCounted, ShortestFrame};
+ghost use Rattle.cqf_laws_history.specs.TimingLaws.{DelayCounts, EndingIsCounted, GapIsCounted, ShortestFrame, WholeOctetsAreExact};
 ghost use Rattle.cqf_laws_history.specs.TrafficLaws.{
   VerdictsHaveTheirReason,
   VerdictsInsideHaveTheirReason,
@@ -96,6 +96,7 @@ pub fn delay_counts()
     ensures whole { DelayCounts }
     ensures over { EndingIsCounted }
     ensures free { GapIsCounted }
+    ensures exact { WholeOctetsAreExact }
     ensures shortest { ShortestFrame }
 {}
 

@@ -1,6 +1,6 @@
 -- What a link sends of queued frames in turn, as a book has it.
 use Rattle.std.proofs.Common.{◌≡◌, ℕ, ◌+◌, ◌*◌, ◌<◌, ◌∷◌, [], ◌++◌, List, Option, Some, sym, ap, ◌∙◌, refl, Contains, map, length, arith}
-use Rattle.cqf_units.specs.Timing.{wire_of}
+use Rattle.cqf_units.specs.Timing.{slot_of}
 use Rattle.cqf_model.specs.declared.frames.Sent.{Sent}
 use Rattle.cqf_model.specs.declared.frames.Started.{Started}
 use Rattle.cqf_model.specs.declared.ports.Arrival.{Arrival}
@@ -28,7 +28,7 @@ turns_told : (cycle link t octet_time : ℕ) (xs : List QueuedFrame) → ((x : Q
     map (started cycle link) (in_turn_from t octet_time xs) ≡ starts_from cycle link t octet_time xs
 turns_told cycle link t octet_time [] of_streams = refl
 turns_told cycle link t octet_time (x ∷ xs) of_streams =
-    let next = t + octet_time * wire_of x.arrival.octets in
+    let next = t + slot_of x.arrival.octets octet_time in
     let s = of_streams x (contains_here x xs) in
     let one = sent_one t x.arrival x.stream s.0 s.1 in
     let rest = turns_told cycle link next octet_time xs (λ y c. of_streams y (contains_later x xs y c)) in

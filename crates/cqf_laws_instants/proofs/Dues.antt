@@ -18,7 +18,7 @@ use Rattle.cqf_model.specs.Network.{QueuedFrame, arrivals_of, no_frame, queued_b
 use Rattle.cqf_model.specs.Port.{Transmission, no_arrival}
 use Rattle.cqf_model.specs.Run.{Run, end_of_run}
 use Rattle.cqf_model.specs.Traffic.{Carried}
-use Rattle.cqf_model.specs.Turn.{cycle_of_place, due, is_streams, load, wire_in}
+use Rattle.cqf_model.specs.Turn.{busy, cycle_of_place, due, is_streams, load, slot_in, wire_in}
 use Rattle.cqf_model.proofs.Links.{octet_positive}
 use Rattle.cqf_model.proofs.Sending.{sent_then}
 use Rattle.cqf_lists.specs.Lists.{each_below}
@@ -39,7 +39,7 @@ use Rattle.cqf_laws_shift.proofs.Runs.{place_timed, ports_due, sends, sent_timed
 use Rattle.cqf_laws_shift.proofs.Trees.{goes_inside}
 use Rattle.cqf_laws_shift.proofs.Ways.{queued_member}
 use Rattle.cqf_laws_instants.specs.Instants.{BatchIsDue, FirstBatchIsEmpty, in_turn_from}
-use Rattle.cqf_laws_instants.proofs.Turns.{is_turn, turn_is, turns, turns_ascend, turns_send, wire}
+use Rattle.cqf_laws_instants.proofs.Turns.{is_turn, slot, turn_is, turns, turns_ascend, turns_send, wire}
 
 -- a list without members is empty
 nil_of_none : {X : Type 0} (xs : List X) → ((x : X) → Contains xs x → ⊥) → xs ≡ []
@@ -174,12 +174,19 @@ module _ (laws : CycleLaws) (run : Run) (carried : Carried) (alone : IsRunAlone 
         (eq-eqb (cycle_at n q.arrival.at.0) cycle (came_in run carried l cycle q c))
         ∙ cond-true (is_streams q.arrival) w 0 (le-leb 6 q.arrival.class (high q (in_queue l cycle q in_run c)))
 
-    -- and one before it
-    adds_none : (q : QueuedFrame) → Contains before q → wire_in n cycle q.arrival ≡ 0
-    adds_none q c =
+    -- the same of their slots
+    adds_slot : (q : QueuedFrame) → Contains now q → slot_in r n cycle q.arrival ≡ slot r q
+    adds_slot q c =
+        let w = slot r q in
+        cond-true (cycle_at n q.arrival.at.0 == cycle) (if is_streams q.arrival then w else 0) 0
+        (eq-eqb (cycle_at n q.arrival.at.0) cycle (came_in run carried l cycle q c))
+        ∙ cond-true (is_streams q.arrival) w 0 (le-leb 6 q.arrival.class (high q (in_queue l cycle q in_run c)))
+
+    adds_no_slot : (q : QueuedFrame) → Contains before q → slot_in r n cycle q.arrival ≡ 0
+    adds_no_slot q c =
         let from = contains_from_below (queued_in run carried l) cycle q c in
         let at = came_in run carried l from.0 q from.2 in
-        cond-false (cycle_at n q.arrival.at.0 == cycle) (if is_streams q.arrival then wire_of q.arrival.octets else 0) 0
+        cond-false (cycle_at n q.arrival.at.0 == cycle) (if is_streams q.arrival then slot r q else 0) 0
         (ne_eqb (cycle_at n q.arrival.at.0) cycle (λ e. omega (arith, e, at, from.1)))
 
     -- the queue up to a place of the cycle
@@ -189,15 +196,15 @@ module _ (laws : CycleLaws) (run : Run) (carried : Carried) (alone : IsRunAlone 
         ∙ take-append-add before (now ++ after) k
         ∙ ap (λ (xs : List QueuedFrame). before ++ xs) (take-append-le k now after (omega (arith, less)))
 
-    -- and the cycle's load there
-    load_at : (k : ℕ) → k < length now → load n cycle (take (length before + k) (arrivals_of queue)) ≡ sum_by wire (take k now)
-    load_at k less =
-        let f = λ (q : QueuedFrame). wire_in n cycle q.arrival in
-        let first : sum_by f before ≡ 0 = sum_none f before adds_none in
-        let rest : sum_by f (take k now) ≡ sum_by wire (take k now) =
-        sum_same f wire (take k now) (λ q c. adds q (contains_from_take now k q c)) in
-        ap (load n cycle) (take-map (λ (q : QueuedFrame). q.arrival) (length before + k) queue)
-        ∙ sum_map (wire_in n cycle) (λ (q : QueuedFrame). q.arrival) (take (length before + k) queue)
+    -- and how long the cycle's frames take there
+    busy_at : (k : ℕ) → k < length now → busy r n cycle (take (length before + k) (arrivals_of queue)) ≡ sum_by (slot r) (take k now)
+    busy_at k less =
+        let f = λ (q : QueuedFrame). slot_in r n cycle q.arrival in
+        let first : sum_by f before ≡ 0 = sum_none f before adds_no_slot in
+        let rest : sum_by f (take k now) ≡ sum_by (slot r) (take k now) =
+        sum_same f (slot r) (take k now) (λ q c. adds_slot q (contains_from_take now k q c)) in
+        ap (busy r n cycle) (take-map (λ (q : QueuedFrame). q.arrival) (length before + k) queue)
+        ∙ sum_map (slot_in r n cycle) (λ (q : QueuedFrame). q.arrival) (take (length before + k) queue)
         ∙ ap (sum_by f) (up_to k less)
         ∙ omega (arith, sum_by-append f before (take k now), first, rest)
 
@@ -222,10 +229,10 @@ module _ (laws : CycleLaws) (run : Run) (carried : Carried) (alone : IsRunAlone 
         ∙ came_in run carried l cycle (get_or now k no_frame) (Contains-get_or now k no_frame less)
 
     -- and due in its turn
-    due_at : (k : ℕ) → k < length now → due n r (arrivals_of queue) (length before + k) ≡ (cycle + 1) * n + r * sum_by wire (take k now)
+    due_at : (k : ℕ) → k < length now → due n r (arrivals_of queue) (length before + k) ≡ (cycle + 1) * n + sum_by (slot r) (take k now)
     due_at k less =
-        ap (λ (c : ℕ). (c + 1) * n + r * load n c (take (length before + k) (arrivals_of queue))) (cycle_there k less)
-        ∙ ap (λ (x : ℕ). (cycle + 1) * n + r * x) (load_at k less)
+        ap (λ (c : ℕ). (c + 1) * n + busy r n c (take (length before + k) (arrivals_of queue))) (cycle_there k less)
+        ∙ ap (λ (x : ℕ). (cycle + 1) * n + x) (busy_at k less)
 
     -- the port's transmissions
     abbrev starts : List Transmission
@@ -240,7 +247,7 @@ module _ (laws : CycleLaws) (run : Run) (carried : Carried) (alone : IsRunAlone 
     expected = turns (length before) ((cycle + 1) * n) r now
 
     -- what starts from a place of the cycle in its turn is one of them
-    in_turn : (z : Transmission) (k : ℕ) → k < length now → z.0 ≡ length before + k → z.1 ≡ (cycle + 1) * n + r * sum_by wire (take k now) →
+    in_turn : (z : Transmission) (k : ℕ) → k < length now → z.0 ≡ length before + k → z.1 ≡ (cycle + 1) * n + sum_by (slot r) (take k now) →
         Contains expected z
     in_turn z k less place instant =
         subst (λ (x : Transmission). Contains expected x) (sym (ap₂ (λ (a b : ℕ). (a, b)) place instant))
@@ -256,7 +263,7 @@ module _ (laws : CycleLaws) (run : Run) (carried : Carried) (alone : IsRunAlone 
         let at : cycle_of d (get_or queue z.0 no_frame).arrival.at.0 ≡ cycle =
         omega (arith, here, timed, ap (λ (a : Arrival). cycle_at n a.at.0) (seen z.0 inside)) in
         let k = place_in z.0 inside at in
-        let instant : z.1 ≡ (cycle + 1) * n + r * sum_by wire (take k.0 now) =
+        let instant : z.1 ≡ (cycle + 1) * n + sum_by (slot r) (take k.0 now) =
         start_due laws run carried alone l is_link z.0 z.1 m.0 ∙ ap (due n r (arrivals_of queue)) k.2 ∙ due_at k.0 k.1 in
         in_turn z k.0 k.1 k.2 instant
 

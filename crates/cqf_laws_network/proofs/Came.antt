@@ -7,7 +7,9 @@ use Rattle.std.proofs.lemmas.Nat.{div_below}
 use Rattle.cqf_lists.proofs.EachBelow.{same_below}
 use Rattle.cqf_lists.proofs.Filters.{filter_weaker}
 use Rattle.cqf_lists.proofs.Fronts.{Front, front_behind, front_filter, front_more, front_whole}
+use Rattle.cqf_units.specs.Timing.{ending_of}
 use Rattle.cqf_units.proofs.Cycles.{takes_time}
+use Rattle.cqf_units.proofs.Times.{time_some}
 use Rattle.cqf_model.specs.declared.frames.Sent.{Sent}
 use Rattle.cqf_model.specs.declared.topology.Row.{Row}
 use Rattle.cqf_model.specs.Domain.{Domain, bridge_of, cycle_of, enters, octet_time_of}
@@ -26,8 +28,8 @@ abbrev pub Late : ℕ → QueuedFrame → Type 0
 Late n x = n ≤ x.arrival.at.0
 
 -- a frame takes time where an octet does
-frame_takes_time : (start octets octet_time delay : ℕ) → 0 < octet_time → start < start + (octets + 8) * octet_time + delay
-frame_takes_time start octets octet_time delay h = grind arith
+frame_takes_time : (start octets octet_time delay : ℕ) → 0 < octet_time → start < ending_of start octets octet_time + delay
+frame_takes_time start octets octet_time delay h = omega (arith, time_some (octets + 8) octet_time (omega arith) h)
 
 -- a frame comes after it was sent
 whole_later : (d : Domain) (m : ℕ) (sent : Sent) → m < length d.links → sent.start.0 < whole_at d m sent

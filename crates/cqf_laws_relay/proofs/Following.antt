@@ -17,7 +17,7 @@ use Rattle.cqf_model.specs.declared.frames.Offered.{Offered}
 use Rattle.cqf_model.specs.declared.frames.Sent.{Sent}
 use Rattle.cqf_model.specs.declared.topology.Row.{Row}
 use Rattle.cqf_model.specs.Book.{batch}
-use Rattle.cqf_model.specs.Domain.{Domain, bridge_of, cycle_of, enters, octet_time_of}
+use Rattle.cqf_model.specs.Domain.{Domain, bridge_of, cycle_of, enters, guard_of, octet_time_of}
 use Rattle.cqf_model.specs.Network.{Network, QueuedFrame, queued_frame, queued_in}
 use Rattle.cqf_model.specs.Run.{IsOffer, Run}
 use Rattle.cqf_model.specs.Shift.{row_for}
@@ -400,8 +400,8 @@ module _ (whole : BatchIsWholeInItsCycle) (relayed : RelayedGoByTheirTree) (lane
       on.sends
       ∙ ap (λ (qs : List Queued). sends_of (wire_on d l) (cycle + 1) 0 (map came_of qs)) (sym w.2)
       ∙ ap (sends_of (wire_on d l) (cycle + 1) 0) (map-map came_of put w.0)
-      ∙ sends_in_turn (wire_on d l) (cycle + 1) d.guard (came_at run l cycle) (behind run l) (delay_within d l legal.accepted is_link) w.0 0
-      ((cycle + 1) * d.cycle_time) each (omega arith) (omega (arith, has_room, ap (λ (qs : List QueuedFrame). octet_time_of d l * sum_by taken qs) queued_then))
+      ∙ sends_in_turn (wire_on d l) (cycle + 1) (guard_of d l) (came_at run l cycle) (behind run l) (delay_within d l legal.accepted is_link) w.0 0
+      ((cycle + 1) * d.cycle_time) each (omega arith) (omega (arith, has_room, ap (λ (qs : List QueuedFrame). sum_by (taken (octet_time_of d l)) qs) queued_then))
       ∙ ap (in_turn_from ((cycle + 1) * d.cycle_time) (octet_time_of d l)) (sym queued_then)
       ∙ sym (due run net l cycle legal later)
 

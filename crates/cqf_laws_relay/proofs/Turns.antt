@@ -5,7 +5,8 @@ use Rattle.std.specs.List.{flat_map}
 use Rattle.std.proofs.lemmas.Bool.{and_from}
 use Rattle.std.proofs.lemmas.List.Sums.{sum_by-cons}
 use Rattle.cqf_lists.proofs.Members.{contains_here, contains_later}
-use Rattle.cqf_units.specs.Timing.{wire_of}
+use Rattle.cqf_units.specs.Timing.{slot_of}
+use Rattle.cqf_units.proofs.Times.{slot_parts}
 use Rattle.cqf_model.specs.declared.frames.Sent.{Sent}
 use Rattle.cqf_model.specs.Network.{QueuedFrame}
 use Rattle.cqf_laws_instants.specs.Instants.{in_turn_from}
@@ -13,9 +14,9 @@ use Rattle.cqf_relay.specs.declared.log.ArrivedFrame.{ArrivedFrame}
 use Rattle.cqf_relay.specs.declared.wire.Wire.{Wire}
 use Rattle.cqf_relay.specs.Sending.{has_room_on, sends_of, sent_at, time_on}
 
--- what a queued frame takes of the wire
-abbrev pub taken : QueuedFrame → ℕ
-taken x = wire_of x.arrival.octets
+-- how long a queued frame takes with its gap, in nanoseconds
+abbrev pub taken : ℕ → QueuedFrame → ℕ
+taken octet_time x = slot_of x.arrival.octets octet_time
 
 -- a frame as a port sees it, with an instant and a class
 abbrev pub frame_with : ℕ → ℕ → ArrivedFrame → QueuedFrame
@@ -34,15 +35,11 @@ sent_first : (sent : Sent) (rest : ℕ → List Sent) (b : Bool) (offset next : 
 sent_first sent rest true offset next is = refl
 sent_first sent rest false offset next is = absurd cc
 
--- what frames take in turn, one more
-takes_more : (octet_time first others all : ℕ) → all ≡ first + others → octet_time * all ≡ octet_time * first + octet_time * others
-takes_more octet_time first others all is = omega (arith, ap (λ (n : ℕ). octet_time * n) is)
-
 -- a frame has room where what it takes of the wire ends before the guard time, which is longer than the delay
 has_room : (wire : Wire) (guard offset octets others : ℕ) → octets ≤ 65535 → wire.delay < guard →
-    offset + (wire.octet_time * wire_of octets + wire.octet_time * others) + guard ≤ wire.cycle_time → has_room_on wire offset octets ≡ true
+    offset + (slot_of octets wire.octet_time + others) + guard ≤ wire.cycle_time → has_room_on wire offset octets ≡ true
 has_room wire guard offset octets others small short within =
-    let early : offset + time_on wire octets < wire.cycle_time = omega (arith, short, within) in
+    let early : offset + time_on wire octets < wire.cycle_time = omega (arith, short, within, slot_parts octets wire.octet_time) in
     and_from (nat_le octets 65535) (nat_lt (offset + time_on wire octets) wire.cycle_time) (le-leb octets 65535 small)
     (lt-ltb (offset + time_on wire octets) wire.cycle_time early)
 
@@ -53,7 +50,7 @@ module _ {X : Type 0} (wire : Wire) (cycle guard : ℕ) (came : X → ArrivedFra
 
   -- what the link sends of the list is the queue in turn
   pub sends_in_turn : (xs : List X) (offset start : ℕ) → AreQueued xs → start ≡ cycle * wire.cycle_time + offset →
-      offset + wire.octet_time * sum_by taken (flat_map queued xs) + guard ≤ wire.cycle_time →
+      offset + sum_by (taken wire.octet_time) (flat_map queued xs) + guard ≤ wire.cycle_time →
       sends_of wire cycle offset (map came xs) ≡ in_turn_from start wire.octet_time (flat_map queued xs)
   sends_in_turn [] offset start are at within = refl
   sends_in_turn (x ∷ xs) offset start are at within =
@@ -61,12 +58,12 @@ module _ {X : Type 0} (wire : Wire) (cycle guard : ℕ) (came : X → ArrivedFra
       let rest = flat_map queued xs in
       let frame = frame_with here.0.at here.0.class (came x) in
       let octets = (came x).octets in
-      let takes = wire.octet_time * wire_of octets in
+      let takes = slot_of octets wire.octet_time in
+      let taken_each = taken wire.octet_time in
       let whole : queued x ++ rest ≡ frame ∷ rest = ap (λ (ys : List QueuedFrame). ys ++ rest) here.0.is in
-      let sum : sum_by taken (queued x ++ rest) ≡ wire_of octets + sum_by taken rest = ap (sum_by taken) whole ∙ sum_by-cons taken frame rest in
-      let all = takes_more wire.octet_time (wire_of octets) (sum_by taken rest) (sum_by taken (queued x ++ rest)) sum in
-      let left : offset + (takes + wire.octet_time * sum_by taken rest) + guard ≤ wire.cycle_time = omega (arith, within, all) in
-      let room = has_room wire guard offset octets (sum_by taken rest) here.1 short left in
+      let sum : sum_by taken_each (queued x ++ rest) ≡ takes + sum_by taken_each rest = ap (sum_by taken_each) whole ∙ sum_by-cons taken_each frame rest in
+      let left : offset + (takes + sum_by taken_each rest) + guard ≤ wire.cycle_time = omega (arith, within, sum) in
+      let room = has_room wire guard offset octets (sum_by taken_each rest) here.1 short left in
       let later : start + takes ≡ cycle * wire.cycle_time + (offset + takes) = omega (arith, at) in
       sent_first (sent_at wire cycle offset (came x)) (λ next. sends_of wire cycle next (map came xs)) (has_room_on wire offset octets) offset
       (offset + takes) room

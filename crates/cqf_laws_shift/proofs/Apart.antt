@@ -10,7 +10,7 @@ use Rattle.cqf_model.specs.Book.{batch, started, starts_in, starts_of}
 use Rattle.cqf_model.specs.Domain.{cycle_of}
 use Rattle.cqf_model.specs.Run.{Run, end_of_run}
 use Rattle.cqf_model.specs.Traffic.{Carried}
-use Rattle.cqf_laws_shift.specs.Alone.{IsRunAlone}
+use Rattle.cqf_laws_shift.specs.Alone.{IsRunAs}
 use Rattle.cqf_laws_shift.proofs.Came.{queued}
 use Rattle.cqf_laws_shift.proofs.CycleLaws.{CycleLaws}
 use Rattle.cqf_laws_shift.proofs.Runs.{sends, sent_at, sents_are}
@@ -21,13 +21,13 @@ use Rattle.cqf_laws_shift.proofs.Octets.{IsOfSent, of_sent}
 abbrev pub AreApart : Started → Started → Type 0
 AreApart a b = a.frame ≡ b.frame → a.link ≡ b.link → ⊥
 
-module _ (laws : CycleLaws) (run : Run) (carried : Carried) (alone : IsRunAlone run carried) where
+module _ (laws : CycleLaws) (run : Run) (carried : Carried) {heard : Carried} (alone : IsRunAs run carried heard) where
   -- a link sends one frame after the other
   sents_ascend : (link : ℕ) → link < length run.domain.links → AllPairs (λ (a b : Sent). a.start.0 < b.start.0) (carried link)
   sents_ascend link is_link =
       let s = sends laws run carried alone link is_link in
       subst (AllPairs (λ (a b : Sent). a.start.0 < b.start.0)) (sym (sents_are laws run carried alone link is_link))
-      (pairs_map (λ (a b : Sent). a.start.0 < b.start.0) (sent_at (queued run carried (end_of_run run) link)) s.starts s.legal.in_order)
+      (pairs_map (λ (a b : Sent). a.start.0 < b.start.0) (sent_at (queued run heard (end_of_run run) link)) s.starts s.legal.in_order)
 
   -- and no two of one frame
   pub sents_apart : (link : ℕ) → link < length run.domain.links → AllPairs (λ (a b : Sent). a.frame ≡ b.frame → ⊥) (carried link)

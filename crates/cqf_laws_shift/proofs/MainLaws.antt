@@ -21,12 +21,12 @@ use Rattle.cqf_model.specs.Table.{table_of, row_of, row_named, link_cost}
 use Rattle.cqf_model.specs.Traffic.{Way, AtEdge, Carried, Received, Policed, police_all, verdict_by, whole_at, within_gate, came_by, offer_received}
 use Rattle.cqf_model.specs.Network.{IsLost, IsLoss}
 use Rattle.cqf_model.specs.Shift.{InShift}
-use Rattle.cqf_model.specs.Promise.{IsDecided, LeavesInTurn, MeansTheShift, wire_in_cycle}
-use Rattle.cqf_laws_shift.specs.Alone.{IsRunAlone}
+use Rattle.cqf_model.specs.Promise.{IsDecided, LeavesInTurn, MeansTheShiftAs, wire_in_cycle}
+use Rattle.cqf_laws_shift.specs.Alone.{IsRunAs}
 use Rattle.cqf_laws_shift.specs.MainLaw.{GatesMeanTheShift}
 use Rattle.cqf_laws_shift.specs.Run.{RunBesideIsRunAlone}
 use Rattle.cqf_units.proofs.Cycles.{cycle_from, cycle_upto}
-use Rattle.cqf_lists.proofs.Members.{contains_here, contains_none, all_from_members, find_member, find_some}
+use Rattle.cqf_lists.proofs.Members.{contains_from_map, contains_here, contains_none, all_from_members, find_member, find_some}
 use Rattle.cqf_lists.proofs.Pairs.{pairs_none}
 use Rattle.cqf_lists.proofs.Sums.{sum_none, sum_le_members, sum_grouped}
 use Rattle.cqf_laws_shift.proofs.Came.{came, came_how, policed, queued}
@@ -46,7 +46,7 @@ use Rattle.cqf_laws_shift.proofs.Trees.{hop_within, same_hop}
 use Rattle.cqf_laws_shift.proofs.Verdicts.{edge_no_loss, queued_no_loss}
 use Rattle.cqf_laws_shift.proofs.Ways.{covered_member, on_way, queued_member, relayed_goes_on, row_stays, same_stream}
 
-module _ (laws : CycleLaws) (run : Run) (carried : Carried) (alone : IsRunAlone run carried) where
+module _ (laws : CycleLaws) (run : Run) (carried : Carried) {heard : Carried} (alone : IsRunAs run carried heard) where
   -- the run's domain
   abbrev d : Domain
   d = run.domain
@@ -103,9 +103,9 @@ module _ (laws : CycleLaws) (run : Run) (carried : Carried) (alone : IsRunAlone 
 
       none_short : All (λ (sent : Sent). 64 ≤ sent.octets) (carried link)
       none_short = all_from_members (λ (sent : Sent). 64 ≤ sent.octets) (carried link) (λ sent c.
-          let s = fed laws run carried alone link is_link sent c in
-          let enough = All-contains (λ (p : Policed). 64 ≤ p.received.octets) (policed run carried (end_of_run run) (bridge_of d link)) s.p
-          (least laws run carried alone.planned (fed laws run carried alone) (bridge_of d link)) s.inside in
+          let s = (fed laws run carried alone link is_link sent c).0 in
+          let enough = All-contains (λ (p : Policed). 64 ≤ p.received.octets) (policed run heard (end_of_run run) (bridge_of d link)) s.p
+          (least laws run heard alone.planned alone.meets (fed laws run carried alone) (bridge_of d link)) s.inside in
           omega (arith, enough, s.octets))
 
       -- of a stream of the cycle's table, no more octets than its reservation
@@ -185,14 +185,14 @@ module _ (laws : CycleLaws) (run : Run) (carried : Carried) (alone : IsRunAlone 
           nested false b v = omega arith
 
   -- nothing is lost inside
-  none_lost : (bridge : ℕ) (p : Policed) → IsLost run carried (length run.tables) bridge p → ⊥
+  none_lost : (bridge : ℕ) (p : Policed) → IsLost run heard (length run.tables) bridge p → ⊥
   none_lost bridge p lost =
-      elim (came_how run carried (end_of_run run) bridge p.received
-      (has_come d run.tables bridge (came run carried (end_of_run run) bridge) (policed run carried (end_of_run run) bridge)
-      (facts laws run carried alone.planned bridge) p lost.came)) [
+      elim (came_how run heard (end_of_run run) bridge p.received
+      (has_come d run.tables bridge (came run heard (end_of_run run) bridge) (policed run heard (end_of_run run) bridge)
+      (facts laws run heard alone.planned bridge) p lost.came)) [
         | inl r ↦ let on = relayed_goes_on laws run carried alone bridge p lost.came r in queued_no_loss p.verdict on.0 on.1 lost.lost
         | inr o ↦
-            let b = (facts laws run carried alone.planned bridge).behind p lost.came in
+            let b = (facts laws run heard alone.planned bridge).behind p lost.came in
             let earlier = [] ++ police_all d run.tables bridge [] b.before in
             let way : b.x.way ≡ AtEdge o.offered.offer.stream = ap (λ (z : Policed). z.received.way) (sym b.is) ∙ ap (λ (z : Received). z.way) (sym o.is) in
             at_edge (table_of run.tables (cycle_of d b.x.at)) (cycle_of d b.x.at) (λ r. within_gate d earlier r b.x) b.x.way o.offered.offer.stream way
@@ -205,16 +205,16 @@ module _ (laws : CycleLaws) (run : Run) (carried : Carried) (alone : IsRunAlone 
           edge_no_loss d bridge cycle fits (row_named table name) (subst (λ z. IsLoss (verdict_by d table bridge cycle fits z)) is lost)
 
   -- each frame that came by no link is an offer's, with the verdict that the definitions say
-  edge_only : (bridge : ℕ) (p : Policed) → Contains (policed run carried (end_of_run run) bridge) p → came_by p.received.way ≡ None → (x : Offered) ×
+  edge_only : (bridge : ℕ) (p : Policed) → Contains (policed run heard (end_of_run run) bridge) p → came_by p.received.way ≡ None → (x : Offered) ×
       (x.offer.bridge ≡ bridge) × (offer_received x ≡ p.received) × IsDecided run x p.verdict
   edge_only bridge p c way =
-      elim (came_how run carried (end_of_run run) bridge p.received
-      (has_come d run.tables bridge (came run carried (end_of_run run) bridge) (policed run carried (end_of_run run) bridge)
-      (facts laws run carried alone.planned bridge) p c)) [
+      elim (came_how run heard (end_of_run run) bridge p.received
+      (has_come d run.tables bridge (came run heard (end_of_run run) bridge) (policed run heard (end_of_run run) bridge)
+      (facts laws run heard alone.planned bridge) p c)) [
         | inl r ↦ absurd (two_ways r.m (sym way ∙ ap (λ (z : Received). came_by z.way) (sym r.is)))
         | inr o ↦
-            let verdict = offered_judged (gate_is_reservation laws.counts) run carried (end_of_run run)
-            (some_time laws run carried alone.planned) alone.planned.orderly bridge p c o in
+            let verdict = offered_judged (gate_is_reservation laws.counts) run heard (end_of_run run)
+            (some_time laws run heard alone.planned) alone.planned.orderly bridge p c o in
             (o.offered, o.here, o.is, subst (IsDecided run o.offered) (sym verdict) (is_decided run o.offered o.inside))
       ]
     where
@@ -222,7 +222,7 @@ module _ (laws : CycleLaws) (run : Run) (carried : Carried) (alone : IsRunAlone 
       two_ways m e = cc
 
   -- each frame leaves in its turn
-  in_turn : (link : ℕ) (sent : Sent) → Contains (carried link) sent → LeavesInTurn d link (queued run carried (end_of_run run) link) sent
+  in_turn : (link : ℕ) (sent : Sent) → Contains (carried link) sent → LeavesInTurn d link (queued run heard (end_of_run run) link) sent
   in_turn link sent c =
       let is_link = the_link link sent c in
       let s = sent_for laws run carried alone link is_link sent c in
@@ -235,13 +235,25 @@ module _ (laws : CycleLaws) (run : Run) (carried : Carried) (alone : IsRunAlone 
         cycle = place_timed laws run carried alone link is_link s.0.place sent.start.0 s.1;
       }
 
+  -- each is whole in the next node, by its clock, in its cycle
+  whole : (link : ℕ) (sent h : Sent) → Contains (carried link) sent → Contains (heard link) h → h.frame ≡ sent.frame →
+      cycle_of d (whole_at d link h) ≡ cycle_of d sent.start.0
+  whole link sent h c ch frames =
+      let is_link = the_link link sent c in
+      let r = contains_from_map (alone.meets.noted link) (carried link) h (subst (λ (xs : List Sent). Contains xs h) (alone.meets.are link) ch) in
+      let alike = alone.meets.each link r.0 is_link r.1 in
+      let one : r.0 ≡ sent = sent_once laws run carried alone link is_link r.0 sent r.1 c (sym alike.frame ∙ ap (λ (z : Sent). z.frame) r.2 ∙ frames) in
+      let t = (sent_timed laws run carried alone link is_link sent c).1 in
+      ap (λ (z : Sent). cycle_of d (whole_at d link z)) (sym r.2) ∙ ap (λ (z : Sent). cycle_of d (whole_at d link (alone.meets.noted link z))) one ∙ t.whole
+
   -- so many cycles behind its offer, within one
-  latency : (link : ℕ) (sent : Sent) → Contains (carried link) sent → (shift : InShift run (length run.tables) sent.frame link (cycle_of d sent.start.0)) →
-      (shift.x.offer.at.0 + shift.depth * d.cycle_time < whole_at d link sent + d.cycle_time) ×
-      (whole_at d link sent < shift.x.offer.at.0 + (shift.depth + 1) * d.cycle_time)
-  latency link sent c shift =
-      let t = (sent_timed laws run carried alone link (the_link link sent c) sent c).1 in
-      within d.cycle_time shift.x.offer.at.0 (whole_at d link sent) shift.depth (some_time laws run carried alone.planned) (t.whole ∙ shift.is_cycle)
+  latency : (link : ℕ) (sent h : Sent) → Contains (carried link) sent → Contains (heard link) h → h.frame ≡ sent.frame →
+      (shift : InShift run (length run.tables) sent.frame link (cycle_of d sent.start.0)) →
+      (shift.x.offer.at.0 + shift.depth * d.cycle_time < whole_at d link h + d.cycle_time) ×
+      (whole_at d link h < shift.x.offer.at.0 + (shift.depth + 1) * d.cycle_time)
+  latency link sent h c ch frames shift =
+      within d.cycle_time shift.x.offer.at.0 (whole_at d link h) shift.depth (some_time laws run heard alone.planned)
+      (whole link sent h c ch frames ∙ shift.is_cycle)
     where
       within : (n at whole depth : ℕ) → 0 < n → whole / n ≡ at / n + depth → (at + depth * n < whole + n) × (whole < at + (depth + 1) * n)
       within n at whole depth some cycle =
@@ -257,10 +269,10 @@ module _ (laws : CycleLaws) (run : Run) (carried : Carried) (alone : IsRunAlone 
   ]
 
   -- the main law for streams' frames alone
-  pub alone_means_the_shift : MeansTheShift run carried
+  pub alone_means_the_shift : MeansTheShiftAs run carried heard
   alone_means_the_shift = record {
-    edge = λ x inside in_run. edge_is_covered (gate_is_reservation laws.counts) run carried (end_of_run run) x
-        (some_time laws run carried alone.planned) alone.planned.orderly inside (before_end laws run carried alone.planned x.offer.at.0 in_run);
+    edge = λ x inside in_run. edge_is_covered (gate_is_reservation laws.counts) run heard (end_of_run run) x
+        (some_time laws run heard alone.planned) alone.planned.orderly inside (before_end laws run heard alone.planned x.offer.at.0 in_run);
     edge_only = edge_only;
     only = λ frame link cycle l. subst (λ z. InShift run (length run.tables) z link cycle) l.is_frame
         (subst (λ z. InShift run (length run.tables) l.sent.frame link z) l.is_cycle
@@ -274,7 +286,7 @@ module _ (laws : CycleLaws) (run : Run) (carried : Carried) (alone : IsRunAlone 
     loads = loads;
     costs = λ link cycle turn is_link. alone.planned.orderly.loads cycle link turn is_link;
     in_turn = in_turn;
-    whole = λ link sent c. (sent_timed laws run carried alone link (the_link link sent c) sent c).1.whole;
+    whole = whole;
     latency = latency;
   }
 

@@ -10,7 +10,7 @@ use Rattle.cqf_model.specs.Book.{batch, started, starts_in, starts_of}
 use Rattle.cqf_model.specs.Domain.{bridge_of, cycle_of}
 use Rattle.cqf_model.specs.Run.{Run}
 use Rattle.cqf_model.specs.Traffic.{Carried, numbered}
-use Rattle.cqf_laws_shift.specs.Alone.{IsRunAlone}
+use Rattle.cqf_laws_shift.specs.Alone.{IsRunAs}
 use Rattle.cqf_laws_shift.proofs.Came.{one_number}
 use Rattle.cqf_laws_shift.proofs.CycleLaws.{CycleLaws}
 use Rattle.cqf_laws_shift.proofs.Runs.{sent_timed}
@@ -45,7 +45,7 @@ module _ (run : Run) (carried : Carried) where
       let by_link = contains_from_below (starts_in run.domain carried by_cycle.0) (length run.domain.links) s by_cycle.2 in
       record { cycle = by_cycle.0; link = by_link.0; in_run = by_cycle.1; is_link = by_link.1; of = of_sent by_cycle.0 by_link.0 s by_link.2 }
 
-module _ (laws : CycleLaws) (run : Run) (carried : Carried) (alone : IsRunAlone run carried) where
+module _ (laws : CycleLaws) (run : Run) (carried : Carried) {heard : Carried} (alone : IsRunAs run carried heard) where
   -- what a link sends has the octets of the offer of its number
   pub sent_octets : (link : ℕ) → link < length run.domain.links → (sent : Sent) → Contains (carried link) sent → (x : Offered) →
       Contains (numbered run.offers) x → sent.frame ≡ x.frame → sent.octets ≡ x.offer.octets

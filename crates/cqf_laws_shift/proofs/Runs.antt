@@ -6,23 +6,27 @@ use Rattle.std.proofs.lemmas.List.Elements.{Contains-get_or}
 use Rattle.cqf_model.specs.declared.frames.Sent.{Sent}
 use Rattle.cqf_model.specs.declared.ports.Arrival.{Arrival}
 use Rattle.cqf_model.specs.declared.topology.Row.{Row}
-use Rattle.cqf_model.specs.Domain.{Domain, cycle_of, octet_time_of, bridge_of}
+use Rattle.cqf_model.specs.Domain.{Domain, bridge_of, cycle_of, guard_of, octet_time_of}
 use Rattle.cqf_model.specs.Port.{Transmission, class_of, no_arrival, instant_of, octets_of}
 use Rattle.cqf_model.specs.Run.{Run, end_of_run}
 use Rattle.cqf_model.specs.Traffic.{Carried, Policed, Queued, came_by, whole_at}
 use Rattle.cqf_model.specs.Network.{QueuedFrame, queued_frame, arrivals_of, no_frame, sent_by, sent_of}
+use Rattle.cqf_model.specs.GateList.{IsOpenThrough, port_list}
 use Rattle.cqf_model.specs.Turn.{due, cycle_of_place}
+use Rattle.cqf_units.specs.Timing.{ending_of}
 use Rattle.cqf_laws_cycle.specs.Compiled.{given_class}
 use Rattle.cqf_laws_cycle.specs.OnePort.{AreDue, IsWithinBudget, StreamsAt}
-use Rattle.cqf_model.proofs.Links.{delay_within, gap_within, octet_positive}
-use Rattle.cqf_laws_shift.specs.Alone.{IsRunAlone, SendsAlone}
+use Rattle.cqf_model.proofs.Links.{delay_within, gap_within, guard_within, octet_positive}
+use Rattle.cqf_laws_shift.specs.Alone.{IsRunAs, SendsAlone}
+use Rattle.cqf_units.specs.Timing.{slot_of}
+use Rattle.cqf_units.proofs.Times.{slot_parts}
 use Rattle.cqf_units.proofs.Cycles.{cycle_is, cycle_from, cycle_below}
 use Rattle.cqf_lists.proofs.Ones.{flat_map_ones}
 use Rattle.cqf_lists.proofs.Members.{contains_map, contains_from_map}
 use Rattle.cqf_lists.proofs.Pairs.{pairs_map}
 use Rattle.cqf_laws_shift.proofs.Came.{policed, queued}
 use Rattle.cqf_laws_shift.proofs.CycleLaws.{CycleLaws}
-use Rattle.cqf_laws_shift.proofs.Fed.{IsFed, IsSentOf, number_of, queue_class, queue_sorted, sent_from, sent_of_queue, within_budget}
+use Rattle.cqf_laws_shift.proofs.Fed.{IsFed, IsSentOf, number_of, queue_class, queue_sorted, sent_from, sent_of_queue, sent_of_queue_later, starts_later, within_time}
 use Rattle.cqf_laws_shift.proofs.Queues.{gives_streams, queued_from, queued_into}
 use Rattle.cqf_laws_shift.proofs.Trees.{GoesBy}
 
@@ -30,7 +34,7 @@ use Rattle.cqf_laws_shift.proofs.Trees.{GoesBy}
 abbrev pub sent_at : List QueuedFrame → Transmission → Sent
 sent_at queued start = sent_from (get_or queued start.0 no_frame) start.1
 
-module _ (laws : CycleLaws) (run : Run) (carried : Carried) (alone : IsRunAlone run carried) where
+module _ (laws : CycleLaws) (run : Run) (carried : Carried) {heard : Carried} (alone : IsRunAs run carried heard) where
   -- the run's domain
   abbrev d : Domain
   d = run.domain
@@ -41,14 +45,14 @@ module _ (laws : CycleLaws) (run : Run) (carried : Carried) (alone : IsRunAlone 
 
   -- what becomes of what comes to a bridge
   abbrev given : ℕ → List Policed
-  given bridge = policed run carried (end_of_run run) bridge
+  given bridge = policed run heard (end_of_run run) bridge
 
   -- what is queued to a link
   abbrev waiting : ℕ → List QueuedFrame
-  waiting m = queued run carried (end_of_run run) m
+  waiting m = queued run heard (end_of_run run) m
 
   -- a link's transmissions are legal
-  pub sends : (m : ℕ) → m < length run.domain.links → SendsAlone run.domain (end_of_run run) m (queued run carried (end_of_run run) m) (carried m)
+  pub sends : (m : ℕ) → m < length run.domain.links → SendsAlone run.domain (end_of_run run) m (queued run heard (end_of_run run) m) (carried m)
   sends m inside = alone.legal.sends m inside
 
   -- a transmission of what was queued sends one frame
@@ -60,24 +64,25 @@ module _ (laws : CycleLaws) (run : Run) (carried : Carried) (alone : IsRunAlone 
 
   -- a start is of a place in the queue
   pub start_in_queue : (m : ℕ) (is_link : m < length run.domain.links) (place s : ℕ) → Contains (sends m is_link).starts (place, s) →
-      place < length (queued run carried (end_of_run run) m)
+      place < length (queued run heard (end_of_run run) m)
   start_in_queue m is_link place s c =
       omega (arith, ((sends m is_link).legal.first place s c).waits.inside, length-map (waiting m) (λ (q : QueuedFrame). q.arrival))
 
   -- so what a link sends are its transmissions
-  pub sents_are : (m : ℕ) (is_link : m < length run.domain.links) → carried m ≡ map (sent_at (queued run carried (end_of_run run) m)) (sends m is_link).starts
+  pub sents_are : (m : ℕ) (is_link : m < length run.domain.links) → carried m ≡ map (sent_at (queued run heard (end_of_run run) m)) (sends m is_link).starts
   sents_are m is_link =
       let s = sends m is_link in
       s.are_sent ∙ flat_map_ones (sent_of (waiting m)) (sent_at (waiting m)) s.starts
       (λ start c. sends_one m start.0 start.1 (start_in_queue m is_link start.0 start.1 c))
 
-  -- what a link sends was queued to it, no later, and at which place
+  -- what a link sends was queued to it, in an earlier cycle, and at which place
   pub record IsSentFor (m : ℕ) (sent : Sent) : Type 0 where
-    pub from : IsSentOf run carried m sent
+    pub from : IsSentOf run heard m sent
+    pub later : cycle_of run.domain from.p.received.at < cycle_of run.domain sent.start.0
     pub place : ℕ
-    pub at_place : queued_frame run.domain from.p.received from.row ≡ get_or (queued run carried (end_of_run run) m) place no_frame
-    pub in_queue : place < length (queued run carried (end_of_run run) m)
-    pub is : sent_at (queued run carried (end_of_run run) m) (place, sent.start.0) ≡ sent
+    pub at_place : queued_frame run.domain from.p.received from.row ≡ get_or (queued run heard (end_of_run run) m) place no_frame
+    pub in_queue : place < length (queued run heard (end_of_run run) m)
+    pub is : sent_at (queued run heard (end_of_run run) m) (place, sent.start.0) ≡ sent
 
   -- each frame that a link sends was queued so
   pub sent_for : (m : ℕ) (is_link : m < length run.domain.links) (sent : Sent) → Contains (carried m) sent → (x : IsSentFor m sent) ×
@@ -91,10 +96,17 @@ module _ (laws : CycleLaws) (run : Run) (carried : Carried) (alone : IsRunAlone 
       let q = get_or (waiting m) place no_frame in
       let instant : instant_of (arrivals_of (waiting m)) place ≡ q.arrival.at.0 =
       ap (λ (a : Arrival). a.at.0) (get_or-map (λ (q : QueuedFrame). q.arrival) (waiting m) place no_frame no_arrival in_queue) in
-      let x = sent_of_queue run carried m q r.0.1 sent (Contains-get_or (waiting m) place no_frame in_queue) (omega (arith, first.waits.come, instant)) r.2 in
+      let there = Contains-get_or (waiting m) place no_frame in_queue in
+      let x = sent_of_queue run heard m q r.0.1 sent there r.2 in
+      let arrival : get_or (arrivals_of (waiting m)) place no_arrival ≡ q.arrival =
+      get_or-map (λ (q : QueuedFrame). q.arrival) (waiting m) place no_frame no_arrival in_queue in
+      let open_on = subst (λ (a : Arrival). IsOpenThrough (port_list d.cycle_time (guard_of d m)) a.class r.0.1 (ending_of r.0.1 a.octets (octet_time_of d m))) arrival
+      (s.legal.eligible place r.0.1 r.1) in
+      let later = starts_later laws.gives d m r.0.1 (given (bridge_of d m)) q alone.planned.accepted is_link there (omega (arith, first.waits.come, instant)) open_on in
       let start : r.0.1 ≡ sent.start.0 = ap (λ (z : Sent). z.start.0) r.2 in (
         record {
           from = x.0;
+          later = sent_of_queue_later run heard m q r.0.1 sent r.2 later x.0 x.1;
           place = place;
           at_place = x.1;
           in_queue = in_queue;
@@ -104,8 +116,8 @@ module _ (laws : CycleLaws) (run : Run) (carried : Carried) (alone : IsRunAlone 
       )
 
   -- so a legal run is fed
-  pub fed : IsFed run carried
-  fed m is_link sent c = (sent_for m is_link sent c).0.from
+  pub fed : IsFed run carried heard
+  fed m is_link sent c = let x = (sent_for m is_link sent c).0 in (x.from, x.later)
 
   -- what is at a place of what the port sees
   seen : (m place : ℕ) → place < length (waiting m) → (q : QueuedFrame) × Contains (waiting m) q ×
@@ -122,45 +134,45 @@ module _ (laws : CycleLaws) (run : Run) (carried : Carried) (alone : IsRunAlone 
       class_of (arrivals_of (waiting m)) place ≡ given_class (cycle_of_place d.cycle_time (arrivals_of (waiting m)) place)
   class_at m place inside =
       let q = seen m place inside in
-      subst (λ (z : Arrival). z.class ≡ given_class (z.at.0 / d.cycle_time)) (sym q.2) (queue_class laws run carried alone.planned m q.0 q.1)
+      subst (λ (z : Arrival). z.class ≡ given_class (z.at.0 / d.cycle_time)) (sym q.2) (queue_class laws run heard alone.planned m q.0 q.1)
 
   -- so it is a stream's
   streams_at : (m place : ℕ) → place < length (waiting m) → StreamsAt (arrivals_of (waiting m)) place
   streams_at m place inside = subst (λ z. 6 ≤ z) (sym (class_at m place inside)) (gives_streams (cycle_of_place d.cycle_time (arrivals_of (waiting m)) place))
 
   -- what the law of one port asks
-  within : (m : ℕ) → m < length d.links → IsWithinBudget d.cycle_time d.guard (octet_time_of d m) (arrivals_of (waiting m)) (length run.tables)
+  within : (m : ℕ) → m < length d.links → IsWithinBudget d.cycle_time (guard_of d m) (octet_time_of d m) (arrivals_of (waiting m)) (length run.tables)
   within m is_link = record {
-    some_guard = alone.planned.accepted.guard_some;
-    guard_short = alone.planned.accepted.guard_short;
+    some_guard = omega (arith, delay_within d m alone.planned.accepted is_link);
+    guard_short = guard_within d m alone.planned.accepted;
     some_octet = octet_positive d m is_link;
     gap_short = gap_within d m alone.planned.accepted is_link;
     come = record {
       in_order = λ i j e l inside first second. pairs_map (λ (a b : Arrival). a.at.0 ≤ b.at.0) (λ (q : QueuedFrame). q.arrival) (waiting m)
-          (queue_sorted laws run carried alone.planned m) i j e l inside;
+          (queue_sorted laws run heard alone.planned m) i j e l inside;
       classes = λ place inside streams. class_at m place (omega (arith, inside, length-map (waiting m) (λ (q : QueuedFrame). q.arrival)));
     };
-    loads = λ c l. within_budget laws run carried alone.planned fed m c is_link;
+    loads = λ c l. within_time laws run heard alone.planned alone.meets fed m c is_link;
   }
 
   -- and each port is one cycle late
   pub ports_due : (m : ℕ) (is_link : m < length run.domain.links) →
-      AreDue run.domain.cycle_time run.domain.guard (octet_time_of run.domain m) (arrivals_of (queued run carried (end_of_run run) m)) (length run.tables)
+      AreDue run.domain.cycle_time (guard_of run.domain m) (octet_time_of run.domain m) (arrivals_of (queued run heard (end_of_run run) m)) (length run.tables)
       (length run.tables) (sends m is_link).starts
   ports_due m is_link =
-      laws.late d.cycle_time d.guard (octet_time_of d m) (arrivals_of (waiting m)) (length run.tables) (length run.tables) (sends m is_link).starts
+      laws.late d.cycle_time (guard_of d m) (octet_time_of d m) (arrivals_of (waiting m)) (length run.tables) (length run.tables) (sends m is_link).starts
       (within m is_link) (sends m is_link).legal
 
   -- what starts starts in the cycle after its arrival's, and is whole in the next node in its cycle
   pub record IsTimed (m at : ℕ) (sent : Sent) : Type 0 where
     pub cycle : cycle_of run.domain sent.start.0 ≡ cycle_of run.domain at + 1
-    pub whole : cycle_of run.domain (whole_at run.domain m sent) ≡ cycle_of run.domain sent.start.0
-    pub in_run : whole_at run.domain m sent < end_of_run run
+    pub whole : cycle_of run.domain (whole_at run.domain m (alone.meets.noted m sent)) ≡ cycle_of run.domain sent.start.0
+    pub in_run : whole_at run.domain m (alone.meets.noted m sent) < end_of_run run
 
   -- each start is timed so
-  timed : (m : ℕ) (is_link : m < length d.links) (sent : Sent) (place at : ℕ) → Contains (sends m is_link).starts (place, sent.start.0) →
-      place < length (waiting m) → instant_of (arrivals_of (waiting m)) place ≡ at → octets_of (arrivals_of (waiting m)) place ≡ sent.octets → IsTimed m at sent
-  timed m is_link sent place at c in_queue is_at is_octets =
+  timed : (m : ℕ) (is_link : m < length d.links) (sent : Sent) (place at : ℕ) → Contains (carried m) sent →
+      Contains (sends m is_link).starts (place, sent.start.0) → place < length (waiting m) → instant_of (arrivals_of (waiting m)) place ≡ at → octets_of (arrivals_of (waiting m)) place ≡ sent.octets → IsTimed m at sent
+  timed m is_link sent place at member c in_queue is_at is_octets =
       let s = sent.start.0 in
       let n = d.cycle_time in
       let before = (sends m is_link).legal.before_end place s c in
@@ -171,49 +183,87 @@ module _ (laws : CycleLaws) (run : Run) (carried : Carried) (alone : IsRunAlone 
       let next = (ports_due m is_link).next place inside streams due.0 in
       let over = (ports_due m is_link).over place inside streams due.0 in
       let cycle : s / n ≡ at / n + 1 = ap (λ z. z / n) due.1 ∙ next ∙ ap (λ z. z / n + 1) is_at in
-      let from = cycle_from n s in
-      let over_at : s + (sent.octets + 20) * octet_time_of d m ≤ (at / n + 1) * n + (n - d.guard) =
-      at_octets n d.guard (octet_time_of d m) s (instant_of (arrivals_of (waiting m)) place) at
+      let over_at : s + slot_of sent.octets (octet_time_of d m) ≤ (at / n + 1) * n + (n - guard_of d m) =
+      at_octets n (guard_of d m) (octet_time_of d m) s (instant_of (arrivals_of (waiting m)) place) at
       (octets_of (arrivals_of (waiting m)) place) sent.octets is_at is_octets
-      (subst (λ z. z + (octets_of (arrivals_of (waiting m)) place + 20) * octet_time_of d m ≤ (instant_of
-      (arrivals_of (waiting m)) place / n + 1) * n + (n - d.guard)) (sym due.1) over) in
-      let in_time : whole_at d m sent < (s / n) * n + n =
-      omega (arith, over_at, delay_within d m alone.planned.accepted is_link, alone.planned.accepted.guard_short, ap (λ z. z * n) cycle) in
+      (subst (λ z. z + slot_of (octets_of (arrivals_of (waiting m)) place) (octet_time_of d m) ≤ (instant_of
+      (arrivals_of (waiting m)) place / n + 1) * n + (n - guard_of d m)) (sym due.1) over) in
+      let at_end = alone.meets.noted m sent in
+      let alike = alone.meets.each m sent is_link member in
+      let there = cycle_from n (whole_at d m at_end) in
+      let no_sooner : (s / n) * n ≤ (whole_at d m at_end / n) * n = mul-le-mul_right n alike.no_sooner in
+      let in_time : whole_at d m at_end < (s / n) * n + n =
+      omega (
+        arith,
+        over_at,
+        slot_parts sent.octets (octet_time_of d m),
+        alike.in_time,
+        guard_within d m alone.planned.accepted,
+        ap (λ z. z * n) cycle,
+      ) in
       record {
         cycle = cycle;
-        whole = cycle_is n (s / n) (whole_at d m sent) (omega (arith, from)) in_time;
+        whole = cycle_is n (s / n) (whole_at d m at_end) (omega (arith, no_sooner, there)) in_time;
         in_run = omega (arith, in_time, mul-le-mul_right n in_cycle);
       }
     where
-      at_octets : (n g r s a b o p : ℕ) → a ≡ b → o ≡ p → s + (o + 20) * r ≤ (a / n + 1) * n + (n - g) → s + (p + 20) * r ≤ (b / n + 1) * n + (n - g)
+      at_octets : (n g r s a b o p : ℕ) → a ≡ b → o ≡ p → s + slot_of o r ≤ (a / n + 1) * n + (n - g) → s + slot_of p r ≤ (b / n + 1) * n + (n - g)
       at_octets n g r s a b o p ea eo h =
-          subst (λ z. s + (z + 20) * r ≤ (b / n + 1) * n + (n - g)) eo (subst (λ z. s + (o + 20) * r ≤ (z / n + 1) * n + (n - g)) ea h)
+          subst (λ z. s + slot_of z r ≤ (b / n + 1) * n + (n - g)) eo (subst (λ z. s + slot_of o r ≤ (z / n + 1) * n + (n - g)) ea h)
 
   -- the same for each frame that a link sends
-  pub sent_timed : (m : ℕ) (is_link : m < length run.domain.links) (sent : Sent) → Contains (carried m) sent → (x : IsSentOf run carried m sent) ×
+  pub sent_timed : (m : ℕ) (is_link : m < length run.domain.links) (sent : Sent) → Contains (carried m) sent → (x : IsSentOf run heard m sent) ×
       IsTimed m x.p.received.at sent
   sent_timed m is_link sent c =
       let r = sent_for m is_link sent c in
       let x = r.0 in
       let arrival = get_or-map (λ (q : QueuedFrame). q.arrival) (waiting m) x.place no_frame no_arrival x.in_queue in (
         x.from,
-        timed m is_link sent x.place x.from.p.received.at r.1 x.in_queue
+        timed m is_link sent x.place x.from.p.received.at c r.1 x.in_queue
             (ap (λ (a : Arrival). a.at.0) arrival ∙ ap (λ (z : QueuedFrame). z.arrival.at.0) (sym x.at_place))
             (ap (λ (a : Arrival). a.octets) arrival ∙ ap (λ (z : QueuedFrame). z.arrival.octets) (sym x.at_place) ∙ sym x.from.octets),
       )
 
+  -- a start sends what is at its place
+  start_sent : (m : ℕ) (is_link : m < length run.domain.links) (place s : ℕ) → Contains (sends m is_link).starts (place, s) →
+      Contains (carried m) (sent_at (queued run heard (end_of_run run) m) (place, s))
+  start_sent m is_link place s c =
+      subst (λ z. Contains z (sent_at (waiting m) (place, s))) (sym (sents_are m is_link)) (contains_map (sent_at (waiting m)) (sends m is_link).starts (place, s) c)
+
+  -- what is heard of a link was queued to its bridge in the cycle before that in which it is whole
+  pub heard_timed : (m : ℕ) (is_link : m < length run.domain.links) (h : Sent) → Contains (heard m) h → (x : IsSentOf run heard m h) ×
+      (cycle_of run.domain (whole_at run.domain m h) ≡ cycle_of run.domain x.p.received.at + 1)
+  heard_timed m is_link h c =
+      let r = contains_from_map (alone.meets.noted m) (carried m) h (subst (λ (xs : List Sent). Contains xs h) (alone.meets.are m) c) in
+      let s = sent_timed m is_link r.0 r.1 in
+      let alike = alone.meets.each m r.0 is_link r.1 in
+      let is = r.2 in (
+        record {
+          p = s.0.p;
+          inside = s.0.inside;
+          row = s.0.row;
+          verdict = s.0.verdict;
+          goes = s.0.goes;
+          frame = ap (λ (z : Sent). z.frame) (sym is) ∙ alike.frame ∙ s.0.frame;
+          stream = ap (λ (z : Sent). z.stream) (sym is) ∙ alike.stream ∙ s.0.stream;
+          octets = ap (λ (z : Sent). z.octets) (sym is) ∙ alike.octets ∙ s.0.octets;
+        },
+        ap (λ (z : Sent). cycle_of run.domain (whole_at run.domain m z)) (sym is) ∙ s.1.whole ∙ s.1.cycle,
+      )
+
   -- a start is in the cycle after the queued frame's
   pub start_timed : (m : ℕ) (is_link : m < length run.domain.links) (place s : ℕ) → Contains (sends m is_link).starts (place, s) →
-      cycle_of run.domain s ≡ cycle_of run.domain (get_or (queued run carried (end_of_run run) m) place no_frame).arrival.at.0 + 1
+      cycle_of run.domain s ≡ cycle_of run.domain (get_or (queued run heard (end_of_run run) m) place no_frame).arrival.at.0 + 1
   start_timed m is_link place s c =
       let inside = start_in_queue m is_link place s c in
       let arrival = get_or-map (λ (q : QueuedFrame). q.arrival) (waiting m) place no_frame no_arrival inside in
-      (timed m is_link (sent_at (waiting m) (place, s)) place (get_or (waiting m) place no_frame).arrival.at.0 c inside (ap (λ (a : Arrival). a.at.0) arrival)
+      (timed m is_link (sent_at (waiting m) (place, s)) place (get_or (waiting m) place no_frame).arrival.at.0 (start_sent m is_link place s c) c inside
+      (ap (λ (a : Arrival). a.at.0) arrival)
       (ap (λ (a : Arrival). a.octets) arrival)).cycle
 
   -- the same, said of its arrival
   pub place_timed : (m : ℕ) (is_link : m < length run.domain.links) (place s : ℕ) → Contains (sends m is_link).starts (place, s) →
-      cycle_of run.domain s ≡ cycle_of_place run.domain.cycle_time (arrivals_of (queued run carried (end_of_run run) m)) place + 1
+      cycle_of run.domain s ≡ cycle_of_place run.domain.cycle_time (arrivals_of (queued run heard (end_of_run run) m)) place + 1
   place_timed m is_link place s c =
       let inside = start_in_queue m is_link place s c in
       let arrival = get_or-map (λ (q : QueuedFrame). q.arrival) (waiting m) place no_frame no_arrival inside in
@@ -221,14 +271,14 @@ module _ (laws : CycleLaws) (run : Run) (carried : Carried) (alone : IsRunAlone 
 
   -- and when it is due
   pub start_due : (m : ℕ) (is_link : m < length run.domain.links) (place s : ℕ) → Contains (sends m is_link).starts (place, s) →
-      s ≡ due run.domain.cycle_time (octet_time_of run.domain m) (arrivals_of (queued run carried (end_of_run run) m)) place
+      s ≡ due run.domain.cycle_time (octet_time_of run.domain m) (arrivals_of (queued run heard (end_of_run run) m)) place
   start_due m is_link place s c =
       let early = cycle_below d.cycle_time s (length run.tables) ((sends m is_link).legal.before_end place s c) in
       ((ports_due m is_link).only place s c (streams_at m place (start_in_queue m is_link place s c)) (omega (arith, early))).1
 
   -- and what is queued starts, as far as the run goes
   pub queued_starts : (m : ℕ) (is_link : m < length run.domain.links) (p : Policed) (row : Row) →
-      Contains (policed run carried (end_of_run run) (bridge_of run.domain m)) p → p.verdict ≡ Queued row → GoesBy row (came_by p.received.way) m →
+      Contains (policed run heard (end_of_run run) (bridge_of run.domain m)) p → p.verdict ≡ Queued row → GoesBy row (came_by p.received.way) m →
       cycle_of run.domain p.received.at + 1 < length run.tables →
       (sent : Sent) × Contains (carried m) sent × (sent.frame ≡ p.received.frame) × (sent.stream ≡ row.no) × (sent.octets ≡ p.received.octets) ×
       IsTimed m p.received.at sent
@@ -237,6 +287,7 @@ module _ (laws : CycleLaws) (run : Run) (carried : Carried) (alone : IsRunAlone 
       let q = queued_frame d p.received row in
       let member = queued_into d m (given (bridge_of d m)) p row c verdict goes in
       let place = member.0 in
+      let in_queue = member.1 in
       let is : get_or (waiting m) place no_frame ≡ q = get_or_default (waiting m) place no_frame q member.1 ∙ member.2 in
       let arrival : get_or (arrivals_of (waiting m)) place no_arrival ≡ q.arrival =
       get_or-map (λ (q : QueuedFrame). q.arrival) (waiting m) place no_frame no_arrival member.1 ∙ ap (λ (z : QueuedFrame). z.arrival) is in
@@ -245,12 +296,13 @@ module _ (laws : CycleLaws) (run : Run) (carried : Carried) (alone : IsRunAlone 
       let inside : place < length (arrivals_of (waiting m)) = omega (arith, member.1, length-map (waiting m) (λ (q : QueuedFrame). q.arrival)) in
       let start = (ports_due m is_link).each place inside (streams_at m place member.1) (omega (arith, cycle, early)) (omega (arith, cycle, early)) in
       let t = due d.cycle_time (octet_time_of d m) (arrivals_of (waiting m)) place in
-      let sent = sent_at (waiting m) (place, t) in (
+      let sent = sent_at (waiting m) (place, t) in
+      let member = start_sent m is_link place t start in (
         sent,
-        subst (λ z. Contains z sent) (sym (sents_are m is_link)) (contains_map (sent_at (waiting m)) s.starts (place, t) start),
+        member,
         ap (λ (z : QueuedFrame). z.arrival.frame) is,
         ap number_of is,
         ap (λ (z : QueuedFrame). z.arrival.octets) is,
-        timed m is_link sent place p.received.at start member.1 at
+        timed m is_link sent place p.received.at member start in_queue at
             (ap (λ (a : Arrival). a.octets) arrival ∙ ap (λ (z : QueuedFrame). z.arrival.octets) (sym is)),
       )

@@ -1,30 +1,33 @@
 -- A legal run beside background frames is for the streams' frames a legal run of them alone.
-use Rattle.std.proofs.Common.{◌≡◌, ℕ, ◌*◌, ◌/◌, ◌<◌, ◌≤◌, [], List, Bool, true, false, Option, Some, None, inl, inr, sym, ap, ◌∙◌, subst, arith, refl, AllPairs}
+use Rattle.std.proofs.Common.{◌≡◌, ℕ, ◌+◌, ◌*◌, ◌/◌, ◌<◌, ◌≤◌, [], List, Bool, true, false, Option, Some, None, inl, inr, sym, ap, ◌∙◌, subst, arith, refl, AllPairs}
 use Rattle.std.specs.Option.{option_map_or}
-use Rattle.std.proofs.Common.{Contains, filter, sum_by, length, get_or, is_some, ◌==◌, if◌then◌else◌, le_trans, le_of_eq, leb-true}
+use Rattle.std.proofs.Common.{Contains, filter, sum_by, length, get_or, is_some, ◌==◌, if◌then◌else◌, le_trans, le_of_eq, leb-true, map-id}
 use Rattle.std.proofs.lemmas.Bool.{cases_Bool, cond-true, false≢true}
 use Rattle.std.proofs.lemmas.List.{get_or-map, length-map}
 use Rattle.std.proofs.lemmas.List.Elements.{All-contains, Contains-get_or}
-use Rattle.cqf_units.specs.Timing.{wire_of}
+use Rattle.cqf_units.specs.Timing.{ending_of, slot_of}
+use Rattle.cqf_units.proofs.Cycles.{cycles_ordered}
+use Rattle.cqf_model.specs.GateList.{IsOpenThrough, port_list}
 use Rattle.cqf_model.specs.declared.frames.Sent.{Sent}
 use Rattle.cqf_model.specs.declared.ports.Arrival.{Arrival}
-use Rattle.cqf_model.specs.Domain.{Domain, budget, octet_time_of}
+use Rattle.cqf_model.specs.Domain.{Domain, bridge_of, guard_of, octet_time_of}
 use Rattle.cqf_model.specs.Port.{class_of, no_arrival}
 use Rattle.cqf_model.specs.Run.{IsBackground, Run, end_of_run}
-use Rattle.cqf_model.specs.Traffic.{Carried}
+use Rattle.cqf_model.specs.Traffic.{Carried, policed_before, whole_at}
 use Rattle.cqf_model.specs.Network.{Network, QueuedFrame, Sends, arrivals_of, comes_before, compiled_lists, no_frame, queued_before, sent_by, sent_of}
-use Rattle.cqf_model.specs.Turn.{cycle_of_place, is_streams, load, wire_in}
+use Rattle.cqf_model.specs.Turn.{busy, cycle_of_place, is_streams, slot_in}
 use Rattle.cqf_laws_cycle.specs.Beside.{IsToldByClass, is_of_stream}
 use Rattle.cqf_laws_cycle.specs.Compiled.{given_class}
 use Rattle.cqf_laws_cycle.specs.OnePort.{ComeInCycles, IsStreams, IsWithinBudget, StreamsAt}
-use Rattle.cqf_model.proofs.Links.{gap_within, octet_positive}
-use Rattle.cqf_laws_shift.specs.Alone.{IsPlanned, IsRunAlone, SendsAlone}
+use Rattle.cqf_model.proofs.Links.{delay_within, gap_within, guard_within, octet_positive}
+use Rattle.cqf_laws_shift.specs.Alone.{IsPlanned, IsRunAs, SendsAlone}
+use Rattle.cqf_laws_shift.specs.Heard.{IsHeardRun}
 use Rattle.cqf_laws_shift.specs.Run.{IsLegalRun, RunBesideIsRunAlone}
 use Rattle.cqf_lists.proofs.Members.{all_from_members, contains_filter, contains_from_flat, contains_none, contains_one}
 use Rattle.cqf_lists.proofs.Pairs.{pairs_map, pairs_of_kept}
 use Rattle.cqf_lists.proofs.Sums.{sum_filter, sum_le_members, sum_map}
 use Rattle.cqf_laws_shift.proofs.CycleLaws.{CycleLaws}
-use Rattle.cqf_laws_shift.proofs.Fed.{IsFed, queue_class, queue_sorted, sent_from, sent_of_queue, some_time, within_budget}
+use Rattle.cqf_laws_shift.proofs.Fed.{IsFed, queue_class, queue_sorted, sent_from, sent_of_queue, sent_of_queue_later, some_time, starts_later, within_time}
 use Rattle.cqf_laws_shift.proofs.Queues.{gives_streams}
 use Rattle.cqf_laws_shift.proofs.QueuesByCycles.{comes_of, streams_that_come}
 
@@ -41,7 +44,28 @@ sent_of_frame t q (Some number) sent e c = (
     sent_numbered : ℕ → Sent
     sent_numbered number = record { start = record { 0 = t }; frame = q.arrival.frame; stream = number; octets = q.arrival.octets }
 
-module _ (laws : CycleLaws) (run : Run) (net : Network) (legal : IsLegalRun run net) where
+-- of an exact run what is sent is heard
+exactly : (run : Run) (net : Network) → IsLegalRun run net → IsHeardRun run net net.carried
+exactly run net legal = record {
+  accepted = legal.accepted;
+  orderly = legal.orderly;
+  offered = legal.offered;
+  background = legal.background;
+  legal = legal.legal;
+  meets = record {
+    noted = λ l sent. sent;
+    are = λ l. sym (map-id (net.carried l));
+    each = λ l sent is_link c. record {
+      frame = refl;
+      stream = refl;
+      octets = refl;
+      no_sooner = cycles_ordered run.domain.cycle_time sent.start.0 (whole_at run.domain l sent) (omega (arith, legal.accepted.cycle_least)) (omega arith);
+      in_time = omega (arith, delay_within run.domain l legal.accepted is_link);
+    };
+  };
+}
+
+module _ (laws : CycleLaws) (run : Run) (net : Network) (heard : Carried) (legal : IsHeardRun run net heard) where
   -- the run's domain
   abbrev d : Domain
   d = run.domain
@@ -56,15 +80,15 @@ module _ (laws : CycleLaws) (run : Run) (net : Network) (legal : IsLegalRun run 
 
   -- a cycle takes some time
   some : 0 < run.domain.cycle_time
-  some = some_time laws run net.carried planned
+  some = some_time laws run heard planned
 
   -- what comes to a port
   abbrev comes : ℕ → List QueuedFrame
-  comes m = comes_before run net.carried m (length run.tables)
+  comes m = comes_before run heard m (length run.tables)
 
   -- what is queued to it
   abbrev waiting : ℕ → List QueuedFrame
-  waiting m = queued_before run net.carried m (end_of_run run)
+  waiting m = queued_before run heard m (end_of_run run)
 
   -- a port's transmissions are legal
   sends : (m : ℕ) → m < length d.links → Sends d (compiled_lists d m) (length run.tables * d.cycle_time) m (comes m) (carried m) (net.backed m)
@@ -72,14 +96,14 @@ module _ (laws : CycleLaws) (run : Run) (net : Network) (legal : IsLegalRun run 
 
   -- of what comes the streams' frames are what is queued
   streams : (m : ℕ) → filter is_of_stream (comes m) ≡ waiting m
-  streams m = streams_that_come run carried m (length run.tables) some
+  streams m = streams_that_come run heard m (length run.tables) some
 
   -- so a stream's frame that comes is queued
   stream_waits : (m : ℕ) (q : QueuedFrame) → Contains (comes m) q → is_of_stream q ≡ true → Contains (waiting m) q
   stream_waits m q c of_stream = subst (λ z. Contains z q) (streams m) (contains_filter is_of_stream (comes m) q c of_stream)
 
-  -- so each link sends what was queued to it, no sooner
-  fed : IsFed run net.carried
+  -- so each link sends what was queued to it, in a later cycle
+  fed : IsFed run net.carried heard
   fed m is_link sent c =
       let s = sends m is_link in
       let start = contains_from_flat (sent_of (comes m)) s.starts sent (subst (λ z. Contains z sent) s.are_sent c) in
@@ -88,17 +112,22 @@ module _ (laws : CycleLaws) (run : Run) (net : Network) (legal : IsLegalRun run 
       let in_list : place < length (comes m) = omega (arith, first.waits.inside, length-map (comes m) (λ (q : QueuedFrame). q.arrival)) in
       let q = get_or (comes m) place no_frame in
       let is = sent_of_frame start.0.1 q q.stream sent refl start.2 in
-      let come = subst (λ (z : Arrival). z.at.0 ≤ start.0.1)
-      (get_or-map (λ (q : QueuedFrame). q.arrival) (comes m) place no_frame no_arrival in_list) first.waits.come in
-      (sent_of_queue run carried m q start.0.1 sent (stream_waits m q (Contains-get_or (comes m) place no_frame in_list) is.0) come is.1).0
+      let arrival = get_or-map (λ (q : QueuedFrame). q.arrival) (comes m) place no_frame no_arrival in_list in
+      let come = subst (λ (z : Arrival). z.at.0 ≤ start.0.1) arrival first.waits.come in
+      let open_on = subst (λ (a : Arrival). IsOpenThrough (port_list d.cycle_time (guard_of d m)) a.class start.0.1 (ending_of start.0.1 a.octets (octet_time_of d m)))
+      arrival (s.legal.eligible place start.0.1 start.1) in
+      let there = stream_waits m q (Contains-get_or (comes m) place no_frame in_list) is.0 in
+      let later = starts_later laws.gives d m start.0.1 (policed_before run heard (bridge_of d m) (end_of_run run)) q legal.accepted is_link there come open_on in
+      let x = sent_of_queue run heard m q start.0.1 sent there is.1 in
+      (x.0, sent_of_queue_later run heard m q start.0.1 sent is.1 later x.0 x.1)
 
   -- the class of a queued frame is a stream's
   class_waits : (m : ℕ) (q : QueuedFrame) → Contains (waiting m) q → 6 ≤ q.arrival.class
-  class_waits m q c = subst (λ z. 6 ≤ z) (sym (queue_class laws run carried planned m q c)) (gives_streams (q.arrival.at.0 / d.cycle_time))
+  class_waits m q c = subst (λ z. 6 ≤ z) (sym (queue_class laws run heard planned m q c)) (gives_streams (q.arrival.at.0 / d.cycle_time))
 
   -- a frame is of a stream, with a stream's class, or of none, with another class
   told : (m : ℕ) (q : QueuedFrame) → Contains (comes m) q → IsToldByClass q
-  told m q c = elim (comes_of run carried m (length run.tables) q c) [
+  told m q c = elim (comes_of run heard m (length run.tables) q c) [
     | inl back ↦
         let low = (All-contains (IsBackground d) run.background back.0 legal.background back.1).class_most in
         (λ e. omega (arith, low, back.3), λ e. back.2)
@@ -109,14 +138,15 @@ module _ (laws : CycleLaws) (run : Run) (net : Network) (legal : IsLegalRun run 
 
   -- so a frame of a stream's class is of a stream
   high_is_stream : (m : ℕ) (q : QueuedFrame) → Contains (comes m) q → 6 ≤ q.arrival.class → is_of_stream q ≡ true
-  high_is_stream m q c high = elim (comes_of run carried m (length run.tables) q c) [
+  high_is_stream m q c high = elim (comes_of run heard m (length run.tables) q c) [
     | inl back ↦ absurd (omega (arith, high, (All-contains (IsBackground d) run.background back.0 legal.background back.1).class_most, back.3))
     | inr of_stream ↦ of_stream
   ]
 
-  -- and one of no stream adds nothing to a load
-  adds_none : (m cycle : ℕ) (q : QueuedFrame) → Contains (comes m) q → is_of_stream q ≡ false → wire_in d.cycle_time cycle q.arrival ≡ 0
-  adds_none m cycle q c none = nothing (is_streams q.arrival) (q.arrival.at.0 / d.cycle_time == cycle) low
+  -- and one of no stream adds nothing to what a cycle's frames take
+  adds_none : (m cycle : ℕ) (q : QueuedFrame) → Contains (comes m) q → is_of_stream q ≡ false →
+      slot_in (octet_time_of d m) d.cycle_time cycle q.arrival ≡ 0
+  adds_none m cycle q c none = nothing (is_streams q.arrival) (q.arrival.at.0 / d.cycle_time == cycle) (slot_of q.arrival.octets (octet_time_of d m)) low
     where
       low : is_streams q.arrival ≡ false
       low = elim (cases_Bool (is_streams q.arrival)) [
@@ -124,23 +154,18 @@ module _ (laws : CycleLaws) (run : Run) (net : Network) (legal : IsLegalRun run 
         | inr f ↦ f
       ]
 
-      nothing : (a b : Bool) → a ≡ false → (if b then (if a then wire_of q.arrival.octets else 0) else 0) ≡ 0
-      nothing true true e = absurd (cc)
-      nothing true false e = refl
-      nothing false true e = refl
-      nothing false false e = refl
+      nothing : (a b : Bool) (slot : ℕ) → a ≡ false → (if b then (if a then slot else 0) else 0) ≡ 0
+      nothing true true slot e = absurd (cc)
+      nothing true false slot e = refl
+      nothing false true slot e = refl
+      nothing false false slot e = refl
 
-  -- what comes to a port is within its link's budget
-  loads : (m cycle : ℕ) → m < length d.links → load d.cycle_time cycle (arrivals_of (comes m)) ≤ budget d m
-  loads m cycle is_link =
-      le_trans (le_of_eq (sum_map (wire_in d.cycle_time cycle) (λ (q : QueuedFrame). q.arrival) (comes m)))
-      (le_trans (sum_le_members f (λ q. if is_of_stream q then f q else 0) (comes m) each)
-      (le_trans (le_of_eq (sym (sum_filter f is_of_stream (comes m)) ∙ ap (sum_by f) (streams m)
-      ∙ sym (sum_map (wire_in d.cycle_time cycle) (λ (q : QueuedFrame). q.arrival) (waiting m))))
-      (within_budget laws run carried planned fed m cycle is_link)))
+  -- what comes to a port in a cycle is sent before the guard time of the next
+  loads : (m cycle : ℕ) → m < length d.links → busy (octet_time_of d m) d.cycle_time cycle (arrivals_of (comes m)) + guard_of d m ≤ d.cycle_time
+  loads m cycle is_link = omega (arith, same, within_time laws run heard planned legal.meets fed m cycle is_link)
     where
       f : QueuedFrame → ℕ
-      f q = wire_in d.cycle_time cycle q.arrival
+      f q = slot_in (octet_time_of d m) d.cycle_time cycle q.arrival
 
       each : (q : QueuedFrame) → Contains (comes m) q → f q ≤ (if is_of_stream q then f q else 0)
       each q c = elim (cases_Bool (is_of_stream q)) [
@@ -148,13 +173,20 @@ module _ (laws : CycleLaws) (run : Run) (net : Network) (legal : IsLegalRun run 
         | inr u ↦ omega (arith, adds_none m cycle q c u)
       ]
 
+      same : busy (octet_time_of d m) d.cycle_time cycle (arrivals_of (comes m)) ≤ busy (octet_time_of d m) d.cycle_time cycle (arrivals_of (waiting m))
+      same =
+          le_trans (le_of_eq (sum_map (slot_in (octet_time_of d m) d.cycle_time cycle) (λ (q : QueuedFrame). q.arrival) (comes m)))
+          (le_trans (sum_le_members f (λ q. if is_of_stream q then f q else 0) (comes m) each)
+          (le_of_eq (sym (sum_filter f is_of_stream (comes m)) ∙ ap (sum_by f) (streams m)
+          ∙ sym (sum_map (slot_in (octet_time_of d m) d.cycle_time cycle) (λ (q : QueuedFrame). q.arrival) (waiting m)))))
+
   -- and its streams' frames come in cycles
   come : (m : ℕ) → ComeInCycles d.cycle_time (arrivals_of (comes m))
   come m = record { in_order = in_order; classes = classes }
     where
       kept : AllPairs (λ (a b : QueuedFrame). is_of_stream a ≡ true → is_of_stream b ≡ true → a.arrival.at.0 ≤ b.arrival.at.0) (comes m)
       kept = pairs_of_kept (λ (a b : QueuedFrame). a.arrival.at.0 ≤ b.arrival.at.0) is_of_stream (comes m)
-          (subst (λ z. AllPairs (λ (a b : QueuedFrame). a.arrival.at.0 ≤ b.arrival.at.0) z) (sym (streams m)) (queue_sorted laws run carried planned m))
+          (subst (λ z. AllPairs (λ (a b : QueuedFrame). a.arrival.at.0 ≤ b.arrival.at.0) z) (sym (streams m)) (queue_sorted laws run heard planned m))
 
       ordered : AllPairs (λ (a b : QueuedFrame). IsStreams a.arrival → IsStreams b.arrival → a.arrival.at.0 ≤ b.arrival.at.0) (comes m)
       ordered i j e less inside first second =
@@ -166,7 +198,7 @@ module _ (laws : CycleLaws) (run : Run) (net : Network) (legal : IsLegalRun run 
       in_order = pairs_map (λ (a b : Arrival). IsStreams a → IsStreams b → a.at.0 ≤ b.at.0) (λ (q : QueuedFrame). q.arrival) (comes m) ordered
 
       class_of_frame : (q : QueuedFrame) → Contains (comes m) q → 6 ≤ q.arrival.class → q.arrival.class ≡ given_class (q.arrival.at.0 / d.cycle_time)
-      class_of_frame q c high = queue_class laws run carried planned m q (stream_waits m q c (high_is_stream m q c high))
+      class_of_frame q c high = queue_class laws run heard planned m q (stream_waits m q c (high_is_stream m q c high))
 
       classes : (place : ℕ) → place < length (arrivals_of (comes m)) → StreamsAt (arrivals_of (comes m)) place →
           class_of (arrivals_of (comes m)) place ≡ given_class (cycle_of_place d.cycle_time (arrivals_of (comes m)) place)
@@ -177,10 +209,10 @@ module _ (laws : CycleLaws) (run : Run) (net : Network) (legal : IsLegalRun run 
           (class_of_frame (get_or (comes m) place no_frame) (Contains-get_or (comes m) place no_frame in_list) (subst (λ (z : Arrival). 6 ≤ z.class) is high))
 
   -- so it is what the law of one port asks
-  within : (m : ℕ) → m < length d.links → IsWithinBudget d.cycle_time d.guard (octet_time_of d m) (arrivals_of (comes m)) (length run.tables)
+  within : (m : ℕ) → m < length d.links → IsWithinBudget d.cycle_time (guard_of d m) (octet_time_of d m) (arrivals_of (comes m)) (length run.tables)
   within m is_link = record {
-    some_guard = legal.accepted.guard_some;
-    guard_short = legal.accepted.guard_short;
+    some_guard = omega (arith, delay_within d m legal.accepted is_link);
+    guard_short = guard_within d m legal.accepted;
     some_octet = octet_positive d m is_link;
     gap_short = gap_within d m legal.accepted is_link;
     come = come m;
@@ -196,12 +228,13 @@ module _ (laws : CycleLaws) (run : Run) (net : Network) (legal : IsLegalRun run 
       record { starts = t.starts; legal = t.legal; are_sent = t.are_sent }
 
   -- so the run is one of streams' frames alone
-  pub alone : IsRunAlone run net.carried
-  alone = record {
+  pub run_as : IsRunAs run net.carried heard
+  run_as = record {
     planned = planned;
     legal = record { sends = sends_alone; no_others = λ m past. (legal.legal.no_others m past).0 };
+    meets = legal.meets;
   }
 
 -- the law
 pub run_beside_is_run_alone : CycleLaws → RunBesideIsRunAlone
-run_beside_is_run_alone laws run net legal = alone laws run net legal
+run_beside_is_run_alone laws run net legal = run_as laws run net net.carried (exactly run net legal)

@@ -17,7 +17,7 @@ use Rattle.cqf_model.specs.Run.{Run, end_of_run}
 use Rattle.cqf_model.specs.Traffic.{Way, AtEdge, Relayed, Carried, Received, Policed, Verdict, is_offered_at, numbered, offer_received, offered_at, received_at}
 use Rattle.cqf_model.specs.Traffic.{relayed_at, sent_received, whole_at}
 use Rattle.cqf_model.specs.Network.{QueuedFrame, queued_frame, queued_by, no_frame}
-use Rattle.cqf_laws_shift.specs.Alone.{IsRunAlone, SendsAlone}
+use Rattle.cqf_laws_shift.specs.Alone.{IsRunAs, SendsAlone}
 use Rattle.cqf_lists.proofs.Members.{contains_from_map}
 use Rattle.cqf_lists.proofs.Sums.{sum_map, sum_flat, sum_none, sum_le_below, sum_le_members, sum_matched, sum_member, sum_places, sum_one_below, sum_by_keys}
 use Rattle.cqf_laws_shift.proofs.Came.{came, policed, queued}
@@ -48,7 +48,7 @@ abbrev pub by_link : ℕ → (ℕ → ℕ) → Way → ℕ
 by_link m weight (AtEdge name) = 0
 by_link m weight (Relayed link stream) = if link == m then weight stream else 0
 
-module _ (laws : CycleLaws) (run : Run) (carried : Carried) (alone : IsRunAlone run carried) (m : ℕ) (is_link : m < length run.domain.links) (w : Weight) where
+module _ (laws : CycleLaws) (run : Run) (carried : Carried) {heard : Carried} (alone : IsRunAs run carried heard) (m : ℕ) (is_link : m < length run.domain.links) (w : Weight) where
   -- what a frame counts that the link sends in a cycle, that is queued to it, and that comes by it
   abbrev pub sent_counts : ℕ → Sent → ℕ
   sent_counts cycle s = if cycle_of run.domain s.start.0 == cycle then w s.frame s.stream s.octets else 0
@@ -74,18 +74,18 @@ module _ (laws : CycleLaws) (run : Run) (carried : Carried) (alone : IsRunAlone 
       omega (arith, s.legal.once place a.1 b.1 ca cb, s.legal.in_order i j e l inside)
 
   -- what it sends in a cycle was queued in the one before
-  pub sent_was_queued : (cycle : ℕ) → sum_by (sent_counts (cycle + 1)) (carried m) ≤ sum_by (queued_counts cycle) (queued run carried (end_of_run run) m)
+  pub sent_was_queued : (cycle : ℕ) → sum_by (sent_counts (cycle + 1)) (carried m) ≤ sum_by (queued_counts cycle) (queued run heard (end_of_run run) m)
   sent_was_queued cycle =
       subst (λ z. z ≤ sum_by (queued_counts cycle) q) (sym whole)
       (subst (λ z. sum_by f s.starts ≤ z) (sum_places (queued_counts cycle) 0 q)
       (sum_matched f (λ (y : ℕ × QueuedFrame). queued_counts cycle y.1) (λ (x : Transmission) (y : ℕ × QueuedFrame). x.0 == y.0) s.starts
       (enumerate_from 0 q) has (λ y. starts_apart y.0)))
     where
-      s : SendsAlone run.domain (end_of_run run) m (queued run carried (end_of_run run) m) (carried m)
+      s : SendsAlone run.domain (end_of_run run) m (queued run heard (end_of_run run) m) (carried m)
       s = sends laws run carried alone m is_link
 
       q : List QueuedFrame
-      q = queued run carried (end_of_run run) m
+      q = queued run heard (end_of_run run) m
 
       f : Transmission → ℕ
       f start = sent_counts (cycle + 1) (sent_at q start)
@@ -116,11 +116,12 @@ module _ (laws : CycleLaws) (run : Run) (carried : Carried) (alone : IsRunAlone 
           omega (arith, term start c, own, cond-true (place == place) (queued_counts cycle (get_or q place no_frame)) 0 (eq-eqb place place refl))
 
   -- what comes by the link to a bridge in a cycle is what the link sends
-  pub arrives_within : (bridge cycle : ℕ) → sum_by (arriving_counts cycle) (came run carried (end_of_run run) bridge) ≤ sum_by (sent_counts cycle) (carried m)
+  pub arrives_within : (bridge cycle : ℕ) → sum_by (arriving_counts cycle) (came run heard (end_of_run run) bridge) ≤ sum_by (sent_counts cycle) (carried m)
   arrives_within bridge cycle =
-      le_trans (sum_le_below f g (received_at run carried bridge) (λ t. filter (λ (s : Sent). whole_at run.domain m s == t) (carried m)) last at_instant)
-      (subst (λ z. z ≤ sum_by (sent_counts cycle) (carried m)) (sym (sum_by_keys g (whole_at run.domain m) (carried m) last))
-      (sum_le_members (λ s. if nat_lt (whole_at run.domain m s) last then g s else 0) (sent_counts cycle) (carried m) each_sent))
+      le_trans (sum_le_below f g (received_at run heard bridge) (λ t. filter (λ (s : Sent). whole_at run.domain m s == t) (heard m)) last at_instant)
+      (subst (λ z. z ≤ sum_by (sent_counts cycle) (carried m)) (sym (sum_by_keys g (whole_at run.domain m) (heard m) last))
+      (subst (λ z. z ≤ sum_by (sent_counts cycle) (carried m)) (sym (ap (sum_by counted) (alone.meets.are m) ∙ sum_map counted noted (carried m)))
+      (sum_le_members (λ s. counted (noted s)) (sent_counts cycle) (carried m) each_sent)))
     where
       last : ℕ
       last = end_of_run run
@@ -131,13 +132,24 @@ module _ (laws : CycleLaws) (run : Run) (carried : Carried) (alone : IsRunAlone 
       g : Sent → ℕ
       g s = if cycle_of run.domain (whole_at run.domain m s) == cycle then w s.frame s.stream s.octets else 0
 
-      each_sent : (s : Sent) → Contains (carried m) s → (if nat_lt (whole_at run.domain m s) last then g s else 0) ≤ sent_counts cycle s
+      noted : Sent → Sent
+      noted = alone.meets.noted m
+
+      counted : Sent → ℕ
+      counted h = if nat_lt (whole_at run.domain m h) last then g h else 0
+
+      each_sent : (s : Sent) → Contains (carried m) s → counted (noted s) ≤ sent_counts cycle s
       each_sent s c =
           let t = (sent_timed laws run carried alone m is_link s c).1 in
-          let same : g s ≡ sent_counts cycle s = ap (λ z. if z == cycle then w s.frame s.stream s.octets else 0) t.whole in
-          elim (cases_Bool (nat_lt (whole_at run.domain m s) last)) [
-            | inl y ↦ le_of_eq (cond-true (nat_lt (whole_at run.domain m s) last) (g s) 0 y ∙ same)
-            | inr u ↦ omega (arith, cond-false (nat_lt (whole_at run.domain m s) last) (g s) 0 u)
+          let alike = alone.meets.each m s is_link c in
+          let h = noted s in
+          let weight : w h.frame h.stream h.octets ≡ w s.frame s.stream s.octets =
+          ap (λ z. w z h.stream h.octets) alike.frame ∙ ap (λ z. w s.frame z h.octets) alike.stream ∙ ap (w s.frame s.stream) alike.octets in
+          let same : g h ≡ sent_counts cycle s =
+          ap (λ z. if z == cycle then w h.frame h.stream h.octets else 0) t.whole ∙ ap (λ z. if cycle_of run.domain s.start.0 == cycle then z else 0) weight in
+          elim (cases_Bool (nat_lt (whole_at run.domain m h) last)) [
+            | inl y ↦ le_of_eq (cond-true (nat_lt (whole_at run.domain m h) last) (g h) 0 y ∙ same)
+            | inr u ↦ omega (arith, cond-false (nat_lt (whole_at run.domain m h) last) (g h) 0 u)
           ]
 
       nothing : (t : ℕ) → ◌≡◌ {A = ℕ} (if cycle_of run.domain t == cycle then 0 else 0) 0
@@ -151,51 +163,51 @@ module _ (laws : CycleLaws) (run : Run) (carried : Carried) (alone : IsRunAlone 
           let r = contains_from_map offer_received (filter (is_offered_at bridge t) (numbered run.offers)) x c in
           ap f (sym r.2) ∙ nothing r.0.offer.at.0)
 
-      sent_there : (t k : ℕ) → sum_by f (relayed_at run.domain carried bridge t k) ≤ sum_by (λ (s : Sent). f (sent_received run.domain k s))
-          (filter (λ (s : Sent). whole_at run.domain k s == t) (carried k))
+      sent_there : (t k : ℕ) → sum_by f (relayed_at run.domain heard bridge t k) ≤ sum_by (λ (s : Sent). f (sent_received run.domain k s))
+          (filter (λ (s : Sent). whole_at run.domain k s == t) (heard k))
       sent_there t k = elim (cases_Bool (enters run.domain k bridge)) [
         | inl y ↦ le_of_eq (ap (sum_by f)
-            (cond-true (enters run.domain k bridge) (map (sent_received run.domain k) (filter (λ s. whole_at run.domain k s == t) (carried k))) [] y)
-            ∙ sum_map f (sent_received run.domain k) (filter (λ (s : Sent). whole_at run.domain k s == t) (carried k)))
+            (cond-true (enters run.domain k bridge) (map (sent_received run.domain k) (filter (λ s. whole_at run.domain k s == t) (heard k))) [] y)
+            ∙ sum_map f (sent_received run.domain k) (filter (λ (s : Sent). whole_at run.domain k s == t) (heard k)))
         | inr u ↦ omega (
           arith,
           ap (sum_by f)
-              (cond-false (enters run.domain k bridge) (map (sent_received run.domain k) (filter (λ s. whole_at run.domain k s == t) (carried k))) [] u),
+              (cond-false (enters run.domain k bridge) (map (sent_received run.domain k) (filter (λ s. whole_at run.domain k s == t) (heard k))) [] u),
         )
       ]
 
-      other_link : (t k : ℕ) → (k ≡ m → ⊥) → sum_by f (relayed_at run.domain carried bridge t k) ≡ 0
+      other_link : (t k : ℕ) → (k ≡ m → ⊥) → sum_by f (relayed_at run.domain heard bridge t k) ≡ 0
       other_link t k differ =
-          let none : sum_by (λ (s : Sent). f (sent_received run.domain k s)) (filter (λ (s : Sent). whole_at run.domain k s == t) (carried k)) ≡ 0 =
-          sum_none (λ (s : Sent). f (sent_received run.domain k s)) (filter (λ (s : Sent). whole_at run.domain k s == t) (carried k)) (λ s c.
+          let none : sum_by (λ (s : Sent). f (sent_received run.domain k s)) (filter (λ (s : Sent). whole_at run.domain k s == t) (heard k)) ≡ 0 =
+          sum_none (λ (s : Sent). f (sent_received run.domain k s)) (filter (λ (s : Sent). whole_at run.domain k s == t) (heard k)) (λ s c.
           ap (λ z. if cycle_of run.domain (whole_at run.domain k s) == cycle then z else 0)
           (cond-false (k == m) (w s.frame s.stream s.octets) 0 (ne_eqb k m differ)) ∙ nothing (whole_at run.domain k s)) in
           omega (arith, sent_there t k, none)
 
-      own_link : (t : ℕ) → sum_by f (relayed_at run.domain carried bridge t m) ≤ sum_by g (filter (λ (s : Sent). whole_at run.domain m s == t) (carried m))
+      own_link : (t : ℕ) → sum_by f (relayed_at run.domain heard bridge t m) ≤ sum_by g (filter (λ (s : Sent). whole_at run.domain m s == t) (heard m))
       own_link t =
           le_trans (sent_there t m) (sum_le_members (λ (s : Sent). f (sent_received run.domain m s)) g
-          (filter (λ (s : Sent). whole_at run.domain m s == t) (carried m)) (λ s c.
+          (filter (λ (s : Sent). whole_at run.domain m s == t) (heard m)) (λ s c.
           le_of_eq (ap (λ z. if cycle_of run.domain (whole_at run.domain m s) == cycle then z else 0)
           (cond-true (m == m) (w s.frame s.stream s.octets) 0 (eq-eqb m m refl)))))
 
-      at_instant : (t : ℕ) → sum_by f (received_at run carried bridge t) ≤ sum_by g (filter (λ (s : Sent). whole_at run.domain m s == t) (carried m))
+      at_instant : (t : ℕ) → sum_by f (received_at run heard bridge t) ≤ sum_by g (filter (λ (s : Sent). whole_at run.domain m s == t) (heard m))
       at_instant t =
-          let parts = sum_by-append f (each_below (relayed_at run.domain carried bridge t) (length run.domain.links)) (offered_at run.offers bridge t) in
-          let one = sum_one_below f (relayed_at run.domain carried bridge t) m (length run.domain.links) (other_link t) in
+          let parts = sum_by-append f (each_below (relayed_at run.domain heard bridge t) (length run.domain.links)) (offered_at run.offers bridge t) in
+          let one = sum_one_below f (relayed_at run.domain heard bridge t) m (length run.domain.links) (other_link t) in
           omega (arith, parts, one, no_offer t, own_link t)
 
-module _ (laws : CycleLaws) (run : Run) (carried : Carried) (alone : IsRunAlone run carried) (m : ℕ) (is_link : m < length run.domain.links) where
+module _ (laws : CycleLaws) (run : Run) (carried : Carried) {heard : Carried} (alone : IsRunAs run carried heard) (m : ℕ) (is_link : m < length run.domain.links) where
   -- what is queued of a stream is what its gate let pass
   queued_was_taken : (number cycle : ℕ) →
-      sum_by (queued_counts laws run carried alone m is_link (of_stream number) cycle) (queued run carried (end_of_run run) m) ≤ sum_by
-      (taken run.domain number cycle) (policed run carried (end_of_run run) (bridge_of run.domain m))
+      sum_by (queued_counts laws run carried alone m is_link (of_stream number) cycle) (queued run heard (end_of_run run) m) ≤ sum_by
+      (taken run.domain number cycle) (policed run heard (end_of_run run) (bridge_of run.domain m))
   queued_was_taken number cycle =
       let b = bridge_of run.domain m in
-      subst (λ z. z ≤ sum_by (taken run.domain number cycle) (policed run carried (end_of_run run) b))
-      (sym (sum_flat f (λ (p : Policed). queued_by run.domain m p.received p.verdict) (policed run carried (end_of_run run) b)))
+      subst (λ z. z ≤ sum_by (taken run.domain number cycle) (policed run heard (end_of_run run) b))
+      (sym (sum_flat f (λ (p : Policed). queued_by run.domain m p.received p.verdict) (policed run heard (end_of_run run) b)))
       (sum_le_members (λ (p : Policed). sum_by f (queued_by run.domain m p.received p.verdict)) (taken run.domain number cycle)
-      (policed run carried (end_of_run run) b) (λ p c. one p.received p.verdict))
+      (policed run heard (end_of_run run) b) (λ p c. one p.received p.verdict))
     where
       f : QueuedFrame → ℕ
       f = queued_counts laws run carried alone m is_link (of_stream number) cycle
@@ -221,5 +233,5 @@ module _ (laws : CycleLaws) (run : Run) (carried : Carried) (alone : IsRunAlone 
     arith,
     sent_was_queued laws run carried alone m is_link (of_stream row.no) cycle,
     queued_was_taken row.no cycle,
-    (facts laws run carried alone.planned (bridge_of run.domain m)).reserved cycle row c,
+    (facts laws run heard alone.planned (bridge_of run.domain m)).reserved cycle row c,
   )

@@ -11,7 +11,7 @@ use Rattle.cqf_model.specs.Run.{IsOffer, Run, end_of_run}
 use Rattle.cqf_model.specs.Traffic.{Relayed, Carried, Received, Policed, DroppedFor, offer_received, police_all}
 use Rattle.cqf_model.specs.Traffic.{verdict_by, within_gate}
 use Rattle.cqf_model.specs.Shift.{InShift, IsUncovered, offer_cycle}
-use Rattle.cqf_laws_shift.specs.Alone.{IsPlanned, IsRunAlone}
+use Rattle.cqf_laws_shift.specs.Alone.{IsPlanned, IsRunAs}
 use Rattle.cqf_units.proofs.Cycles.{cycle_below}
 use Rattle.cqf_laws_shift.proofs.Came.{IsOfferedHere, IsRelayed, came, came_how, numbered_member, policed}
 use Rattle.cqf_laws_shift.proofs.CycleLaws.{CycleLaws}
@@ -23,7 +23,7 @@ use Rattle.cqf_laws_shift.proofs.Runs.{queued_starts, sent_timed}
 use Rattle.cqf_laws_shift.proofs.Trees.{hop_inside}
 use Rattle.cqf_laws_shift.proofs.Ways.{comes_on, covered_tree, on_way}
 
-module _ (laws : CycleLaws) (run : Run) (carried : Carried) (alone : IsRunAlone run carried) where
+module _ (laws : CycleLaws) (run : Run) (carried : Carried) {heard : Carried} (alone : IsRunAs run carried heard) where
   -- what a link sends is in the shift
   pub sent_in_shift : (link : ℕ) → link < length run.domain.links → (sent : Sent) → Contains (carried link) sent →
       InShift run (length run.tables) sent.frame link (cycle_of run.domain sent.start.0)
@@ -64,24 +64,24 @@ module _ (laws : CycleLaws) (run : Run) (carried : Carried) (alone : IsRunAlone 
             ∙ sym s.is_cycle;
       }
 
-module _ (laws : CycleLaws) (run : Run) (carried : Carried) (planned : IsPlanned run) where
+module _ (laws : CycleLaws) (run : Run) (heard : Carried) (planned : IsPlanned run) where
   -- what is dropped is an offer that isn't covered
-  pub dropped_uncovered : (bridge : ℕ) (p : Policed) (reason : Reason) → Contains (policed run carried (end_of_run run) bridge) p →
-      p.verdict ≡ DroppedFor reason → (o : IsOfferedHere run carried (end_of_run run) bridge p.received) × IsUncovered run o.offered reason
+  pub dropped_uncovered : (bridge : ℕ) (p : Policed) (reason : Reason) → Contains (policed run heard (end_of_run run) bridge) p →
+      p.verdict ≡ DroppedFor reason → (o : IsOfferedHere run heard (end_of_run run) bridge p.received) × IsUncovered run o.offered reason
   dropped_uncovered bridge p reason c e =
-      elim (came_how run carried (end_of_run run) bridge p.received
-      (has_come run.domain run.tables bridge (came run carried (end_of_run run) bridge) (policed run carried (end_of_run run) bridge)
-      (facts laws run carried planned bridge) p c)) [
+      elim (came_how run heard (end_of_run run) bridge p.received
+      (has_come run.domain run.tables bridge (came run heard (end_of_run run) bridge) (policed run heard (end_of_run run) bridge)
+      (facts laws run heard planned bridge) p c)) [
         | inl r ↦ absurd (inside r)
         | inr o ↦
-            let verdict = offered_judged (gate_is_reservation laws.counts) run carried (end_of_run run)
-            (some_time laws run carried planned) planned.orderly bridge p c o in
+            let verdict = offered_judged (gate_is_reservation laws.counts) run heard (end_of_run run)
+            (some_time laws run heard planned) planned.orderly bridge p c o in
             (o, judged_dropped run o.offered reason o.inside (sym verdict ∙ e))
       ]
     where
-      inside : IsRelayed run carried (end_of_run run) bridge p.received → ⊥
+      inside : IsRelayed run heard (end_of_run run) bridge p.received → ⊥
       inside r =
-          let b = (facts laws run carried planned bridge).behind p c in
+          let b = (facts laws run heard planned bridge).behind p c in
           let earlier = [] ++ police_all run.domain run.tables bridge [] b.before in
           let cycle = cycle_of run.domain b.x.at in
           let way : b.x.way ≡ Relayed r.m r.sent.stream = ap (λ (z : Policed). z.received.way) (sym b.is) ∙ ap (λ (z : Received). z.way) (sym r.is) in
@@ -91,7 +91,7 @@ module _ (laws : CycleLaws) (run : Run) (carried : Carried) (planned : IsPlanned
 
   -- and what isn't covered is an offer that is dropped
   pub record IsDropped (x : Offered) (reason : Reason) : Type 0 where
-    pub inside : Contains (policed run carried (end_of_run run) x.offer.bridge) (record { received = offer_received x; verdict = DroppedFor reason })
+    pub inside : Contains (policed run heard (end_of_run run) x.offer.bridge) (record { received = offer_received x; verdict = DroppedFor reason })
     pub is_bridge : x.offer.bridge < length run.domain.bridges
     pub place : ℕ
     pub is_place : place < length run.offers
@@ -100,12 +100,12 @@ module _ (laws : CycleLaws) (run : Run) (carried : Carried) (planned : IsPlanned
   -- each offer of the run that isn't covered is dropped at its bridge
   pub uncovered_dropped : (x : Offered) (reason : Reason) → IsUncovered run x reason → offer_cycle run.domain x < length run.tables → IsDropped x reason
   uncovered_dropped x reason uncovered in_run =
-      let there = offer_policed (gate_is_reservation laws.counts) run carried (end_of_run run)
-      (some_time laws run carried planned) planned.orderly x uncovered.offered (before_end laws run carried planned x.offer.at.0 in_run) in
+      let there = offer_policed (gate_is_reservation laws.counts) run heard (end_of_run run)
+      (some_time laws run heard planned) planned.orderly x uncovered.offered (before_end laws run heard planned x.offer.at.0 in_run) in
       let placed = numbered_member run.offers x uncovered.offered in
       let good = All-contains (IsOffer run.domain) run.offers x.offer planned.offered placed.0 in
       record {
-        inside = subst (λ z. Contains (policed run carried (end_of_run run) x.offer.bridge) (record { received = offer_received x; verdict = z }))
+        inside = subst (λ z. Contains (policed run heard (end_of_run run) x.offer.bridge) (record { received = offer_received x; verdict = z }))
             (uncovered_judged run x reason uncovered) there;
         is_bridge = good.at_bridge;
         place = x.frame - 1;

@@ -12,7 +12,7 @@ use Rattle.cqf_model.specs.Table.{IsHop}
 use Rattle.cqf_model.specs.Traffic.{Way, AtEdge, Relayed, Carried, Received, Policed, Verdict, Queued, came_by}
 use Rattle.cqf_model.specs.Network.{QueuedFrame, queued_frame, queued_by, no_frame}
 use Rattle.cqf_model.specs.Shift.{IsCovered, offer_cycle, row_for}
-use Rattle.cqf_laws_shift.specs.Alone.{IsRunAlone}
+use Rattle.cqf_laws_shift.specs.Alone.{IsRunAs}
 use Rattle.cqf_lists.proofs.Sums.{sum_map, sum_flat, sum_le_members, sum_some, sum_two}
 use Rattle.cqf_laws_shift.proofs.Came.{IsRelayed, came, came_how, offered_counts, offers_single, one_number, policed, queued}
 use Rattle.cqf_laws_shift.proofs.CycleLaws.{CycleLaws}
@@ -20,7 +20,7 @@ use Rattle.cqf_laws_shift.proofs.Fed.{facts}
 use Rattle.cqf_laws_shift.proofs.Policing.{has_come}
 use Rattle.cqf_laws_shift.proofs.Queues.{one_or_none}
 use Rattle.cqf_laws_shift.proofs.Fed.{number_of}
-use Rattle.cqf_laws_shift.proofs.Runs.{sends, sent_at, sent_for, sent_timed}
+use Rattle.cqf_laws_shift.proofs.Runs.{heard_timed, sends, sent_at, sent_for}
 use Rattle.cqf_laws_shift.proofs.SentSums.{Weight, arrives_within, arriving_counts, by_link, queued_counts, sent_counts, sent_was_queued}
 use Rattle.cqf_laws_shift.proofs.Trees.{GoesBy, one_depth, one_way, same_goes}
 use Rattle.cqf_laws_shift.proofs.Ways.{covered_tree, on_way, queued_member, same_stream}
@@ -42,14 +42,14 @@ counts_relayed frame m octets (Relayed link stream) number e is =
     let same : link ≡ m = same_Some link m e in
     cond-true (link == m) (if number == frame then 1 else 0) 0 (eq-eqb link m same) ∙ cond-true {A = ℕ} (number == frame) 1 0 (eq-eqb number frame is)
 
-module _ (laws : CycleLaws) (run : Run) (carried : Carried) (alone : IsRunAlone run carried) where
+module _ (laws : CycleLaws) (run : Run) (carried : Carried) {heard : Carried} (alone : IsRunAs run carried heard) where
   -- the run's domain
   abbrev d : Domain
   d = run.domain
 
   -- what becomes of what comes to a bridge
   abbrev given : ℕ → List Policed
-  given b = policed run carried (end_of_run run) b
+  given b = policed run heard (end_of_run run) b
 
   -- two covered offers of one number are one, by one row
   same_offer : (x y : Offered) (row late : Row) → IsCovered run x row → IsCovered run y late → x.frame ≡ y.frame → (x ≡ y) × (row ≡ late)
@@ -126,7 +126,7 @@ module _ (laws : CycleLaws) (run : Run) (carried : Carried) (alone : IsRunAlone 
       ]
 
   -- at a port, in a cycle, beside one frame of a number
-  module _ (m cycle frame : ℕ) (p0 : Policed) (c0 : Contains (policed run carried (end_of_run run) (bridge_of run.domain m)) p0)
+  module _ (m cycle frame : ℕ) (p0 : Policed) (c0 : Contains (policed run heard (end_of_run run) (bridge_of run.domain m)) p0)
       (n0 : Counts m cycle frame p0.received p0.verdict) where
     -- the bridge of the port
     abbrev b : ℕ
@@ -134,9 +134,9 @@ module _ (laws : CycleLaws) (run : Run) (carried : Carried) (alone : IsRunAlone 
 
     -- what each counts is what it counts among those that came
     by_received : (h : Received → ℕ) → ((p : Policed) → Contains (given b) p → port_counts m cycle frame p ≤ h p.received) →
-        sum_by (port_counts m cycle frame) (given b) ≤ sum_by h (came run carried (end_of_run run) b)
+        sum_by (port_counts m cycle frame) (given b) ≤ sum_by h (came run heard (end_of_run run) b)
     by_received h each =
-        subst (λ z. sum_by (port_counts m cycle frame) (given b) ≤ sum_by h z) (facts laws run carried alone.planned b).in_turn
+        subst (λ z. sum_by (port_counts m cycle frame) (given b) ≤ sum_by h z) (facts laws run heard alone.planned b).in_turn
         (subst (λ z. sum_by (port_counts m cycle frame) (given b) ≤ z) (sym (sum_map h (λ (p : Policed). p.received) (given b)))
         (sum_le_members (port_counts m cycle frame) (λ p. h p.received) (given b) each))
 
@@ -146,7 +146,7 @@ module _ (laws : CycleLaws) (run : Run) (carried : Carried) (alone : IsRunAlone 
 
     -- from the edge it came once
     from_edge : came_by p0.received.way ≡ None → sum_by (port_counts m cycle frame) (given b) ≤ 1
-    from_edge edge = le_trans (by_received (λ x. offered_counts frame x.way x.frame) each) (offers_single run carried (end_of_run run) b frame)
+    from_edge edge = le_trans (by_received (λ x. offered_counts frame x.way x.frame) each) (offers_single run heard (end_of_run run) b frame)
       where
         each : (p : Policed) → Contains (given b) p → port_counts m cycle frame p ≤ offered_counts frame p.received.way p.received.frame
         each p c = elim (port_value m cycle frame p.received p.verdict) [
@@ -155,14 +155,14 @@ module _ (laws : CycleLaws) (run : Run) (carried : Carried) (alone : IsRunAlone 
         ]
 
     -- and by a link once, where it was once at the port before
-    from_link : IsRelayed run carried (end_of_run run) b p0.received →
+    from_link : IsRelayed run heard (end_of_run run) b p0.received →
         ((before from : ℕ) (l : from < length d.links) → cycle ≡ before + 1 →
-        sum_by (queued_counts laws run carried alone from l (of_frame frame) before) (queued run carried (end_of_run run) from) ≤ 1) →
+        sum_by (queued_counts laws run carried alone from l (of_frame frame) before) (queued run heard (end_of_run run) from) ≤ 1) →
         sum_by (port_counts m cycle frame) (given b) ≤ 1
     from_link r ih =
-        let s = sent_timed laws run carried alone r.m r.is_link r.sent r.inside in
+        let s = heard_timed laws run carried alone r.m r.is_link r.sent r.inside in
         let before = cycle_of d s.0.p.received.at in
-        let later : cycle ≡ before + 1 = omega (arith, n0.in_cycle, ap (λ (z : Received). z.at / d.cycle_time) r.is, s.1.whole, s.1.cycle) in
+        let later : cycle ≡ before + 1 = omega (arith, n0.in_cycle, ap (λ (z : Received). z.at / d.cycle_time) r.is, s.1) in
         let arrivals = by_received (arriving_counts laws run carried alone r.m r.is_link (of_frame frame) cycle) each in
         let sent = arrives_within laws run carried alone r.m r.is_link (of_frame frame) b cycle in
         let was = le_trans (sent_was_queued laws run carried alone r.m r.is_link (of_frame frame) before) (ih before r.m r.is_link later) in
@@ -185,8 +185,8 @@ module _ (laws : CycleLaws) (run : Run) (carried : Carried) (alone : IsRunAlone 
   -- so it is at a port once in a cycle, where it was once at each port in the cycle before
   single_step : (cycle m : ℕ) (is_link : m < length d.links) (frame : ℕ) →
       ((before from : ℕ) (l : from < length d.links) → cycle ≡ before + 1 →
-      sum_by (queued_counts laws run carried alone from l (of_frame frame) before) (queued run carried (end_of_run run) from) ≤ 1) →
-      sum_by (queued_counts laws run carried alone m is_link (of_frame frame) cycle) (queued run carried (end_of_run run) m) ≤ 1
+      sum_by (queued_counts laws run carried alone from l (of_frame frame) before) (queued run heard (end_of_run run) from) ≤ 1) →
+      sum_by (queued_counts laws run carried alone m is_link (of_frame frame) cycle) (queued run heard (end_of_run run) m) ≤ 1
   single_step cycle m is_link frame ih =
       subst (λ z. z ≤ 1) (sym (sum_flat (queued_counts laws run carried alone m is_link (of_frame frame) cycle)
       (λ (p : Policed). queued_by d m p.received p.verdict) (given (bridge_of d m))))
@@ -194,9 +194,9 @@ module _ (laws : CycleLaws) (run : Run) (carried : Carried) (alone : IsRunAlone 
         | inl z ↦ omega (arith, z)
         | inr w ↦ elim (port_value m cycle frame w.0.received w.0.verdict) [
           | inl z ↦ absurd (omega (arith, z, w.2))
-          | inr n ↦ elim (came_how run carried (end_of_run run) (bridge_of d m) w.0.received
-              (has_come d run.tables (bridge_of d m) (came run carried (end_of_run run) (bridge_of d m)) (given (bridge_of d m))
-              (facts laws run carried alone.planned (bridge_of d m)) w.0 w.1)) [
+          | inr n ↦ elim (came_how run heard (end_of_run run) (bridge_of d m) w.0.received
+              (has_come d run.tables (bridge_of d m) (came run heard (end_of_run run) (bridge_of d m)) (given (bridge_of d m))
+              (facts laws run heard alone.planned (bridge_of d m)) w.0 w.1)) [
                 | inl r ↦ from_link m cycle frame w.0 w.1 n r ih
                 | inr o ↦ from_edge m cycle frame w.0 w.1 n (ap (λ (z : Received). came_by z.way) (sym o.is))
               ]
@@ -204,12 +204,12 @@ module _ (laws : CycleLaws) (run : Run) (carried : Carried) (alone : IsRunAlone 
       ])
 
   -- so it is at each port once in a cycle
-  single : (cycle m : ℕ) (is_link : m < length d.links) (frame : ℕ) →
-      sum_by (queued_counts laws run carried alone m is_link (of_frame frame) cycle) (queued run carried (end_of_run run) m) ≤ 1
+  pub single : (cycle m : ℕ) (is_link : m < length d.links) (frame : ℕ) →
+      sum_by (queued_counts laws run carried alone m is_link (of_frame frame) cycle) (queued run heard (end_of_run run) m) ≤ 1
   single zero m is_link frame = single_step zero m is_link frame (λ before from l e. absurd (omega (arith, e)))
   single (suc cycle) m is_link frame = single_step (suc cycle) m is_link frame (λ before from l e.
       let same : cycle ≡ before = omega (arith, e) in
-      subst (λ z. sum_by (queued_counts laws run carried alone from l (of_frame frame) z) (queued run carried (end_of_run run) from) ≤ 1) same
+      subst (λ z. sum_by (queued_counts laws run carried alone from l (of_frame frame) z) (queued run heard (end_of_run run) from) ≤ 1) same
       (single cycle from l frame))
 
   -- what a link sends of one number it sends once
@@ -227,13 +227,13 @@ module _ (laws : CycleLaws) (run : Run) (carried : Carried) (alone : IsRunAlone 
       let limit = single cycle m is_link a.frame in
       let one_a = counts_one cycle a.frame qa.p.received qa.row refl (sym qa.frame) in
       let one_b = counts_one cycle a.frame qb.p.received qb.row (sym same.cycle) (sym qb.frame ∙ sym frames) in
-      let at_a : f (get_or (queued run carried (end_of_run run) m) sa.0.place no_frame) ≡ 1 = ap f (sym sa.0.at_place) ∙ one_a in
-      let at_b : f (get_or (queued run carried (end_of_run run) m) sb.0.place no_frame) ≡ 1 = ap f (sym sb.0.at_place) ∙ one_b in
+      let at_a : f (get_or (queued run heard (end_of_run run) m) sa.0.place no_frame) ≡ 1 = ap f (sym sa.0.at_place) ∙ one_a in
+      let at_b : f (get_or (queued run heard (end_of_run run) m) sb.0.place no_frame) ≡ 1 = ap f (sym sb.0.at_place) ∙ one_b in
       elim (cases_order sa.0.place sb.0.place) [
         | inl places ↦
             let start = (sends laws run carried alone m is_link).legal.once sb.0.place a.start.0 b.start.0
             (subst (λ z. Contains (sends laws run carried alone m is_link).starts (z, a.start.0)) places sa.1) sb.1 in
-            sym sa.0.is ∙ ap₂ (λ p s. sent_at (queued run carried (end_of_run run) m) (p, s)) places start ∙ sb.0.is
+            sym sa.0.is ∙ ap₂ (λ p s. sent_at (queued run heard (end_of_run run) m) (p, s)) places start ∙ sb.0.is
         | inr o ↦ elim o [
           | inl less ↦ absurd (omega (
             arith,
@@ -241,7 +241,7 @@ module _ (laws : CycleLaws) (run : Run) (carried : Carried) (alone : IsRunAlone 
             at_a,
             at_b,
             sum_two f
-                (queued run carried (end_of_run run) m) sa.0.place sb.0.place no_frame less sb.0.in_queue,
+                (queued run heard (end_of_run run) m) sa.0.place sb.0.place no_frame less sb.0.in_queue,
           ))
           | inr more ↦ absurd (omega (
             arith,
@@ -249,7 +249,7 @@ module _ (laws : CycleLaws) (run : Run) (carried : Carried) (alone : IsRunAlone 
             at_a,
             at_b,
             sum_two f
-                (queued run carried (end_of_run run) m) sb.0.place sa.0.place no_frame more sa.0.in_queue,
+                (queued run heard (end_of_run run) m) sb.0.place sa.0.place no_frame more sa.0.in_queue,
           ))
         ]
       ]

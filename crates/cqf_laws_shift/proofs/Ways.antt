@@ -22,8 +22,8 @@ use Rattle.cqf_model.specs.Table.{IsHop, IsTree, SameStream, goes_on, residence,
 use Rattle.cqf_model.specs.Traffic.{Way, AtEdge, Relayed, Carried, Received, Policed, Queued, came_by, is_queued_of, offer_received, police_all, sent_received}
 use Rattle.cqf_model.specs.Traffic.{verdict_by, whole_at, within_gate}
 use Rattle.cqf_model.specs.Shift.{IsCovered, offer_cycle}
-use Rattle.cqf_model.proofs.Links.{leaves_its_bridge, octet_positive}
-use Rattle.cqf_laws_shift.specs.Alone.{IsRunAlone}
+use Rattle.cqf_model.proofs.Links.{leaves_its_bridge}
+use Rattle.cqf_laws_shift.specs.Alone.{IsRunAs}
 use Rattle.cqf_laws_shift.specs.Edge.{octets_before}
 use Rattle.cqf_units.proofs.Cycles.{cycle_below}
 use Rattle.cqf_lists.proofs.Members.{find_member, find_some}
@@ -32,15 +32,15 @@ use Rattle.cqf_laws_shift.proofs.Came.{IsRelayed, came, came_how, policed, relay
 use Rattle.cqf_laws_shift.proofs.CycleLaws.{CycleLaws}
 use Rattle.cqf_laws_shift.proofs.Decided.{covered_judged, judged, judged_queued, offer_policed, offered_judged}
 use Rattle.cqf_laws_shift.proofs.Edges.{gate_is_reservation}
-use Rattle.cqf_laws_shift.proofs.Fed.{before_end, facts, some_time}
+use Rattle.cqf_laws_shift.proofs.Fed.{before_end, facts, sent_heard, some_time}
 use Rattle.cqf_laws_shift.proofs.Policing.{Polices, has_come, has_verdict, is_queued_by, polices_all, row_of_queued, taken}
-use Rattle.cqf_laws_shift.proofs.Runs.{queued_starts, sent_timed}
+use Rattle.cqf_laws_shift.proofs.Runs.{heard_timed, queued_starts}
 use Rattle.cqf_laws_shift.proofs.SentSums.{arrives_within, arriving_counts, by_link, of_stream, sent_counts, sent_within}
 use Rattle.cqf_laws_shift.proofs.Trees.{GoesBy, by_goes_on, depth_some, first_hops_begin, first_is_begun, goes_into, goes_on_behind, hop_inside, hop_within}
 use Rattle.cqf_laws_shift.proofs.Trees.{hops_are_reached, hops_follow, one_beginning, one_way_at, same_goes, same_goes_on}
 use Rattle.cqf_laws_shift.proofs.Verdicts.{IsQueuedBy, QueuedInside, inside_passes, queued_number, queued_of}
 
-module _ (laws : CycleLaws) (run : Run) (carried : Carried) (alone : IsRunAlone run carried) where
+module _ (laws : CycleLaws) (run : Run) (carried : Carried) {heard : Carried} (alone : IsRunAs run carried heard) where
   -- the run's domain
   abbrev d : Domain
   d = run.domain
@@ -51,19 +51,19 @@ module _ (laws : CycleLaws) (run : Run) (carried : Carried) (alone : IsRunAlone 
 
   -- what comes to a bridge
   abbrev come : ℕ → List Received
-  come b = came run carried (end_of_run run) b
+  come b = came run heard (end_of_run run) b
 
   -- what becomes of it
   abbrev given : ℕ → List Policed
-  given b = policed run carried (end_of_run run) b
+  given b = policed run heard (end_of_run run) b
 
   -- the facts about it
-  abbrev known : (b : ℕ) → Polices run.domain run.tables b (came run carried (end_of_run run) b) (policed run carried (end_of_run run) b)
-  known b = facts laws run carried alone.planned b
+  abbrev known : (b : ℕ) → Polices run.domain run.tables b (came run heard (end_of_run run) b) (policed run heard (end_of_run run) b)
+  known b = facts laws run heard alone.planned b
 
   -- a cycle takes some time
   abbrev some : 0 < run.domain.cycle_time
-  some = some_time laws run carried alone.planned
+  some = some_time laws run heard alone.planned
 
   -- the row of a covered offer is of its cycle's table
   pub covered_member : (x : Offered) (row : Row) → IsCovered run x row → Contains (table_of run.tables (offer_cycle run.domain x)) row
@@ -85,12 +85,12 @@ module _ (laws : CycleLaws) (run : Run) (carried : Carried) (alone : IsRunAlone 
   same_stream c e early late = alone.planned.orderly.one_stream c e early late
 
   -- the row by which a frame goes on is of its cycle's table
-  pub queued_member : (bridge : ℕ) (p : Policed) (row : Row) → Contains (policed run carried (end_of_run run) bridge) p → p.verdict ≡ Queued row →
+  pub queued_member : (bridge : ℕ) (p : Policed) (row : Row) → Contains (policed run heard (end_of_run run) bridge) p → p.verdict ≡ Queued row →
       Contains (table_of run.tables (cycle_of run.domain p.received.at)) row
   queued_member bridge p row c is = row_of_queued d run.tables bridge (come bridge) (given bridge) (known bridge) p row c is
 
   -- and where the frame came by a link, the row is of the frame's stream
-  pub relayed_number : (bridge m number : ℕ) (p : Policed) (row : Row) → Contains (policed run carried (end_of_run run) bridge) p → p.verdict ≡ Queued row →
+  pub relayed_number : (bridge m number : ℕ) (p : Policed) (row : Row) → Contains (policed run heard (end_of_run run) bridge) p → p.verdict ≡ Queued row →
       p.received.way ≡ Relayed m number → row.no ≡ number
   relayed_number bridge m number p row c is way =
       let e = cycle_of d p.received.at in
@@ -110,18 +110,17 @@ module _ (laws : CycleLaws) (run : Run) (carried : Carried) (alone : IsRunAlone 
     pub at_depth : IsHop first_row depth l
     pub cycle : cycle_of run.domain p.received.at + 1 ≡ offer_cycle run.domain x + depth
 
-  -- by induction on the instant: a frame that came by a link is one deeper than what the link before was sending
+  -- by induction on the cycle: a frame that came by a link is one deeper than what the link before was sending
   on_way_before : (t bridge : ℕ) (p : Policed) (row : Row) (l : ℕ) → Contains (given bridge) p → p.verdict ≡ Queued row →
-      GoesBy row (came_by p.received.way) l → p.received.at < t → IsOnWay p row l
+      GoesBy row (came_by p.received.way) l → cycle_of d p.received.at < t → IsOnWay p row l
   on_way_before zero bridge p row l c is goes early = absurd (omega (arith, early))
   on_way_before (suc t) bridge p row l c is goes early =
-      elim (came_how run carried end bridge p.received (has_come d run.tables bridge (come bridge) (given bridge) (known bridge) p c)) [
+      elim (came_how run heard end bridge p.received (has_come d run.tables bridge (come bridge) (given bridge) (known bridge) p c)) [
         | inl r ↦
-            let s = sent_timed laws run carried alone r.m r.is_link r.sent r.inside in
+            let s = heard_timed laws run carried alone r.m r.is_link r.sent r.inside in
             let before = bridge_of d r.m in
-            let whole : whole_at d r.m r.sent ≡ p.received.at = ap (λ (z : Received). z.at) r.is in
-            let later : r.sent.start.0 < whole_at d r.m r.sent = omega (arith, octet_positive d r.m r.is_link) in
-            let prior = on_way_before t before s.0.p s.0.row r.m s.0.inside s.0.verdict s.0.goes (omega (arith, early, whole, later, s.0.no_sooner)) in
+            let whole : cycle_of d (whole_at d r.m r.sent) ≡ cycle_of d p.received.at = ap (λ (z : Received). cycle_of d z.at) r.is in
+            let prior = on_way_before t before s.0.p s.0.row r.m s.0.inside s.0.verdict s.0.goes (omega (arith, early, whole, s.1)) in
             let way : p.received.way ≡ Relayed r.m r.sent.stream = ap (λ (z : Received). z.way) (sym r.is) in
             let number : row.no ≡ prior.first_row.no = relayed_number bridge r.m r.sent.stream p row c is way ∙ s.0.stream ∙ prior.number in
             let tree = (same_stream (cycle_of d p.received.at) (offer_cycle d prior.x) row prior.first_row (queued_member bridge p row c is)
@@ -137,10 +136,10 @@ module _ (laws : CycleLaws) (run : Run) (carried : Carried) (alone : IsRunAlone 
               octets = ap (λ (z : Received). z.octets) (sym r.is) ∙ s.0.octets ∙ prior.octets;
               at_depth = hops_follow d prior.first_row (covered_tree prior.x prior.first_row prior.covered) prior.depth r.m l prior.at_depth
                   (same_goes row prior.first_row (Some r.m) l tree on);
-              cycle = omega (arith, ap (λ z. z / d.cycle_time) whole, s.1.whole, s.1.cycle, prior.cycle);
+              cycle = omega (arith, whole, s.1, prior.cycle);
             }
         | inr o ↦
-            let judged = offered_judged (gate_is_reservation laws.counts) run carried end some alone.planned.orderly bridge p c o in
+            let judged = offered_judged (gate_is_reservation laws.counts) run heard end some alone.planned.orderly bridge p c o in
             let covered = judged_queued run o.offered row o.inside (sym judged ∙ is) in
             let begun : GoesBy row None l = subst (λ (z : Received). GoesBy row (came_by z.way) l) (sym o.is) goes in
             record {
@@ -157,9 +156,9 @@ module _ (laws : CycleLaws) (run : Run) (carried : Carried) (alone : IsRunAlone 
       ]
 
   -- each queued frame is on its way
-  pub on_way : (bridge : ℕ) (p : Policed) (row : Row) (l : ℕ) → Contains (policed run carried (end_of_run run) bridge) p → p.verdict ≡ Queued row →
+  pub on_way : (bridge : ℕ) (p : Policed) (row : Row) (l : ℕ) → Contains (policed run heard (end_of_run run) bridge) p → p.verdict ≡ Queued row →
       GoesBy row (came_by p.received.way) l → IsOnWay p row l
-  on_way bridge p row l c is goes = on_way_before (suc p.received.at) bridge p row l c is goes (omega arith)
+  on_way bridge p row l c is goes = on_way_before (suc (cycle_of d p.received.at)) bridge p row l c is goes (omega arith)
 
   -- what goes on of a stream at a bridge that its tree enters by a link came by that link
   came_by_one : (bridge m number c e : ℕ) (row other : Row) (way : Way) → Contains (table_of run.tables c) row → Contains (table_of run.tables e) other →
@@ -248,14 +247,14 @@ module _ (laws : CycleLaws) (run : Run) (carried : Carried) (alone : IsRunAlone 
       (found.0, found.1, member.0, eqb-true found.0.no row.no member.1)
 
   -- a frame that comes by a link goes on: none is lost
-  pub relayed_goes_on : (bridge : ℕ) (p : Policed) → Contains (policed run carried (end_of_run run) bridge) p →
-      IsRelayed run carried (end_of_run run) bridge p.received → (row : Row) × (p.verdict ≡ Queued row)
+  pub relayed_goes_on : (bridge : ℕ) (p : Policed) → Contains (policed run heard (end_of_run run) bridge) p →
+      IsRelayed run heard (end_of_run run) bridge p.received → (row : Row) × (p.verdict ≡ Queued row)
   relayed_goes_on bridge p c r =
-      let s = sent_timed laws run carried alone r.m r.is_link r.sent r.inside in
+      let s = heard_timed laws run carried alone r.m r.is_link r.sent r.inside in
       let before = bridge_of d r.m in
       let way = on_way before s.0.p s.0.row r.m s.0.inside s.0.verdict s.0.goes in
       let cycle = cycle_of d s.0.p.received.at in
-      let is_cycle : cycle_of d (whole_at d r.m r.sent) ≡ cycle + 1 = s.1.whole ∙ s.1.cycle in
+      let is_cycle : cycle_of d (whole_at d r.m r.sent) ≡ cycle + 1 = s.1 in
       let in_run : cycle + 1 < length run.tables = omega (arith, is_cycle, cycle_below d.cycle_time (whole_at d r.m r.sent) (length run.tables) r.early) in
       let good = covered_tree way.x way.first_row way.covered in
       let deep = hop_within way.first_row way.depth r.m way.at_depth in
@@ -297,7 +296,7 @@ module _ (laws : CycleLaws) (run : Run) (carried : Carried) (alone : IsRunAlone 
   pub record IsQueuedOnWay (x : Offered) (row : Row) (depth l : ℕ) : Type 0 where
     pub p : Policed
     pub late : Row
-    pub inside : Contains (policed run carried (end_of_run run) (bridge_of run.domain l)) p
+    pub inside : Contains (policed run heard (end_of_run run) (bridge_of run.domain l)) p
     pub verdict : p.verdict ≡ Queued late
     pub goes : GoesBy late (came_by p.received.way) l
     pub number : late.no ≡ row.no
@@ -313,8 +312,8 @@ module _ (laws : CycleLaws) (run : Run) (carried : Carried) (alone : IsRunAlone 
       let leaving = by_goes_on d row None l (bridge_of d l) begun (leaves_its_bridge d l (hop_inside d row good 1 l at)) in
       let there : x.offer.bridge ≡ bridge_of d l = one_beginning d row good x.offer.bridge (bridge_of d l) covered.first_bridge leaving in
       let p : Policed = record { received = offer_received x; verdict = judged run x } in
-      let inside = offer_policed (gate_is_reservation laws.counts) run carried end some alone.planned.orderly x covered.offered
-      (before_end laws run carried alone.planned x.offer.at.0 in_run) in
+      let inside = offer_policed (gate_is_reservation laws.counts) run heard end some alone.planned.orderly x covered.offered
+      (before_end laws run heard alone.planned x.offer.at.0 in_run) in
       record {
         p = p;
         late = row;
@@ -352,15 +351,15 @@ module _ (laws : CycleLaws) (run : Run) (carried : Carried) (alone : IsRunAlone 
 
   -- and it does go on from there
   comes_with : (x : Offered) (row : Row) → IsCovered run x row → (k m l : ℕ) → m < length d.links → GoesBy row (Some m) l → (sent : Sent) →
-      Contains (carried m) sent → sent.frame ≡ x.frame → sent.stream ≡ row.no → sent.octets ≡ x.offer.octets →
+      Contains (heard m) sent → sent.frame ≡ x.frame → sent.stream ≡ row.no → sent.octets ≡ x.offer.octets →
       cycle_of d (whole_at d m sent) ≡ offer_cycle d x + k →
       whole_at d m sent < end → IsQueuedOnWay x row (k + 1) l
   comes_with x row covered k m l is_link by sent inside frame stream octets cycle in_run =
       let b = bridge_of d l in
       let enters = goes_into d row (covered_tree x row covered) m l by in
       let p = has_verdict d run.tables b (come b) (given b) (known b) (sent_received d m sent)
-      (relayed_comes run carried end b m sent is_link enters inside in_run) in
-      let relayed : IsRelayed run carried end b p.0.received =
+      (relayed_comes run heard end b m sent is_link enters inside in_run) in
+      let relayed : IsRelayed run heard end b p.0.received =
       record { m = m; is_link = is_link; here = enters; sent = sent; inside = inside; is = sym p.2; early = in_run } in
       let on = relayed_goes_on b p.0 p.1 relayed in
       comes_as x row covered k m l by sent frame stream octets cycle p.0 p.1 p.2 on.0 on.1
@@ -371,7 +370,9 @@ module _ (laws : CycleLaws) (run : Run) (carried : Carried) (alone : IsRunAlone 
   comes_next x row covered k m l at by in_run prior =
       let is_link = hop_inside d row (covered_tree x row covered) k m at in
       let sent = queued_starts laws run carried alone m is_link prior.p prior.late prior.inside prior.verdict prior.goes (omega (arith, prior.cycle, in_run)) in
-      comes_with x row covered k m l is_link by sent.0 sent.1 (sent.2 ∙ prior.frame) (sent.3 ∙ prior.number) (sent.4 ∙ prior.octets)
+      let alike = alone.meets.each m sent.0 is_link sent.1 in
+      comes_with x row covered k m l is_link by (alone.meets.noted m sent.0) (sent_heard d carried heard alone.meets m sent.0 sent.1)
+      (alike.frame ∙ sent.2 ∙ prior.frame) (alike.stream ∙ sent.3 ∙ prior.number) (alike.octets ∙ sent.4 ∙ prior.octets)
       (sent.5.whole ∙ sent.5.cycle ∙ prior.cycle) sent.5.in_run
 
   -- by induction on the depth

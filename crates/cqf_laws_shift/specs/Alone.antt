@@ -3,24 +3,25 @@
 use Rattle.std.specs.Prelude.{ℕ, ◌≡◌, ◌<◌, ◌≤◌, List, [], length}
 use Rattle.std.specs.List.{flat_map}
 use Rattle.cqf_model.specs.declared.frames.Sent.{Sent}
-use Rattle.cqf_model.specs.Domain.{Domain, IsAccepted, octet_time_of}
+use Rattle.cqf_model.specs.Domain.{Domain, IsAccepted, guard_of, octet_time_of}
 use Rattle.cqf_model.specs.GateList.{port_list}
 use Rattle.cqf_model.specs.Port.{AreLegal, Transmission}
 use Rattle.cqf_model.specs.Run.{AreOffers, Run, end_of_run}
 use Rattle.cqf_model.specs.Table.{AreOrderly}
 use Rattle.cqf_model.specs.Traffic.{Carried}
 use Rattle.cqf_model.specs.Network.{QueuedFrame, arrivals_of, queued_before, sent_of}
+use Rattle.cqf_laws_shift.specs.Heard.{AreHeard}
 
 -- a port under the compiled gate list sends what is demanded for the streams' frames that are queued to it, and those alone
 pub record SendsAlone (d : Domain) (end l : ℕ) (queued : List QueuedFrame) (sents : List Sent) : Type 0 where
   pub starts : List Transmission
-  pub legal : AreLegal (record { entries = port_list d.cycle_time d.guard; octet_time = octet_time_of d l }) (arrivals_of queued) end starts
+  pub legal : AreLegal (record { entries = port_list d.cycle_time (guard_of d l); octet_time = octet_time_of d l }) (arrivals_of queued) end starts
   pub are_sent : sents ≡ flat_map (sent_of queued) starts
 
--- each link does so up to the end of the run, and a link that the domain lacks sends nothing
-pub record IsLegalAlone (run : Run) (carried : Carried) : Type 0 where
+-- each link does so up to the end of the run, for what its bridge hears, and a link that the domain lacks sends nothing
+pub record IsLegalAs (run : Run) (carried heard : Carried) : Type 0 where
   pub sends : (l : ℕ) → l < length run.domain.links →
-      SendsAlone run.domain (end_of_run run) l (queued_before run carried l (end_of_run run)) (carried l)
+      SendsAlone run.domain (end_of_run run) l (queued_before run heard l (end_of_run run)) (carried l)
   pub no_others : (l : ℕ) → length run.domain.links ≤ l → carried l ≡ []
 
 -- an accepted domain, the tables of a history, and offers of Ethernet's sizes at its bridges
@@ -30,6 +31,14 @@ pub record IsPlanned (run : Run) : Type 0 where
   pub offered : AreOffers run.domain run.offers
 
 -- a legal run of such
-pub record IsRunAlone (run : Run) (carried : Carried) : Type 0 where
+pub record IsRunAs (run : Run) (carried heard : Carried) : Type 0 where
   pub planned : IsPlanned run
-  pub legal : IsLegalAlone run carried
+  pub legal : IsLegalAs run carried heard
+  pub meets : AreHeard run.domain carried heard
+
+-- where all count one clock, and each link delays as it is stated, what links send is what is heard
+abbrev pub IsLegalAlone : Run → Carried → Type 0
+IsLegalAlone run carried = IsLegalAs run carried carried
+
+abbrev pub IsRunAlone : Run → Carried → Type 0
+IsRunAlone run carried = IsRunAs run carried carried

@@ -1,5 +1,6 @@
 pub mod Cost
 pub mod Edge
+pub mod Heard
 pub mod Alone
 pub mod Run
 pub mod Books

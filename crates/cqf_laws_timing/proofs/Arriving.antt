@@ -1,5 +1,5 @@
 -- A covered offer of a history's book isn't dropped, and arrives in time.
-use Rattle.std.proofs.Common.{◌≡◌, ◌≢◌, ℕ, zero, suc, ◌+◌, ◌<◌, ◌∷◌, [], List, Option, Some, None, inl, inr, refl, sym, ap, ◌∙◌, subst, arith, Contains, length}
+use Rattle.std.proofs.Common.{◌≡◌, ◌≢◌, ℕ, zero, suc, ◌+◌, ◌<◌, ◌≤◌, ◌∷◌, [], List, Option, Some, None, inl, inr, refl, sym, ap, ◌∙◌, subst, arith, Contains, length}
 use Rattle.std.proofs.Common.{fold, max, take, slice_get, if◌then◌else◌}
 use Rattle.std.specs.Prelude.{slice_index_or}
 use Rattle.std.specs.Option.{option_map_or}
@@ -38,12 +38,36 @@ use Rattle.cqf_laws_shift.proofs.Decided.{covered_judged, judged, uncovered_judg
 use Rattle.cqf_laws_shift.proofs.Trees.{same_hop}
 use Rattle.cqf_laws_timing.specs.Latency.{IsTimely, least_of, most_of, whole_of}
 use Rattle.cqf_laws_timing.specs.Listeners.{BranchesEnd}
-use Rattle.cqf_laws_timing.specs.Streams.{AdmitsOnly, AdmittedHaveNames, HistoryIsTimely, IsOfList, most_beside_all}
+use Rattle.cqf_laws_timing.specs.Streams.{AdmitsOnly, AdmittedHaveNames, AreGranted, HistoryIsTimely, IsOfList, most_beside_all}
 use Rattle.cqf_laws_timing.specs.Verdicts.{VerdictsHold, sure_of, sure_on}
 use Rattle.cqf_laws_timing.specs.InTime.{ArrivesInTime, ConformingOwnIsInTime, ConformingStreamIsInTime, IsBookOverList, ListenerIsServed, ComesThrough}
 use Rattle.cqf_laws_timing.specs.InTime.{PlannedStreamIsInTime}
-use Rattle.cqf_laws_timing.specs.Traffic.{Conforms, offers_named}
+use Rattle.cqf_laws_timing.specs.Covered.{IsAtItsEdge}
+use Rattle.cqf_laws_timing.specs.Traffic.{Conforms, IsTraffic, Traffic, needed, offers_named}
 use Rattle.cqf_laws_timing.proofs.Taking.{conforming_own_is_covered, conforming_stream_is_covered}
+
+-- of a row that is two streams' of the list the bounds are the same
+pub bounds_alike : (d : Domain) (streams : List Asked) (row : Row) (of other : IsOfList d streams row) (link : ℕ) →
+    most_beside_all d streams of.asked link ≡ most_beside_all d streams other.asked link
+bounds_alike d streams row of other link =
+    λ i. fold max 0 (each_below (λ cycle.
+    if uses ((sym of.tree ∙ other.tree) i) ((sym of.pace ∙ other.pace) i) link cycle then cost_of_all d streams link cycle ∷ [] else []) most_every)
+
+-- a covered offer is in the shift
+abbrev pub in_shift : (d : Domain) (entries : List Recorded) (offers : List Offer) (background : List Background) (cycles : ℕ) (x : Offered) (row : Row) →
+    IsCovered (run_of_history d entries offers background cycles) x row → (frame depth link cycle : ℕ) → frame ≡ x.frame → IsHop row depth link →
+    cycle ≡ offer_cycle d x + depth → offer_cycle d x + depth < cycles →
+    InShift (run_of_history d entries offers background cycles) (length (tables_of d entries cycles)) frame link cycle
+in_shift d entries offers background cycles x row covered frame depth link cycle is_frame hop is_cycle lasts = record {
+  x = x;
+  row = row;
+  depth = depth;
+  covered = covered;
+  is_frame = is_frame;
+  is_hop = hop;
+  is_cycle = is_cycle;
+  within_run = omega (arith, lasts, is_cycle, length-singles (table_at d entries) cycles);
+}
 
 -- ---- one offer
 
@@ -69,35 +93,16 @@ module _ (says : BookOfHistorySaysTheShift) (timely : HistoryIsTimely) (verdicts
       let both : DroppedFor dropped.reason ≡ Queued row = sym dropped_for ∙ covered_judged run x row covered in
       absurd cc
 
-  -- it is in the shift
-  in_shift : (frame depth link cycle : ℕ) → frame ≡ x.frame → IsHop row depth link → cycle ≡ offer_cycle d x + depth → offer_cycle d x + depth < cycles →
-      InShift run (length run.tables) frame link cycle
-  in_shift frame depth link cycle is_frame hop is_cycle lasts = record {
-    x = x;
-    row = row;
-    depth = depth;
-    covered = covered;
-    is_frame = is_frame;
-    is_hop = hop;
-    is_cycle = is_cycle;
-    within_run = omega (arith, lasts, is_cycle, length-singles (table_at d entries) cycles);
-  }
-
-  -- of a row that is two streams' of the list the bounds are the same
-  bounds_alike : (of other : IsOfList d streams row) (link : ℕ) → most_beside_all d streams of.asked link ≡ most_beside_all d streams other.asked link
-  bounds_alike of other link =
-      λ i. fold max 0 (each_below (λ cycle.
-      if uses ((sym of.tree ∙ other.tree) i) ((sym of.pace ∙ other.pace) i) link cycle then cost_of_all d streams link cycle ∷ [] else []) most_every)
-
   -- so it leaves on each link of its tree, and arrives in time
   pub arrives : (of : IsOfList d streams row) (depth link : ℕ) → IsHop row depth link → offer_cycle d x + depth < cycles →
       ArrivesInTime d streams of.asked book x depth link
-  unfolding in_shift
   arrives of depth link hop lasts =
       let cycle = offer_cycle d x + depth in
-      let s = kept.says.each x.frame link cycle (in_shift x.frame depth link cycle refl hop refl lasts) in
+      let s = kept.says.each x.frame link cycle
+      (in_shift d entries offers background cycles x row covered x.frame depth link cycle refl hop refl lasts) in
       let start = s.0 in
-      let shift = in_shift start.frame depth start.link start.cycle.0 s.2 (subst (λ (l : ℕ). IsHop row depth l) (sym s.3) hop) s.4 lasts in
+      let shift = in_shift d entries offers background cycles x row covered start.frame depth start.link start.cycle.0 s.2
+      (subst (λ (l : ℕ). IsHop row depth l) (sym s.3) hop) s.4 lasts in
       record {
         start = start;
         is_start = s.1;
@@ -109,12 +114,12 @@ module _ (says : BookOfHistorySaysTheShift) (timely : HistoryIsTimely) (verdicts
             let told = timely d entries offers background cycles book streams over.accepted over.legal over.offered over.beside over.is_book over.only over.paced
             start s.1 shift in
             subst (λ (l : ℕ). IsTimely d l depth (most_beside_all d streams of.asked l) x.offer.at.0 (whole_of d start)) s.3
-            (subst (λ (n : ℕ). IsTimely d start.link depth n x.offer.at.0 (whole_of d start)) (bounds_alike told.0 of start.link) told.1);
+            (subst (λ (n : ℕ). IsTimely d start.link depth n x.offer.at.0 (whole_of d start)) (bounds_alike d streams row told.0 of start.link) told.1);
         in_time = λ deadline sure.
             let told = verdicts d entries offers background cycles book streams over.accepted over.legal over.offered over.beside over.is_book over.only over.paced
             start s.1 shift in
             (told.1 deadline).in_time (ap (λ (n : ℕ). sure_of (least_of d start.link depth) (most_of d start.link depth n) deadline)
-            (bounds_alike told.0 of start.link) ∙ ap (λ (l : ℕ). sure_on d streams of.asked l depth deadline) s.3 ∙ sure);
+            (bounds_alike d streams row told.0 of start.link) ∙ ap (λ (l : ℕ). sure_on d streams of.asked l depth deadline) s.3 ∙ sure);
       }
 
   -- and at the listener of each branch of a request that makes the row's tree
@@ -210,6 +215,31 @@ module _ (d : Domain) (entries : List Recorded) (streams : List Asked) (legal : 
             absurd (contains_none row (subst (λ (xs : List Row). Contains xs row) none c))
       ]
 
+-- ---- a plan
+
+module _ (names : AdmittedHaveNames) (d : Domain) (streams : List Asked) (asked : Asked) (row : Row) (granted : AreGranted d [] streams)
+    (listed : Contains streams asked) (name : row.name ≡ asked.name) where
+  -- the row's stream in the list is the one of the name
+  pub one_asked : (of : IsOfList d streams row) → of.asked ≡ asked
+  one_asked of =
+      let alike : of.asked.name ≡ asked.name = sym of.name ∙ name in
+      one_of_pairs (λ (a b : Asked). a.name ≢ b.name) streams of.asked asked (names d streams granted) of.listed listed (λ differ. differ alike)
+      (λ differ. differ (sym alike))
+
+  -- so what a talker offers that keeps its word is covered, where the plan has enough for it
+  pub planned_covered : (entries : List Recorded) (offers : List Offer) (background : List Background) (cycles : ℕ) (t : Traffic) (x : Offered) →
+      IsLegalHistory d entries → AdmitsOnly streams entries → 0 < d.cycle_time → IsTraffic t →
+      needed d.cycle_time t ≤ reserved_in (granted_row d 0 0 asked) 0 (offer_cycle d x) → Conforms t (offers_named asked.name offers) →
+      IsAtItsEdge (run_of_history d entries offers background cycles) x row → IsCovered (run_of_history d entries offers background cycles) x row
+  planned_covered entries offers background cycles t x legal only some is enough c at =
+      let member = (find_member (λ (r : Row). is_text r.name x.offer.stream) (table_of (tables_of d entries cycles) (offer_cycle d x)) row at.named).0 in
+      let of = (granted_row_of d entries streams legal only row cycles (offer_cycle d x) member).of in
+      let same = one_asked of in
+      let reserved : reserved_in (granted_row d 0 0 asked) 0 (offer_cycle d x) ≡ reserved_in row 0 (offer_cycle d x) =
+      λ i. if is_turn ((sym (of.pace ∙ ap pace_of same)) i) 0 (offer_cycle d x) then (sym (of.octets ∙ ap (λ (a : Asked). a.octets) same)) i else 0 in
+      conforming_stream_is_covered (run_of_history d entries offers background cycles) t x row some is
+      (subst (λ (n : List ℕ). Conforms t (offers_named n offers)) (sym name) c) (omega (arith, enough, reserved)) at
+
 -- ---- the laws
 
 module _ (says : BookOfHistorySaysTheShift) (timely : HistoryIsTimely) (verdicts : VerdictsHold) (ends : BranchesEnd) where
@@ -240,23 +270,11 @@ module _ (says : BookOfHistorySaysTheShift) (timely : HistoryIsTimely) (verdicts
   -- of a plan
   pub planned_stream_is_in_time : AdmittedHaveNames → PlannedStreamIsInTime
   planned_stream_is_in_time names d streams entries offers background cycles book t asked x row over granted listed is enough c name at =
-      let run = run_of_history d entries offers background cycles in
-      let member = (find_member (λ (r : Row). is_text r.name x.offer.stream) (table_of (tables_of d entries cycles) (offer_cycle d x)) row at.named).0 in
-      let of = (granted_row_of d entries streams over.legal over.only row cycles (offer_cycle d x) member).of in
-      let same = one_asked of in
-      let reserved : reserved_in (granted_row d 0 0 asked) 0 (offer_cycle d x) ≡ reserved_in row 0 (offer_cycle d x) =
-      λ i. if is_turn ((sym (of.pace ∙ ap pace_of same)) i) 0 (offer_cycle d x) then (sym (of.octets ∙ ap (λ (a : Asked). a.octets) same)) i else 0 in
-      let covered = conforming_stream_is_covered run t x row (omega (arith, over.accepted.cycle_least)) is
-      (subst (λ (n : List ℕ). Conforms t (offers_named n offers)) (sym name) c) (omega (arith, enough, reserved)) at in
-      let through = covered_comes_through d streams entries offers background cycles book x row over covered in (
+      let covered = planned_covered names d streams asked row granted listed name entries offers background cycles t x over.legal over.only
+      (omega (arith, over.accepted.cycle_least)) is enough c at in
+      let through = covered_comes_through d streams entries offers background cycles book x row over covered in
+      let same = one_asked names d streams asked row granted listed name through.of_list in (
         through,
-        λ branch k. subst (λ (a : Asked). ListenerIsServed d streams a cycles book x branch) (one_asked through.of_list)
-            (through.served branch (subst (λ (a : Asked). Contains a.paths branch) (sym (one_asked through.of_list)) k)),
+        λ branch k. subst (λ (a : Asked). ListenerIsServed d streams a cycles book x branch) same
+            (through.served branch (subst (λ (a : Asked). Contains a.paths branch) (sym same) k)),
       )
-    where
-      -- the row's stream in the list is the one of the name
-      one_asked : (of : IsOfList d streams row) → of.asked ≡ asked
-      one_asked of =
-          let alike : of.asked.name ≡ asked.name = sym of.name ∙ name in
-          one_of_pairs (λ (a b : Asked). a.name ≢ b.name) streams of.asked asked (names d streams granted) of.listed listed (λ differ. differ alike)
-          (λ differ. differ (sym alike))

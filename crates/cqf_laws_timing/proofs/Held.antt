@@ -1,24 +1,30 @@
 -- What is told of a plan's row holds of the frames of its stream.
-use Rattle.std.proofs.Common.{◌≡◌, ◌∙◌, ℕ, List, [], ◌∷◌, fold, max, true, inl, inr, if◌then◌else◌, refl, sym, ap, subst, Contains}
+use Rattle.std.proofs.Common.{◌≡◌, ◌≤◌, ◌∙◌, ℕ, List, [], ◌∷◌, fold, max, true, inl, inr, if◌then◌else◌, length, refl, sym, ap, subst, Contains}
 use Rattle.std.specs.Prelude.{find}
 use Rattle.std.proofs.lemmas.Option.{same_Some}
 use Rattle.cqf_lists.proofs.Members.{contains_at, contains_cases, contains_none, find_member}
+use Rattle.cqf_model.specs.declared.frames.Background.{Background}
+use Rattle.cqf_model.specs.declared.frames.Offer.{Offer}
+use Rattle.cqf_model.specs.declared.topology.Hop.{Hop}
 use Rattle.cqf_model.specs.declared.topology.Row.{Row}
-use Rattle.cqf_model.specs.Domain.{Domain, is_text}
-use Rattle.cqf_model.specs.History.{Admits, Asked, Recorded, held_in, is_pace, pace_of, reply_to, seals, tables_of, tree_of}
+use Rattle.cqf_model.specs.Domain.{Domain, cycle_of, is_text}
+use Rattle.cqf_model.specs.History.{Admits, Asked, IsLegalHistory, Recorded, held_in, is_pace, pace_of, reply_to, seals, tables_of, tree_of}
+use Rattle.cqf_model.specs.HistoryBook.{run_of_history}
 use Rattle.cqf_laws_history.specs.StateLaws.{with_entry}
-use Rattle.cqf_model.specs.Shift.{offer_cycle}
+use Rattle.cqf_model.specs.Shift.{InShift, offer_cycle}
 use Rattle.cqf_lists.specs.Lists.{each_below}
 use Rattle.cqf_model.specs.Limits.{most_every}
 use Rattle.cqf_model.specs.Table.{IsHop, SameStream, table_of, uses}
+use Rattle.cqf_model.specs.Traffic.{whole_at}
 use Rattle.cqf_model.proofs.Texts.{is_text_same}
 use Rattle.cqf_laws_history.specs.HistoryLaws.{TablesAreOrderly}
 use Rattle.cqf_laws_history.proofs.Granted.{granted as granted_parts}
 use Rattle.cqf_laws_shift.proofs.Trees.{one_depth}
-use Rattle.cqf_laws_timing.specs.Latency.{IsTimely, least_of, most_of, whole_of}
-use Rattle.cqf_laws_timing.specs.Streams.{HistoryIsTimely, AreGranted, ArePaced, IsOfList, ListCostsItsTable, OneOfAName, RowsAreOfList, most_beside_all}
-use Rattle.cqf_laws_timing.specs.Verdicts.{IsAsSaid, VerdictsHold, sure_of}
-use Rattle.cqf_laws_timing.specs.Told.{NamesTellStreams, RowsArePlanned, ToldHolds, told_cost}
+use Rattle.cqf_laws_timing.specs.Latency.{IsTimely, whole_of}
+use Rattle.cqf_laws_timing.specs.LooseStreams.{LooseHistoryIsTimely}
+use Rattle.cqf_laws_timing.specs.Streams.{AdmitsOnly, AreGranted, ArePaced, HistoryIsTimely, IsOfList, ListCostsItsTable, OneOfAName, RowsAreOfList, most_beside_all}
+use Rattle.cqf_laws_timing.specs.Told.{IsAsToldAt, LooseToldHolds, NamesTellStreams, RowsArePlanned, ToldHolds, planned_rows, told_cost}
+use Rattle.cqf_laws_timing.proofs.Kept.{timely_said}
 
 -- one stream
 pub names_tell_streams : RowsArePlanned → RowsAreOfList → OneOfAName → NamesTellStreams
@@ -38,50 +44,67 @@ names_tell_streams planned listed one d streams entries cycles cycle told row gr
     }
 
 -- a plan whose streams are all admitted has paces
-granted_paced : (d : Domain) (entries : List Recorded) (streams : List Asked) → AreGranted d entries streams → ArePaced streams
+pub granted_paced : (d : Domain) (entries : List Recorded) (streams : List Asked) → AreGranted d entries streams → ArePaced streams
 granted_paced d entries [] granted asked among = absurd (contains_none asked among)
 granted_paced d entries (first ∷ streams) granted asked among = elim (contains_cases first streams asked among) [
   | inl here ↦ subst (λ (a : Asked). is_pace a.every a.phase ≡ true) here (granted_parts d (held_in d entries (seals entries)) first granted.0).pace
   | inr later ↦ granted_paced d (with_entry entries 0 (Admits first) (reply_to d entries (Admits first))) streams granted.1 asked later
 ]
 
--- each start is as it's told
-pub told_holds : NamesTellStreams → TablesAreOrderly → ListCostsItsTable → HistoryIsTimely → VerdictsHold → ToldHolds
-told_holds names orderly costs timely verdicts d streams entries offers background cycles book told hop accepted granted legal only offered behind is c on
-    s among link shift stream =
-    let at = offer_cycle d shift.x in
-    let table = table_of (tables_of d entries cycles) at in
-    let member = find_member (λ (r : Row). is_text r.name shift.x.offer.stream) table shift.row shift.covered.named in
-    let name : told.name ≡ shift.row.name = sym stream ∙ sym (is_text_same shift.row.name shift.x.offer.stream member.1) in
-    let same = names d streams entries cycles at told shift.row granted only c member.0 name in
-    let there : IsHop shift.row hop.depth s.link = record {
-      hop = hop;
-      of_tree = subst (λ z. Contains z hop) same.tree on;
-      is_depth = refl;
-      is_link = sym link;
-    } in
-    let depth : shift.depth ≡ hop.depth =
-    one_depth d shift.row ((orderly d entries cycles legal is.sealed).trees at shift.row member.0) shift.depth hop.depth s.link shift.is_hop there in
-    let paced = granted_paced d [] streams granted in
-    let from = shift.x.offer.at.0 in
-    let whole = whole_of d s in
-    let time = timely d entries offers background cycles book streams accepted legal offered behind is only paced s among shift in
-    let says = verdicts d entries offers background cycles book streams accepted legal offered behind is only paced s among shift in
-    record {
-      timely = by_numbers (λ l k n. IsTimely d l k n from whole) s.link shift.depth link depth (bound same time.0) time.1;
-      verdict = λ deadline. by_numbers (λ l k n. IsAsSaid from whole deadline (sure_of (least_of d l k) (most_of d l k n) deadline)) s.link shift.depth
-          link depth (bound same says.0) (says.1 deadline);
-    }
-  where
-    -- what is told of the plan's row is the bound of its stream in the list
-    bound : SameStream told shift.row → (of : IsOfList d streams shift.row) → (l : ℕ) → most_beside_all d streams of.asked l ≡ told_cost d streams told l
-    bound same of l =
-        λ i. fold max 0 (each_below (λ k. if uses ((sym of.tree ∙ sym same.tree) i) ((sym of.pace ∙ sym same.pace) i) l k
-        then sym (costs d streams l k granted) i ∷ [] else []) most_every)
+-- what is told at a hop of a plan's row, of a history that admits the plan's streams alone
+module _ (names : NamesTellStreams) (orderly : TablesAreOrderly) (costs : ListCostsItsTable) (d : Domain) (streams : List Asked) (entries : List Recorded)
+    (offers : List Offer) (background : List Background) (cycles : ℕ) (told : Row) (hop : Hop) (granted : AreGranted d [] streams)
+    (legal : IsLegalHistory d entries) (sealed : cycles ≤ seals entries) (only : AdmitsOnly streams entries) (c : Contains (planned_rows d streams) told)
+    (on : Contains told.tree.items hop) where
+  -- what is told of the plan's row is the bound of its stream in the list
+  bound : (row : Row) → SameStream told row → (of : IsOfList d streams row) → (l : ℕ) → most_beside_all d streams of.asked l ≡ told_cost d streams told l
+  bound row same of l =
+      λ i. fold max 0 (each_below (λ k. if uses ((sym of.tree ∙ sym same.tree) i) ((sym of.pace ∙ sym same.pace) i) l k
+      then sym (costs d streams l k granted) i ∷ [] else []) most_every)
 
-    -- with the hop's numbers
-    by_numbers : (P : ℕ → ℕ → ℕ → Type 0) (l k : ℕ) {cost : ℕ → ℕ} → l ≡ hop.link → k ≡ hop.depth → ((n : ℕ) → cost n ≡ told_cost d streams told n) →
-        P l k (cost l) → P hop.link hop.depth (told_cost d streams told hop.link)
-    by_numbers P l k {cost} link depth same said =
-        subst (P hop.link hop.depth) (same hop.link)
-        (subst (λ n. P hop.link n (cost hop.link)) depth (subst (λ n. P n k (cost n)) link said))
+  -- with the hop's numbers
+  by_numbers : (P : ℕ → ℕ → ℕ → Type 0) (l k : ℕ) {cost : ℕ → ℕ} → l ≡ hop.link → k ≡ hop.depth → ((n : ℕ) → cost n ≡ told_cost d streams told n) →
+      P l k (cost l) → P hop.link hop.depth (told_cost d streams told hop.link)
+  by_numbers P l k {cost} link depth same said =
+      subst (P hop.link hop.depth) (same hop.link)
+      (subst (λ n. P hop.link n (cost hop.link)) depth (subst (λ n. P n k (cost n)) link said))
+
+  -- of a frame of the row's name that starts on the hop's link, what is timely by the list is as it's told
+  pub as_told : (frame link cycle : ℕ) → link ≡ hop.link →
+      (shift : InShift (run_of_history d entries offers background cycles) (length (tables_of d entries cycles)) frame link cycle) →
+      shift.x.offer.stream ≡ told.name → (of : IsOfList d streams shift.row) → (whole : ℕ) →
+      IsTimely d link shift.depth (most_beside_all d streams of.asked link) shift.x.offer.at.0 whole → IsAsToldAt d streams told hop shift.x.offer.at.0 whole
+  as_told frame link cycle is_link shift stream of whole time =
+      let at = offer_cycle d shift.x in
+      let table = table_of (tables_of d entries cycles) at in
+      let member = find_member (λ (r : Row). is_text r.name shift.x.offer.stream) table shift.row shift.covered.named in
+      let name : told.name ≡ shift.row.name = sym stream ∙ sym (is_text_same shift.row.name shift.x.offer.stream member.1) in
+      let same = names d streams entries cycles at told shift.row granted only c member.0 name in
+      let there : IsHop shift.row hop.depth link = record {
+        hop = hop;
+        of_tree = subst (λ z. Contains z hop) same.tree on;
+        is_depth = refl;
+        is_link = sym is_link;
+      } in
+      let depth : shift.depth ≡ hop.depth =
+      one_depth d shift.row ((orderly d entries cycles legal sealed).trees at shift.row member.0) shift.depth hop.depth link shift.is_hop there in
+      let from = shift.x.offer.at.0 in
+      let timely = by_numbers (λ l k n. IsTimely d l k n from whole) link shift.depth is_link depth (bound shift.row same of) time in
+      record { timely = timely; verdict = timely_said d hop.link hop.depth (told_cost d streams told hop.link) from whole timely }
+
+-- each start is as it's told
+pub told_holds : NamesTellStreams → TablesAreOrderly → ListCostsItsTable → HistoryIsTimely → ToldHolds
+told_holds names orderly costs timely d streams entries offers background cycles book told hop accepted granted legal only offered behind is c on s among
+    link shift stream =
+    let paced = granted_paced d [] streams granted in
+    let time = timely d entries offers background cycles book streams accepted legal offered behind is only paced s among shift in
+    as_told names orderly costs d streams entries offers background cycles told hop granted legal is.sealed only c on s.frame s.link s.cycle.0 link shift
+    stream time.0 (whole_of d s) time.1
+
+-- and so is each frame of a loose network
+pub loose_told_holds : NamesTellStreams → TablesAreOrderly → ListCostsItsTable → LooseHistoryIsTimely → LooseToldHolds
+loose_told_holds names orderly costs timely d streams entries offers background cycles net heard told hop granted only is c on sent h of shift stream =
+    let paced = granted_paced d [] streams granted in
+    let time = timely d entries offers background cycles streams net heard is only paced hop.link sent h of shift in
+    as_told names orderly costs d streams entries offers background cycles told hop granted is.legal is.sealed only c on sent.frame hop.link
+    (cycle_of d sent.start.0) refl shift stream time.0 (whole_at d hop.link h) time.1

@@ -2,6 +2,7 @@ pub mod Within
 pub mod Timely
 pub mod Listed
 pub mod Kept
+pub mod LooseKept
 pub mod Listeners
 pub mod Fits
 pub mod Taking
@@ -9,3 +10,4 @@ pub mod Arriving
 pub mod Alone
 pub mod Planned
 pub mod Held
+pub mod LooseArriving

@@ -1,9 +1,11 @@
 -- Each frame is whole within what the streams cost that are held in the cycle of its start.
 use Rattle.std.proofs.Common.{◌≡◌, ℕ, ◌+◌, ◌*◌, ◌<◌, ◌≤◌, ◌∷◌, [], ◌++◌, List, inl, inr, sym, ap, ◌∙◌, subst, arith, Contains, length, sum_by, ◌==◌}
-use Rattle.std.proofs.Common.{eq-eqb, refl, Some, mul-le-mul_left, mul-le-mul_right}
+use Rattle.std.proofs.Common.{◌/◌, eq-eqb, refl, Some, le_trans, mul-le-mul_right}
 use Rattle.std.proofs.lemmas.Bool.{cases_lt}
 use Rattle.std.proofs.lemmas.List.Sums.{sum_by-cons}
-use Rattle.cqf_units.specs.Timing.{wire_of}
+use Rattle.cqf_units.specs.Timing.{ending_of, shortest_of, slot_of, span_of, time_of, wire_of}
+use Rattle.cqf_units.proofs.Times.{slot_parts, slot_within, time_grows, time_in_span}
+use Rattle.cqf_model.proofs.Spans.{sum_scaled}
 use Rattle.cqf_units.proofs.Cycles.{cycle_below}
 use Rattle.cqf_model.specs.declared.frames.Sent.{Sent}
 use Rattle.cqf_model.specs.Book.{batch}
@@ -13,7 +15,7 @@ use Rattle.cqf_model.specs.Run.{Run, end_of_run}
 use Rattle.cqf_model.specs.Table.{link_cost, table_of}
 use Rattle.cqf_model.specs.Traffic.{Carried, whole_at}
 use Rattle.cqf_model.specs.Promise.{wire_in_cycle}
-use Rattle.cqf_lists.proofs.Members.{contains_cases, contains_filter, contains_here, contains_later, contains_none}
+use Rattle.cqf_lists.proofs.Members.{contains_cases, contains_filter, contains_from_filter, contains_here, contains_later, contains_none}
 use Rattle.cqf_lists.proofs.Sums.{sum_filter, sum_member}
 use Rattle.cqf_laws_shift.specs.Alone.{IsRunAlone}
 use Rattle.cqf_laws_shift.specs.MainLaw.{GatesMeanTheShift}
@@ -34,45 +36,63 @@ use Rattle.cqf_laws_instants.proofs.Shorts.{sent_least}
 abbrev pub sent_wire : Sent → ℕ
 sent_wire sent = wire_of sent.octets
 
+-- and its slot
+abbrev pub sent_slot : ℕ → Sent → ℕ
+sent_slot r sent = slot_of sent.octets r
+
 -- the first of frames in turn is over before all are
-first_over : (t r w rest sum start wire : ℕ) → sum ≡ w + rest → start ≡ t → wire ≡ w → start + r * wire ≤ t + r * sum
-first_over t r w rest sum start wire parts at same = omega (arith, ap (λ (z : ℕ). r * z) parts, at, ap (λ (z : ℕ). r * z) same)
+first_over : (t w rest sum start slot : ℕ) → sum ≡ w + rest → start ≡ t → slot ≡ w → start + slot ≤ t + sum
+first_over t w rest sum start slot parts at same = omega (arith, parts, at, same)
 
 -- and so is a later one
-later_over : (t r w rest sum start wire : ℕ) → sum ≡ w + rest → start + r * wire ≤ t + r * w + r * rest → start + r * wire ≤ t + r * sum
-later_over t r w rest sum start wire parts over = omega (arith, ap (λ (z : ℕ). r * z) parts, over)
+later_over : (t w rest sum start slot : ℕ) → sum ≡ w + rest → start + slot ≤ t + w + rest → start + slot ≤ t + sum
+later_over t w rest sum start slot parts over = omega (arith, parts, over)
 
 -- of frames in turn each starts no sooner than the first, and is over with its gap when all have taken what they take
 in_turn_within : (t r : ℕ) (xs : List QueuedFrame) → ((x : QueuedFrame) → Contains xs x → (number : ℕ) × (x.stream ≡ Some number)) → (sent : Sent) →
-    Contains (in_turn_from t r xs) sent → (t ≤ sent.start.0) × (sent.start.0 + r * sent_wire sent ≤ t + r * sum_by sent_wire (in_turn_from t r xs))
+    Contains (in_turn_from t r xs) sent → (t ≤ sent.start.0) × (sent.start.0 + sent_slot r sent ≤ t + sum_by (sent_slot r) (in_turn_from t r xs))
 in_turn_within t r [] of_streams sent c = absurd (contains_none sent c)
 in_turn_within t r (x ∷ xs) of_streams sent c =
-    let next = t + r * wire_of x.arrival.octets in
+    let next = t + slot_of x.arrival.octets r in
     let s = of_streams x (contains_here x xs) in
     let own : Sent = record { start = record { 0 = t }; frame = x.arrival.frame; stream = s.0; octets = x.arrival.octets } in
     let rest = in_turn_from next r xs in
     let is : in_turn_from t r (x ∷ xs) ≡ own ∷ rest = ap (λ (ys : List Sent). ys ++ rest) (sent_one t x.arrival x.stream s.0 s.1) in
-    let parts : sum_by sent_wire (in_turn_from t r (x ∷ xs)) ≡ sent_wire own + sum_by sent_wire rest =
-    ap (sum_by sent_wire) is ∙ sum_by-cons sent_wire own rest in
+    let parts : sum_by (sent_slot r) (in_turn_from t r (x ∷ xs)) ≡ sent_slot r own + sum_by (sent_slot r) rest =
+    ap (sum_by (sent_slot r)) is ∙ sum_by-cons (sent_slot r) own rest in
     elim (contains_cases own rest sent (subst (λ (ys : List Sent). Contains ys sent) is c)) [
       | inl e ↦
           let at : sent.start.0 ≡ t = ap (λ (y : Sent). y.start.0) (sym e) in (
             omega (arith, at),
-            first_over t r (sent_wire own) (sum_by sent_wire rest) (sum_by sent_wire (in_turn_from t r (x ∷ xs))) sent.start.0 (sent_wire sent) parts at
-                (ap sent_wire (sym e)),
+            first_over t (sent_slot r own) (sum_by (sent_slot r) rest) (sum_by (sent_slot r) (in_turn_from t r (x ∷ xs))) sent.start.0 (sent_slot r sent) parts at
+                (ap (sent_slot r) (sym e)),
           )
       | inr later ↦
           let more = in_turn_within next r xs (λ y k. of_streams y (contains_later x xs y k)) sent later in (
             omega (arith, more.0),
-            later_over t r (sent_wire own) (sum_by sent_wire rest) (sum_by sent_wire (in_turn_from t r (x ∷ xs))) sent.start.0 (sent_wire sent) parts more.1,
+            later_over t (sent_slot r own) (sum_by (sent_slot r) rest) (sum_by (sent_slot r) (in_turn_from t r (x ∷ xs))) sent.start.0 (sent_slot r sent) parts more.1,
           )
     ]
 
 -- the bounds, by numbers
-whole_by : (n r delay cycle cost start octets wires : ℕ) → 64 ≤ octets → cycle * n ≤ start → start + r * (octets + 20) ≤ cycle * n + r * wires → wires ≤ cost →
-    (cycle * n + 72 * r + delay ≤ start + (octets + 8) * r + delay) × (start + (octets + 8) * r + delay + 12 * r ≤ cycle * n + r * cost + delay)
-whole_by n r delay cycle cost start octets wires least from upto within =
-    (omega (arith, from, mul-le-mul_right r least), omega (arith, upto, mul-le-mul_left r within))
+whole_by : (n r delay cycle cost start octets slots : ℕ) → 64 ≤ octets → cycle * n ≤ start → start + slot_of octets r ≤ cycle * n + slots →
+    slots ≤ span_of cost r →
+    (cycle * n + time_of 72 r + delay ≤ ending_of start octets r + delay) × (ending_of start octets r + delay + 12 * r / 25 ≤ cycle * n + span_of cost r + delay)
+whole_by n r delay cycle cost start octets slots least from upto within =
+    numbers (time_of 72 r) (time_of (octets + 8) r) (slot_of octets r) (12 * r / 25) (span_of cost r) (time_grows 72 (octets + 8) r (omega (arith, least)))
+    (slot_parts octets r) upto within
+  where
+    numbers : (short own slot gap span : ℕ) → short ≤ own → own + gap ≤ slot → start + slot ≤ cycle * n + slots → slots ≤ span →
+        (cycle * n + short + delay ≤ start + own + delay) × (start + own + delay + gap ≤ cycle * n + span + delay)
+    numbers short own slot gap span longer parts over all = (omega (arith, from, longer), omega (arith, parts, over, all))
+
+-- frames in turn of the shortest size at least take no longer than what they take of the wire does as frames of that size
+slots_within : (r cost : ℕ) (sents : List Sent) → ((sent : Sent) → Contains sents sent → 64 ≤ sent.octets) → sum_by sent_wire sents ≤ cost →
+    sum_by (sent_slot r) sents ≤ span_of cost r
+slots_within r cost sents least within =
+    time_in_span cost r (sum_by (sent_slot r) sents)
+    (le_trans (sum_scaled (sent_slot r) sent_wire 2100 (shortest_of r) sents (λ sent c. slot_within sent.octets r (least sent c)))
+    (mul-le-mul_right (shortest_of r) within))
 
 -- a link that the domain lacks sends nothing
 the_link_of : (laws : CycleLaws) (run : Run) (carried : Carried) (alone : IsRunAlone run carried) (link : ℕ) (sent : Sent) → Contains (carried link) sent →
@@ -112,7 +132,11 @@ module _ (laws : CycleLaws) (beside : RunBesideIsRunAlone) (shift : GatesMeanThe
       let enough = sent_least laws run net.carried alone link sent c in
       let wires = sum_by sent_wire (in_turn_from ((before + 1) * n) r queue) in
       let fits : wires ≤ cost = omega (arith, takes, loads) in
-      let bounds = whole_by n r (delay_of d link) (before + 1) cost sent.start.0 sent.octets wires enough turn.0 turn.1 fits in
+      let each : (s : Sent) → Contains (in_turn_from ((before + 1) * n) r queue) s → 64 ≤ s.octets = λ s k. sent_least laws run net.carried alone link s
+      (contains_from_filter (λ (s : Sent). cycle_of d s.start.0 == before + 1) (net.carried link) s (subst (λ (xs : List Sent). Contains xs s) (sym due) k)).0 in
+      let span = slots_within r cost (in_turn_from ((before + 1) * n) r queue) each fits in
+      let slots = sum_by (sent_slot r) (in_turn_from ((before + 1) * n) r queue) in
+      let bounds = whole_by n r (delay_of d link) (before + 1) cost sent.start.0 sent.octets slots enough turn.0 turn.1 span in
       let counted = sum_member sent_wire (in_turn_from ((before + 1) * n) r queue) sent (subst (λ (xs : List Sent). Contains xs sent) due member) in
       record { earliest = bounds.0; latest = bounds.1; some_cost = omega (arith, enough, counted, fits) }
 
@@ -123,7 +147,7 @@ module _ (laws : CycleLaws) (beside : RunBesideIsRunAlone) (shift : GatesMeanThe
       let s = sent_timed laws run net.carried alone link the_link sent c in
       let before = cycle_of run.domain s.0.p.received.at in
       let is : cycle_of run.domain sent.start.0 ≡ before + 1 = s.1.cycle in
-      let early = cycle_below run.domain.cycle_time (whole_at run.domain link sent) (length run.tables) s.1.in_run in
+      let early = cycle_below run.domain.cycle_time _ (length run.tables) s.1.in_run in
       subst (λ (cycle : ℕ). IsWholeWithin run.domain link cycle (link_cost (table_of run.tables cycle) link cycle) (whole_at run.domain link sent)) (sym is)
       (within_from before is (omega (arith, early, s.1.whole, is)))
 
@@ -132,7 +156,7 @@ in_turn_takes : (t r : ℕ) (xs : List QueuedFrame) → ((x : QueuedFrame) → C
     sum_by sent_wire (in_turn_from t r xs) ≡ sum_by wire xs
 in_turn_takes t r [] of_streams = refl
 in_turn_takes t r (x ∷ xs) of_streams =
-    let next = t + r * wire_of x.arrival.octets in
+    let next = t + slot_of x.arrival.octets r in
     let s = of_streams x (contains_here x xs) in
     let own : Sent = record { start = record { 0 = t }; frame = x.arrival.frame; stream = s.0; octets = x.arrival.octets } in
     let rest = in_turn_from next r xs in
@@ -154,7 +178,7 @@ module _ (laws : CycleLaws) (beside : RunBesideIsRunAlone) (run : Run) (net : Ne
       let cost = link_cost (table_of run.tables before) link (before + 1) in
       let is_link = the_link_of laws run carried alone link sent c in
       let s = sent_timed laws run carried alone link is_link sent c in
-      let early = cycle_below run.domain.cycle_time (whole_at run.domain link sent) (length run.tables) s.1.in_run in
+      let early = cycle_below run.domain.cycle_time _ (length run.tables) s.1.in_run in
       let in_run : before + 1 < length run.tables = omega (arith, early, s.1.whole, is) in
       let sooner : before < length run.tables = omega (arith, in_run) in
       let due : batch d carried link (before + 1) ≡ in_turn_from ((before + 1) * n) r queue = alone_is_due laws run carried alone link before in_run in
@@ -165,7 +189,7 @@ module _ (laws : CycleLaws) (beside : RunBesideIsRunAlone) (run : Run) (net : Ne
       let turn = in_turn_within ((before + 1) * n) r queue streams sent there in
       let wires = sum_by sent_wire (in_turn_from ((before + 1) * n) r queue) in
       let bridge = bridge_of d link in
-      let short = least laws run carried alone.planned (fed laws run carried alone) bridge in
+      let short = least laws run carried alone.planned alone.meets (fed laws run carried alone) bridge in
       let fits : wires ≤ cost =
       omega (
         arith,
@@ -175,7 +199,11 @@ module _ (laws : CycleLaws) (beside : RunBesideIsRunAlone) (run : Run) (net : Ne
             (facts laws run carried alone.planned bridge) link alone.planned.orderly.trees short before,
       ) in
       let enough = sent_least laws run carried alone link sent c in
-      let bounds = whole_by n r (delay_of d link) (before + 1) cost sent.start.0 sent.octets wires enough turn.0 turn.1 fits in
+      let each : (s : Sent) → Contains (in_turn_from ((before + 1) * n) r queue) s → 64 ≤ s.octets = λ s k. sent_least laws run carried alone link s
+      (contains_from_filter (λ (s : Sent). cycle_of d s.start.0 == before + 1) (carried link) s (subst (λ (xs : List Sent). Contains xs s) (sym due) k)).0 in
+      let span = slots_within r cost (in_turn_from ((before + 1) * n) r queue) each fits in
+      let slots = sum_by (sent_slot r) (in_turn_from ((before + 1) * n) r queue) in
+      let bounds = whole_by n r (delay_of d link) (before + 1) cost sent.start.0 sent.octets slots enough turn.0 turn.1 span in
       let counted = sum_member sent_wire (in_turn_from ((before + 1) * n) r queue) sent there in
       record { earliest = bounds.0; latest = bounds.1; some_cost = omega (arith, enough, counted, fits) }
 

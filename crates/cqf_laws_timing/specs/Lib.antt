@@ -1,9 +1,11 @@
 pub mod Latency
 pub mod Streams
 pub mod Verdicts
+pub mod LooseStreams
 pub mod Listeners
 pub mod Traffic
 pub mod Covered
 pub mod InTime
+pub mod LooseInTime
 pub mod Asking
 pub mod Told

@@ -2,17 +2,22 @@
 use Rattle.std.specs.Prelude.{ℕ, ◌≡◌, List, [], Some, Contains, length, slice_get}
 use Rattle.cqf_model.specs.declared.frames.Background.{Background}
 use Rattle.cqf_model.specs.declared.frames.Offer.{Offer}
+use Rattle.cqf_model.specs.declared.frames.Sent.{Sent}
 use Rattle.cqf_model.specs.declared.frames.Started.{Started}
 use Rattle.cqf_model.specs.declared.topology.Hop.{Hop}
 use Rattle.cqf_model.specs.declared.topology.Row.{Row}
 use Rattle.cqf_model.specs.Book.{Contents}
-use Rattle.cqf_model.specs.Domain.{Domain, IsAccepted}
+use Rattle.cqf_model.specs.Domain.{Domain, IsAccepted, cycle_of}
 use Rattle.cqf_model.specs.History.{Asked, IsLegalHistory, Recorded, held_in, most_beside, pace_of, tables_of, tree_of}
 use Rattle.cqf_model.specs.HistoryBook.{IsBookOfHistory, run_of_history}
+use Rattle.cqf_model.specs.Loose.{slack_of}
+use Rattle.cqf_model.specs.Network.{Network}
 use Rattle.cqf_model.specs.Run.{AreBackground, AreOffers}
 use Rattle.cqf_model.specs.Shift.{InShift}
 use Rattle.cqf_model.specs.Table.{SameStream, table_of}
+use Rattle.cqf_model.specs.Traffic.{Carried, whole_at}
 use Rattle.cqf_laws_timing.specs.Latency.{IsTimely, least_of, most_of, whole_of}
+use Rattle.cqf_laws_timing.specs.LooseStreams.{IsHeardOf, IsLooseHistory}
 use Rattle.cqf_laws_timing.specs.Streams.{AdmitsOnly, AreGranted, with_all}
 use Rattle.cqf_laws_timing.specs.Verdicts.{IsAsSaid, sure_of}
 
@@ -61,3 +66,14 @@ ToldHolds =
     Contains (planned_rows d streams) told → Contains told.tree.items hop → (s : Started) → Contains book.starts s → s.link ≡ hop.link →
     (shift : InShift (run_of_history d entries offers background cycles) (length (tables_of d entries cycles)) s.frame s.link s.cycle.0) →
     shift.x.offer.stream ≡ told.name → IsAsToldAt d streams told hop shift.x.offer.at.0 (whole_of d s)
+
+-- and of each such frame in every loose network of the history, with the slack that the domain states: from its offer by the edge
+-- bridge's clock to its being whole by the clock at the link's end
+abbrev pub LooseToldHolds : Type 0
+LooseToldHolds =
+    (d : Domain) (streams : List Asked) (entries : List Recorded) (offers : List Offer) (background : List Background) (cycles : ℕ) (net : Network)
+    (heard : Carried) (told : Row) (hop : Hop) → AreGranted d [] streams → AdmitsOnly streams entries →
+    IsLooseHistory d entries offers background cycles (slack_of d) net heard → Contains (planned_rows d streams) told → Contains told.tree.items hop →
+    (sent h : Sent) → IsHeardOf net heard hop.link sent h →
+    (shift : InShift (run_of_history d entries offers background cycles) (length (tables_of d entries cycles)) sent.frame hop.link (cycle_of d sent.start.0)) →
+    shift.x.offer.stream ≡ told.name → IsAsToldAt d streams told hop shift.x.offer.at.0 (whole_at d hop.link h)

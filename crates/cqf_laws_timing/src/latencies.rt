@@ -3,6 +3,7 @@ ghost use Rattle.cqf_laws_timing.specs.Latency.{BookIsTimely, BoundsAreShort, Fr
 ghost use Rattle.cqf_laws_timing.specs.Latency.{FramesAreWholeWithinQueued, LatencyIsWithinHeld};
 ghost use Rattle.cqf_laws_timing.specs.Latency.{StartsAreWholeWithinHeld};
 ghost use Rattle.cqf_laws_timing.specs.Listeners.{BranchesEnd, DepthsAreBridges};
+ghost use Rattle.cqf_laws_timing.specs.LooseStreams.{LooseHistoryIsInTime, LooseHistoryIsTimely, LooseVerdictsHold};
 ghost use Rattle.cqf_laws_timing.specs.Streams.{AdmitsOnlyGoesOn, AdmittedHaveNames, HistoryIsTimely};
 ghost use Rattle.cqf_laws_timing.specs.Streams.{ListCostsItsTable, NoneAdmitsOnly, OneOfAName, RowsAreOfList};
 ghost use Rattle.cqf_laws_timing.specs.Streams.{TablesCostNoMore};
@@ -55,6 +56,18 @@ pub fn lists_bound_latencies()
     cqf_laws_shift::run_beside_is_run_alone();
     cqf_laws_shift::gates_mean_the_shift();
     cqf_laws_history::tables_are_orderly();
+}
+
+/// In every loose network of the history too: whatever clocks and delays do within what the domain states, frames take no less than the
+/// least and no more than the most that is told of the list, and the verdicts on deadlines hold. With any other slack they take no less
+/// and no more than the list's bounds, but for that (profile).
+pub fn loose_history_is_timely()
+    ensures timely { LooseHistoryIsTimely }
+    ensures verdicts { LooseVerdictsHold }
+    ensures in_time { LooseHistoryIsInTime }
+{
+    cqf_laws_history::tables_are_orderly();
+    cqf_laws_loose::loose_frames_are_timely();
 }
 
 /// A branch of a request that isn't refused ends by a link of the request's tree in its listener's station, and that link is as

@@ -1,6 +1,7 @@
 //! Laws about talkers that keep their word: what they send of a stream is covered, and in time.
 ghost use Rattle.cqf_laws_timing.specs.Covered.{ConformingOwnIsCovered, ConformingStreamGoesOn, ConformingStreamIsCovered};
 ghost use Rattle.cqf_laws_timing.specs.InTime.{ConformingOwnIsInTime, ConformingStreamIsInTime, PlannedStreamIsInTime};
+ghost use Rattle.cqf_laws_timing.specs.LooseInTime.{LooseConformingIsInTime, LoosePlannedIsInTime};
 ghost use Rattle.cqf_laws_timing.specs.Traffic.{BlocksConform, ConformingOffersFitACycle, NeededIsReached, SkippingConforms};
 
 /// What a cycle can hold of a stream whose talker keeps its word is no more than is needed, and may be as much. A talker that
@@ -34,5 +35,20 @@ pub fn conforming_stream_is_in_time()
     cqf_laws_shift::book_of_history_says_the_shift();
     crate::lists_bound_costs();
     crate::lists_bound_latencies();
+    crate::branches_end_at_listeners();
+}
+
+/// So it is in every loose network: whatever clocks and delays do within what the domain states, and whatever is withdrawn and offered by
+/// others, each frame that a talker offers which keeps its word leaves on each link of its tree in its cycle, and is whole at each listener,
+/// by the clock there, within the least and the most that is told of the list, and so within its deadline, where that is surely kept
+/// (profile).
+pub fn conforming_stream_is_heard_in_time()
+    ensures named { LooseConformingIsInTime }
+    ensures planned { LoosePlannedIsInTime }
+{
+    cqf_laws_history::tables_are_orderly();
+    cqf_laws_loose::loose_history_means_the_shift();
+    crate::lists_bound_costs();
+    crate::loose_history_is_timely();
     crate::branches_end_at_listeners();
 }

@@ -1,9 +1,10 @@
 -- Arrivals that stand behind the others, of classes that are closed from when they come: the starts are legal with them where they are without.
-use Rattle.std.proofs.Common.{ℕ, ◌≡◌, ◌+◌, ◌*◌, ◌≤◌, ◌<◌, inl, inr, List, [], ◌∷◌, ◌++◌, length, ap, sym, subst, ◌∙◌, arith, length-append}
+use Rattle.std.proofs.Common.{ℕ, ◌≡◌, ◌≤◌, ◌<◌, inl, inr, List, [], ◌∷◌, ◌++◌, length, ap, sym, subst, ◌∙◌, arith, length-append}
 use Rattle.std.specs.Prelude.{Contains, slice_index_or}
 use Rattle.std.proofs.lemmas.List.{get_or_append_left}
 use Rattle.cqf_lists.proofs.Members.{contains_one}
 use Rattle.cqf_lists.proofs.Places.{in_either}
+use Rattle.cqf_units.specs.Timing.{idle_after}
 use Rattle.cqf_model.specs.declared.ports.Arrival.{Arrival}
 use Rattle.cqf_model.specs.GateList.{IsOpen}
 use Rattle.cqf_model.specs.Port.{AreLegal, IsEligible, IsFirst, IsIdle, PortRules, Transmission, Waits, no_arrival, octets_of}
@@ -68,13 +69,13 @@ module _ (rules : PortRules) (xs ys : List Arrival) (end : ℕ) (positive : 0 < 
   idle_fewer : (starts : List Transmission) → ((p s : ℕ) → Contains starts (p, s) → p < length xs) → (t : ℕ) → IsIdle rules (xs ++ ys) starts t →
       IsIdle rules xs starts t
   idle_fewer starts inside t idle p s h l =
-      omega (arith, idle p s h l, ap (λ (y : Arrival). s + (y.octets + 20) * rules.octet_time) (kept xs ys p (inside p s h)))
+      omega (arith, idle p s h l, ap (λ (y : Arrival). idle_after s y.octets rules.octet_time) (kept xs ys p (inside p s h)))
 
   -- and the other way round
   idle_more : (starts : List Transmission) → ((p s : ℕ) → Contains starts (p, s) → p < length xs) → (t : ℕ) → IsIdle rules xs starts t →
       IsIdle rules (xs ++ ys) starts t
   idle_more starts inside t idle p s h l =
-      omega (arith, idle p s h l, ap (λ (y : Arrival). s + (y.octets + 20) * rules.octet_time) (kept xs ys p (inside p s h)))
+      omega (arith, idle p s h l, ap (λ (y : Arrival). idle_after s y.octets rules.octet_time) (kept xs ys p (inside p s h)))
 
   -- what is eligible in the front alone is eligible beside the others
   eligible_more : (p t : ℕ) → p < length xs → IsEligible rules xs p t → IsEligible rules (xs ++ ys) p t

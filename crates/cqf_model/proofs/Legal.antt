@@ -1,15 +1,16 @@
 -- When a frame is eligible, and when nothing is legal.
-use Rattle.std.proofs.Common.{◌≡◌, ℕ, ◌<◌, List, arith, refl, subst}
+use Rattle.std.proofs.Common.{◌≡◌, ℕ, ◌+◌, ◌<◌, List, arith, refl, subst}
 use Rattle.std.specs.Prelude.{[], ◌∷◌, slice_index_or}
 use Rattle.cqf_lists.proofs.Members.{contains_here}
 use Rattle.cqf_units.specs.Timing.{ending_of}
+use Rattle.cqf_units.proofs.Times.{time_some}
 use Rattle.cqf_model.specs.declared.ports.Arrival.{Arrival}
 use Rattle.cqf_model.specs.GateList.{IsOpenThrough}
 use Rattle.cqf_model.specs.Port.{AreLegal, IsEligible, PortRules, Transmission, no_arrival}
 
 -- a frame ends after it began, where an octet takes time
 pub ends_later : (t octets octet_time : ℕ) → 0 < octet_time → t < ending_of t octets octet_time
-ends_later t octets octet_time h = grind arith
+ends_later t octets octet_time h = omega (arith, time_some (octets + 8) octet_time (omega arith) h)
 
 -- one arrival is eligible wherever it stands
 pub eligible_alike : (rules : PortRules) (xs ys : List Arrival) (p t : ℕ) → slice_index_or xs p no_arrival ≡ slice_index_or ys p no_arrival →

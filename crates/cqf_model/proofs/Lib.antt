@@ -14,5 +14,6 @@ pub mod Reservations
 pub mod Paces
 pub mod Residence
 pub mod Sending
+pub mod Spans
 pub mod Starts
 pub mod Texts

@@ -1,20 +1,21 @@
 -- A domain of bridges and stations, and its links.
-use Rattle.std.specs.Prelude.{ℕ, ◌≡◌, ◌≢◌, ◌*◌, ◌≤◌, ◌<◌, List, [], ◌∷◌, Bool, true, false, ◌==◌, ◌&&◌, length, Option, Some, None, option_map, slice_get}
+use Rattle.std.specs.Prelude.{ℕ, ◌≡◌, ◌≢◌, ◌+◌, ◌*◌, ◌/◌, ◌≤◌, ◌<◌, List, [], ◌∷◌, Bool, true, false, ◌==◌, ◌&&◌, length, Option, Some, None, option_map, slice_get}
 use Rattle.std.specs.Prelude.{position}
-use Rattle.std.specs.Option.{option_map_or}
-use Rattle.cqf_units.specs.Timing.{nanos_of_octet, budget_of, cycle_at}
+use Rattle.std.specs.Option.{option_map_or, unwrap_or}
+use Rattle.cqf_units.specs.Timing.{ticks_of_octet, time_of, budget_of, cycle_at}
 use Rattle.cqf_model.specs.declared.topology.Link.{Link}
 use Rattle.cqf_model.specs.declared.topology.Node.{Node}
 use Rattle.cqf_model.specs.declared.topology.Node.TheVariants.{Bridge, Station}
 use Rattle.cqf_model.specs.declared.limits.Limits.{Limits}
 use Rattle.cqf_model.specs.Limits.{bridges_within, links_within, longest_cycle, stations_within}
 
--- a domain: the limits that are set for it, times in nanoseconds, the names of its bridges and stations, and its directed links,
--- each by its place
+-- a domain: the limits that are set for it; its times in nanoseconds: the cycle time, the guard time of each link that has none of its
+-- own, and how far any two of its clocks may be apart; the names of its bridges and stations; and its directed links, each by its place
 pub record Domain : Type 0 where
   pub limits : Limits
   pub cycle_time : ℕ
   pub guard : ℕ
+  pub sync : ℕ
   pub bridges : List (List ℕ)
   pub stations : List (List ℕ)
   pub links : List Link
@@ -24,14 +25,22 @@ abbrev pub IsNode : Domain → Node → Type 0
 IsNode d (Bridge b) = b < length d.bridges
 IsNode d (Station s) = s < length d.stations
 
--- a link that is accepted: its ends exist; what is sent in a cycle is received in it, since its delay is within the guard
--- time; and the gap behind the last frame of a cycle is over at the cycle's end (profile)
+-- a link's guard time: its own, where it has one, else the domain's
+abbrev pub guard_by : ℕ → Link → ℕ
+guard_by guard link = unwrap_or link.guard guard
+
+-- a link that is accepted: its ends exist. What is sent in a cycle is received in it by either clock: the greatest delay and the clocks'
+-- difference together are below the link's guard time, and no shortest frame is whole, by the receiver's clock, before it began by the
+-- sender's. The gap behind the last frame of a cycle is over at the cycle's end (profile)
 pub record IsAcceptedLink (d : Domain) (link : Link) : Type 0 where
   pub from_bridge : link.from < length d.bridges
   pub to_node : IsNode d link.to
   pub not_to_itself : link.to ≢ Bridge link.from
-  pub delay_short : link.delay < d.guard
-  pub gap_short : 12 * nanos_of_octet link.rate ≤ d.guard
+  pub least_short : link.least ≤ link.delay
+  pub delay_short : link.delay + d.sync < guard_by d.guard link
+  pub sync_short : d.sync ≤ time_of 72 (ticks_of_octet link.rate) + link.least
+  pub gap_short : time_of 12 (ticks_of_octet link.rate) ≤ guard_by d.guard link
+  pub guard_short : guard_by d.guard link < d.cycle_time
 
 -- a domain that is accepted (profile). That names are well formed and stand once, and that no link stands twice, is said
 -- where domains are read: nothing that a network does hangs on it, though what a name means to admission does
@@ -50,16 +59,27 @@ pub record IsAccepted (d : Domain) : Type 0 where
 abbrev pub cycle_of : Domain → ℕ → ℕ
 cycle_of d t = cycle_at d.cycle_time t
 
--- a link's octet time and delay
+-- a link's octet time, in ticks, and its greatest and its least delay, in nanoseconds
 abbrev pub octet_time_of : Domain → ℕ → ℕ
-octet_time_of d l = option_map_or (λ (link : Link). nanos_of_octet link.rate) (slice_get d.links l) 0
+octet_time_of d l = option_map_or (λ (link : Link). ticks_of_octet link.rate) (slice_get d.links l) 0
 
 abbrev pub delay_of : Domain → ℕ → ℕ
 delay_of d l = option_map_or (λ (link : Link). link.delay) (slice_get d.links l) 0
 
+abbrev pub least_delay_of : Domain → ℕ → ℕ
+least_delay_of d l = option_map_or (λ (link : Link). link.least) (slice_get d.links l) 0
+
+-- a link's guard time
+abbrev pub guard_of : Domain → ℕ → ℕ
+guard_of d l = option_map_or (guard_by d.guard) (slice_get d.links l) d.guard
+
+-- the least gap behind a frame on a link, in the nanoseconds of it that are whole
+abbrev pub gap_of : Domain → ℕ → ℕ
+gap_of d l = 12 * octet_time_of d l / 25
+
 -- what reservations may cost on a link, in octets a cycle
 abbrev pub budget : Domain → ℕ → ℕ
-budget d l = budget_of d.cycle_time d.guard (octet_time_of d l)
+budget d l = budget_of d.cycle_time (guard_of d l) (octet_time_of d l)
 
 -- the bridge that a link leaves, and the node that it ends in
 abbrev pub bridge_of : Domain → ℕ → ℕ

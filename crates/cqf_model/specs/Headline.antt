@@ -22,6 +22,7 @@
 --   `Shift`: which offers are covered, and which frame leaves on which link in which cycle (`IsCovered`, `InShift`)
 --   `Turn`: when a frame is due at a port (`due`)
 --   `Promise`: what a network and a book say of the shift (`MeansTheShift`, `SaysTheShift`)
+-- Beside these, `Loose` has the networks whose clocks differ and whose delays vary (`IsLooseNetwork`), of which `cqf_laws_loose` speaks.
 use Rattle.std.specs.Prelude.{ℕ, ◌≤◌, List, length}
 use Rattle.cqf_model.specs.declared.frames.Background.{Background}
 use Rattle.cqf_model.specs.declared.frames.Offer.{Offer}

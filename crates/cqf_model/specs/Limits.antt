@@ -28,7 +28,7 @@ abbrev pub least_reserved : ℕ
 least_reserved = 64
 
 abbrev pub most_reserved : ℕ
-most_reserved = 60000
+most_reserved = 1000000
 
 -- all paces repeat in so many cycles: a stream is offered in one cycle of a number that divides them
 abbrev pub most_every : ℕ

@@ -13,7 +13,7 @@ use Rattle.cqf_model.specs.declared.topology.Row.{Row}
 use Rattle.cqf_model.specs.GateList.{Entry, port_list}
 use Rattle.cqf_model.specs.Port.{Transmission, AreLegal, no_arrival}
 use Rattle.cqf_model.specs.StreamGate.{gate_class}
-use Rattle.cqf_model.specs.Domain.{Domain, bridge_of, cycle_of, octet_time_of}
+use Rattle.cqf_model.specs.Domain.{Domain, bridge_of, cycle_of, guard_of, octet_time_of}
 use Rattle.cqf_model.specs.Run.{Run}
 use Rattle.cqf_model.specs.Table.{goes_to}
 use Rattle.cqf_model.specs.Traffic.{Carried, Policed, Received, Verdict, Queued, DroppedFor, LacksRow, ExceedsGate, came_by, gate_behind, policed_before}
@@ -120,16 +120,20 @@ pub record Network : Type 0 where
   pub carried : Carried
   pub backed : ℕ → List Start
 
--- each link sends what its gate list demands for what the others send, what is offered and its background frames, up to
+-- each link sends what its gate list demands for what is heard of the others, what is offered and its background frames, up to
 -- the end of the run. A link that the domain lacks sends nothing
-pub record IsLegalNetwork (run : Run) (lists : ℕ → List Entry) (cycles : ℕ) (net : Network) : Type 0 where
+pub record IsNetworkBy (run : Run) (lists : ℕ → List Entry) (cycles : ℕ) (net : Network) (heard : Carried) : Type 0 where
   pub sends : (l : ℕ) → l < length run.domain.links →
-      Sends run.domain (lists l) (cycles * run.domain.cycle_time) l (comes_before run net.carried l cycles) (net.carried l) (net.backed l)
+      Sends run.domain (lists l) (cycles * run.domain.cycle_time) l (comes_before run heard l cycles) (net.carried l) (net.backed l)
   pub no_others : (l : ℕ) → length run.domain.links ≤ l → (net.carried l ≡ []) × (net.backed l ≡ [])
 
--- the gate lists that a domain is compiled to: one and the same for each port (profile)
+-- where all count one clock and each link delays as it is stated, what they send is what is heard
+abbrev pub IsLegalNetwork : Run → (ℕ → List Entry) → ℕ → Network → Type 0
+IsLegalNetwork run lists cycles net = IsNetworkBy run lists cycles net net.carried
+
+-- the gate lists that a domain is compiled to: for each port by its link's guard time (profile)
 abbrev pub compiled_lists : Domain → ℕ → List Entry
-compiled_lists d l = port_list d.cycle_time d.guard
+compiled_lists d l = port_list d.cycle_time (guard_of d l)
 
 -- a frame is lost inside: it came to a bridge by a link within the run and goes on to no port there
 abbrev pub IsLoss : Verdict → Type 0

@@ -48,13 +48,14 @@ pub record LeavesInTurn (d : Domain) (link : ℕ) (queued : List QueuedFrame) (s
 abbrev pub wire_in_cycle : Domain → Carried → ℕ → ℕ → ℕ
 wire_in_cycle d carried link cycle = sum_by (λ (sent : Sent). if cycle_of d sent.start.0 == cycle then wire_of sent.octets else 0) (carried link)
 
--- what a run's links carry of streams' frames is what its shift says
-pub record MeansTheShift (run : Run) (carried : Carried) : Type 0 where
+-- what a run's links carry of streams' frames is what its shift says, whatever is heard of it: what comes to a node comes by the
+-- node's own clock (`Loose`)
+pub record MeansTheShiftAs (run : Run) (carried heard : Carried) : Type 0 where
   -- what passes the gates at the edge is what the reservations cover, and each other offer has the same reason
   pub edge : (x : Offered) → Contains (numbered run.offers) x → offer_cycle run.domain x < length run.tables →
-      (verdict : Verdict) × IsPolicedAs run carried (end_of_run run) x verdict
+      (verdict : Verdict) × IsPolicedAs run heard (end_of_run run) x verdict
   -- and nothing else is offered there: each frame that came by no link is one of the offers at this bridge, with its verdict
-  pub edge_only : (bridge : ℕ) (p : Policed) → Contains (policed_before run carried bridge (end_of_run run)) p → came_by p.received.way ≡ None →
+  pub edge_only : (bridge : ℕ) (p : Policed) → Contains (policed_before run heard bridge (end_of_run run)) p → came_by p.received.way ≡ None →
       (x : Offered) × (x.offer.bridge ≡ bridge) × (offer_received x ≡ p.received) × IsDecided run x p.verdict
   -- the frames leave as the shift says, each once
   pub only : (frame link cycle : ℕ) → LeavesIn run.domain carried frame link cycle → InShift run (length run.tables) frame link cycle
@@ -66,20 +67,25 @@ pub record MeansTheShift (run : Run) (carried : Carried) : Type 0 where
   pub octets : (link : ℕ) (sent : Sent) (x : Offered) → Contains (carried link) sent → Contains (numbered run.offers) x →
       sent.frame ≡ x.frame → sent.octets ≡ x.offer.octets
   -- nothing is lost inside
-  pub none_lost : (bridge : ℕ) (policed : Policed) → ¬ IsLost run carried (length run.tables) bridge policed
+  pub none_lost : (bridge : ℕ) (policed : Policed) → ¬ IsLost run heard (length run.tables) bridge policed
   -- what a link sends of streams' frames in a cycle is within what the streams held in it cost, and that is within its budget
   pub loads : (link cycle : ℕ) → link < length run.domain.links → cycle < length run.tables →
       wire_in_cycle run.domain carried link cycle ≤ link_cost (table_of run.tables cycle) link cycle
   pub costs : (link cycle turn : ℕ) → link < length run.domain.links → link_cost (table_of run.tables cycle) link turn ≤ budget run.domain link
-  -- each frame starts behind those that came before it in their cycle, and is whole in the next node in its cycle
+  -- each frame starts behind those that came before it in their cycle, and is whole in the next node, by its clock, in its cycle
   pub in_turn : (link : ℕ) (sent : Sent) → Contains (carried link) sent →
-      LeavesInTurn run.domain link (queued_before run carried link (end_of_run run)) sent
-  pub whole : (link : ℕ) (sent : Sent) → Contains (carried link) sent → cycle_of run.domain (whole_at run.domain link sent) ≡ cycle_of run.domain sent.start.0
+      LeavesInTurn run.domain link (queued_before run heard link (end_of_run run)) sent
+  pub whole : (link : ℕ) (sent h : Sent) → Contains (carried link) sent → Contains (heard link) h → h.frame ≡ sent.frame →
+      cycle_of run.domain (whole_at run.domain link h) ≡ cycle_of run.domain sent.start.0
   -- behind a link of a depth that is more than one cycle time less than so many after its offer, and less than one more
-  pub latency : (link : ℕ) (sent : Sent) → Contains (carried link) sent →
+  pub latency : (link : ℕ) (sent h : Sent) → Contains (carried link) sent → Contains (heard link) h → h.frame ≡ sent.frame →
       (shift : InShift run (length run.tables) sent.frame link (cycle_of run.domain sent.start.0)) →
-      (shift.x.offer.at.0 + shift.depth * run.domain.cycle_time < whole_at run.domain link sent + run.domain.cycle_time)
-      × (whole_at run.domain link sent < shift.x.offer.at.0 + (shift.depth + 1) * run.domain.cycle_time)
+      (shift.x.offer.at.0 + shift.depth * run.domain.cycle_time < whole_at run.domain link h + run.domain.cycle_time)
+      × (whole_at run.domain link h < shift.x.offer.at.0 + (shift.depth + 1) * run.domain.cycle_time)
+
+-- where all count one clock and each link delays as it is stated, what is sent is what is heard
+abbrev pub MeansTheShift : Run → Carried → Type 0
+MeansTheShift run carried = MeansTheShiftAs run carried carried
 
 -- the drop is of an offer of the run that isn't covered, at its bridge, in its cycle, with the first reason that fits
 pub record IsOfUncovered (run : Run) (dropped : Dropped) : Type 0 where

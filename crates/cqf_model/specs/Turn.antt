@@ -1,6 +1,6 @@
 -- When a stream's frame is due at a port: in its turn, one cycle behind the frame's own (profile).
 use Rattle.std.specs.Prelude.{ℕ, ◌+◌, ◌*◌, Bool, List, take, sum_by, if◌then◌else◌, nat_le, ◌==◌}
-use Rattle.cqf_units.specs.Timing.{wire_of, cycle_at}
+use Rattle.cqf_units.specs.Timing.{wire_of, slot_of, cycle_at}
 use Rattle.cqf_model.specs.declared.ports.Arrival.{Arrival}
 use Rattle.cqf_model.specs.Port.{instant_of}
 
@@ -17,6 +17,15 @@ wire_in cycle_time cycle a = if cycle_at cycle_time a.at.0 == cycle then (if is_
 abbrev pub load : ℕ → ℕ → List Arrival → ℕ
 load cycle_time cycle arrivals = sum_by (wire_in cycle_time cycle) arrivals
 
+-- how long it takes of the link, with the gap behind it, in nanoseconds: its slot
+abbrev pub slot_in : ℕ → ℕ → ℕ → Arrival → ℕ
+slot_in octet_time cycle_time cycle a =
+    if cycle_at cycle_time a.at.0 == cycle then (if is_streams a then slot_of a.octets octet_time else 0) else 0
+
+-- how long the streams' frames of a cycle take
+abbrev pub busy : ℕ → ℕ → ℕ → List Arrival → ℕ
+busy octet_time cycle_time cycle arrivals = sum_by (slot_in octet_time cycle_time cycle) arrivals
+
 -- the cycle of the arrival at a place
 abbrev pub cycle_of_place : ℕ → List Arrival → ℕ → ℕ
 cycle_of_place cycle_time arrivals place = cycle_at cycle_time (instant_of arrivals place)
@@ -24,4 +33,4 @@ cycle_of_place cycle_time arrivals place = cycle_at cycle_time (instant_of arriv
 -- when a stream's frame is due: in the next cycle, behind the streams' frames that came before it in its own
 abbrev pub due : ℕ → ℕ → List Arrival → ℕ → ℕ
 due cycle_time octet_time arrivals place = let cycle = cycle_of_place cycle_time arrivals place in
-    (cycle + 1) * cycle_time + octet_time * load cycle_time cycle (take place arrivals)
+    (cycle + 1) * cycle_time + busy octet_time cycle_time cycle (take place arrivals)

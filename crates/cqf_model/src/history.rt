@@ -17,7 +17,7 @@ pub struct Receipt {
 pub enum Refused {
     /// The name doesn't have the form of a name.
     BadName,
-    /// The reservation isn't 64 to 60,000 octets.
+    /// The reservation isn't 64 to 1,000,000 octets.
     BadOctets,
     /// The stream is offered in one cycle of a number that doesn't divide 80, or has no such phase.
     BadPace,

@@ -26,7 +26,7 @@ pub const MOST_CALLS: usize = 100_000;
 pub const LEAST_OCTETS: u32 = 64;
 
 /// See [`LEAST_OCTETS`].
-pub const MOST_OCTETS: u32 = 60_000;
+pub const MOST_OCTETS: u32 = 1_000_000;
 
 /// In how many cycles all paces repeat: a stream is offered in one cycle of a number that divides them.
 pub const MOST_EVERY: u32 = 80;

@@ -1,4 +1,6 @@
 //! Links, and the streams that a table holds.
+ghost use Rattle.std.specs.Prelude.{◌≡◌};
+ghost use Rattle.cqf_model.specs.Domain.{guard_by};
 
 use crate::trees::Tree;
 use cqf_units::{Cycle, Name, Rate};
@@ -18,8 +20,21 @@ pub struct Link {
     /// The node that it ends in.
     pub to: Node,
     pub rate: Rate,
-    /// Propagation and bridge processing together, in nanoseconds (profile).
+    /// Propagation and bridge processing together, in nanoseconds: the greatest delay that a frame can have (profile).
     pub delay: u32,
+    /// The least delay, at most the greatest.
+    pub least: u32,
+    /// Its own guard time, in nanoseconds; none where it has the domain's (profile).
+    pub guard: Option<u32>,
+}
+
+impl Link {
+    /// Its guard time, where the domain's is this.
+    pub fn guard_by(&self, guard: u32) -> u32
+        ensures { result ≡ guard_by guard self.now }
+    {
+        self.guard.unwrap_or(guard)
+    }
 }
 
 /// A link of a stream's tree (profile).

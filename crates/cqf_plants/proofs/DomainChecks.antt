@@ -1,22 +1,24 @@
 -- What a domain's table says passes the checks of a domain, and is that domain.
-use Rattle.std.proofs.Common.{◌≡◌, ◌≢◌, ◌*◌, ◌<◌, ◌≤◌, ℕ, suc, List, [], ◌∷◌, ◌++◌, ◌||◌, Bool, false, Option, Some, None, Result, Ok, MatchOption}
+use Rattle.std.proofs.Common.{◌≡◌, ◌≢◌, ◌+◌, ◌<◌, ◌≤◌, ℕ, suc, List, [], ◌∷◌, ◌++◌, ◌||◌, Bool, false, Option, Some, None, Result, Ok, MatchOption}
 use Rattle.std.proofs.Common.{length, map, get_or, slice_get, nat_le, nat_lt, ok_or, position, refl, ap, sym, ◌∙◌, inl, inr, arith}
 use Rattle.std.proofs.lemmas.Bool.{cases_Bool, true≢false}
 use Rattle.std.proofs.lemmas.Bool.Decides.{nat_tests}
 use Rattle.std.proofs.lemmas.List.Quantifiers.{position-Some}
 use Rattle.std.proofs.lemmas.Option.{get_or_from_slice_get, slice_get-get_or, slice_get_within}
-use Rattle.cqf_units.specs.Timing.{nanos_of_octet}
+use Rattle.cqf_units.specs.Timing.{ticks_of_octet, time_of}
 use Rattle.cqf_units.specs.declared.timing.Rate.TheVariants.{Mb10}
 use Rattle.cqf_model.specs.declared.topology.Link.{Link}
 use Rattle.cqf_model.specs.declared.topology.Node.{Node}
 use Rattle.cqf_model.specs.declared.topology.Node.TheVariants.{Bridge, Station}
-use Rattle.cqf_model.specs.Domain.{Domain, IsAcceptedLink, IsNode, node_or, same_node}
+use Rattle.cqf_model.specs.Domain.{Domain, IsAcceptedLink, IsNode, guard_by, node_or, same_node}
 use Rattle.cqf_model.proofs.Links.{same_node_true}
 use Rattle.cqf_lists.specs.Results.{and_then, refuse}
 use Rattle.cqf_topology.specs.Fields.{and_first}
 use Rattle.cqf_topology.specs.declared.faults.DomainFault.{DomainFault}
 use Rattle.cqf_topology.specs.declared.faults.DomainFault.TheVariants as fault
 use Rattle.cqf_topology.specs.DomainText.{DomainText, IsDomain, NoLinkTwice, apart, checked, first_long_delay, first_long_gap, first_twice, if_so}
+use Rattle.cqf_topology.specs.DomainText.{first_long_guard, first_long_sync}
+use Rattle.cqf_topology.specs.LinkTimes.{has_long_delay, has_long_gap, has_long_guard, has_long_sync, times_of}
 use Rattle.cqf_model.specs.Limits.{bridges_within, links_within, stations_within}
 use Rattle.cqf_topology.specs.DomainText.{is_too_many, joined, joined_link, place_of, with_links, with_these}
 use Rattle.cqf_topology.specs.FirstFaults.{HasTwin, IsFirstTwin}
@@ -30,9 +32,10 @@ told_links d links = record {
   limits = d.limits;
   cycle_time = d.cycle_time;
   guard = d.guard;
+  sync = d.sync;
   bridges = d.bridges;
   stations = d.stations;
-  links = map (λ link. record { from = name_of_node d (Bridge link.from); to = name_of_node d link.to; rate = link.rate; delay = link.delay }) links;
+  links = map (λ link. record { from = name_of_node d (Bridge link.from); to = name_of_node d link.to; times = times_of link }) links;
 }
 
 abbrev pub told_domain : Domain → DomainText
@@ -60,7 +63,7 @@ finds_none p links none = by (position p links) refl
   where
     -- some link
     some_link : Link
-    some_link = record { from = 0; to = Bridge 0; rate = Mb10; delay = 0 }
+    some_link = record { from = 0; to = Bridge 0; rate = Mb10; delay = 0; least = 0; guard = None }
 
     -- a place that is found would pass
     by : (o : Option ℕ) → position p links ≡ o → o ≡ None
@@ -68,6 +71,13 @@ finds_none p links none = by (position p links) refl
     by (Some i) found =
         let at = position-Some p links i some_link found in
         absurd (true≢false (sym at.1 ∙ none i (get_or links i some_link) (slice_get-get_or links i some_link at.0)))
+
+-- tests that numbers fail which are below, or not above
+unreached : (most n : ℕ) → n < most → nat_le most n ≡ false
+unreached most n below = grind (arith, nat_tests)
+
+within : (most n : ℕ) → n ≤ most → nat_lt most n ≡ false
+within most n few = grind (arith, nat_tests)
 
 module _ (d : Domain) (good : IsDomain d) where
   -- the bridges are apart, and so are the stations
@@ -94,13 +104,13 @@ module _ (d : Domain) (good : IsDomain d) where
 
   -- a link is joined by the names of its ends
   link_is : (link : Link) → IsAcceptedLink d link →
-      joined_link d.bridges d.stations (record { from = name_of_node d (Bridge link.from); to = name_of_node d link.to; rate = link.rate; delay = link.delay }) ≡ Ok link
+      joined_link d.bridges d.stations (record { from = name_of_node d (Bridge link.from); to = name_of_node d link.to; times = times_of link }) ≡ Ok link
   link_is link accepted =
       let from_is = place_is d.bridges bridges_apart link.from accepted.from_bridge in
       let to_is = node_is link.to accepted.to_node in
       let tell : ℕ → Node → Result Link DomainFault =
       λ from to. apart (name_of_node d link.to)
-      (record { from = name_of_node d (Bridge link.from); to = name_of_node d link.to; rate = link.rate; delay = link.delay }) from to in
+      (record { from = name_of_node d (Bridge link.from); to = name_of_node d link.to; times = times_of link }) from to in
       let unknown_from : DomainFault = fault.UnknownName (name_of_node d (Bridge link.from)) in
       let unknown_to : DomainFault = fault.UnknownName (name_of_node d link.to) in
       (λ i. and_then (ok_or (from_is i) unknown_from) (λ from. and_then (ok_or (to_is i) unknown_to) (λ to. tell from to)))
@@ -114,44 +124,49 @@ module _ (d : Domain) (good : IsDomain d) where
       let rest = links_are links (λ k other at. accepted (suc k) other at) in
       (λ i. and_first (link_is link (accepted 0 link refl) i) (rest i))
 
-  -- no delay is too long, and no gap is
-  short_delays : first_long_delay d.guard d.links ≡ None
-  short_delays = finds_none (λ (link : Link). nat_le d.guard link.delay) d.links (λ k link at. short link (good.accepted.links_good k link at).delay_short)
-    where
-      short : (link : Link) → link.delay < d.guard → nat_le d.guard link.delay ≡ false
-      short link below = grind (arith, nat_tests)
+  -- no guard time, no delay and no gap is too long, and clocks are nowhere too far apart
+  short_guards : first_long_guard d.cycle_time d.guard d.links ≡ None
+  short_guards =
+      finds_none (λ (link : Link). has_long_guard d.cycle_time d.guard (times_of link)) d.links
+      (λ k link at. unreached d.cycle_time (guard_by d.guard link) (good.accepted.links_good k link at).guard_short)
+
+  short_delays : first_long_delay d.sync d.guard d.links ≡ None
+  short_delays =
+      finds_none (λ (link : Link). has_long_delay d.sync d.guard (times_of link)) d.links
+      (λ k link at. unreached (guard_by d.guard link) (link.delay + d.sync) (good.accepted.links_good k link at).delay_short)
 
   short_gaps : first_long_gap d.guard d.links ≡ None
   short_gaps =
-      finds_none (λ (link : Link). nat_lt d.guard (12 * nanos_of_octet link.rate)) d.links
-      (λ k link at. short link (good.accepted.links_good k link at).gap_short)
-    where
-      short : (link : Link) → 12 * nanos_of_octet link.rate ≤ d.guard → nat_lt d.guard (12 * nanos_of_octet link.rate) ≡ false
-      short link most = grind (arith, nat_tests)
+      finds_none (λ (link : Link). has_long_gap d.guard (times_of link)) d.links
+      (λ k link at. within (guard_by d.guard link) (time_of 12 (ticks_of_octet link.rate)) (good.accepted.links_good k link at).gap_short)
+
+  short_syncs : first_long_sync d.sync d.links ≡ None
+  short_syncs =
+      finds_none (λ (link : Link). has_long_sync d.sync (times_of link)) d.links
+      (λ k link at. within (time_of 72 (ticks_of_octet link.rate) + link.least) d.sync (good.accepted.links_good k link at).sync_short)
 
   -- the guard time is within the cycle, and nothing is too many
   guard_is_short : nat_le d.cycle_time d.guard ≡ false
-  guard_is_short = let short : d.guard < d.cycle_time = good.accepted.guard_short in grind (arith, nat_tests)
+  guard_is_short = unreached d.cycle_time d.guard good.accepted.guard_short
 
   are_few : is_too_many d.limits d.bridges d.stations d.links ≡ false
   are_few =
-      let one : nat_lt (bridges_within d.limits) (length d.bridges) ≡ false = few (length d.bridges) (bridges_within d.limits) good.accepted.few_bridges in
-      let two : nat_lt (stations_within d.limits) (length d.stations) ≡ false = few (length d.stations) (stations_within d.limits) good.accepted.few_stations in
-      let three : nat_lt (links_within d.limits) (length d.links) ≡ false = few (length d.links) (links_within d.limits) good.accepted.few_links in
+      let one = within (bridges_within d.limits) (length d.bridges) good.accepted.few_bridges in
+      let two = within (stations_within d.limits) (length d.stations) good.accepted.few_stations in
+      let three = within (links_within d.limits) (length d.links) good.accepted.few_links in
       (λ i. one i || two i || three i)
-    where
-      few : (n most : ℕ) → n ≤ most → nat_lt most n ≡ false
-      few n most h = grind (arith, nat_tests)
 
   -- the links pass
   links_pass : with_links (told_domain d) d.links ≡ Ok d
   links_pass =
       (λ i. refuse (none_twice d.links good.no_link_twice i) fault.LinkTwice (
       refuse (if_so (guard_is_short i)) (λ _. fault.GuardTooLong) (
+      refuse (short_guards i) fault.LinkGuardTooLong (
       refuse (short_delays i) fault.DelayTooLong (
       refuse (short_gaps i) fault.GapTooLong (
       refuse (if_so (are_few i)) (λ _. fault.TooMany) (
-      Ok (with_these (told_domain d) d.links)))))))
+      refuse (short_syncs i) fault.SyncTooLong (
+      Ok (with_these (told_domain d) d.links)))))))))
 
   -- what the domain's table says is the domain
   pub domain_passes : checked (told_domain d) ≡ Ok d

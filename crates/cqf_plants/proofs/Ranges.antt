@@ -9,9 +9,9 @@ use Rattle.cqf_topology.specs.declared.toml_faults.TomlFault.TheVariants.{BadVal
 use Rattle.cqf_topology.specs.Fields.{are_tables, key_text, number_from, number_or, number_or_by, read_at, value_at}
 use Rattle.cqf_topology.specs.Fields.{whole_document}
 use Rattle.cqf_topology.specs.PacedText.{PacedText, paced_from}
-use Rattle.cqf_topology.specs.PlannedText.{deadline_by, deadline_from, planned_from}
+use Rattle.cqf_topology.specs.PlannedText.{deadline_from, planned_from}
 use Rattle.cqf_topology.specs.StreamsText.{branches_from, streams_keys}
-use Rattle.cqf_topology.proofs.Refusals.{and_then-Ok, each_from-All, number-range, ok_or-Ok, refuse-Ok}
+use Rattle.cqf_topology.proofs.Refusals.{and_then-Ok, each_from-All, number-range, number_if-range, ok_or-Ok, refuse-Ok}
 use Rattle.cqf_traffic.specs.declared.faults.FlowsFault.{FlowsFault}
 use Rattle.cqf_traffic.specs.declared.faults.FlowsFault.TheVariants as flows_fault
 use Rattle.cqf_traffic.specs.declared.keys.TrafficKey.{TrafficKey}
@@ -90,19 +90,7 @@ module _ (table : Members) where
 
   -- so is a deadline
   pub deadline_in_range : (deadline : Option ℕ) → deadline_from table ≡ Ok deadline → IfSome deadline (λ n. (1 ≤ n) × (n ≤ 4294967295))
-  deadline_in_range deadline h = by (value_at key.Deadline table) h
-    where
-      -- what a deadline has to be
-      InRange : Option ℕ → Type 0
-      InRange = λ (o : Option ℕ). IfSome o (λ n. (1 ≤ n) × (n ≤ 4294967295))
-
-      -- whether there is one or not
-      by : (o : Option Data) → deadline_by o table ≡ Ok deadline → InRange deadline
-      by None h = let same : None ≡ deadline = cc in subst InRange same tt
-      by (Some d) h =
-          let (n, read, some) = and_then-Ok (read_at key.Deadline (number_from 1 4294967295) table) (λ n. Ok (Some n)) deadline h in
-          let same : Some n ≡ deadline = cc in
-          subst InRange same (number-range key.Deadline 1 4294967295 table n read)
+  deadline_in_range deadline h = number_if-range key.Deadline 1 4294967295 table deadline h
 
   -- and a number that may be absent
   number_or_in_range : (at : Key) (default n : ℕ) → default ≤ 4294967295 → number_or at default table ≡ Ok n → n ≤ 4294967295

@@ -1,17 +1,19 @@
 -- How deep a plant's table nests, and that it has no dates.
-use Rattle.std.proofs.Common.{◌≡◌, ◌≤◌, ◌&&◌, ℕ, List, [], ◌∷◌, true, Option, Some, None, map, refl, arith}
-use Rattle.toml.specs.Data.{Data, Members, string, table, no_members}
+use Rattle.std.proofs.Common.{◌≡◌, ◌≤◌, ◌==◌, ◌&&◌, ℕ, pos, List, [], ◌∷◌, Bool, true, false, cond, Option, Some, None, map, refl, arith}
+use Rattle.toml.specs.Data.{Data, Members, array, integer, string, table, no_members}
 use Rattle.toml.specs.Data.{depth, items_depth, members_depth, has_valid_dates, items_have_valid_dates, members_have_valid_dates}
 use Rattle.toml.specs.View.{items_of}
+use Rattle.cqf_model.specs.declared.topology.Node.TheVariants.{Bridge}
 use Rattle.cqf_model.specs.Domain.{Domain}
 use Rattle.cqf_topology.specs.declared.keys.Key.{Key}
-use Rattle.cqf_topology.specs.declared.keys.Key.TheVariants.{Deadline, Every, Phase}
+use Rattle.cqf_topology.specs.declared.keys.Key.TheVariants.{Deadline, Every, Phase, Sync}
+use Rattle.cqf_topology.specs.NodeNames.{name_of_node}
 use Rattle.cqf_topology.specs.PacedText.{PacedText}
 use Rattle.cqf_traffic.specs.declared.keys.TrafficKey.TheVariants.{Size}
 use Rattle.cqf_traffic.specs.TrafficText.{TrafficText}
 use Rattle.cqf_traffic.specs.FlowsText.{FlowText}
-use Rattle.cqf_plants.specs.DomainMembers.{link_members, links_data, texts_data}
-use Rattle.cqf_plants.specs.StreamMembers.{branches_then, every_told, members_by, phase_told, some_then, stream_members, streams_data, traffic_then}
+use Rattle.cqf_plants.specs.DomainMembers.{delays_data, link_members, links_data, megabits_of, members_of_link, some_then, sync_told, texts_data}
+use Rattle.cqf_plants.specs.StreamMembers.{branches_then, every_told, members_by, phase_told, stream_members, streams_data, traffic_then}
 use Rattle.cqf_plants.specs.Plants.{plant_members}
 
 -- items of which each nests no deeper than so
@@ -51,18 +53,33 @@ stream_shallow request deadline (Some t) =
     end_shallow request (traffic_then Size t no_members) (omega arith) in
     some_shallow Deadline deadline _ (some_shallow Every (every_told request) _ (omega arith))
 
+-- a link's delays, and its table
+delays_shallow : (same : Bool) (least most : ℕ) →
+    depth (cond same (integer (pos most)) (array (items_of (integer (pos least) ∷ integer (pos most) ∷ [])))) ≤ 1
+delays_shallow true least most = omega arith
+delays_shallow false least most = omega arith
+
+link_shallow : (from to : List ℕ) (delays : Data) (rate : ℕ) (guard : Option ℕ) → depth delays ≤ 1 → members_depth (members_of_link from to delays rate guard) ≤ 1
+link_shallow from to delays rate None shallow = omega arith
+link_shallow from to delays rate (Some n) shallow = omega arith
+
 -- a plant's table nests no deeper than is read
 pub plant_shallow : (d : Domain) (flows : List FlowText) → members_depth (plant_members d flows) ≤ 80
 plant_shallow d flows =
     let bridges : depth (texts_data d.bridges) ≤ 1 = texts_shallow d.bridges in
     let stations : depth (texts_data d.stations) ≤ 1 = texts_shallow d.stations in
-    let links : items_depth (items_of (map (λ link. table (link_members d link)) d.links)) ≤ 1 =
-    each_shallow (λ link. table (link_members d link)) 1 (λ link. omega arith) d.links in
+    let links : items_depth (items_of (map (λ link. table (link_members d link)) d.links)) ≤ 2 =
+    each_shallow (λ link. table (link_members d link)) 2
+    (λ link.
+    let inside : members_depth (link_members d link) ≤ 1 =
+    link_shallow (name_of_node d (Bridge link.from)) (name_of_node d link.to) (delays_data link.least link.delay) (megabits_of link.rate) link.guard
+    (delays_shallow (link.least == link.delay) link.least link.delay) in omega arith) d.links in
     let streams : items_depth (items_of (map (λ flow. table (stream_members flow)) flows)) ≤ 3 =
     each_shallow (λ flow. table (stream_members flow)) 3
     (λ flow.
     let inside : members_depth (stream_members flow) ≤ 2 =
     stream_shallow flow.0.0 flow.0.1 flow.1 in omega arith) flows in
+    let sync : members_depth (some_then Sync (sync_told d.sync) no_members) ≤ 2 = some_shallow Sync (sync_told d.sync) no_members (omega arith) in
     omega arith
 
 -- items of which each has no date
@@ -93,10 +110,24 @@ stream_dateless request deadline (Some t) =
     some_dateless Deadline deadline _ (some_dateless Every (every_told request) _ (
     branches_dateless request.paths _ (some_dateless Phase (phase_told request) (traffic_then Size t no_members) refl)))
 
+-- a link's delays, and its table
+delays_dateless : (same : Bool) (least most : ℕ) →
+    has_valid_dates (cond same (integer (pos most)) (array (items_of (integer (pos least) ∷ integer (pos most) ∷ [])))) ≡ true
+delays_dateless true least most = refl
+delays_dateless false least most = refl
+
+link_dateless : (from to : List ℕ) (delays : Data) (rate : ℕ) (guard : Option ℕ) → has_valid_dates delays ≡ true →
+    members_have_valid_dates (members_of_link from to delays rate guard) ≡ true
+link_dateless from to delays rate None none = (λ i. none i && true)
+link_dateless from to delays rate (Some n) none = (λ i. none i && true)
+
 -- a plant's table has none
 pub plant_dateless : (d : Domain) (flows : List FlowText) → members_have_valid_dates (plant_members d flows) ≡ true
 plant_dateless d flows =
-    let links : has_valid_dates (links_data d) ≡ true = each_dateless (λ link. table (link_members d link)) (λ link. refl) d.links in
+    let links : has_valid_dates (links_data d) ≡ true = each_dateless (λ link. table (link_members d link))
+    (λ link. link_dateless (name_of_node d (Bridge link.from)) (name_of_node d link.to) (delays_data link.least link.delay) (megabits_of link.rate) link.guard
+    (delays_dateless (link.least == link.delay) link.least link.delay)) d.links in
     let streams : has_valid_dates (streams_data flows) ≡ true =
     each_dateless (λ flow. table (stream_members flow)) (λ flow. stream_dateless flow.0.0 flow.0.1 flow.1) flows in
-    (λ i. texts_dateless d.bridges i && (links i && (texts_dateless d.stations i && (streams i && true))))
+    let sync = some_dateless Sync (sync_told d.sync) no_members refl in
+    (λ i. texts_dateless d.bridges i && (links i && (texts_dateless d.stations i && (streams i && sync i))))

@@ -14,7 +14,7 @@ use Rattle.cqf_topology.specs.declared.toml_faults.TomlFault.TheVariants.{BadVal
 use Rattle.cqf_topology.specs.Fields.{and_first, first_absent, lacks, number_from, number_or, number_or_by, read_at, text_lists_at, text_lists_from}
 use Rattle.cqf_topology.specs.Fields.{texts_at, texts_from, value_at}
 use Rattle.cqf_topology.specs.PacedText.{PacedText, paced_from}
-use Rattle.cqf_topology.specs.PlannedText.{deadline_by, deadline_from, planned_from}
+use Rattle.cqf_topology.specs.PlannedText.{deadline_from, planned_from}
 use Rattle.cqf_topology.specs.StreamsText.{branches_by, branches_from, request_from, stream_keys}
 use Rattle.cqf_traffic.specs.declared.faults.FlowsFault.TheVariants as flows_fault
 use Rattle.cqf_traffic.specs.declared.keys.TrafficKey.{TrafficKey}
@@ -26,7 +26,7 @@ use Rattle.cqf_traffic.specs.FlowsText.{FlowText, first_lack, flow_from, or_stre
 use Rattle.cqf_plants.specs.DomainMembers.{texts_data}
 use Rattle.cqf_plants.specs.StreamMembers.{branches_data, every_told, is_each_cycle, number_of_traffic, phase_told, stream_members}
 use Rattle.cqf_plants.specs.Plants.{IsTellable, unpaced}
-use Rattle.cqf_plants.proofs.DomainReading.{number_reads}
+use Rattle.cqf_plants.proofs.DomainReading.{number_if_reads, number_reads, told_or}
 use Rattle.cqf_plants.proofs.StreamValues.{HasStream, has_stream, number_data, path_data, paths_data}
 
 -- texts, and branches
@@ -38,11 +38,7 @@ branches_read : (at : Key) (paths : List (List (List ℕ))) → text_lists_from 
 branches_read at [] = refl
 branches_read at (path ∷ paths) = (λ i. and_first (texts_read at path i) (branches_read at paths i))
 
--- a number that is told only where the stream isn't offered in each cycle is the other where it is
-told_or : (same : Bool) (n default : ℕ) → (same ≡ true → n ≡ default) → unwrap_or (cond same None (Some n)) default ≡ n
-told_or true n default is = sym (is refl)
-told_or false n default is = refl
-
+-- a stream that is offered in each cycle says so by both numbers
 each_every : (every phase : ℕ) → is_each_cycle every phase ≡ true → every ≡ 1
 each_every every phase is = let parts = and_parts (every == 1) (phase == 0) is in let one : (every == 1) ≡ true = parts.0 in grind (arith, nat_tests)
 
@@ -117,16 +113,6 @@ module _ (table : Members) (request : PacedText) (deadline : Option ℕ) (traffi
       and_then (phase_read few_phase i) (λ phase. and_then (branches_are i) (λ paths.
       Ok (record { name = name; octets = octets; every = every; phase = phase; paths = paths })))))))
 
-  -- the deadline
-  deadline_by_reads : (some : Option ℕ) → value_at key.Deadline table ≡ option_map number_data some → IfSome some (λ n. (1 ≤ n) × (n ≤ 4294967295))
-      → deadline_from table ≡ Ok some
-  deadline_by_reads None at good = ap (λ o. deadline_by o table) at
-  deadline_by_reads (Some n) at good =
-      let read : read_at key.Deadline (number_from 1 4294967295) table ≡ Ok n =
-      ap (λ o. ok_or (option_and_then (number_from 1 4294967295) o) (BadValue key.Deadline)) at
-      ∙ ap (λ o. ok_or o (BadValue key.Deadline)) (number_reads 1 4294967295 n good.0 good.1) in
-      ap (λ o. deadline_by o table) at ∙ ap (λ r. and_then r (λ deadline. Ok (Some deadline))) read
-
   -- a number of traffic
   number_is_read : (at : TrafficKey) (n : ℕ) → traffic_at at table ≡ Some (number_data n) → IsInRange at n → number_at at table ≡ Ok n
   number_is_read at n is good =
@@ -198,7 +184,7 @@ paced_is_read flow good = paced_reads (stream_members flow) _ _ _ (has_values fl
 pub planned_is_read : (flow : FlowText) → IsTellable flow → planned_from (stream_members flow) ≡ Ok flow.0
 planned_is_read flow good =
     let deadline_is : deadline_from (stream_members flow) ≡ Ok flow.0.1 =
-    deadline_by_reads (stream_members flow) _ _ _ (has_values flow) flow.0.1 (has_values flow).deadline_at good.deadline in
+    number_if_reads key.Deadline 1 4294967295 (stream_members flow) flow.0.1 (has_values flow).deadline_at good.deadline in
     (λ i. and_then (paced_is_read flow good i) (λ request. and_then (deadline_is i) (λ deadline. Ok (request, deadline))))
 
 pub flow_is_read : (flow : FlowText) → IsTellable flow → flow_from (stream_members flow) ≡ Ok flow

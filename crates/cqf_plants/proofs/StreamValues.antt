@@ -12,8 +12,8 @@ use Rattle.cqf_traffic.specs.declared.keys.TrafficKey.{TrafficKey}
 use Rattle.cqf_traffic.specs.declared.keys.TrafficKey.TheVariants.{Interval, Frames, Size, Jitter, Offset}
 use Rattle.cqf_traffic.specs.Keys.{key_text as traffic_key_text}
 use Rattle.cqf_traffic.specs.TrafficText.{TrafficText, value_at as traffic_at}
-use Rattle.cqf_plants.specs.DomainMembers.{texts_data}
-use Rattle.cqf_plants.specs.StreamMembers.{branches_data, branches_then, every_told, members_by, number_of_traffic, phase_told, some_then, traffic_then}
+use Rattle.cqf_plants.specs.DomainMembers.{some_then, texts_data}
+use Rattle.cqf_plants.specs.StreamMembers.{branches_data, branches_then, every_told, members_by, number_of_traffic, phase_told, traffic_then}
 
 -- what stands at `path`, and at `paths`
 abbrev pub path_data : List (List (List ℕ)) → Option Data

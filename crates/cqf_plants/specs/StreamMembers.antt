@@ -11,20 +11,11 @@ use Rattle.cqf_traffic.specs.declared.keys.TrafficKey.TheVariants.{Interval, Fra
 use Rattle.cqf_traffic.specs.Keys.{key_text as traffic_key_text}
 use Rattle.cqf_traffic.specs.TrafficText.{TrafficText}
 use Rattle.cqf_traffic.specs.FlowsText.{FlowText}
-use Rattle.cqf_plants.specs.DomainMembers.{put, texts_data}
+use Rattle.cqf_plants.specs.DomainMembers.{number_then, put, put_some, some_then, texts_data}
 
 -- several branches, as an array of arrays
 abbrev pub branches_data : List (List (List ℕ)) → Data
 branches_data paths = array (items_of (map texts_data paths))
-
--- a number at a key, in front of other members
-abbrev pub number_then : List ℕ → ℕ → Members → Members
-number_then key n more = member key (integer (pos n)) more
-
--- the same, where there is such a number
-abbrev pub some_then : Key → Option ℕ → Members → Members
-some_then key None more = more
-some_then key (Some n) more = number_then (key_text key) n more
 
 -- a stream that isn't offered in each cycle says in which it is, by both numbers; one that is says neither
 abbrev pub is_each_cycle : ℕ → ℕ → Bool
@@ -87,10 +78,6 @@ abbrev pub put_branches : List (List (List ℕ)) → Members → Members
 put_branches [] members = put (key_text Paths) (branches_data []) members
 put_branches (path ∷ []) members = put (key_text Path) (texts_data path) members
 put_branches (path ∷ other ∷ paths) members = put (key_text Paths) (branches_data (path ∷ other ∷ paths)) members
-
-abbrev pub put_some : Key → Option ℕ → Members → Members
-put_some key None members = members
-put_some key (Some n) members = put (key_text key) (integer (pos n)) members
 
 abbrev pub put_pace : PacedText → Members → Members
 put_pace request members = put_some Phase (phase_told request) (put_some Every (every_told request) members)

@@ -3,10 +3,10 @@ ghost use Rattle.std.specs.Prelude.{◌≡◌, ◌<◌, IfOk};
 ghost use Rattle.toml.specs.View.{table_view, view};
 ghost use Rattle.cqf_model.specs.Domain.{IsNode};
 ghost use Rattle.cqf_model.specs.declared.topology.Node.TheVariants.{Bridge};
-ghost use Rattle.cqf_plants.specs.DomainMembers.{link_members, links_data, megabits_of, texts_data};
+ghost use Rattle.cqf_plants.specs.DomainMembers.{delays_data, link_members, links_data, megabits_of, texts_data};
 ghost use Rattle.cqf_topology.specs.NodeNames.{name_of_node};
 
-use crate::tables::{put_number, put_text};
+use crate::tables::{put_number, put_some, put_text, put_value};
 use cqf_model::{Link, Node};
 use cqf_topology::{Domain, Key};
 use cqf_units::{Memory, Name, Rate};
@@ -21,6 +21,12 @@ fn megabits_of(rate: Rate) -> u32
         Rate::Mb10 => 10,
         Rate::Mb100 => 100,
         Rate::Mb1000 => 1000,
+        Rate::Mb2500 => 2500,
+        Rate::Mb5000 => 5000,
+        Rate::Mb10000 => 10_000,
+        Rate::Mb25000 => 25_000,
+        Rate::Mb40000 => 40_000,
+        Rate::Mb100000 => 100_000,
     }
 }
 
@@ -35,6 +41,19 @@ fn name_of(domain: &Domain, node: Node) -> &Name
     }
 }
 
+/// A link's delays: one number where the least is the greatest, else both. The error is want of memory.
+fn delays_value(alloc: Global, least: u32, most: u32) -> Result<Value, Memory>
+    ensures { IfOk result (λ value. view value ≡ delays_data least most) }
+{
+    if least == most {
+        return Ok(Value::Integer(i64::from(most)));
+    }
+    let mut both = Vec::new(alloc);
+    both.push(Value::Integer(i64::from(least)))?;
+    both.push(Value::Integer(i64::from(most)))?;
+    Ok(Value::Array(both))
+}
+
 /// A link's table. The error is want of memory.
 fn link_table(alloc: Global, domain: &Domain, link: Link) -> Result<Table, Memory>
     requires from { IsNode domain.now (Bridge link.from) }
@@ -44,7 +63,8 @@ fn link_table(alloc: Global, domain: &Domain, link: Link) -> Result<Table, Memor
     let from = name_of(domain, Node::Bridge(link.from)).as_str();
     let to = name_of(domain, link.to).as_str();
     let mut table = Table::new(alloc);
-    put_number(alloc, &mut table, Key::Delay.as_str(), link.delay)?;
+    let delays = delays_value(alloc, link.least, link.delay)?;
+    put_value(alloc, &mut table, Key::Delay.as_str(), delays)?;
     put_text(alloc, &mut table, Key::From.as_str(), from)?;
     put_number(
         alloc,
@@ -53,6 +73,7 @@ fn link_table(alloc: Global, domain: &Domain, link: Link) -> Result<Table, Memor
         megabits_of(link.rate),
     )?;
     put_text(alloc, &mut table, Key::To.as_str(), to)?;
+    put_some(alloc, &mut table, Key::Guard, link.guard)?;
     Ok(table)
 }
 

@@ -28,7 +28,8 @@
 //! ```
 //!
 //! is the text of a domain with one link, and one stream with a deadline and traffic. A stream that isn't offered in each cycle has `every`
-//! and `phase` too.
+//! and `phase` too, a domain whose clocks may be apart `sync`, a link with a guard time of its own `guard`, and one whose delay varies both its
+//! delays, as `delay = [400, 600]`.
 #![tactic(auto)]
 
 mod domain;

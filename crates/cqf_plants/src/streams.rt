@@ -6,9 +6,9 @@ ghost use Rattle.cqf_topology.specs.PacedText.{paced_text};
 ghost use Rattle.cqf_traffic.specs.FlowsText.{flow_text};
 ghost use Rattle.cqf_traffic.specs.Keys.{key_text as traffic_key_text};
 ghost use Rattle.cqf_plants.specs.DomainMembers.{put, texts_data};
-ghost use Rattle.cqf_plants.specs.StreamMembers.{branches_data, put_branches, put_pace, put_request, put_some, put_traffic, stream_members, streams_data};
+ghost use Rattle.cqf_plants.specs.StreamMembers.{branches_data, put_branches, put_pace, put_request, put_traffic, stream_members, streams_data};
 
-use crate::tables::{put_number, put_text, put_value};
+use crate::tables::{put_number, put_some, put_text, put_value};
 use cqf_topology::{Key, PacedRequest};
 use cqf_traffic::{Flow, Traffic, TrafficKey};
 use cqf_units::{Memory, Nanos};
@@ -79,16 +79,6 @@ fn put_request(alloc: Global, table: &mut Table, request: &PacedRequest) -> Resu
     Ok(())
 }
 
-/// Puts a deadline into a stream's table, where there is one. The error is want of memory.
-fn put_deadline(alloc: Global, table: &mut Table, deadline: Option<u32>) -> Result<(), Memory>
-    ensures { OnOk result (table_view table.new ≡ put_some Key.Deadline deadline (table_view table.old)) }
-{
-    if let Some(deadline) = deadline {
-        put_number(alloc, table, Key::Deadline.as_str(), deadline)?;
-    }
-    Ok(())
-}
-
 /// Puts a time of a stream's traffic into its table, in nanoseconds. The error is want of memory.
 fn put_time(alloc: Global, table: &mut Table, key: TrafficKey, time: Nanos) -> Result<(), Memory>
     requires { time.0 < 2 ^ 32 }
@@ -118,7 +108,7 @@ fn stream_table(alloc: Global, flow: &Flow) -> Result<Table, Memory>
 {
     let mut table = Table::new(alloc);
     put_request(alloc, &mut table, &flow.planned.request)?;
-    put_deadline(alloc, &mut table, flow.planned.deadline)?;
+    put_some(alloc, &mut table, Key::Deadline, flow.planned.deadline)?;
     put_traffic(alloc, &mut table, flow.traffic)?;
     Ok(table)
 }

@@ -2,8 +2,9 @@
 ghost use Rattle.std.specs.Prelude.{◌≡◌, pos, OnOk};
 ghost use Rattle.toml.specs.Data.{integer, string};
 ghost use Rattle.toml.specs.View.{table_view, view};
-ghost use Rattle.cqf_plants.specs.DomainMembers.{put};
+ghost use Rattle.cqf_plants.specs.DomainMembers.{put, put_some};
 
+use cqf_topology::Key;
 use cqf_units::Memory;
 use std::alloc::Global;
 use toml::{Table, Value};
@@ -32,6 +33,21 @@ pub(crate) fn put_number(
     ensures { OnOk result (table_view table.new ≡ put key.now (integer (pos number)) (table_view table.old)) }
 {
     put_value(alloc, table, key, Value::Integer(i64::from(number)))?;
+    Ok(())
+}
+
+/// Puts a number into a table, where there is one. The error is want of memory.
+pub(crate) fn put_some(
+    alloc: Global,
+    table: &mut Table,
+    key: Key,
+    number: Option<u32>,
+) -> Result<(), Memory>
+    ensures { OnOk result (table_view table.new ≡ put_some key number (table_view table.old)) }
+{
+    if let Some(number) = number {
+        put_number(alloc, table, key.as_str(), number)?;
+    }
     Ok(())
 }
 

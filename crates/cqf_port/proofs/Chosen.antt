@@ -6,6 +6,8 @@ use Rattle.std.specs.Int.{bit_at}
 use Rattle.std.proofs.lemmas.Bool.{cases_lt}
 use Rattle.std.proofs.lemmas.List.{get_or-set_same, get_or-set_other, length-set}
 use Rattle.std.proofs.lemmas.Nat.Bits.{bit_at_set_same, bit_at_set_other, bit_at-zero}
+use Rattle.cqf_units.specs.Timing.{time_of}
+use Rattle.cqf_units.proofs.Times.{time_some}
 use Rattle.cqf_lanes.specs.Kernels.{AreEligible, IsHighest}
 use Rattle.cqf_lanes.proofs.Bits.{one_from_set, set_from_one, unset_from_zero}
 use Rattle.cqf_model.specs.declared.ports.Arrival.{Arrival}
@@ -103,14 +105,14 @@ module _ (rules : PortRules) (arrivals : List Arrival) (heads : List (Option ℕ
     (some : 0 < rules.octet_time) (inside : AreInside arrivals heads) (open_for : AreSpansAt rules.entries t (2 ^ 62) spans)
     (asked : AreAsked rules.octet_time arrivals heads t spans 8 classes need left) where
   -- a frame takes some time
-  takes_some : (place : ℕ) → 0 < (octets_of arrivals place + 8) * rules.octet_time
-  takes_some place = grind arith
+  takes_some : (place : ℕ) → 0 < time_of (octets_of arrivals place + 8) rules.octet_time
+  takes_some place = time_some (octets_of arrivals place + 8) rules.octet_time (omega arith) some
 
   -- a head that fits is ready
   ready_from_fits : (class : ℕ) → class < 8 → (fits : HeadFits rules.octet_time arrivals (get_or heads class None) t (get_or spans class 0))
       → IsReady rules arrivals heads t class fits.place
   ready_from_fits class low fits =
-      let takes : ℕ = (octets_of arrivals fits.place + 8) * rules.octet_time in
+      let takes : ℕ = time_of (octets_of arrivals fits.place + 8) rules.octet_time in
       let small = asked.short class low low fits.place fits.is_head in
       let through : IsOpenThrough rules.entries class t (t + takes) = ((open_for.each class low) takes (takes_some fits.place) (omega arith)).1 fits.fits in
       record {
@@ -123,7 +125,7 @@ module _ (rules : PortRules) (arrivals : List Arrival) (heads : List (Option ℕ
   fits_from_ready : (class place : ℕ) → class < 8 → IsReady rules arrivals heads t class place →
       HeadFits rules.octet_time arrivals (get_or heads class None) t (get_or spans class 0)
   fits_from_ready class place low ready =
-      let takes : ℕ = (octets_of arrivals place + 8) * rules.octet_time in
+      let takes : ℕ = time_of (octets_of arrivals place + 8) rules.octet_time in
       let small = asked.short class low low place ready.is_head in
       let through : IsOpenThrough rules.entries class t (t + takes) =
       subst (λ k. IsOpenThrough rules.entries k t (t + takes)) (inside.classes class place low ready.is_head) ready.eligible in

@@ -1,6 +1,8 @@
 -- What isn't ready stays so until a head comes or fits.
 use Rattle.std.proofs.Common.{ℕ, ◌≡◌, ◌+◌, ◌*◌, ◌≤◌, ◌<◌, List, Option, None, Some, get_or, min, inl, inr, ap, sym, ◌∙◌, subst, arith}
 use Rattle.std.proofs.lemmas.Bool.{cases_lt}
+use Rattle.cqf_units.specs.Timing.{slot_of, time_of}
+use Rattle.cqf_units.proofs.Times.{slot_some}
 use Rattle.cqf_model.specs.declared.ports.Arrival.{Arrival}
 use Rattle.cqf_model.specs.GateList.{IsOpenThrough}
 use Rattle.cqf_model.specs.Port.{PortRules, Transmission, IsEligible, instant_of, class_of, octets_of}
@@ -28,8 +30,8 @@ steps_none rules arrivals t until starts before taken abreast later idle = recor
 }
 
 -- a frame and its gap take some time
-takes : (octet_time octets : ℕ) → 0 < octet_time → 0 < (octets + 20) * octet_time
-takes octet_time octets some = grind arith
+takes : (octet_time octets : ℕ) → 0 < octet_time → 0 < slot_of octets octet_time
+takes octet_time octets some = slot_some octets octet_time some
 
 -- a port that starts a frame
 pub steps_start : (rules : PortRules) (arrivals : List Arrival) (t place : ℕ) (starts all : List Transmission) (before after : Progress) →
@@ -65,27 +67,27 @@ place_in (Some place) = place
 
 -- where it fits nowhere, the head is not eligible
 pub idle_nowhere : (rules : PortRules) (arrivals : List Arrival) (head : Option ℕ) (class t until place need : ℕ) → head ≡ Some place →
-    class_of arrivals place ≡ class → need ≡ (octets_of arrivals place + 8) * rules.octet_time → FitsNowhere rules.entries class need t until
+    class_of arrivals place ≡ class → need ≡ time_of (octets_of arrivals place + 8) rules.octet_time → FitsNowhere rules.entries class need t until
     → IsIdleOf rules arrivals head t until
 idle_nowhere rules arrivals head class t until place need was of_class takes_so nowhere s other from soon is_head come eligible =
     let same : place ≡ other = ap place_in (sym was ∙ is_head) in
     let here : IsEligible rules arrivals place s = subst (λ n. IsEligible rules arrivals n s) (sym same) eligible in
-    let ends : s + (octets_of arrivals place + 8) * rules.octet_time ≡ s + need = ap (λ n. s + n) (sym takes_so) in
+    let ends : s + time_of (octets_of arrivals place + 8) rules.octet_time ≡ s + need = ap (λ n. s + n) (sym takes_so) in
     nowhere s from soon (subst (λ n. IsOpenThrough rules.entries class s n) ends
-    (subst (λ k. IsOpenThrough rules.entries k s (s + (octets_of arrivals place + 8) * rules.octet_time)) of_class here))
+    (subst (λ k. IsOpenThrough rules.entries k s (s + time_of (octets_of arrivals place + 8) rules.octet_time)) of_class here))
 
 -- where it fits once it has come, the head turns
 pub turns_fits : (rules : PortRules) (arrivals : List Arrival) (head : Option ℕ) (class t place need : ℕ) → head ≡ Some place →
-    class_of arrivals place ≡ class → need ≡ (octets_of arrivals place + 8) * rules.octet_time → instant_of arrivals place ≤ t →
+    class_of arrivals place ≡ class → need ≡ time_of (octets_of arrivals place + 8) rules.octet_time → instant_of arrivals place ≤ t →
     IsOpenThrough rules.entries class t (t + need) → Turns rules arrivals head t
 turns_fits rules arrivals head class t place need was of_class takes_so come fits =
-    let ends : t + need ≡ t + (octets_of arrivals place + 8) * rules.octet_time = ap (λ n. t + n) takes_so in
+    let ends : t + need ≡ t + time_of (octets_of arrivals place + 8) rules.octet_time = ap (λ n. t + n) takes_so in
     record {
       place = place;
       is_head = was;
       turns = inr (
         come,
-        subst (λ k. IsOpenThrough rules.entries k t (t + (octets_of arrivals place + 8) * rules.octet_time)) (sym of_class)
+        subst (λ k. IsOpenThrough rules.entries k t (t + time_of (octets_of arrivals place + 8) rules.octet_time)) (sym of_class)
             (subst (λ n. IsOpenThrough rules.entries class t n) ends fits),
       );
     }

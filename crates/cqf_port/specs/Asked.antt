@@ -1,6 +1,7 @@
 -- What the classes of a port ask for at an instant.
 use Rattle.std.specs.Prelude.{ℕ, ◌≡◌, ◌+◌, ◌*◌, ◌^◌, ◌≤◌, ◌<◌, ◌↔◌, List, length, Option, Some, None, IsBitSet, slice_index_or}
 use Rattle.cqf_model.specs.declared.ports.Arrival.{Arrival}
+use Rattle.cqf_units.specs.Timing.{time_of}
 use Rattle.cqf_model.specs.Port.{instant_of, octets_of}
 
 -- the head has come by t, and takes no longer than is left
@@ -8,7 +9,7 @@ pub record HeadFits (octet_time : ℕ) (arrivals : List Arrival) (head : Option 
   pub place : ℕ
   pub is_head : head ≡ Some place
   pub come : instant_of arrivals place ≤ t
-  pub fits : (octets_of arrivals place + 8) * octet_time ≤ left
+  pub fits : time_of (octets_of arrivals place + 8) octet_time ≤ left
 
 -- it hasn't, or takes longer
 abbrev pub NoHeadFits : ℕ → List Arrival → Option ℕ → ℕ → ℕ → Type 0
@@ -16,7 +17,7 @@ NoHeadFits octet_time arrivals head t left = ¬ HeadFits octet_time arrivals hea
 
 -- the head takes less than 2^43 nanoseconds
 abbrev pub IsShortFrame : ℕ → List Arrival → Option ℕ → Type 0
-IsShortFrame octet_time arrivals head = (place : ℕ) → head ≡ Some place → (octets_of arrivals place + 8) * octet_time < 2 ^ 43
+IsShortFrame octet_time arrivals head = (place : ℕ) → head ≡ Some place → time_of (octets_of arrivals place + 8) octet_time < 2 ^ 43
 
 -- of the classes below one that was seen, just those whose heads fit are set and need no longer than what is left; the
 -- others aren't set

@@ -1,7 +1,7 @@
 -- What a port is to its callers, what it keeps, and what each of its operations does.
 use Rattle.std.specs.Prelude.{ℕ, ◌≡◌, ◌≢◌, ◌^◌, ◌≤◌, ◌<◌, ◌==◌, ◌&&◌, ◌++◌, Bool, List, length, map, not, count_by, slice_index_or, Contains}
 use Rattle.std.specs.List.{enumerate_from, list_any}
-use Rattle.cqf_units.specs.Timing.{nanos_of_octet}
+use Rattle.cqf_units.specs.Timing.{ticks_of_octet}
 use Rattle.cqf_units.specs.declared.timing.Rate.{Rate}
 use Rattle.cqf_model.specs.declared.ports.Arrival.{Arrival}
 use Rattle.cqf_model.specs.declared.ports.Start.{Start}
@@ -10,7 +10,7 @@ use Rattle.cqf_model.specs.Port.{Transmission, PortRules, AreLegal, no_arrival, 
 
 -- what a port of a list and a rate goes by
 abbrev pub rules_of : List Entry → Rate → PortRules
-rules_of entries rate = record { entries = entries; octet_time = nanos_of_octet rate }
+rules_of entries rate = record { entries = entries; octet_time = ticks_of_octet rate }
 
 -- a port: what it goes by, the instant up to which it has run, the arrivals that it has taken, and the starts that it
 -- has handed out

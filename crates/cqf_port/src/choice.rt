@@ -1,6 +1,6 @@
 //! Which frame starts at an instant (IEEE Std 802.1Q-2018, 8.6.8.1 and 8.6.8.4).
 ghost use Rattle.std.specs.Prelude.{◌≡◌, ◌+◌, ◌^◌, ◌<◌, ◌≤◌, ◌↔◌, ◌*◌, ℕ, Some, MatchOption, length};
-ghost use Rattle.cqf_units.specs.Timing.{nanos_of_octet};
+ghost use Rattle.cqf_units.specs.Timing.{ticks_of_octet, time_of};
 ghost use Rattle.cqf_port.specs.PortState.{AreTaken, rules_of};
 ghost use Rattle.cqf_port.specs.Progress.{AreInside, NoneReady, IsChosen};
 ghost use Rattle.cqf_port.specs.Asked.{AreAsked, HeadFits, IsShortFrame, NoHeadFits};
@@ -8,7 +8,7 @@ ghost use Rattle.cqf_port.specs.Asked.{AreAsked, HeadFits, IsShortFrame, NoHeadF
 use crate::egress::Egress;
 use cqf_lanes::{eligible, highest};
 use cqf_model::Arrival;
-use cqf_units::{Nanos, Rate, octet_time};
+use cqf_units::{Nanos, Rate, time_of};
 
 /// What the classes ask for: those with a frame that waits behind an open gate, how long each takes, and how long the
 /// gate stays open. What is left is at most 4,294,967,295 ns, also where it is more or the class never closes; a frame
@@ -22,11 +22,11 @@ struct Asked {
 
 /// How long a frame of so many octets takes on the wire, in nanoseconds, with preamble and start delimiter (IEEE 802.3).
 pub(crate) fn need_of(octets: u32, rate: Rate) -> u64
-    ensures value { result ≡ (octets + 8) * nanos_of_octet rate }
+    ensures value { result ≡ time_of (octets + 8) (ticks_of_octet rate) }
     ensures short { result < 2 ^ 43 }
     ensures some { 0 < result }
 {
-    (u64::from(octets) + 8) * octet_time(rate)
+    time_of(u64::from(octets) + 8, rate)
 }
 
 /// How long the head of the class takes and how long its gate stays open, at most 4,294,967,295 ns each, where the head
@@ -39,8 +39,8 @@ fn asked_of(
     left: u64,
 ) -> Option<(u32, u32)>
     requires { (place : ℕ) → head ≡ Some place → place < length arrivals.now }
-    ensures short { IsShortFrame (nanos_of_octet rate) arrivals.now head }
-    ensures asked { let octet_time = nanos_of_octet rate in
+    ensures short { IsShortFrame (ticks_of_octet rate) arrivals.now head }
+    ensures asked { let octet_time = ticks_of_octet rate in
         MatchOption result (NoHeadFits octet_time arrivals.now head t.0 left) (λ asked. (asked.0 ≤ asked.1) ↔ HeadFits octet_time arrivals.now head t.0 left) }
 {
     let arrival = arrivals[head?];
@@ -64,7 +64,7 @@ fn ask(
     left: &[u64; 8],
 ) -> Asked
     requires { AreInside arrivals.now heads.now }
-    ensures { AreAsked (nanos_of_octet rate) arrivals.now heads.now t.0 left.now 8 result.classes result.need result.left }
+    ensures { AreAsked (ticks_of_octet rate) arrivals.now heads.now t.0 left.now 8 result.classes result.need result.left }
 {
     let mut asked = Asked {
         classes: 0,

@@ -1,6 +1,6 @@
 //! What a port remembers of where it stands, so that it needn't look through its starts again.
 ghost use Rattle.std.specs.Prelude.{◌≡◌, ◌+◌, ◌^◌, ◌<◌, length};
-ghost use Rattle.cqf_units.specs.Timing.{nanos_of_octet, idle_after};
+ghost use Rattle.cqf_units.specs.Timing.{ticks_of_octet, idle_after};
 ghost use Rattle.cqf_model.specs.Port.{class_of};
 ghost use Rattle.cqf_port.specs.Progress.{IsNextOf, IsAfterStart, IsAfterArrival};
 
@@ -31,7 +31,7 @@ fn next_of_class(arrivals: &[Arrival], first: usize, class: u8) -> Option<usize>
 /// The instant from which the port may start again behind a frame of so many octets.
 fn idle_behind(octets: u32, rate: Rate, start: Nanos) -> Nanos
     requires { start.0 < 2 ^ 62 }
-    ensures value { result.0 ≡ idle_after start.0 octets (nanos_of_octet rate) }
+    ensures value { result.0 ≡ idle_after start.0 octets (ticks_of_octet rate) }
     ensures soon { result.0 < 2 ^ 63 }
 {
     idle_from(start, Octets(octets), rate)
@@ -48,7 +48,7 @@ pub(crate) fn after_start(
     requires inside { place < length arrivals.now }
     requires class { class_of arrivals.now place < 8 }
     requires early { t.0 < 2 ^ 62 }
-    ensures { IsAfterStart (nanos_of_octet rate) arrivals.now place t.0 before result }
+    ensures { IsAfterStart (ticks_of_octet rate) arrivals.now place t.0 before result }
 {
     let arrival = arrivals[place];
     let mut after = before;

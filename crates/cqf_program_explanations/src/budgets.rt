@@ -6,7 +6,7 @@ use crate::places::Grouped;
 use crate::plant::WrittenItem;
 use crate::stream_faults::{MOST_EVERY, WrittenPace, WrittenStream, streams_of};
 use crate::told::ToldLines;
-use cqf_model::LARGE;
+use cqf_model::{LARGE, MOST_OCTETS};
 use std::alloc::{AllocError, Global};
 use std::collections::BTreeMap;
 
@@ -59,7 +59,11 @@ fn cost_of(octets: u64) -> u64 {
 fn greatest_within(left: u64) -> u64 {
     let (frames, rest) = (left / SHORTEST_COST, left % SHORTEST_COST);
     let octets = frames.saturating_mul(64).saturating_add(rest.min(63));
-    if frames == 0 { 0 } else { octets.min(60_000) }
+    if frames == 0 {
+        0
+    } else {
+        octets.min(u64::from(MOST_OCTETS))
+    }
 }
 
 /// The links of a stream's tree, each once, in the order in which they first stand.
@@ -175,13 +179,11 @@ impl<'p> Placed<'p> {
         let mut least: u64 = 0;
         for hop in tree {
             let held = self.held_beside(*hop, pace);
-            let octet_time = self
-                .network
-                .links
-                .get(hop.link)
-                .map_or(0, |link| link.octet_time());
-            let open = held.saturating_add(cost).saturating_mul(octet_time);
-            least = least.max(open.saturating_add(self.network.guard));
+            if let Some(link) = self.network.links.get(hop.link) {
+                let ticks = held.saturating_add(cost).saturating_mul(link.shortest());
+                let open = ticks.div_ceil(2100);
+                least = least.max(open.saturating_add(link.guard));
+            }
         }
         least
     }

@@ -18,6 +18,9 @@ const COUNTED: [&str; 3] = ["bridges", "stations", "links"];
 /// The octets of the gap behind a frame (IEEE 802.3).
 const GAP_OCTETS: u64 = 12;
 
+/// The octets of a shortest frame with its preamble and start delimiter (IEEE 802.3).
+const SHORTEST_OCTETS: u64 = 72;
+
 /// Tells of each name of an array that stood before, and keeps where the others stand.
 fn tell_taken<'p>(
     given: &CommandInput<'_>,
@@ -318,20 +321,51 @@ pub(crate) fn tell_guard(given: &CommandInput<'_>, told: &mut ToldLines) -> Resu
     Ok(())
 }
 
-/// Tells of each link whose delay isn't below the guard time.
+/// Tells of each link whose own guard time isn't below the cycle time, of several the greatest.
+pub(crate) fn tell_link_guards(
+    given: &CommandInput<'_>,
+    told: &mut ToldLines,
+) -> Result<(), AllocError> {
+    let (network, cycle) = (given.network()?, greatest_cycle(given)?);
+    for link in &network.links {
+        let is_own = link.item.get("guard").is_some();
+        let is_long = is_own && link.guard >= cycle && is_checked(given, &network, link);
+        if is_long && !told.is_counted() {
+            let (place, label) = (link.item.place_of("guard"), link.item.label(given.alloc)?);
+            let (guard, cycle) = (Grouped(link.guard), Grouped(cycle));
+            told.tell(format!(in given.alloc;
+                "{place}: {label}: the guard time of {guard} ns isn't below the cycle time of {cycle} ns"
+            )?)?;
+        }
+    }
+    Ok(())
+}
+
+/// What is said of a delay that is too long for a guard time, where clocks may be so far apart, all in ns.
+fn delay_words(alloc: Global, delay: u64, sync: u64, guard: u64) -> Result<String, AllocError> {
+    let (delay, guard) = (Grouped(delay), Grouped(guard));
+    if sync == 0 {
+        return format!(in alloc; "a delay of {delay} ns isn't below the guard time of {guard} ns");
+    }
+    let sync = Grouped(sync);
+    format!(in alloc;
+        "a delay of {delay} ns and clocks {sync} ns apart aren't below the guard time of {guard} ns"
+    )
+}
+
+/// Tells of each link whose greatest delay, with how far clocks may be apart, isn't below its guard time.
 pub(crate) fn tell_delays(
     given: &CommandInput<'_>,
     told: &mut ToldLines,
 ) -> Result<(), AllocError> {
     let network = given.network()?;
     for link in &network.links {
-        let is_long = link.delay >= network.guard && is_checked(given, &network, link);
+        let together = link.delay.saturating_add(network.sync);
+        let is_long = together >= link.guard && is_checked(given, &network, link);
         if is_long && !told.is_counted() {
             let (place, label) = (link.item.place_of("delay"), link.item.label(given.alloc)?);
-            let (delay, guard) = (Grouped(link.delay), Grouped(network.guard));
-            told.tell(format!(in given.alloc;
-                "{place}: {label}: a delay of {delay} ns isn't below the guard time of {guard} ns"
-            )?)?;
+            let why = delay_words(given.alloc, link.delay, network.sync, link.guard)?;
+            told.tell(format!(in given.alloc; "{place}: {label}: {why}")?)?;
         }
     }
     Ok(())
@@ -341,13 +375,32 @@ pub(crate) fn tell_delays(
 pub(crate) fn tell_gaps(given: &CommandInput<'_>, told: &mut ToldLines) -> Result<(), AllocError> {
     let network = given.network()?;
     for link in &network.links {
-        let gap = link.octet_time().saturating_mul(GAP_OCTETS);
-        let is_long = gap > network.guard && is_checked(given, &network, link);
+        let gap = link.time_of(GAP_OCTETS);
+        let is_long = gap > link.guard && is_checked(given, &network, link);
         if is_long && !told.is_counted() {
             let (place, label) = (link.item.place_of("rate"), link.item.label(given.alloc)?);
-            let (rate, gap, guard) = (link.rate, Grouped(gap), Grouped(network.guard));
+            let (rate, gap, guard) = (link.rate, Grouped(gap), Grouped(link.guard));
             told.tell(format!(in given.alloc;
                 "{place}: {label}: the gap of 12 octets takes {gap} ns at {rate} Mb/s, more than the guard time of {guard} ns"
+            )?)?;
+        }
+    }
+    Ok(())
+}
+
+/// Tells of each link on which a shortest frame takes less, with the least delay, than clocks may be apart.
+pub(crate) fn tell_syncs(given: &CommandInput<'_>, told: &mut ToldLines) -> Result<(), AllocError> {
+    let network = given.network()?;
+    for link in &network.links {
+        let shortest = link.time_of(SHORTEST_OCTETS);
+        let most = shortest.saturating_add(link.least);
+        let is_long = network.sync > most && is_checked(given, &network, link);
+        if is_long && !told.is_counted() {
+            let (place, label) = (link.item.place_of("delay"), link.item.label(given.alloc)?);
+            let (shortest, least) = (Grouped(shortest), Grouped(link.least));
+            let (sync, most) = (network.sync, Grouped(most));
+            told.tell(format!(in given.alloc;
+                "{place}: {label}: sync = {sync}: a shortest frame takes {shortest} ns and the least delay is {least} ns, so at most {most}"
             )?)?;
         }
     }

@@ -4,8 +4,8 @@ ghost use Rattle.cqf_program_explanations.specs.Explanations.{IsExplanation};
 
 use crate::budgets::{TriedStreams, tell_refused};
 use crate::domain_faults::{
-    tell_delays, tell_gaps, tell_guard, tell_links_twice, tell_name_taken, tell_too_many,
-    tell_two_talkers, tell_unknown_names,
+    tell_delays, tell_gaps, tell_guard, tell_link_guards, tell_links_twice, tell_name_taken,
+    tell_syncs, tell_too_many, tell_two_talkers, tell_unknown_names,
 };
 use crate::given::{CommandInput, given_of};
 use crate::part_faults::tell_parts;
@@ -45,9 +45,11 @@ fn tell_text(
         "GateTwice" => tell_gates_twice(given, told),
         "TwoTalkerLinks" => tell_two_talkers(given, told),
         "GuardTooLong" => tell_guard(given, told),
+        "LinkGuardTooLong" => tell_link_guards(given, told),
         "DelayTooLong" => tell_delays(given, told),
         "GapTooLong" => tell_gaps(given, told),
         "TooMany" => tell_too_many(given, told),
+        "SyncTooLong" => tell_syncs(given, told),
         _ => Ok(()),
     }
 }

@@ -1,7 +1,7 @@
 //! What may stand at each key of a plant (profile).
 
 use crate::lexer::before_comment;
-use crate::plant::{FoundKey, KeyOwner};
+use crate::plant::{FoundKey, KeyOwner, number_of};
 use crate::words::{shortened, shown};
 use cqf_model::{Limits, PROFILE};
 use cqf_units::Name;
@@ -34,6 +34,10 @@ const MAC_FORM: &str =
 const INTERFACE_FORM: &str =
     "an interface is 1 to 15 of letters, digits and . _ - @, a letter or a digit first";
 
+/// The form of the delays of a link, where there are two, in words.
+pub(crate) const DELAYS_FORM: &str =
+    "a delay is a whole number, 0 to 10,000,000 ns, or two, the least first";
+
 /// The form of the cycle times of a sketch, in words.
 pub(crate) const CYCLES_FORM: &str =
     "a cycle time is a whole number, 10,000 to 10,000,000 ns, and a sketch may have an array of 1 to 1,000 of them";
@@ -45,8 +49,10 @@ pub(crate) enum Form {
     Number(i64, i64),
     /// A cycle time, or an array of some.
     Cycles,
-    /// 10, 100 or 1000.
+    /// One of the nine of links.
     Rate,
+    /// A delay, or the least and the greatest.
+    Delay,
     Name,
     Text,
     /// A name, or an array of 1 to 64 different names.
@@ -84,6 +90,10 @@ fn form_of_top(key: &str) -> Option<(Form, &'static str)> {
             Form::Number(1, 10_000_000),
             "a guard time is a whole number, 1 to 10,000,000 ns",
         )),
+        "sync" => Some((
+            Form::Number(0, 10_000_000),
+            "sync is how far any two clocks may be apart: a whole number, 0 to 10,000,000 ns",
+        )),
         "bridges" => Some((Form::Names, "bridges is an array of one name or more")),
         "stations" => Some((Form::Names, "stations is an array of names")),
         "links" => Some((
@@ -102,11 +112,12 @@ fn form_of_top(key: &str) -> Option<(Form, &'static str)> {
 fn form_of_link(key: &str) -> Option<(Form, &'static str)> {
     match key {
         "from" | "to" => Some((Form::Name, NAME_FORM)),
-        "rate" => Some((Form::Rate, "a rate is 10, 100 or 1000 (Mb/s)")),
-        "delay" => Some((
-            Form::Number(0, 10_000_000),
-            "a delay is a whole number, 0 to 10,000,000 ns",
+        "rate" => Some((
+            Form::Rate,
+            "a rate is 10, 100, 1000, 2500, 5000, 10000, 25000, 40000 or 100000 (Mb/s)",
         )),
+        "delay" => Some((Form::Delay, "a delay is a whole number, 0 to 10,000,000 ns")),
+        "guard" => form_of_top(key),
         "duplex" => Some((Form::Boolean, "duplex is true or false")),
         "interface" | "far-interface" => Some((Form::Interface, INTERFACE_FORM)),
         _ => None,
@@ -119,7 +130,7 @@ fn form_of_stream(key: &str) -> Option<(Form, &'static str)> {
         "name" => Some((Form::Text, "a name is a text in quotes")),
         "octets" => Some((
             Form::Number(0, 4_294_967_295),
-            "a reservation is a whole number, 64 to 60,000 octets a cycle",
+            "a reservation is a whole number, 64 to 1,000,000 octets a cycle",
         )),
         "every" => Some((Form::Number(0, 4_294_967_295), EVERY_FORM)),
         "phase" => Some((Form::Number(0, 4_294_967_295), PHASE_FORM)),
@@ -255,6 +266,26 @@ fn is_number(least: i64, most: i64, value: &Value) -> bool {
     }
 }
 
+/// Whether the value is a delay.
+fn is_delay(value: &Value) -> bool {
+    is_number(0, 10_000_000, value)
+}
+
+/// Whether the value is an array of two delays, the least first.
+fn are_delays(value: &Value) -> bool {
+    match value.as_array() {
+        Some(values) => match (values.as_slice().first(), values.as_slice().get(1)) {
+            (Some(least), Some(greatest)) => {
+                let are_two = values.as_slice().len() == 2;
+                let are_ordered = number_of(least) <= number_of(greatest);
+                are_two && is_delay(least) && is_delay(greatest) && are_ordered
+            }
+            _ => false,
+        },
+        None => false,
+    }
+}
+
 /// Whether the value is a cycle time.
 fn is_cycle(value: &Value) -> bool {
     is_number(10_000, 10_000_000, value)
@@ -320,7 +351,11 @@ pub(crate) fn fits(form: Form, value: &Value) -> bool {
     match form {
         Form::Number(least, most) => is_number(least, most, value),
         Form::Cycles => are_cycles(value),
-        Form::Rate => matches!(value.as_integer(), Some(10 | 100 | 1000)),
+        Form::Rate => matches!(
+            value.as_integer(),
+            Some(10 | 100 | 1000 | 2500 | 5000 | 10_000 | 25_000 | 40_000 | 100_000)
+        ),
+        Form::Delay => is_delay(value) || are_delays(value),
         Form::Name => is_name(value),
         Form::Text => value.is_str(),
         Form::Ends => is_name(value) || are_ends(value),

@@ -6,7 +6,7 @@
 //!
 //! ```text
 //! cqf: domain: BadValue rate
-//!   plant.toml:12: link 3, a>b: rate = 2500: a rate is 10, 100 or 1000 (Mb/s)
+//!   plant.toml:12: link 3, a>b: rate = 250: a rate is 10, 100, 1000, 2500, 5000, 10000, 25000, 40000 or 100000 (Mb/s)
 //! ```
 //!
 //! The second line is the explanation. All things with the refusal's fault are told, at most 20, in the order of the texts. What is

@@ -1,11 +1,12 @@
 //! The network of a plant: its nodes and links by name.
 
-use crate::plant::{FoundKey, KeyOwner, Plant, WrittenItem};
+use crate::plant::{FoundKey, KeyOwner, Plant, WrittenItem, number_of};
 use crate::sketch::{is_duplex, talker_of};
 use crate::words::question;
 use cqf_model::Limits;
 use std::alloc::{AllocError, Global};
 use std::collections::BTreeMap;
+use toml::Value;
 
 /// A link as it is written; what isn't there is empty or 0.
 #[derive(Clone, Copy)]
@@ -15,8 +16,11 @@ pub(crate) struct WrittenLink<'p> {
     pub to: &'p str,
     /// In Mb/s.
     pub rate: u64,
-    /// In ns.
+    /// The greatest delay and the least, in ns.
     pub delay: u64,
+    pub least: u64,
+    /// Its own guard time, in ns, or else the network's.
+    pub guard: u64,
 }
 
 /// Places by the name of a node and that of another.
@@ -39,6 +43,8 @@ pub(crate) struct Network<'p> {
     /// In ns.
     pub cycle: u64,
     pub guard: u64,
+    /// How far any two clocks may be apart.
+    pub sync: u64,
     pub limits: Limits,
     /// Whether it is a sketch's, in which a link may stand for two, there and back.
     pub is_sketch: bool,
@@ -54,14 +60,34 @@ fn put_texts<'p>(texts: &mut Vec<&'p str>, names: &[FoundKey<'p>]) -> Result<(),
     Ok(())
 }
 
-/// A link as it is written.
-fn link_of<'p>(item: &WrittenItem<'p>) -> WrittenLink<'p> {
+/// The delays of a link, the least and the greatest, in ns: one number is both.
+pub(crate) fn delays_of(item: &WrittenItem<'_>) -> (u64, u64) {
+    match item.get("delay").and_then(Value::as_array) {
+        Some(delays) => {
+            let delays = delays.as_slice();
+            (
+                delays.first().map_or(0, number_of),
+                delays.get(1).map_or(0, number_of),
+            )
+        }
+        None => {
+            let delay = item.number("delay");
+            (delay, delay)
+        }
+    }
+}
+
+/// A link as it is written, in a network of this guard time.
+fn link_of<'p>(item: &WrittenItem<'p>, guard: u64) -> WrittenLink<'p> {
+    let (least, delay) = delays_of(item);
     WrittenLink {
         item: *item,
         from: item.text("from").unwrap_or(""),
         to: item.text("to").unwrap_or(""),
         rate: item.number("rate"),
-        delay: item.number("delay"),
+        delay,
+        least,
+        guard: item.get("guard").map_or(guard, number_of),
     }
 }
 
@@ -81,9 +107,10 @@ pub(crate) fn network_of<'p>(
     let mut network = nodes_alone(alloc, bridges, nodes, limits)?;
     network.cycle = plant.number("cycle");
     network.guard = plant.number("guard");
+    network.sync = plant.number("sync");
     network.is_sketch = is_sketch;
     for item in &items {
-        network.put_link(alloc, link_of(item))?;
+        network.put_link(alloc, link_of(item, network.guard))?;
     }
     Ok(network)
 }
@@ -111,6 +138,7 @@ fn nodes_alone<'p>(
         talkers: BTreeMap::new(alloc),
         cycle: 0,
         guard: 0,
+        sync: 0,
         limits,
         is_sketch: false,
     })
@@ -126,9 +154,27 @@ pub(crate) fn smallest_network<'p>(
 }
 
 impl WrittenLink<'_> {
-    /// How long an octet takes, in ns: 8,000 octet times a millisecond at 1 Mb/s (IEEE 802.3).
-    pub(crate) fn octet_time(&self) -> u64 {
-        8000u64.checked_div(self.rate).unwrap_or(0)
+    /// How long an octet takes, in ticks of 40 ps: 200,000 of them at 1 Mb/s (IEEE 802.3).
+    pub(crate) fn octet_ticks(&self) -> u64 {
+        200_000u64.checked_div(self.rate).unwrap_or(0)
+    }
+
+    /// How long so many octets take, in ns, the last of which counts whole.
+    pub(crate) fn time_of(&self, octets: u64) -> u64 {
+        octets.saturating_mul(self.octet_ticks()).div_ceil(25)
+    }
+
+    /// The most ticks that a frame of the shortest size takes.
+    pub(crate) fn shortest(&self) -> u64 {
+        let ticks = self.octet_ticks();
+        let rounding = if ticks % 25 == 0 {
+            0
+        } else if ticks % 5 == 0 {
+            20
+        } else {
+            24
+        };
+        ticks.saturating_mul(84).saturating_add(rounding)
     }
 }
 
@@ -226,7 +272,9 @@ impl<'p> Network<'p> {
 
     /// What a link may hold in a cycle, in octets (profile).
     pub(crate) fn budget(&self, link: &WrittenLink<'_>) -> u64 {
-        let open = self.cycle.saturating_sub(self.guard);
-        open.checked_div(link.octet_time()).unwrap_or(0)
+        let open = self.cycle.saturating_sub(link.guard);
+        open.saturating_mul(2100)
+            .checked_div(link.shortest())
+            .unwrap_or(0)
     }
 }

@@ -4,6 +4,7 @@ ghost use Rattle.cqf_program_explanations.specs.Explanations.{AreNotes};
 
 use crate::explaining::NamedFile;
 use crate::given::{CommandInput, given_of};
+use crate::network::delays_of;
 use crate::parts::takes_domain;
 use crate::places::Grouped;
 use crate::plant::{FoundKey, KeyOwner, WrittenItem};
@@ -64,7 +65,13 @@ fn note_nanos(
         if most == 0 && value > 0 {
             first = Some(*item);
         }
-        most = most.max(value);
+        // of two delays the greatest counts
+        let (_, greatest) = delays_of(item);
+        most = most.max(if nanos.key == "delay" {
+            greatest
+        } else {
+            value
+        });
     }
     let Some(item) = first else {
         return Ok(());

@@ -6,7 +6,7 @@ use crate::network::Network;
 use crate::places::Grouped;
 use crate::plant::{KeyOwner, WrittenItem};
 use crate::refusal::Refusal;
-use crate::sketch::{is_in_step, listeners_of, longest_frame, time_on};
+use crate::sketch::{candidates_of, is_in_step, listeners_of, longest_frame, time_on};
 use crate::stream_faults::{FormFault, form_fault_of, tell_form_faults};
 use crate::told::ToldLines;
 use crate::words::{question, shortened};
@@ -187,7 +187,7 @@ fn tell_needs(
     }
     let place = item.place_of("interval");
     told.tell(format!(in given.alloc;
-        "{place}: {label}: its traffic needs {needed} octets a cycle, and a reservation is at most 60,000: a shorter cycle, or several streams"
+        "{place}: {label}: its traffic needs {needed} octets a cycle, and a reservation is at most 1,000,000: a shorter cycle, or several streams"
     )?)
 }
 
@@ -288,17 +288,103 @@ fn tell_many_hops(
     tell_form_faults(given, told, FormFault::TooManyHops)
 }
 
+/// The cycle time that was tried, in ns: that of the line, or else the first of the file's.
+fn cycle_tried(given: &CommandInput<'_>, refusal: Refusal<'_>) -> Result<u64, AllocError> {
+    let told = cycle_of(refusal);
+    if told > 0 {
+        return Ok(told);
+    }
+    let candidates = candidates_of(given)?;
+    Ok(candidates.first().copied().unwrap_or(0))
+}
+
+/// What of a stream's traffic is in the way of its talker's being in step on a cycle time, in ns: the key that it stands at, and words. Nothing
+/// where it is another cycle time.
+fn step_words(
+    given: &CommandInput<'_>,
+    item: &WrittenItem<'_>,
+    cycle: u64,
+) -> Result<Option<(&'static str, String)>, AllocError> {
+    let (alloc, sync) = (given.alloc, given.plant.number("sync"));
+    if item.get("interval").is_none() {
+        let words = String::from_str(alloc, "there is no traffic to be in step with")?;
+        return Ok(Some(("in-step", words)));
+    }
+    let interval = item.number("interval");
+    if interval.checked_rem(cycle).unwrap_or(0) != 0 {
+        let words = uneven_words(alloc, interval, cycle)?;
+        return Ok(Some(("interval", words)));
+    }
+    let first = item.number("offset").checked_rem(cycle).unwrap_or(0);
+    let latest = first.saturating_add(item.number("jitter"));
+    if first < sync {
+        let words = first_words(alloc, first, sync)?;
+        return Ok(Some(("offset", words)));
+    }
+    if latest.saturating_add(sync) >= cycle {
+        let words = latest_words(alloc, latest, sync, cycle)?;
+        return Ok(Some(("jitter", words)));
+    }
+    Ok(None)
+}
+
+/// Tells of a stream whose talker can't be in step on a cycle time, in ns.
+fn tell_out_of_step(
+    given: &CommandInput<'_>,
+    told: &mut ToldLines,
+    item: &WrittenItem<'_>,
+    cycle: u64,
+) -> Result<(), AllocError> {
+    match step_words(given, item, cycle)? {
+        Some((key, words)) => {
+            let (place, label) = (item.place_of(key), item.label(given.alloc)?);
+            told.tell(format!(in given.alloc; "{place}: {label}: {words}")?)
+        }
+        None => Ok(()),
+    }
+}
+
+/// What is said of an interval that isn't whole cycles, in ns.
+fn uneven_words(alloc: Global, interval: u64, cycle: u64) -> Result<String, AllocError> {
+    let (interval, cycle) = (Grouped(interval), Grouped(cycle));
+    format!(in alloc; "an interval of {interval} ns isn't whole cycles of {cycle} ns")
+}
+
+/// What is said of frames that may come so soon behind a cycle's beginning, where clocks may be so far apart, in ns.
+fn first_words(alloc: Global, first: u64, sync: u64) -> Result<String, AllocError> {
+    let (first, sync) = (Grouped(first), Grouped(sync));
+    format!(in alloc;
+        "its frames come from {first} ns behind a cycle's beginning on, and clocks are {sync} ns apart"
+    )
+}
+
+/// What is said of frames that come so late behind a cycle's beginning, where clocks may be so far apart, all in ns.
+fn latest_words(alloc: Global, latest: u64, sync: u64, cycle: u64) -> Result<String, AllocError> {
+    let (latest, cycle) = (Grouped(latest), Grouped(cycle));
+    if sync == 0 {
+        return format!(in alloc;
+            "its frames come up to {latest} ns behind a cycle's beginning, and a cycle takes {cycle} ns"
+        );
+    }
+    let sync = Grouped(sync);
+    format!(in alloc;
+        "its frames come up to {latest} ns behind a cycle's beginning by clocks {sync} ns apart, and a cycle takes {cycle} ns"
+    )
+}
+
 /// Tells of a stream of a name why it isn't placed.
 fn tell_unplaced(
     given: &CommandInput<'_>,
     told: &mut ToldLines,
     item: &WrittenItem<'_>,
     unplaced: Unplaced<'_>,
+    cycle: u64,
 ) -> Result<(), AllocError> {
     match unplaced.fault {
         "NoWay" => tell_no_way(given, told, item, unplaced.value),
         "TooSoon" => tell_too_soon(given, told, item),
         "TooMuch" | "TooLittle" => tell_needs(given, told, item, unplaced),
+        "BadInStep" => tell_out_of_step(given, told, item, cycle),
         "BudgetShort" => tell_short(given, told, item, unplaced.value),
         "Full" => tell_full(given, told, item, unplaced.value),
         "Late" => tell_late(given, told, item, unplaced.value),
@@ -336,7 +422,8 @@ pub(crate) fn tell_plan(
     }
     for item in &given.plant.items(KeyOwner::Stream)? {
         if item.text("name") == Some(unplaced.stream) {
-            return tell_unplaced(given, told, item, unplaced);
+            let cycle = cycle_tried(given, refusal)?;
+            return tell_unplaced(given, told, item, unplaced, cycle);
         }
     }
     Ok(())

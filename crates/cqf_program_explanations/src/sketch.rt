@@ -77,9 +77,7 @@ pub(crate) fn longest_frame(item: &WrittenItem<'_>) -> u64 {
 /// What a talker's link takes until a frame is whole at the edge bridge, in ns.
 pub(crate) fn time_on(link: &WrittenLink<'_>, octets: u64) -> u64 {
     let octets = octets.saturating_add(PREAMBLE);
-    octets
-        .saturating_mul(link.octet_time())
-        .saturating_add(link.delay)
+    link.time_of(octets).saturating_add(link.delay)
 }
 
 /// The listeners of a stream that has ends: one name, or an array of them.

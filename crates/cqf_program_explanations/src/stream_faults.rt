@@ -7,7 +7,7 @@ use crate::places::{Grouped, Place};
 use crate::plant::{KeyOwner, WrittenItem, number_of};
 use crate::told::ToldLines;
 use crate::words::shortened;
-use cqf_model::LARGE;
+use cqf_model::{LARGE, MOST_OCTETS};
 use cqf_units::Name;
 use std::alloc::{AllocError, Global};
 use std::collections::BTreeMap;
@@ -308,7 +308,9 @@ impl WrittenStream<'_> {
         let paths = self.paths.as_slice();
         if Name::new(self.name.as_bytes()).is_none() {
             Some(FormFault::BadName)
-        } else if self.item.get("octets").is_some() && (self.octets < 64 || self.octets > 60_000) {
+        } else if self.item.get("octets").is_some()
+            && (self.octets < 64 || self.octets > u64::from(MOST_OCTETS))
+        {
             Some(FormFault::BadOctets)
         } else if !self.pace.is_good() {
             Some(FormFault::BadPace)
@@ -553,7 +555,7 @@ fn tell_form(
         FormFault::BadOctets => {
             let (place, octets) = (asked.item.place_of("octets"), asked.octets);
             told.tell(format!(in given.alloc;
-                "{place}: {label}: octets = {octets}: a reservation is 64 to 60,000 octets a cycle"
+                "{place}: {label}: octets = {octets}: a reservation is 64 to 1,000,000 octets a cycle"
             )?)
         }
         FormFault::BadPace => tell_pace(given, told, asked),

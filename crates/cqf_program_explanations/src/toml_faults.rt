@@ -1,7 +1,8 @@
 //! Texts that aren't TOML, keys that are missing, and values of another form.
 
 use crate::forms::{
-    CYCLES_FORM, Form, NAME_FORM, fits, form_of, form_of_gate, is_name, told_value, written,
+    CYCLES_FORM, DELAYS_FORM, Form, NAME_FORM, fits, form_of, form_of_gate, is_name, told_value,
+    written,
 };
 use crate::given::CommandInput;
 use crate::hints::{is_open, plan_hint};
@@ -24,10 +25,13 @@ pub(crate) fn known_keys(kind: KeyOwner) -> &'static [&'static str] {
     }
 }
 
-/// Whose key it is that a part lacks or has in another form.
+/// The key of the top that a link may have too.
+const GUARD: &str = "guard";
+
+/// Whose key it is that a part lacks or has in another form. Of one that links may have beside the top it is the top.
 fn kind_of(part: &str, key: &str) -> KeyOwner {
     if part == "domain" {
-        if LINK.contains(&key) {
+        if key != GUARD && LINK.contains(&key) {
             KeyOwner::Link
         } else {
             KeyOwner::Top
@@ -413,6 +417,8 @@ fn bad_form(given: &CommandInput<'_>, item: &WrittenItem<'_>, key: &str) -> Opti
         Some("give every and phase, or in-step, not both")
     } else if fits(form, value) {
         None
+    } else if key == "delay" && value.is_array() {
+        Some(DELAYS_FORM)
     } else {
         Some(words)
     }
@@ -454,6 +460,7 @@ pub(crate) fn tell_bad_value(
             match key {
                 "bridges" | "stations" => tell_bad_names(given, told, key),
                 "links" | "streams" => tell_bad_tables(given, told, key),
+                GUARD => tell_bad_within(given, told, KeyOwner::Link, key),
                 _ => Ok(()),
             }
         }

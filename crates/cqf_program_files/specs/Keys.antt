@@ -6,11 +6,11 @@ use Rattle.toml.specs.Data.{Items, no_items, item, Members, no_members, member, 
 
 -- the keys that commands know: of the top, of a link and of a stream
 abbrev pub top_keys : List (List ℕ)
-top_keys = codes "cycle" ∷ codes "guard" ∷ codes "bridges" ∷ codes "stations" ∷ codes "links" ∷ codes "streams" ∷ []
+top_keys = codes "cycle" ∷ codes "guard" ∷ codes "sync" ∷ codes "bridges" ∷ codes "stations" ∷ codes "links" ∷ codes "streams" ∷ []
 
 abbrev pub link_keys : List (List ℕ)
 link_keys =
-    codes "from" ∷ codes "to" ∷ codes "rate" ∷ codes "delay" ∷ codes "duplex" ∷ codes "interface" ∷ codes "far-interface" ∷ []
+    codes "from" ∷ codes "to" ∷ codes "rate" ∷ codes "delay" ∷ codes "guard" ∷ codes "duplex" ∷ codes "interface" ∷ codes "far-interface" ∷ []
 
 abbrev pub stream_keys : List (List ℕ)
 stream_keys =

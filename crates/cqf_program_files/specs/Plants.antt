@@ -82,7 +82,7 @@ plant_of tables = plant_by tables top_keys
 
 -- a key that may stand once stands in two of the tables
 abbrev pub single_keys : List (List ℕ)
-single_keys = codes "cycle" ∷ codes "guard" ∷ []
+single_keys = codes "cycle" ∷ codes "guard" ∷ codes "sync" ∷ []
 
 abbrev pub stands_twice : List Members → List ℕ → Bool
 stands_twice tables key = nat_le 2 (count_by (λ table. is_some (get_member key table)) tables)

@@ -315,7 +315,7 @@ fn check_header(
 /// # Errors
 /// Where the job takes a domain, status 1 and the line of the first fault: of files whose names end with `.toml`, and then of the first file
 /// where no line divides it, a line that is too long to be parsed, and then a key that no command knows; of several files that are one plant
-/// one that isn't TOML, streams in the first two, `cycle` or `guard` in two; and an only file behind a plant that is empty, of a job that
+/// one that isn't TOML, streams in the first two, `cycle`, `guard` or `sync` in two; and an only file behind a plant that is empty, of a job that
 /// reads a script. Status 3 for want of memory.
 pub fn front_of(alloc: Global, job: &Job, names: &[&str], texts: &[&[u8]]) -> Result<Front, Stop>
     requires { length names.now ≡ length texts.now }

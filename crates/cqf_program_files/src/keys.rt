@@ -9,14 +9,17 @@ ghost use Rattle.cqf_program_files.specs.Keys.{strange_key};
 use toml::{Table, Value};
 
 /// The keys of a plant's top that commands know (profile).
-pub const TOP: [&str; 6] = ["cycle", "guard", "bridges", "stations", "links", "streams"];
+pub const TOP: [&str; 7] = [
+    "cycle", "guard", "sync", "bridges", "stations", "links", "streams",
+];
 
 /// Those of a link (profile).
-pub const LINK: [&str; 7] = [
+pub const LINK: [&str; 8] = [
     "from",
     "to",
     "rate",
     "delay",
+    "guard",
     "duplex",
     "interface",
     "far-interface",

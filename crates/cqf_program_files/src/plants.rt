@@ -51,7 +51,7 @@ fn stands_twice(tables: &[Table], key: &str) -> bool
     tables.iter().filter(|table| has(table, key)).count() >= 2
 }
 
-/// The first of the keys that may stand once, `cycle` and `guard`, that stands in two of the tables.
+/// The first of the keys that may stand once, `cycle`, `guard` and `sync`, that stands in two of the tables.
 pub(crate) fn key_twice(tables: &[Table]) -> Option<&'static str>
     ensures { option_map (λ key. key.now) result ≡ key_twice (map table_view tables.now) }
 {
@@ -60,6 +60,9 @@ pub(crate) fn key_twice(tables: &[Table]) -> Option<&'static str>
     }
     if stands_twice(tables, "guard") {
         return Some("guard");
+    }
+    if stands_twice(tables, "sync") {
+        return Some("sync");
     }
     None
 }

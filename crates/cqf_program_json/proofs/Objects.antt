@@ -17,8 +17,10 @@ use Rattle.cqf_compile.proofs.Paces.{short_round}
 use Rattle.cqf_compile.specs.BridgeGates.{gate_at, way_to}
 use Rattle.cqf_model.specs.declared.gates.StreamEntry.{StreamEntry}
 use Rattle.cqf_model.specs.declared.topology.Row.{Row}
-use Rattle.cqf_model.specs.Domain.{Domain, leaves}
+use Rattle.cqf_model.specs.Domain.{Domain, guard_of, leaves}
 use Rattle.cqf_model.specs.GateList.{Entry, port_list, round_of}
+use Rattle.cqf_model.specs.Network.{compiled_lists}
+use Rattle.cqf_model.proofs.Links.{guard_within}
 use Rattle.cqf_model.specs.StreamGate.{gate_round}
 use Rattle.cqf_model.specs.Table.{depth_behind}
 use Rattle.cqf_program_json.specs.Arrays.{elements, name_or_null, number_or_null, quoted}
@@ -105,27 +107,30 @@ before_parts a b c e comma = simp append_assoc
 
 module _ (d : Domain) (links : List LinkInterfaces) (domain : IsDomain d) (named : AreNamed links) where
   -- each entry of a port's list tells itself
-  ports_entries : EachTells port_entry (λ (entry : Entry). Opens entry ∷ []) (port_list d.cycle_time d.guard)
-  ports_entries =
-      let small : d.cycle_time - d.guard < 2 ^ 64 = omega (arith, domain.accepted.cycle_most) in
-      let short : d.guard < 2 ^ 64 = omega (arith, domain.accepted.cycle_most, domain.accepted.guard_short) in
-      let last : EachTells port_entry (λ (entry : Entry). Opens entry ∷ []) ((0x00, d.guard) ∷ []) = (port_entry_tells (0x00, d.guard) (omega arith) short, tt) in
-      let second : EachTells port_entry (λ (entry : Entry). Opens entry ∷ []) ((0x7F, d.cycle_time - d.guard) ∷ (0x00, d.guard) ∷ []) =
-      (port_entry_tells (0x7F, d.cycle_time - d.guard) (omega arith) small, last) in
-      (port_entry_tells (0xBF, d.cycle_time - d.guard) (omega arith) small, (port_entry_tells (0x00, d.guard) (omega arith) short, second))
+  ports_entries : (link : ℕ) → EachTells port_entry (λ (entry : Entry). Opens entry ∷ []) (compiled_lists d link)
+  ports_entries link = by (guard_of d link) (guard_within d link domain.accepted)
+    where
+      by : (guard : ℕ) → guard < d.cycle_time → EachTells port_entry (λ (entry : Entry). Opens entry ∷ []) (port_list d.cycle_time guard)
+      by guard within =
+          let small : d.cycle_time - guard < 2 ^ 64 = omega (arith, domain.accepted.cycle_most) in
+          let short : guard < 2 ^ 64 = omega (arith, domain.accepted.cycle_most, within) in
+          let last : EachTells port_entry (λ (entry : Entry). Opens entry ∷ []) ((0x00, guard) ∷ []) = (port_entry_tells (0x00, guard) (omega arith) short, tt) in
+          let second : EachTells port_entry (λ (entry : Entry). Opens entry ∷ []) ((0x7F, d.cycle_time - guard) ∷ (0x00, guard) ∷ []) =
+          (port_entry_tells (0x7F, d.cycle_time - guard) (omega arith) small, last) in
+          (port_entry_tells (0xBF, d.cycle_time - guard) (omega arith) small, (port_entry_tells (0x00, guard) (omega arith) short, second))
 
   -- what a port tells
   abbrev items_at_port : ℕ → List Item
-  items_at_port link = AtPort (name_of_link d link) ∷ map Opens (port_list d.cycle_time d.guard)
+  items_at_port link = AtPort (name_of_link d link) ∷ map Opens (compiled_lists d link)
 
   pub port_tells : (link : ℕ) → Tells (port_text d links link) (items_at_port link)
   port_tells link comma rest =
-      let entries = port_list d.cycle_time d.guard in
+      let entries = compiled_lists d link in
       let more : List ℕ = port_round entries ++ close comma rest in
       ap items_of (before_parts (port_head d links link) (port_list_text entries) (port_round entries) (close comma rest) (codes ",\n"))
       ∙ port_begins d links domain named link (port_list_text entries ++ close true more)
       ∙ ap (λ (items : List Item). AtPort (name_of_link d link) ∷ items)
-      (port_list_tells entries more ports_entries ∙ ap (λ (items : List Item). map Opens entries ++ items) (port_round_tells entries comma rest))
+      (port_list_tells entries more (ports_entries link) ∙ ap (λ (items : List Item). map Opens entries ++ items) (port_round_tells entries comma rest))
 
 -- ---- streams
 

@@ -14,7 +14,8 @@ use Rattle.cqf_compile.specs.BridgeGates.{gate_at}
 use Rattle.cqf_model.specs.declared.gates.StreamEntry.{StreamEntry}
 use Rattle.cqf_model.specs.declared.topology.Row.{Row}
 use Rattle.cqf_model.specs.Domain.{Domain, is_text, leaves}
-use Rattle.cqf_model.specs.GateList.{Entry, port_list}
+use Rattle.cqf_model.specs.GateList.{Entry}
+use Rattle.cqf_model.specs.Network.{compiled_lists}
 use Rattle.cqf_model.specs.Limits.{most_reserved}
 use Rattle.cqf_program_json.specs.Text.{json_text}
 use Rattle.cqf_program_tc.specs.Rows.{leaves_bridge}
@@ -118,10 +119,10 @@ items_of text = flat_map items_in (lines_of text)
 
 -- ---- what is due
 
--- a link that leaves the bridge, with the entries of the list that each port is compiled to
+-- a link that leaves the bridge, with the entries of the list that its port is compiled to
 abbrev pub port_items : Domain → ℕ → ℕ → List Item
 port_items d bridge link =
-    if leaves d link bridge then AtPort (name_of_link d link) ∷ map Opens (port_list d.cycle_time d.guard) else []
+    if leaves d link bridge then AtPort (name_of_link d link) ∷ map Opens (compiled_lists d link) else []
 
 -- a stream that leaves the bridge, with its gate's index and the entries of the list that its gate is compiled to there
 abbrev pub stream_items : Domain → List StreamAddress → ℕ → Row → List Item

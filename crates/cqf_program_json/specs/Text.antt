@@ -12,7 +12,8 @@ use Rattle.cqf_gates.specs.StreamText.{is_shut}
 use Rattle.cqf_model.specs.declared.gates.StreamEntry.{StreamEntry}
 use Rattle.cqf_model.specs.declared.topology.Row.{Row}
 use Rattle.cqf_model.specs.Domain.{Domain, leaves}
-use Rattle.cqf_model.specs.GateList.{Entry, port_list, round_of}
+use Rattle.cqf_model.specs.GateList.{Entry, round_of}
+use Rattle.cqf_model.specs.Network.{compiled_lists}
 use Rattle.cqf_model.specs.StreamGate.{gate_round}
 use Rattle.cqf_program_json.specs.Arrays.{array, elements, listed, name_or_null, number_or_null, quoted}
 use Rattle.cqf_program_tc.specs.Rows.{leaves_bridge}
@@ -56,7 +57,7 @@ abbrev pub port_with : Domain → List LinkInterfaces → ℕ → List Entry →
 port_with d links link entries = port_head d links link ++ (port_list_text entries ++ (codes ",\n" ++ port_round entries))
 
 abbrev pub port_text : Domain → List LinkInterfaces → ℕ → List ℕ
-port_text d links link = port_with d links link (port_list d.cycle_time d.guard)
+port_text d links link = port_with d links link (compiled_lists d link)
 
 -- the links that leave a bridge, by number, of those below a number, and of all; and its ports
 abbrev pub left_below : Domain → ℕ → ℕ → List ℕ

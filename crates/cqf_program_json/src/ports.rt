@@ -1,7 +1,6 @@
 //! The ports of a bridge: the gate parameter table of each (IEEE Std 802.1Q-2018, 12.29.1).
-ghost use Rattle.std.specs.Prelude.{◌≡◌, ◌&&◌, ◌++◌, [], if◌then◌else◌, not};
+ghost use Rattle.std.specs.Prelude.{◌≡◌, ◌<◌, ◌&&◌, ◌++◌, [], if◌then◌else◌, length, not};
 ghost use Rattle.cqf_model.specs.Domain.{leaves};
-ghost use Rattle.cqf_model.specs.GateList.{port_list};
 ghost use Rattle.cqf_press.specs.Press.{Puts};
 ghost use Rattle.cqf_program_json.specs.Arrays.{front_text};
 ghost use Rattle.cqf_program_json.specs.Text.{port_entries, port_entry, port_head, port_list_text, port_round, port_text, ports_text};
@@ -9,8 +8,8 @@ ghost use Rattle.cqf_program_json.specs.Text.{port_entries, port_entry, port_hea
 use crate::arrays::{put_end, put_front, put_name_or_null};
 use crate::wired::Wired;
 use cqf_addressing::near_interface;
-use cqf_compile::leaves;
-use cqf_gates::{TxList, compiled_list};
+use cqf_compile::{leaves, port_list_of};
+use cqf_gates::TxList;
 use cqf_press::{Press, Sink};
 use cqf_topology::put_link;
 
@@ -69,26 +68,26 @@ fn put_port_head<W: Sink>(press: &mut Press<'_, W>, wired: Wired<'_>, link: u16)
 }
 
 /// Puts the port of a link with its list.
-fn put_port<W: Sink>(press: &mut Press<'_, W>, wired: Wired<'_>, list: &TxList, link: u16)
-    requires { list.now ≡ port_list wired.domain.now.cycle_time wired.domain.now.guard }
+fn put_port<W: Sink>(press: &mut Press<'_, W>, wired: Wired<'_>, link: u16)
+    requires { link < length wired.domain.now.links }
     ensures { Puts W.contents press.old press.new (port_text wired.entry.domain.now wired.entry.links.now link) }
 {
+    let list = port_list_of(wired.domain, link);
     put_port_head(press, wired, link);
     put_port_list(press, list.entries());
     press.put(b",\n");
-    put_port_round(press, list);
+    put_port_round(press, &list);
 }
 
 /// Puts the port of a link, behind the front of an element, where the link leaves the bridge; and whether the next one is the first still.
 fn put_port_of_link<W: Sink>(
     press: &mut Press<'_, W>,
     wired: Wired<'_>,
-    list: &TxList,
     bridge: u16,
     link: u16,
     is_first: bool,
 ) -> bool
-    requires { list.now ≡ port_list wired.domain.now.cycle_time wired.domain.now.guard }
+    requires { link < length wired.domain.now.links }
     ensures puts { Puts W.contents press.old press.new (if leaves wired.entry.domain.now link bridge then
         front_text is_first ++ port_text wired.entry.domain.now wired.entry.links.now link else []) }
     ensures first { result ≡ (is_first && not (leaves wired.entry.domain.now link bridge)) }
@@ -97,7 +96,7 @@ fn put_port_of_link<W: Sink>(
         return is_first;
     }
     put_front(press, is_first);
-    put_port(press, wired, list, link);
+    put_port(press, wired, link);
     false
 }
 
@@ -105,11 +104,10 @@ fn put_port_of_link<W: Sink>(
 pub(crate) fn put_ports<W: Sink>(press: &mut Press<'_, W>, wired: Wired<'_>, bridge: u16)
     ensures { Puts W.contents press.old press.new (ports_text wired.entry.domain.now wired.entry.links.now bridge) }
 {
-    let list = compiled_list(wired.domain.cycle_time(), wired.domain.guard());
     press.put(b"[");
     let mut is_first = true;
     for link in 0..wired.domain.links() {
-        is_first = put_port_of_link(press, wired, &list, bridge, link, is_first);
+        is_first = put_port_of_link(press, wired, bridge, link, is_first);
     }
     put_end(press, is_first, b"      ");
 }

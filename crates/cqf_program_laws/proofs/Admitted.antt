@@ -16,7 +16,7 @@ use Rattle.cqf_model.specs.declared.limits.Limits.{Limits}
 use Rattle.cqf_model.specs.declared.topology.Row.{Row}
 use Rattle.cqf_model.specs.Domain.{Domain}
 use Rattle.cqf_model.specs.History.{Asked, IsLegalHistory, Recorded, admit_reply, held_in, next_number, refusal_of, refused_at, refused_if, reply_to, seals, tree_of}
-use Rattle.cqf_model.specs.Limits.{hops_within}
+use Rattle.cqf_model.specs.Limits.{hops_within, most_reserved}
 use Rattle.cqf_laws_history.proofs.Granted.{granted}
 use Rattle.cqf_laws_timing.specs.Streams.{AdmitsOnly}
 use Rattle.cqf_text.specs.Lines.{lines_of}
@@ -101,8 +101,8 @@ both_none a b first second = ap (λ (o : Option Refused). or_else o b) first ∙
 good_granted : (d : Domain) (rows : List Row) (asked : Asked) → refusal_of d rows asked ≡ None → (is_name asked.name ≡ true) × (is_good d asked ≡ true)
 good_granted d rows asked none =
     let g = granted d rows asked none in
-    let in_range : (nat_le 64 asked.octets && nat_le asked.octets 60000) ≡ true =
-    λ i. le-leb 64 asked.octets g.least_octets i && le-leb asked.octets 60000 g.most_octets i in
+    let in_range : (nat_le 64 asked.octets && nat_le asked.octets most_reserved) ≡ true =
+    λ i. le-leb 64 asked.octets g.least_octets i && le-leb asked.octets most_reserved g.most_octets i in
     let name = ap {B = Option Refused} (λ (b : Bool). refused_if (not b) BadName) g.named in
     let octets = ap {B = Option Refused} (λ (b : Bool). refused_if (not b) BadOctets) in_range in
     let pace = ap {B = Option Refused} (λ (b : Bool). refused_if (not b) BadPace) g.pace in

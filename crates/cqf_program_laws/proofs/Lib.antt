@@ -3,7 +3,9 @@ pub mod Legal
 pub mod Deadlines
 pub mod Judged
 pub mod PlannedRows
+pub mod InPlan
 pub mod Promised
+pub mod Loosely
 pub mod Sketched
 mod Firsts
 mod Admitted

@@ -1,39 +1,32 @@
 -- A plan that was told keeps its word.
-use Rattle.std.proofs.Common.{◌≡◌, ◌≢◌, ◌∙◌, ◌+◌, ◌-◌, ◌*◌, ◌<◌, ◌≤◌, ◌∷◌, [], ◌==◌, ◌&&◌, ℕ, Bool, true, false, List, Option, Some, None, Result, Ok, Err, inl, inr}
-use Rattle.std.proofs.Common.{arith, ap, sym, subst, subst₂, refl, All, Contains, eq-eqb, fold, if◌then◌else◌, map, max, mul-le-mul_right, nat_lt}
-use Rattle.std.specs.Prelude.{option_map, slice_get}
-use Rattle.std.specs.Option.{ForSome, option_map_or}
+use Rattle.std.proofs.Common.{◌≡◌, ◌∙◌, ◌+◌, ◌-◌, ◌<◌, ◌≤◌, ◌∷◌, [], ◌==◌, ◌&&◌, ℕ, Bool, true, false, List, Option, Some, None, Result, Ok, Err, inl, inr}
+use Rattle.std.proofs.Common.{arith, ap, sym, subst, refl, Contains, eq-eqb, if◌then◌else◌, map, nat_lt}
+use Rattle.std.specs.Prelude.{slice_get}
+use Rattle.std.specs.Option.{option_map_or}
 use Rattle.std.proofs.lemmas.Bool.{ltb-true}
 use Rattle.std.proofs.lemmas.List.Elements.{All-contains}
-use Rattle.std.proofs.lemmas.Option.{get_or_from_slice_get, same_Some, slice_get-map}
-use Rattle.cqf_lists.specs.Lists.{each_below}
-use Rattle.cqf_lists.proofs.Members.{contains_filter, contains_flat, contains_map, find_member, place_of_member}
-use Rattle.cqf_lists.proofs.Pairs.{one_of_pairs}
-use Rattle.cqf_units.specs.Timing.{nanos_of_octet}
+use Rattle.std.proofs.lemmas.Option.{same_Some}
+use Rattle.cqf_lists.proofs.Members.{contains_filter}
+use Rattle.cqf_units.specs.Timing.{ticks_of_octet}
+use Rattle.cqf_units.proofs.Times.{time_grows}
 use Rattle.cqf_model.specs.declared.frames.Background.{Background}
 use Rattle.cqf_model.specs.declared.frames.Offer.{Offer}
 use Rattle.cqf_model.specs.declared.frames.Offered.{Offered}
-use Rattle.cqf_model.specs.declared.topology.Hop.{Hop}
-use Rattle.cqf_model.specs.declared.topology.Node.TheVariants.{Station}
-use Rattle.cqf_model.specs.declared.topology.Pace.{Pace}
 use Rattle.cqf_model.specs.declared.topology.Row.{Row}
 use Rattle.cqf_model.specs.Book.{Contents}
-use Rattle.cqf_model.specs.Domain.{Domain, end_of, is_text}
-use Rattle.cqf_model.specs.History.{Asked, Branch, Recorded, held_in, most_beside, pace_of, tables_of, tree_of}
-use Rattle.cqf_model.specs.Limits.{most_every}
-use Rattle.cqf_model.specs.Paces.{is_turn}
+use Rattle.cqf_model.specs.Domain.{Domain, is_text}
+use Rattle.cqf_model.specs.History.{Asked, Branch, Recorded, tables_of, tree_of}
 use Rattle.cqf_model.specs.HistoryBook.{run_of_history}
 use Rattle.cqf_model.specs.Run.{Run}
 use Rattle.cqf_model.specs.Shift.{IsCovered, offer_cycle}
-use Rattle.cqf_model.specs.Table.{IsHop, begins_at, is_live, reserved_in, table_of, uses}
+use Rattle.cqf_model.specs.Table.{begins_at, is_live, reserved_in, table_of}
 use Rattle.cqf_laws_history.specs.StateLaws.{GrantedFindsRoom, GrantedIsHeld, HistoryGoesOn, SealsAreCounted, granted_row}
 use Rattle.cqf_laws_shift.proofs.Came.{numbered_member}
 use Rattle.cqf_laws_shift.proofs.Covered.{three_and}
 use Rattle.cqf_laws_shift.proofs.Trees.{same_hop}
-use Rattle.cqf_laws_timing.specs.Latency.{least_of, most_of, whole_of}
+use Rattle.cqf_laws_timing.specs.Latency.{whole_of}
 use Rattle.cqf_laws_timing.specs.Listeners.{BranchesEnd}
-use Rattle.cqf_laws_timing.specs.Streams.{AdmittedHaveNames, AreGranted, IsOfList, ListCostsItsTable, RowsAreOfList, most_beside_all}
-use Rattle.cqf_laws_timing.specs.Verdicts.{InTime, Late, MayBeLate, Sure, sure_of, sure_on}
+use Rattle.cqf_laws_timing.specs.Streams.{AdmittedHaveNames, AreGranted, IsOfList, ListCostsItsTable, RowsAreOfList}
 use Rattle.cqf_laws_timing.specs.Covered.{ConformingOwnIsCovered, ConformingStreamIsCovered, is_own, own_offers}
 use Rattle.cqf_laws_timing.specs.InTime.{ArrivesInTime, ComesThrough, ConformingOwnIsInTime, ConformingStreamIsInTime, IsBookOverList}
 use Rattle.cqf_laws_timing.specs.Traffic.{Conforms, needed, offers_named}
@@ -43,10 +36,7 @@ use Rattle.cqf_traffic.specs.FlowsText.{FlowText}
 use Rattle.cqf_traffic.specs.TrafficText.{TrafficText, promise_of}
 use Rattle.cqf_admission.specs.Asking.{asked_by}
 use Rattle.cqf_program_scenario.specs.Calls.{history_of}
-use Rattle.cqf_program_plans.specs.declared.latency.latencies.Latency.{Latency}
 use Rattle.cqf_program_plans.specs.Latency.Input.{asked_in as asked_in_plan}
-use Rattle.cqf_program_plans.specs.Latency.Text.{deadline_of, is_not_sure, is_station, latencies_of, latencies_of_row, latency_to, listeners_of, may_miss}
-use Rattle.cqf_program_plans.specs.Latency.Text.{said_of_latency}
 use Rattle.cqf_program_plans.proofs.CompileLemmas.{same_ok}
 use Rattle.cqf_program_plans.proofs.GrantedPlans.{plan_paced}
 use Rattle.cqf_program_offers.specs.OffersOutput.{asked_in}
@@ -56,8 +46,8 @@ use Rattle.cqf_program_placing.specs.Settled.{deadline_behind, taken_on}
 use Rattle.cqf_program_laws.specs.PlanLaws.{ComesAsPromised, DeadlinesRunFromTalkers, IsHeardWithin, IsKeptPlan, IsPromised}
 use Rattle.cqf_program_laws.specs.PlanLaws.{PlansKeepTheirWord, PlansKeepTheirWordOnThreads, PlansKeepTheirWordToScripts}
 use Rattle.cqf_program_laws.specs.ScriptLaws.{AccountsAdmitOnly, AskOnly, HistoriesAdmitOnly, HistoriesAreLegal, PlannedScenariosAskOnly}
-use Rattle.cqf_program_laws.proofs.Judged.{all_granted}
-use Rattle.cqf_program_laws.proofs.PlannedRows.{HasItsRow, plan_has_row}
+use Rattle.cqf_program_laws.proofs.PlannedRows.{HasItsRow}
+use Rattle.cqf_program_laws.proofs.InPlan.{all_are_granted, enough, is_sure, its_place, its_row, named_row, one_asked}
 
 -- ---- deadlines behind a talker's link
 
@@ -76,11 +66,7 @@ left_of taken wished deadline e = by_test (nat_lt taken wished) refl e
 takes_no_longer : (talker : Option TalkerLink) (octets longest : ℕ) → octets ≤ longest → taken_on talker octets ≤ taken_on talker longest
 takes_no_longer None octets longest short = omega arith
 takes_no_longer (Some link) octets longest short =
-    let more : octets + 8 ≤ longest + 8 = omega (arith, short) in
-    longer (nanos_of_octet link.rate) (octets + 8) (longest + 8) link.delay more
-  where
-    longer : (rate a b delay : ℕ) → a ≤ b → a * rate + delay ≤ b * rate + delay
-    longer rate a b delay less = let product : a * rate ≤ b * rate = mul-le-mul_right rate less in omega (arith, product)
+    omega (arith, time_grows (octets + 8) (longest + 8) (ticks_of_octet link.rate) (omega (arith, short)))
 
 -- by numbers
 from_start : (short long wished deadline sent at whole : ℕ) → deadline ≡ wished - long → long < wished → short ≤ long → at ≡ sent + short →
@@ -92,66 +78,6 @@ deadlines_run_from_talkers talker octets longest wished deadline sent at whole b
     let left = left_of (taken_on talker longest) wished (Some deadline) behind in
     from_start (taken_on talker octets) (taken_on talker longest) wished deadline sent at whole
     (same_Some deadline (wished - taken_on talker longest) left.0) left.1 (takes_no_longer talker octets longest short) came within
-
--- ---- deadlines that surely hold
-
-in_time_if_sure : (sure : Sure) → may_miss (Some (said_of_latency sure)) ≡ false → sure ≡ InTime
-in_time_if_sure InTime e = refl
-in_time_if_sure Late e = absurd (cc)
-in_time_if_sure MayBeLate e = absurd (cc)
-
--- a latency whose frames may not miss its deadline
-keeps_deadline : (latency : Latency) (most : ℕ) → is_not_sure latency ≡ false → latency.deadline ≡ Some most →
-    sure_of latency.least latency.most most ≡ InTime
-keeps_deadline latency most e is =
-    in_time_if_sure (sure_of latency.least latency.most most)
-    (ap (λ (o : Option ℕ). may_miss (option_map (λ (deadline : ℕ). said_of_latency (sure_of latency.least latency.most deadline)) o)) (sym is) ∙ e)
-
--- the plan's deadline of a stream holds at the last link of each branch
-module _ (costs : ListCostsItsTable) (d : Domain) (flows : List FlowText) (plan : IsKeptPlan d flows) (granted : AreGranted d [] (map asked_in flows))
-    (place : ℕ) (flow : FlowText) (there : slice_get flows place ≡ Some flow)
-    (has : HasItsRow d (planned_rows d (map asked_in flows)) place (asked_in flow)) where
-  abbrev streams : List Asked
-  streams = map asked_in flows
-
-  abbrev rows : List Row
-  rows = planned_rows d (map asked_in flows)
-
-  abbrev deadlines : List (Option ℕ)
-  deadlines = map (λ (f : FlowText). f.0.1) flows
-
-  -- no frame of the plan may miss its deadline
-  all_sure : All (λ (latency : Latency). is_not_sure latency ≡ false) (latencies_of d rows deadlines)
-  all_sure =
-      let is = (all_granted d [] plan.entries 1 streams plan.admitted).1 in
-      subst (λ (entries : List Recorded). All (λ (latency : Latency). is_not_sure latency ≡ false) (latencies_of d (held_in d entries 0) deadlines)) is
-      plan.in_time
-
-  -- the deadline that is told of the stream's row
-  is_deadline : (most : ℕ) → flow.0.1 ≡ Some most → deadline_of deadlines has.row.no ≡ Some most
-  is_deadline most deadline =
-      ap (deadline_of deadlines) has.is_number
-      ∙ get_or_from_slice_get deadlines place (Some most) None
-      (slice_get-map (λ (f : FlowText). f.0.1) flows place ∙ ap (λ (o : Option FlowText). option_map (λ (f : FlowText). f.0.1) o) there ∙ ap Some deadline)
-
-  -- the most that the rows cost of a link in the cycles of its own is the most that the list does
-  same_most : (link : ℕ) → most_beside rows has.row.tree.items has.row.pace link ≡ most_beside_all d streams (asked_in flow) link
-  same_most link =
-      λ i. fold max 0 (each_below (λ k. if uses (has.tree i) (has.pace i) link k then costs d streams link k granted i ∷ [] else []) most_every)
-
-  pub is_sure : (bridges link station : ℕ) → IsHop has.row bridges link → end_of d link ≡ Some (Station station) → (most : ℕ) →
-      flow.0.1 ≡ Some most → sure_on d streams (asked_in flow) link bridges most ≡ InTime
-  is_sure bridges link station at ends most deadline =
-      let row = has.row in
-      let to_hop : Hop → Latency = λ hop. latency_to d (most_beside rows row.tree.items row.pace hop.link) row (deadline_of deadlines row.no) hop in
-      let at_station : is_station (end_of d at.hop.link) ≡ true = ap (λ (l : ℕ). is_station (end_of d l)) at.is_link ∙ ap is_station ends in
-      let among = contains_filter (λ (hop : Hop). is_station (end_of d hop.link)) row.tree.items at.hop at.of_tree at_station in
-      let of_row = contains_map to_hop (listeners_of d row) at.hop among in
-      let told = contains_flat (λ (r : Row). latencies_of_row d rows r (deadline_of deadlines r.no)) rows row (to_hop at.hop) has.among of_row in
-      let kept = All-contains (λ (latency : Latency). is_not_sure latency ≡ false) (latencies_of d rows deadlines) (to_hop at.hop) all_sure told in
-      let sure = keeps_deadline (to_hop at.hop) most kept (is_deadline most deadline) in
-      subst (λ (cost : ℕ). sure_of (least_of d link bridges) (most_of d link bridges cost) most ≡ InTime) (same_most link)
-      (subst₂ (λ (l k : ℕ). sure_of (least_of d l k) (most_of d l k (most_beside rows row.tree.items row.pace l)) most ≡ InTime) at.is_link at.is_depth sure)
 
 -- ---- a frame that is promised to come
 
@@ -167,39 +93,24 @@ module _ (held : GrantedIsHeld) (goes_on : HistoryGoesOn) (counted : SealsAreCou
   all = map asked_in flows
 
   granted : AreGranted d [] all
-  granted = (all_granted d [] plan.entries 1 all plan.admitted).0
+  granted = all_are_granted held goes_on counted room of_list names d flows entries offers background cycles plan over.only
 
   module _ (flow : FlowText) (t : TrafficText) (x : Offered) (row : Row) (promised : IsPromised run flows flow t x row) where
-    -- the stream's row in the plan
-    its_place : (place : ℕ) × (slice_get flows place ≡ Some flow)
-    its_place = place_of_member flows flow promised.listed
+    -- its place and its row in the plan, its row in the run, and that this reserves enough
+    abbrev place_there : (place : ℕ) × (slice_get flows place ≡ Some flow)
+    place_there = its_place held goes_on counted room of_list names d flows entries offers background cycles plan over.only flow t x row promised
 
-    its_row : HasItsRow d (planned_rows d all) its_place.0 (asked_in flow)
-    its_row =
-        plan_has_row held goes_on counted room d all granted its_place.0 (asked_in flow)
-        (slice_get-map asked_in flows its_place.0 ∙ ap (λ (o : Option FlowText). option_map asked_in o) its_place.1)
+    abbrev row_there : HasItsRow d (planned_rows d all) place_there.0 (asked_in flow)
+    row_there = its_row held goes_on counted room of_list names d flows entries offers background cycles plan over.only flow t x row promised
 
-    -- the row in the run's table has the offer's name, and is of the stream
-    member : Contains (table_of (tables_of d entries cycles) (offer_cycle d x)) row × (is_text row.name x.offer.stream ≡ true)
-    member = find_member (λ (r : Row). is_text r.name x.offer.stream) (table_of (tables_of d entries cycles) (offer_cycle d x)) row promised.at_edge.named
+    abbrev named_there : Contains (table_of (tables_of d entries cycles) (offer_cycle d x)) row × (is_text row.name x.offer.stream ≡ true)
+    named_there = named_row held goes_on counted room of_list names d flows entries offers background cycles plan over.only flow t x row promised
 
-    one_asked : (of : IsOfList d all row) → of.asked ≡ asked_in flow
-    one_asked of =
-        let alike : of.asked.name ≡ flow.0.0.name = sym of.name ∙ promised.name in
-        one_of_pairs (λ (a b : Asked). a.name ≢ b.name) all of.asked (asked_in flow) (names d all granted) of.listed
-        (contains_map asked_in flows flow promised.listed) (λ differ. differ alike) (λ differ. differ (sym alike))
+    one_there : (of : IsOfList d all row) → of.asked ≡ asked_in flow
+    one_there of = one_asked held goes_on counted room of_list names d flows entries offers background cycles plan over.only flow t x row promised of
 
-    enough : needed d.cycle_time (promise_of t) ≤ reserved_in row 0 (offer_cycle d x)
-    enough =
-        let of = of_list d entries all cycles (offer_cycle d x) row over.only member.0 in
-        let octets : row.octets ≡ flow.0.0.octets = of.octets ∙ ap (λ (a : Asked). a.octets) (one_asked of) in
-        let turn : is_turn row.pace 0 (offer_cycle d x) ≡ true =
-        ap (λ (p : Pace). is_turn p 0 (offer_cycle d x)) (of.pace ∙ ap pace_of (one_asked of)) ∙ promised.in_turn in
-        let same : reserved_in row 0 (offer_cycle d x) ≡ flow.0.0.octets = ap (λ (b : Bool). if b then row.octets else 0) turn ∙ octets in
-        let needs : needed d.cycle_time (promise_of t) ≤ flow.0.0.octets =
-        All-contains (λ (f : FlowText). ForSome f.1 (λ (u : TrafficText). needed d.cycle_time (promise_of u) ≤ f.0.0.octets)) flows flow plan.enough
-        promised.listed t promised.has in
-        subst (λ (octets : ℕ). needed d.cycle_time (promise_of t) ≤ octets) (sym same) needs
+    enough_there : needed d.cycle_time (promise_of t) ≤ reserved_in row 0 (offer_cycle d x)
+    enough_there = enough held goes_on counted room of_list names d flows entries offers background cycles plan over.only flow t x row promised
 
     -- so it is covered, and comes through
     comes_through : IsCovered run x row × ComesThrough d all cycles book x row
@@ -208,12 +119,12 @@ module _ (held : GrantedIsHeld) (goes_on : HistoryGoesOn) (counted : SealsAreCou
         elim promised.keeps [
           | inl c ↦
               let keeps = subst (λ (name : List ℕ). Conforms (promise_of t) (offers_named name offers)) (sym promised.name) c in (
-                covers run (promise_of t) x row some promised.is_traffic keeps enough promised.at_edge,
-                comes d all entries offers background cycles book (promise_of t) x row over promised.is_traffic keeps enough promised.at_edge,
+                covers run (promise_of t) x row some promised.is_traffic keeps enough_there promised.at_edge,
+                comes d all entries offers background cycles book (promise_of t) x row over promised.is_traffic keeps enough_there promised.at_edge,
               )
           | inr c ↦ (
-            covers_own run (promise_of t) x row some promised.is_traffic c enough promised.at_edge,
-            comes_own d all entries offers background cycles book (promise_of t) x row over promised.is_traffic c enough promised.at_edge,
+            covers_own run (promise_of t) x row some promised.is_traffic c enough_there promised.at_edge,
+            comes_own d all entries offers background cycles book (promise_of t) x row over promised.is_traffic c enough_there promised.at_edge,
           )
         ]
 
@@ -234,7 +145,7 @@ module _ (held : GrantedIsHeld) (goes_on : HistoryGoesOn) (counted : SealsAreCou
         elim promised.keeps [
           | inl c ↦
               let named : is_text flow.0.0.name x.offer.stream ≡ true =
-              ap (λ (name : List ℕ). is_text name x.offer.stream) (sym promised.name) ∙ member.1 in
+              ap (λ (name : List ℕ). is_text name x.offer.stream) (sym promised.name) ∙ named_there.1 in
               All-contains (λ (y : Offer). y.octets ≤ t.size) (offers_named flow.0.0.name offers) x.offer c.sizes
               (contains_filter (λ (y : Offer). is_text flow.0.0.name y.stream) offers x.offer offered named)
           | inr c ↦
@@ -252,25 +163,25 @@ module _ (held : GrantedIsHeld) (goes_on : HistoryGoesOn) (counted : SealsAreCou
         IsHeardWithin d all (asked_in flow) cycles book x branch since deadline
     heard since deadline kept branch c =
         let through = comes_through.1 in
-        let listener = ends d its_row.beside (asked_in flow) branch its_row.free c in
+        let listener = ends d row_there.beside (asked_in flow) branch row_there.free c in
         let tree : row.tree.items ≡ tree_of d flow.0.0.paths =
-        through.of_list.tree ∙ ap (λ (a : Asked). tree_of d a.paths) (one_asked through.of_list) in
+        through.of_list.tree ∙ ap (λ (a : Asked). tree_of d a.paths) (one_there through.of_list) in
         let in_run = same_hop (granted_row d 0 0 (asked_in flow)) row listener.bridges listener.link (sym tree) listener.is_hop in
-        let in_plan = same_hop (granted_row d 0 0 (asked_in flow)) its_row.row listener.bridges listener.link (sym its_row.tree) listener.is_hop in
+        let in_plan = same_hop (granted_row d 0 0 (asked_in flow)) row_there.row listener.bridges listener.link (sym row_there.tree) listener.is_hop in
         record {
           bridges = listener.bridges;
           link = listener.link;
           station = listener.station;
           ends_at = listener.ends_at;
           arrives = λ lasts.
-              let arrival = subst (λ (a : Asked). ArrivesInTime d all a book x listener.bridges listener.link) (one_asked through.of_list)
+              let arrival = subst (λ (a : Asked). ArrivesInTime d all a book x listener.bridges listener.link) (one_there through.of_list)
               (through.arrives listener.bridges listener.link in_run lasts) in
               record {
                 arrival = arrival;
                 within = λ wished is.
                     let with = kept wished is in
                     let sure =
-                    is_sure costs d flows plan granted its_place.0 flow its_place.1 its_row listener.bridges listener.link listener.station in_plan
+                    is_sure costs d flows plan granted place_there.0 flow place_there.1 row_there listener.bridges listener.link listener.station in_plan
                     listener.ends_at.ends with.0 with.1 in
                     with.2 (whole_of d arrival.start) (arrival.in_time with.0 sure);
               };

@@ -12,13 +12,19 @@ use Rattle.cqf_model.specs.Headline.{IsAccountOf}
 use Rattle.cqf_model.specs.History.{Act, Asked, Branch, Recorded, held_in, pace_of}
 use Rattle.cqf_model.specs.HistoryBook.{run_of_history}
 use Rattle.cqf_model.specs.Limits.{most_cycles}
+use Rattle.cqf_model.specs.Loose.{slack_of}
+use Rattle.cqf_model.specs.Network.{Network}
 use Rattle.cqf_model.specs.Paces.{is_turn}
 use Rattle.cqf_model.specs.Run.{Run}
 use Rattle.cqf_model.specs.Shift.{IsCovered, offer_cycle}
+use Rattle.cqf_model.specs.Traffic.{Carried, whole_at}
 use Rattle.cqf_laws_timing.specs.Latency.{whole_of}
 use Rattle.cqf_laws_timing.specs.Listeners.{EndsAtListener}
 use Rattle.cqf_laws_timing.specs.Covered.{IsAtItsEdge, own_offers}
 use Rattle.cqf_laws_timing.specs.InTime.{ArrivesInTime, ComesThrough, IsBookOverList}
+use Rattle.cqf_laws_timing.specs.LooseInTime.{IsHeardInTime}
+use Rattle.cqf_laws_timing.specs.LooseStreams.{IsLooseHistory}
+use Rattle.cqf_laws_timing.specs.Streams.{AdmitsOnly}
 use Rattle.cqf_laws_timing.specs.Traffic.{Conforms, IsTraffic, needed, offers_named}
 use Rattle.cqf_sketch.specs.declared.domain.TalkerLink.{TalkerLink}
 use Rattle.cqf_sketch.specs.SketchDomain.{SketchDomain}
@@ -100,6 +106,33 @@ PlansKeepTheirWord =
     (d : Domain) (flows : List FlowText) (entries : List Recorded) (offers : List Offer) (background : List Background) (cycles : ℕ) (book : Contents) →
     IsKeptPlan d flows → IsBookOverList d (map asked_in flows) entries offers background cycles book →
     PlanKeepsItsWord (run_of_history d entries offers background cycles) flows cycles book
+
+-- in a loose network the frame leaves on a link of this depth as many cycles after its own, and is whole at the link's end within the plan's
+-- bounds, and within the plan's deadline, where there is one: from its offer by the edge bridge's clock to its being whole by the clock there
+pub record HearsWithin (d : Domain) (streams : List Asked) (asked : Asked) (net : Network) (heard : Carried) (x : Offered) (depth link : ℕ) (deadline : Option ℕ) :
+    Type 0 where
+  pub hearing : IsHeardInTime d streams asked net heard x depth link
+  pub within : ForSome deadline (λ (most : ℕ). whole_at d link hearing.h ≤ x.offer.at.0 + most)
+
+-- so it is at the listener of a branch, where the run lasts so long
+pub record IsHeardLoosely (d : Domain) (streams : List Asked) (asked : Asked) (cycles : ℕ) (net : Network) (heard : Carried) (x : Offered) (branch : Branch)
+    (deadline : Option ℕ) : Type 0 where
+  pub bridges : ℕ
+  pub link : ℕ
+  pub station : ℕ
+  pub ends_at : EndsAtListener d branch bridges link station
+  pub hears : offer_cycle d x + bridges < cycles → HearsWithin d streams asked net heard x bridges link deadline
+
+-- in every loose network of such a history, with the slack that the domain states, each frame that is promised to come is heard at each of
+-- its stream's listeners within the plan's deadline, where the talker keeps its word in all that is offered by the stream's name
+abbrev pub PlansKeepTheirWordLoosely : Type 0
+PlansKeepTheirWordLoosely =
+    (d : Domain) (flows : List FlowText) (entries : List Recorded) (offers : List Offer) (background : List Background) (cycles : ℕ) (net : Network)
+    (heard : Carried) → IsKeptPlan d flows → IsLooseHistory d entries offers background cycles (slack_of d) net heard →
+    AdmitsOnly (map asked_in flows) entries → (flow : FlowText) (t : TrafficText) (x : Offered) (row : Row) →
+    IsPromised (run_of_history d entries offers background cycles) flows flow t x row → Conforms (promise_of t) (offers_named flow.0.0.name offers) →
+    (branch : Branch) → Contains flow.0.0.paths branch →
+    IsHeardLoosely d (map asked_in flows) (asked_in flow) cycles net heard x branch flow.0.1
 
 -- in that of each script over the plan
 abbrev pub PlansKeepTheirWordToScripts : Type 0

@@ -10,7 +10,7 @@
 #![tactic(auto)]
 
 ghost use Rattle.cqf_program_laws.specs.PlanLaws.{DeadlinesOfSketchesAreKept, DeadlinesRunFromTalkers, PlansKeepTheirWord};
-ghost use Rattle.cqf_program_laws.specs.PlanLaws.{PlansKeepTheirWordOnThreads, PlansKeepTheirWordToScripts, SettledStreamsAreOfSketches};
+ghost use Rattle.cqf_program_laws.specs.PlanLaws.{PlansKeepTheirWordLoosely, PlansKeepTheirWordOnThreads, PlansKeepTheirWordToScripts, SettledStreamsAreOfSketches};
 ghost use Rattle.cqf_program_laws.specs.ScriptLaws.{AccountsAdmitOnly, HistoriesAdmitOnly, HistoriesAreLegal};
 ghost use Rattle.cqf_program_laws.specs.ScriptLaws.{PlannedScenariosAskOnly, ScenariosAskOnly, ScriptsAskOnly};
 ghost use Rattle.cqf_program_laws.specs.SummaryLaws.{LatenciesAreBounded, RowsAddUp};
@@ -68,6 +68,18 @@ pub fn told_plans_keep_their_word()
     cqf_laws_timing::branches_end_at_listeners();
     cqf_laws_timing::conforming_stream_is_covered();
     cqf_laws_timing::conforming_stream_is_in_time();
+}
+
+/// So it does in every loose network, whatever clocks and delays do within what the domain states: each frame that a talker offers which keeps
+/// its word is whole at each of its stream's listeners, by the clock there, within the plan's deadline from its offer on by the edge bridge's
+/// (profile).
+pub fn told_plans_keep_their_word_loosely()
+    ensures { PlansKeepTheirWordLoosely }
+{
+    cqf_laws_history::state_follows_history();
+    cqf_laws_timing::lists_bound_costs();
+    cqf_laws_timing::branches_end_at_listeners();
+    cqf_laws_timing::conforming_stream_is_heard_in_time();
 }
 
 /// Each offer that a row of `summary` counts ends in just one of four ways at the row's listener: it is delivered, late, dropped, or under

@@ -103,7 +103,7 @@ module _ (goes_on : HistoryGoesOn) (counted : SealsAreCounted) (grants : Granted
   -- a stream more is placed behind the others
   pub one_behind : (names : List (List ℕ)) (entries after : List Recorded) (stream : SettledStream) (become : PlacedOr) → IsBehind d names entries →
       length names < 16384 → IsPlacing d entries stream become after → IsBehind d (names ++ stream.name ∷ []) after
-  one_behind names entries after stream become behind few placed = by_reserved (reserved_on d.cycle_time stream) placed
+  one_behind names entries after stream become behind few placed = by_reserved (reserved_on d.cycle_time d.sync stream) placed
     where
       unchanged : after ≡ entries → IsBehind d (names ++ stream.name ∷ []) after
       unchanged same = subst (IsBehind d (names ++ stream.name ∷ [])) (sym same)

@@ -39,10 +39,10 @@ placed_more d start entries after (first ∷ streams) stream (other ∷ outcomes
     (placed.0, placed.1, placed_more d placed.0 entries after streams stream outcomes become placed.2 last)
 
 -- what is reserved on a cycle time on which a stream can be offered
-pub reserved_there : (cycle_time : ℕ) (stream : SettledStream) (octets : ℕ) → reserved_on cycle_time stream ≡ Ok octets →
-    (can_step cycle_time stream.pacing stream.traffic ≡ true)
+pub reserved_there : (cycle_time sync : ℕ) (stream : SettledStream) (octets : ℕ) → reserved_on cycle_time sync stream ≡ Ok octets →
+    (can_step cycle_time sync stream.pacing stream.traffic ≡ true)
     × (reserved_by stream.octets (option_map (λ (t : TrafficText). needed cycle_time (promise_of t)) stream.traffic) ≡ Ok octets)
-reserved_there cycle_time stream octets is = by (can_step cycle_time stream.pacing stream.traffic) is
+reserved_there cycle_time sync stream octets is = by (can_step cycle_time sync stream.pacing stream.traffic) is
   where
     reserves : Result ℕ PlanFault
     reserves = reserved_by stream.octets (option_map (λ (t : TrafficText). needed cycle_time (promise_of t)) stream.traffic)
@@ -52,24 +52,24 @@ reserved_there cycle_time stream octets is = by (can_step cycle_time stream.paci
     by false found = absurd cc
 
 -- octets that may be reserved are no more than the most
-few_octets : (octets : ℕ) → are_reservable (Some octets) ≡ true → octets ≤ 60000
-few_octets octets may = let most : nat_le octets 60000 ≡ true = (and_parts (nat_le 64 octets) (nat_le octets 60000) may).1 in leb-true octets 60000 most
+few_octets : (octets : ℕ) → are_reservable (Some octets) ≡ true → octets ≤ most_reserved
+few_octets octets may = let most : nat_le octets most_reserved ≡ true = (and_parts (nat_le 64 octets) (nat_le octets most_reserved) may).1 in leb-true octets most_reserved most
 
 -- and so is what is reserved
-pub reserved_few : (octets needs : Option ℕ) (reserved : ℕ) → are_reservable octets ≡ true → reserved_by octets needs ≡ Ok reserved → reserved ≤ 60000
+pub reserved_few : (octets needs : Option ℕ) (reserved : ℕ) → are_reservable octets ≡ true → reserved_by octets needs ≡ Ok reserved → reserved ≤ most_reserved
 reserved_few None None reserved may e = let none : 0 ≡ reserved = cc in omega (arith, none)
 reserved_few (Some octets) None reserved may e = let same : octets ≡ reserved = cc in omega (arith, same, few_octets octets may)
-reserved_few octets (Some needs) reserved may e = by_needs (nat_lt 60000 needs) refl e
+reserved_few octets (Some needs) reserved may e = by_needs (nat_lt most_reserved needs) refl e
   where
-    by_octets : (o : Option ℕ) → are_reservable o ≡ true → needs ≤ 60000 → if_enough o needs ≡ Ok reserved → reserved ≤ 60000
+    by_octets : (o : Option ℕ) → are_reservable o ≡ true → needs ≤ most_reserved → if_enough o needs ≡ Ok reserved → reserved ≤ most_reserved
     by_octets None may few e = let same : needs ≡ reserved = cc in omega (arith, same, few)
     by_octets (Some asked) may few e = by_asked (nat_lt asked needs) e
       where
-        by_asked : (b : Bool) → cond b (Err (fault.TooLittle needs)) (Ok asked) ≡ Ok reserved → reserved ≤ 60000
+        by_asked : (b : Bool) → cond b (Err (fault.TooLittle needs)) (Ok asked) ≡ Ok reserved → reserved ≤ most_reserved
         by_asked true e = absurd cc
         by_asked false e = let same : asked ≡ reserved = cc in omega (arith, same, few_octets asked may)
 
-    by_needs : (b : Bool) → nat_lt 60000 needs ≡ b → cond b (Err (fault.TooMuch needs)) (if_enough octets needs) ≡ Ok reserved → reserved ≤ 60000
+    by_needs : (b : Bool) → nat_lt most_reserved needs ≡ b → cond b (Err (fault.TooMuch needs)) (if_enough octets needs) ≡ Ok reserved → reserved ≤ most_reserved
     by_needs true is e = absurd cc
     by_needs false is e = by_octets octets may (grind (arith, nat_tests)) e
 
@@ -134,7 +134,7 @@ few_asked d entries after asked counted none same = record {
 
 few_placed : (d : Domain) (entries : List Recorded) (stream : SettledStream) (become : PlacedOr) (after : List Recorded) → SealsAreCounted → seals entries ≡ 0 →
     IsPlacing d entries stream become after → AreFew entries after
-few_placed d entries stream become after counted none placed = by_reserved (reserved_on d.cycle_time stream) placed
+few_placed d entries stream become after counted none placed = by_reserved (reserved_on d.cycle_time d.sync stream) placed
   where
     by_routed : (octets : ℕ) (turns : Turns) (routed : Result (List Branch) PlanFault) → IsAnswered d entries stream.name octets turns routed become after →
         AreFew entries after
@@ -176,14 +176,14 @@ one_placed d streams k stream old new outcomes after outcome counted inside at s
     }
 
 -- a stream without a reservation isn't placed
-pub unreserved : (d : Domain) (entries : List Recorded) (stream : SettledStream) (found : PlanFault) → Err found ≡ reserved_on d.cycle_time stream →
+pub unreserved : (d : Domain) (entries : List Recorded) (stream : SettledStream) (found : PlanFault) → Err found ≡ reserved_on d.cycle_time d.sync stream →
     IsPlacing d entries stream (Unplaced found) entries
 unreserved d entries stream found is =
     let P : Result ℕ PlanFault → Type 0 = λ reserved. IsPlacedBy d entries stream reserved (Unplaced found) entries in subst P is (refl, refl)
 
 -- what becomes of one with this reservation becomes of it
 pub reserved_so : (d : Domain) (entries : List Recorded) (stream : SettledStream) (octets : ℕ) (turns : Turns) (become : PlacedOr) (after : List Recorded) →
-    Ok octets ≡ reserved_on d.cycle_time stream → turns ≡ turns_on d.cycle_time stream → IsRoutedAndAnswered d entries stream octets turns become after →
+    Ok octets ≡ reserved_on d.cycle_time d.sync stream → turns ≡ turns_on d.cycle_time stream → IsRoutedAndAnswered d entries stream octets turns become after →
     IsPlacing d entries stream become after
 reserved_so d entries stream octets turns become after is same placed =
     let P : Result ℕ PlanFault → Type 0 = λ reserved. IsPlacedBy d entries stream reserved become after in

@@ -18,7 +18,7 @@ use Rattle.cqf_model.specs.declared.topology.Node.TheVariants.{Bridge, Station}
 use Rattle.cqf_model.specs.Domain.{Domain, node_named}
 use Rattle.cqf_model.specs.History.{Branch, begins_elsewhere, broken_place, ends_at_bridge, first_place, hop_to, hops_along}
 use Rattle.cqf_model.specs.History.{is_beyond_most, is_broken_at, is_loop_at, is_stray, link_before, link_from, node_at, refused_at, refused_if, tree_of}
-use Rattle.cqf_model.specs.Limits.{hops_within}
+use Rattle.cqf_model.specs.Limits.{hops_within, most_reserved}
 use Rattle.cqf_model.proofs.Texts.{named_once}
 use Rattle.cqf_topology.proofs.Refusals.{and_then-Ok, ok_or-Ok, refuse-Ok}
 use Rattle.cqf_sketch.specs.SketchDomain.{HasTalkerLinks, SketchDomain, domain_at}
@@ -68,14 +68,14 @@ pub record IsReady (d : Domain) (stream : SettledStream) : Type 0 where
 
 -- octets that may be reserved are no fewer than the fewest
 least_octets : (octets : ℕ) → are_reservable (Some octets) ≡ true → 64 ≤ octets
-least_octets octets may = leb-true 64 octets (and_parts (nat_le 64 octets) (nat_le octets 60000) may).0
+least_octets octets may = leb-true 64 octets (and_parts (nat_le 64 octets) (nat_le octets most_reserved) may).0
 
 -- and so is what is reserved
 least_by : (octets needs : Option ℕ) (reserved : ℕ) → are_reservable octets ≡ true → (octets ≡ None → needs ≡ None → ⊥) → IfSome needs (λ n. 64 ≤ n) →
     reserved_by octets needs ≡ Ok reserved → 64 ≤ reserved
 least_by None None reserved may reserves least e = absurd (reserves refl refl)
 least_by (Some octets) None reserved may reserves least e = let same : octets ≡ reserved = cc in omega (arith, same, least_octets octets may)
-least_by octets (Some needs) reserved may reserves least e = by_needs (nat_lt 60000 needs) e
+least_by octets (Some needs) reserved may reserves least e = by_needs (nat_lt most_reserved needs) e
   where
     by_octets : (o : Option ℕ) → are_reservable o ≡ true → if_enough o needs ≡ Ok reserved → 64 ≤ reserved
     by_octets None may e = let same : needs ≡ reserved = cc in omega (arith, same, least)
@@ -89,11 +89,11 @@ least_by octets (Some needs) reserved may reserves least e = by_needs (nat_lt 60
     by_needs true e = absurd cc
     by_needs false e = by_octets octets may e
 
-pub reserved_least : (d : Domain) (stream : SettledStream) (cycle_time octets : ℕ) → 1 ≤ cycle_time → IsReady d stream →
-    reserved_on cycle_time stream ≡ Ok octets → 64 ≤ octets
-reserved_least d stream cycle_time octets some ready e = least_by stream.octets (option_map needs stream.traffic) octets ready.reservable
+pub reserved_least : (d : Domain) (stream : SettledStream) (cycle_time sync octets : ℕ) → 1 ≤ cycle_time → IsReady d stream →
+    reserved_on cycle_time sync stream ≡ Ok octets → 64 ≤ octets
+reserved_least d stream cycle_time sync octets some ready e = least_by stream.octets (option_map needs stream.traffic) octets ready.reservable
     (λ none_asked none_needed. ready.reserves none_asked (unmapped stream.traffic none_needed)) (each stream.traffic ready.traffic)
-    (reserved_there cycle_time stream octets e).1
+    (reserved_there cycle_time sync stream octets e).1
   where
     needs : TrafficText → ℕ
     needs = λ (t : TrafficText). needed cycle_time (promise_of t)

@@ -22,7 +22,7 @@ use Rattle.cqf_model.specs.declared.topology.Hop.{Hop}
 use Rattle.cqf_model.specs.declared.topology.Pace.{Pace}
 use Rattle.cqf_model.specs.Domain.{Domain, bridge_of, budget, is_text}
 use Rattle.cqf_model.specs.History.{Branch, Recorded, held_in, is_pace, left_on, refusal_of, refused_at, refused_if, seals, short_link, tree_of}
-use Rattle.cqf_model.specs.Limits.{hops_within, streams_within}
+use Rattle.cqf_model.specs.Limits.{hops_within, most_reserved, streams_within}
 use Rattle.cqf_model.specs.Paces.{each_cycle}
 use Rattle.cqf_topology.specs.DomainText.{IsDomain, is_among}
 use Rattle.cqf_admission.specs.Asking.{asked_with}
@@ -59,7 +59,7 @@ use Rattle.cqf_program_placing.proofs.Stepping.{is_good_pace, pace_is_good, turn
 pub record MayAsk (d : Domain) (rows : List Row) (name : List ℕ) (octets : ℕ) : Type 0 where
   pub named : is_name name ≡ true
   pub least_octets : 64 ≤ octets
-  pub most_octets : octets ≤ 60000
+  pub most_octets : octets ≤ most_reserved
   pub name_free : list_any (λ (row : Row). is_text row.name name) rows ≡ false
   pub few : length rows < streams_within d.limits
 
@@ -75,7 +75,7 @@ module _ (d : Domain) (rows : List Row) (name : List ℕ) (octets every phase : 
   refused_on_tree =
       let named = may.named in
       let least_is : nat_le 64 octets ≡ true = le-leb 64 octets may.least_octets in
-      let most_is : nat_le octets 60000 ≡ true = le-leb octets 60000 may.most_octets in
+      let most_is : nat_le octets most_reserved ≡ true = le-leb octets most_reserved may.most_octets in
       let many : nat_le (streams_within d.limits) (length rows) ≡ false = lt-leb (streams_within d.limits) (length rows) may.few in
       let hops = refused_if (nat_lt (hops_within d.limits) (length (tree_of d paths))) refused.TooManyHops in
       let short = refused_at lacks_room (short_link d rows (cost_of octets) (pace_by every phase) (tree_of d paths)) in
@@ -319,20 +319,20 @@ module _ (one_way : FirstWayIsOne) (no_loop : FirstWaysHaveNoLoop) (parts : Firs
       list_any (λ (row : Row). is_text row.name stream.name) (held_in d entries (seals entries)) ≡ false →
       length (held_in d entries (seals entries)) < streams_within d.limits →
       IsPlacing d entries stream become after → IsPlacedByRoom d (held_in d entries (seals entries)) stream become
-  placed_so stream become after ready free few placed = by (reserved_on d.cycle_time stream) refl placed
+  placed_so stream become after ready free few placed = by (reserved_on d.cycle_time d.sync stream) refl placed
     where
       some_time : 1 ≤ d.cycle_time
       some_time = omega (arith, good.accepted.cycle_least)
 
-      by : (reserved : Result ℕ PlanFault) → reserved_on d.cycle_time stream ≡ reserved → IsPlacedBy d entries stream reserved become after →
+      by : (reserved : Result ℕ PlanFault) → reserved_on d.cycle_time d.sync stream ≡ reserved → IsPlacedBy d entries stream reserved become after →
           IsPlacedWith d rows stream reserved become
       by (Err found) e is = is.0
       by (Ok octets) e is =
           let may : MayAsk d rows stream.name octets = record {
             named = ready.named;
-            least_octets = reserved_least d stream d.cycle_time octets some_time ready e;
+            least_octets = reserved_least d stream d.cycle_time d.sync octets some_time ready e;
             most_octets = reserved_few stream.octets (option_map (λ (t : TrafficText). needed d.cycle_time (promise_of t)) stream.traffic) octets ready.reservable
-                (reserved_there d.cycle_time stream octets e).1;
+                (reserved_there d.cycle_time d.sync stream octets e).1;
             name_free = free;
             few = few;
           } in

@@ -44,10 +44,10 @@ reserved_by octets (Some needs) = if nat_lt most_reserved needs then Err (fault.
 reserved_by (Some octets) None = Ok octets
 reserved_by None None = Ok 0
 
--- on a cycle time, on which it has to be in step where its talker is to be
-abbrev pub reserved_on : ℕ → SettledStream → Result ℕ PlanFault
-reserved_on cycle_time stream =
-    if can_step cycle_time stream.pacing stream.traffic
+-- on a cycle time, on which it has to be in step where its talker is to be, however far clocks may be apart
+abbrev pub reserved_on : ℕ → ℕ → SettledStream → Result ℕ PlanFault
+reserved_on cycle_time sync stream =
+    if can_step cycle_time sync stream.pacing stream.traffic
     then reserved_by stream.octets (option_map (λ (t : TrafficText). needed cycle_time (promise_of t)) stream.traffic)
     else Err fault.BadInStep
 
@@ -128,7 +128,7 @@ IsPlacedBy d entries stream (Ok octets) become after = IsRoutedAndAnswered d ent
 
 -- what becomes of a stream behind these entries, and the entries behind it
 abbrev pub IsPlacing : Domain → List Recorded → SettledStream → PlacedOr → List Recorded → Type 0
-IsPlacing d entries stream become after = IsPlacedBy d entries stream (reserved_on d.cycle_time stream) become after
+IsPlacing d entries stream become after = IsPlacedBy d entries stream (reserved_on d.cycle_time d.sync stream) become after
 
 -- streams placed one after the other: what becomes of each, and the history in the end. One that isn't placed holds nothing
 abbrev pub ArePlacedFrom : Domain → List Recorded → List SettledStream → List PlacedOr → List Recorded → Type 0

@@ -85,7 +85,7 @@ IsPlacedWith d rows stream (Ok octets) become = IsPlacedOnWay d rows stream.name
 
 -- a stream is placed beside some rows where there is room
 abbrev pub IsPlacedByRoom : Domain → List Row → SettledStream → PlacedOr → Type 0
-IsPlacedByRoom d rows stream become = IsPlacedWith d rows stream (reserved_on d.cycle_time stream) become
+IsPlacedByRoom d rows stream become = IsPlacedWith d rows stream (reserved_on d.cycle_time d.sync stream) become
 
 -- so is each of some streams behind these entries, beside the rows of those that are placed before it
 abbrev pub ArePlacedByRoomFrom : Domain → List Recorded → List SettledStream → List PlacedOr → List Recorded → Type 0

@@ -7,7 +7,7 @@ use Rattle.std.specs.Option.{ForSome, option_map_or}
 use Rattle.cqf_lists.specs.Lists.{each_below}
 use Rattle.cqf_lists.specs.Results.{and_then, refuse}
 use Rattle.cqf_units.specs.Name.{is_name}
-use Rattle.cqf_units.specs.Timing.{nanos_of_octet}
+use Rattle.cqf_units.specs.Timing.{ticks_of_octet, time_of}
 use Rattle.cqf_model.specs.declared.history.Refused.{Refused}
 use Rattle.cqf_model.specs.declared.history.Refused.TheVariants as refused
 use Rattle.cqf_model.specs.declared.topology.Link.{Link}
@@ -139,7 +139,7 @@ longest_of octets traffic = option_map_or (λ (t : TrafficText). t.size) traffic
 -- talker begins to send it
 abbrev pub taken_on : Option TalkerLink → ℕ → ℕ
 taken_on None octets = 0
-taken_on (Some link) octets = (octets + 8) * nanos_of_octet link.rate + link.delay
+taken_on (Some link) octets = time_of (octets + 8) (ticks_of_octet link.rate) + link.delay
 
 -- the deadline from the edge bridge on, of which something has to be left
 abbrev pub deadline_behind : ℕ → Option ℕ → Result (Option ℕ) PlanFault
@@ -187,7 +187,7 @@ settled_behind sketch d before [] = Ok []
 settled_behind sketch d before (stream ∷ streams) =
     and_first (settled_next sketch d before stream) (settled_behind sketch d (before ++ stream.name ∷ []) streams)
 
--- the plant's names and links, whatever the cycle time: those of the domain with the first candidate above the guard time
+-- the plant's names and links, whatever the cycle time: those of the domain with the first candidate above each guard time
 abbrev pub open_domain : SketchDomain → Domain
 open_domain sketch = domain_at sketch (open_cycle sketch)
 

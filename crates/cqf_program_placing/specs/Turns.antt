@@ -1,6 +1,6 @@
 -- In which cycles a stream is offered on a cycle time, and how full links are in these (profile).
 use Rattle.std.specs.Prelude.{ℕ, ◌≡◌, ◌+◌, ◌-◌, ◌*◌, ◌/◌, ◌%◌, ◌<◌, ◌≤◌, ◌==◌, ◌&&◌, ◌⊎◌, ⊤, Bool, true, false, Contains, List, [], ◌∷◌, Option, Some, None, fold}
-use Rattle.std.specs.Prelude.{if◌then◌else◌, length, max, nat_lt}
+use Rattle.std.specs.Prelude.{if◌then◌else◌, length, max, nat_le, nat_lt}
 use Rattle.std.specs.Option.{option_map_or}
 use Rattle.cqf_lists.specs.Lists.{each_below}
 use Rattle.cqf_model.specs.declared.history.Refused.{Refused}
@@ -29,10 +29,17 @@ abbrev pub is_in_step : ℕ → Pacing → TrafficText → Bool
 is_in_step cycle_time (pacing.Given every phase) t = false
 is_in_step cycle_time pacing.InStep t = keeps_step cycle_time t
 
--- a stream can be offered on a cycle time: where its talker is to be in step, it is; without traffic there is nothing to be in step with
-abbrev pub can_step : ℕ → Pacing → Option TrafficText → Bool
-can_step cycle_time (pacing.Given every phase) traffic = true
-can_step cycle_time pacing.InStep traffic = option_map_or (keeps_step cycle_time) traffic false
+-- they do by the edge bridge's clock too, however much it and the talker's own may be apart: no frame comes before the cycle begins, or
+-- when it is over
+abbrev pub stays_in_step : ℕ → ℕ → TrafficText → Bool
+stays_in_step cycle_time sync t =
+    keeps_step cycle_time t && (nat_le sync (t.offset % cycle_time) && nat_lt (t.offset % cycle_time + t.jitter + sync) cycle_time)
+
+-- a stream can be offered on a cycle time where clocks may be so far apart: where its talker is to be in step, it is; without traffic there is
+-- nothing to be in step with
+abbrev pub can_step : ℕ → ℕ → Pacing → Option TrafficText → Bool
+can_step cycle_time sync (pacing.Given every phase) traffic = true
+can_step cycle_time sync pacing.InStep traffic = option_map_or (stays_in_step cycle_time sync) traffic false
 
 -- the greatest common divisor of a number of cycles and those after which all paces repeat
 abbrev pub every_of : ℕ → ℕ

@@ -5,7 +5,7 @@ ghost use Rattle.cqf_program_placing.specs.Settled.{deadline_behind, longest_of,
 use crate::PlanFault;
 use cqf_sketch::TalkerLink;
 use cqf_traffic::Traffic;
-use cqf_units::octet_time;
+use cqf_units::time_of;
 
 /// The octets of the longest frame with a tag (IEEE 802.3).
 const LONGEST_FRAME: u32 = 1_522;
@@ -25,7 +25,7 @@ pub(crate) fn taken_on(talker: Option<TalkerLink>, octets: u32) -> u64
     ensures { result ≡ taken_on talker octets }
 {
     match talker {
-        Some(link) => (u64::from(octets) + 8) * octet_time(link.rate) + u64::from(link.delay),
+        Some(link) => time_of(u64::from(octets) + 8, link.rate) + u64::from(link.delay),
         None => 0,
     }
 }

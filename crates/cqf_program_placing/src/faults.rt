@@ -21,7 +21,7 @@ pub enum PlanFault {
     NoWay(Name),
     /// Its deadline is over no later than a frame is whole at its edge bridge.
     TooSoon,
-    /// Its talker is to be in step, and not all its frames of an interval come within one cycle.
+    /// Its talker is to be in step, and not all its frames of an interval come within one cycle, by its own clock and by the edge bridge's.
     BadInStep,
     /// So many octets are needed of a cycle, and a stream may not reserve as many.
     TooMuch(u64),

@@ -10,10 +10,9 @@ ghost use Rattle.cqf_program_placing.specs.Turns.{AreGoodTurns, CostsSome, IsFul
 use crate::branched::Branched;
 use crate::rooms::pace_by;
 use crate::turns::Turns;
-use cqf_admission::Admission;
+use cqf_admission::{Admission, budget_on};
 use cqf_model::{Hop, Pace};
 use cqf_topology::Domain;
-use cqf_units::budget;
 
 /// How much of a link's budget is held, in octets a cycle.
 #[derive(Clone, Copy, Debug)]
@@ -38,8 +37,7 @@ fn share_at(domain: &Domain, admission: &Admission, cost: u32, pace: Pace, hop: 
     requires good { IsGoodPace pace }
     ensures { result ≡ share_at domain.now (held_in domain.now admission.now.entries (seals admission.now.entries)) cost pace hop.now }
 {
-    let rate = domain.link(hop.link).rate;
-    let most = budget(domain.cycle_time(), domain.guard(), rate).0;
+    let most = budget_on(domain, hop.link).0;
     let left = admission.left_at(hop, pace).0;
     BudgetShare {
         held: u64::from(most - left) + u64::from(cost),

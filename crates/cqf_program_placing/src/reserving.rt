@@ -30,15 +30,16 @@ fn reserved_for(octets: Option<u32>, needed: u128) -> Result<u32, PlanFault>
 /// have to be enough (profile).
 ///
 /// # Errors
-/// `BadInStep` where its talker is to be in step, and not all its frames of an interval come within one cycle; else `TooMuch` where its traffic needs more than a stream may reserve; else `TooLittle` where it asks for fewer than that.
+/// `BadInStep` where its talker is to be in step, and not all its frames of an interval come within one cycle, by its own clock and by the edge
+/// bridge's; else `TooMuch` where its traffic needs more than a stream may reserve; else `TooLittle` where it asks for fewer than that.
 pub(crate) fn reservation(domain: &Domain, stream: &Settled) -> Result<u32, PlanFault>
     requires { IsTrue (are_reservable stream.now.octets) }
-    ensures value { result ≡ reserved_on domain.now.cycle_time (settled_value stream.now) }
+    ensures value { result ≡ reserved_on domain.now.cycle_time domain.now.sync (settled_value stream.now) }
     ensures few { IfOk result (λ octets. octets ≤ most_reserved) }
     ensures some { IfOk result (λ octets. IfSome stream.now.traffic (λ _. 1 ≤ octets)) }
 {
     let cycle_time = domain.cycle_time();
-    if !can_step(stream, cycle_time) {
+    if !can_step(stream, cycle_time, domain.sync()) {
         return Err(PlanFault::BadInStep);
     }
     let Some(traffic) = stream.traffic else {

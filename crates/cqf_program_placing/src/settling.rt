@@ -181,7 +181,7 @@ fn settle_all(
 ///
 /// # Errors
 /// The first fault, stream by stream: `BadName`, with the place, from 1, where a name hasn't the form of one; and then `Stream` with the
-/// name and the first of these. `BadOctets`, where it asks for fewer than 64 octets a cycle, or more than 60,000. `BadPace`, where it is to
+/// name and the first of these. `BadOctets`, where it asks for fewer than 64 octets a cycle, or more than 1,000,000. `BadPace`, where it is to
 /// be offered in one of a number of cycles that doesn't divide 80, or from a first cycle on that isn't below that number. Of a stream with
 /// given branches, why they are no tree of the plant, as [`find_tree`](cqf_admission::find_tree) has it; of another `NoTalker`, where
 /// it comes from no bridge and from no station with a talker's link, `NoListener` of the first listener that is no station, and `NoWay` of

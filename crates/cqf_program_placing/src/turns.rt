@@ -1,8 +1,8 @@
 //! In which cycles a stream is offered on a cycle time.
-ghost use Rattle.std.specs.Prelude.{◌≡◌, ◌<◌, IsTrue};
+ghost use Rattle.std.specs.Prelude.{◌≡◌, ◌<◌, ◌^◌, IsTrue};
 ghost use Rattle.cqf_program_placing.specs.Placing.{is_chosen_on, turns_on};
 ghost use Rattle.cqf_program_placing.specs.Settled.{is_paced, settled_value};
-ghost use Rattle.cqf_program_placing.specs.Turns.{AreGoodTurns, IsGoodEvery, can_step, every_in, every_of, keeps_step, turns_in_step};
+ghost use Rattle.cqf_program_placing.specs.Turns.{AreGoodTurns, IsGoodEvery, can_step, every_in, every_of, keeps_step, stays_in_step, turns_in_step};
 
 use crate::Settled;
 use cqf_model::MOST_EVERY;
@@ -55,16 +55,31 @@ fn every_of(cycles: u64) -> u8
     every
 }
 
-/// Whether a stream can be offered on a cycle time: where its talker is to be in step, all its frames of an interval come within one cycle
-/// (profile).
-pub(crate) fn can_step(stream: &Settled, cycle_time: Nanos) -> bool
-    requires { 0 < cycle_time.0 }
-    ensures { result ≡ can_step cycle_time.0 stream.now.pacing stream.now.traffic }
+/// Whether they do by the edge bridge's clock too, however much it and the talker's own may be apart.
+fn stays_in_step(traffic: Traffic, cycle_time: Nanos, sync: Nanos) -> bool
+    requires some { 0 < cycle_time.0 }
+    requires short { sync.0 < 2 ^ 32 }
+    ensures { result ≡ stays_in_step cycle_time.0 sync.0 traffic }
+{
+    if !keeps_step(traffic, cycle_time) {
+        return false;
+    }
+    let first = traffic.offset().0 % cycle_time.0;
+    let latest = first + traffic.jitter().0 + sync.0;
+    sync.0 <= first && latest < cycle_time.0
+}
+
+/// Whether a stream can be offered on a cycle time where clocks may be so far apart: where its talker is to be in step, all its frames of an
+/// interval come within one cycle, by its own clock and by the edge bridge's (profile).
+pub(crate) fn can_step(stream: &Settled, cycle_time: Nanos, sync: Nanos) -> bool
+    requires some { 0 < cycle_time.0 }
+    requires short { sync.0 < 2 ^ 32 }
+    ensures { result ≡ can_step cycle_time.0 sync.0 stream.now.pacing stream.now.traffic }
 {
     match stream.pacing {
         Pacing::Given { .. } => true,
         Pacing::InStep => match stream.traffic {
-            Some(traffic) => keeps_step(traffic, cycle_time),
+            Some(traffic) => stays_in_step(traffic, cycle_time, sync),
             None => false,
         },
     }

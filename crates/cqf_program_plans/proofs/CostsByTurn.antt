@@ -1,5 +1,5 @@
 -- What the streams of a table cost of each link, in sums by link and cycle.
-use Rattle.std.proofs.Common.{◌≡◌, ◌≢◌, ◌+◌, ◌-◌, ◌<◌, ◌≤◌, ◌^◌, ◌∙◌, ℕ, true, List, All, AllPairs, Contains, ap, arith, div-le_self, get_or, length, subst, take}
+use Rattle.std.proofs.Common.{◌≡◌, ◌≢◌, ◌+◌, ◌-◌, ◌<◌, ◌≤◌, ◌^◌, ◌∙◌, ℕ, true, List, All, AllPairs, Contains, ap, arith, get_or, length, subst, take}
 use Rattle.std.proofs.lemmas.List.Elements.{All-map}
 use Rattle.std.proofs.lemmas.List.Sums.{sum_by_more, sum_by_more_le}
 use Rattle.cqf_lists.proofs.Pairs.{pairs_map}
@@ -7,7 +7,8 @@ use Rattle.cqf_units.specs.Timing.{cost_of}
 use Rattle.cqf_model.specs.declared.topology.Hop.{Hop}
 use Rattle.cqf_model.specs.declared.topology.Pace.{Pace}
 use Rattle.cqf_model.specs.declared.topology.Row.{Row}
-use Rattle.cqf_model.specs.Domain.{Domain, IsAccepted, end_of, octet_time_of}
+use Rattle.cqf_model.specs.Domain.{Domain, IsAccepted, end_of}
+use Rattle.cqf_model.proofs.Links.{budget_within}
 use Rattle.cqf_model.specs.History.{most_beside}
 use Rattle.cqf_model.specs.Table.{IsTree, cost_on, link_cost, links_in}
 use Rattle.cqf_laws_history.specs.StateLaws.{AreHeld}
@@ -37,14 +38,14 @@ low_hop tree hop n there all = subst (λ (h : Hop). h.link < n) there.2 (low_at 
 -- and they cost little of each link in a cycle
 pub held_little : (d : Domain) (rows : List Row) (next effect : ℕ) → IsAccepted d → AreHeld d rows next effect → CostLittle rows
 held_little d rows next effect accepted held l cycle =
-    omega (arith, held.loads l cycle, div-le_self (d.cycle_time - d.guard) (octet_time_of d l), accepted.cycle_most)
+    omega (arith, held.loads l cycle, budget_within d l, accepted.cycle_most)
 
 -- so sums of these costs are within a word of 32 bits
-pub most_little : (rows : List Row) (l : ℕ) → CostLittle rows → most_cost rows l ≤ 10000000
-most_little rows l little = most_taken (λ turn. true) (link_cost rows l) 10000000 (λ turn on. little l turn) 80
+pub most_little : (rows : List Row) (l : ℕ) → CostLittle rows → most_cost rows l ≤ 110000000
+most_little rows l little = most_taken (λ turn. true) (link_cost rows l) 110000000 (λ turn on. little l turn) 80
 
-pub beside_little : (rows : List Row) (tree : List Hop) (pace : Pace) (l : ℕ) → CostLittle rows → most_beside rows tree pace l ≤ 10000000
-beside_little rows tree pace l little = most_within rows tree pace l 10000000 (λ turn on. little l turn)
+pub beside_little : (rows : List Row) (tree : List Hop) (pace : Pace) (l : ℕ) → CostLittle rows → most_beside rows tree pace l ≤ 110000000
+beside_little rows tree pace l little = most_within rows tree pace l 110000000 (λ turn on. little l turn)
 
 -- nothing is more than what it isn't
 pub none_more : (taken most greatest : ℕ) → taken ≡ greatest → greatest ≤ most → most < taken → ⊥

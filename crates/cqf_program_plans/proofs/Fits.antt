@@ -18,7 +18,7 @@ use Rattle.cqf_model.specs.Domain.{Domain, budget, is_text}
 use Rattle.cqf_model.specs.History.{Asked, is_pace, left_on, most_beside, pace_of, refusal_of, refused_at, refused_if, tree_of}
 use Rattle.cqf_model.specs.declared.topology.Hop.{Hop}
 use Rattle.cqf_model.specs.declared.topology.Pace.{Pace}
-use Rattle.cqf_model.specs.Limits.{streams_within}
+use Rattle.cqf_model.specs.Limits.{most_reserved, streams_within}
 use Rattle.cqf_model.specs.Paces.{each_cycle, is_turn}
 use Rattle.cqf_model.specs.Table.{cost_on, link_cost, links_in, uses}
 use Rattle.cqf_model.proofs.Hops.{hops_inside}
@@ -32,7 +32,7 @@ use Rattle.cqf_program_plans.specs.Load.Laws.{FitsIsGreatest, OneMoreFits}
 use Rattle.cqf_program_plans.specs.Load.Listing.{listed_row, listing_refusal}
 
 -- by how many frames of 64 octets what is left holds
-fits_forth : (frames left reserved : ℕ) → frames ≡ left / 84 → 64 ≤ reserved → reserved ≤ 60000 → cost_of reserved ≤ left → reserved ≤ fits_by frames left
+fits_forth : (frames left reserved : ℕ) → frames ≡ left / 84 → 64 ≤ reserved → reserved ≤ most_reserved → cost_of reserved ≤ left → reserved ≤ fits_by frames left
 fits_forth zero left reserved is least most costs = absurd (omega (arith, is, least, costs))
 fits_forth (suc frames) left reserved is least most costs = omega (arith, is, least, most, costs)
 
@@ -105,17 +105,17 @@ module _ (d : Domain) (rows : List Row) (asked : Asked) (h : listing_refusal d r
   few = leb-false (streams_within d.limits) (length rows)
       (not_due (nat_le (streams_within d.limits) (length rows)) TooManyStreams (second_none held many behind))
 
-  in_range : (nat_le 64 asked.octets ≡ true) × (nat_le asked.octets 60000 ≡ true)
-  in_range = both (nat_le 64 asked.octets) (nat_le asked.octets 60000)
-      (not_due _ BadOctets (first_none (refused_if (not (nat_le 64 asked.octets && nat_le asked.octets 60000)) BadOctets)
+  in_range : (nat_le 64 asked.octets ≡ true) × (nat_le asked.octets most_reserved ≡ true)
+  in_range = both (nat_le 64 asked.octets) (nat_le asked.octets most_reserved)
+      (not_due _ BadOctets (first_none (refused_if (not (nat_le 64 asked.octets && nat_le asked.octets most_reserved)) BadOctets)
       (or_else (refused_if (not (is_pace asked.every asked.phase)) BadPace) (tree_refusal d asked.paths))
       (second_none (refused_if (not (is_name asked.name)) BadName) _ form)))
 
   least : 64 ≤ asked.octets
   least = leb-true 64 asked.octets in_range.0
 
-  most : asked.octets ≤ 60000
-  most = leb-true asked.octets 60000 in_range.1
+  most : asked.octets ≤ most_reserved
+  most = leb-true asked.octets most_reserved in_range.1
 
   abbrev is_short : ℕ → Bool
   is_short l = nat_lt (left_on d rows (tree_of d asked.paths) (pace_of asked) l) (cost_of asked.octets)

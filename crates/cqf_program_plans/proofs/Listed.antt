@@ -8,6 +8,7 @@ use Rattle.std.proofs.lemmas.List.Sums.{fold-append, sum_by_push}
 use Rattle.std.proofs.lemmas.Bool.{cases_Bool}
 use Rattle.cqf_units.specs.Timing.{cost_of}
 use Rattle.cqf_model.specs.declared.topology.Row.{Row}
+use Rattle.cqf_model.specs.Limits.{most_reserved}
 use Rattle.cqf_model.specs.Table.{cost_on, crosses, link_cost, uses}
 use Rattle.cqf_admission.proofs.TurnLemmas.{most_of_costs}
 use Rattle.cqf_admission.specs.Turns.{AreMoreIn, AreNone, HasRoomFor, Turned, most_of}
@@ -47,9 +48,9 @@ count_push p rows row = fold-append (λ (n : ℕ) (x : Row). n + cond (p x) 1 0)
 
 -- a stream more, of a name that isn't listed
 module _ (names : List (List ℕ)) (rows : List Row) (held : Turned) (crossing : List ℕ) (row : Row) (now : IsListing names rows held crossing)
-    (few : length rows < 16384) (octets : row.octets ≤ 60000) where
+    (few : length rows < 16384) (octets : row.octets ≤ most_reserved) where
   -- what it costs of a link is bounded
-  short : (l cycle : ℕ) → cost_on row l cycle ≤ 100000
+  short : (l cycle : ℕ) → cost_on row l cycle ≤ 2000000
   short l cycle = elim (cases_Bool (uses row.tree.items row.pace l cycle)) [
     | inl goes ↦ omega (arith, octets, ap {B = ℕ} (λ (b : Bool). if b then cost_of row.octets else 0) goes)
     | inr stays ↦ omega (arith, ap {B = ℕ} (λ (b : Bool). if b then cost_of row.octets else 0) stays)
@@ -92,6 +93,6 @@ pub most_listed : (names : List (List ℕ)) (rows : List Row) (held : Turned) (c
 most_listed names rows held crossing l is low = most_of_costs held l (link_cost rows l) (λ cycle below. is.cost l cycle low)
 
 pub most_bounded : (names : List (List ℕ)) (rows : List Row) (held : Turned) (crossing : List ℕ) (l : ℕ) → IsListing names rows held crossing → l < 4096 →
-    most_cost rows l ≤ 1638400000
+    most_cost rows l ≤ 32768000000
 most_bounded names rows held crossing l is low =
-    most_taken (λ turn. true) (link_cost rows l) 1638400000 (λ turn on. omega (arith, is.few, is.bounded l turn low, is.cost l turn low)) 80
+    most_taken (λ turn. true) (link_cost rows l) 32768000000 (λ turn on. omega (arith, is.few, is.bounded l turn low, is.cost l turn low)) 80

@@ -12,7 +12,7 @@ use Rattle.cqf_model.specs.declared.history.Refused.TheVariants.{BadName, BadOct
 use Rattle.cqf_model.specs.declared.topology.Row.{Row}
 use Rattle.cqf_model.specs.Domain.{Domain, is_text}
 use Rattle.cqf_model.specs.History.{Asked, is_pace, refused_if}
-use Rattle.cqf_model.specs.Limits.{streams_within}
+use Rattle.cqf_model.specs.Limits.{most_reserved, streams_within}
 use Rattle.cqf_model.specs.Table.{links_of}
 use Rattle.cqf_units.specs.Name.{is_name}
 use Rattle.cqf_admission.proofs.TurnLemmas.{asked_is_good}
@@ -30,14 +30,14 @@ form_paced : (d : Domain) (asked : Asked) → form_refusal d asked ≡ None → 
 form_paced d asked form =
     let tree = tree_refusal d asked.paths in
     let pace = refused_if (not (is_pace asked.every asked.phase)) BadPace in
-    let octets = refused_if (not (nat_le 64 asked.octets && nat_le asked.octets 60000)) BadOctets in
+    let octets = refused_if (not (nat_le 64 asked.octets && nat_le asked.octets most_reserved)) BadOctets in
     let name = refused_if (not (is_name asked.name)) BadName in
     not-false (is_pace asked.every asked.phase)
     (not_due (not (is_pace asked.every asked.phase)) BadPace
     (first_none pace tree (second_none octets (or_else pace tree) (second_none name (or_else octets (or_else pace tree)) form))))
 
 -- where its form is good, its name is free and there are not too many streams, a stream is listed with its row
-pub is_listed : (d : Domain) (rows : List Row) (asked : Asked) (row : Row) → form_refusal d asked ≡ None → asked.octets ≤ 60000 →
+pub is_listed : (d : Domain) (rows : List Row) (asked : Asked) (row : Row) → form_refusal d asked ≡ None → asked.octets ≤ most_reserved →
     list_any (λ (other : Row). is_text other.name asked.name) rows ≡ false → length rows < streams_within d.limits → row ≡ listed_row d rows asked →
     IsListed d rows asked row
 is_listed d rows asked row form most free few is = record {

@@ -10,7 +10,7 @@ use Rattle.cqf_port.specs.PortState.{PortState, AreOnly, AreTaken, IsPort, RunsU
 use Rattle.cqf_report.specs.Arrivals.{AreArrivals}
 use Rattle.cqf_report.specs.Starts.{text_of_starts}
 use Rattle.cqf_program_scenario.specs.PortLines.{AreTellable}
-use Rattle.cqf_units.specs.Timing.{nanos_of_octet}
+use Rattle.cqf_units.specs.Timing.{ticks_of_octet}
 use Rattle.cqf_units.specs.declared.timing.Rate.{Rate}
 use Rattle.cqf_program_plans.specs.Port.Output.{AreOfferable, IsStartsText}
 
@@ -64,12 +64,12 @@ state_at rules arrivals until before after fresh ran past =
 pub IsStartsText-run : (rules : PortRules) (arrivals : List Arrival) (until : ℕ) (rate : Rate) (before after : PortState) →
     before ≡ record { rules = rules; reached = 0; arrivals = arrivals; starts = [] } →
     (before.reached < until → RunsUpTo until before after) → (until ≤ before.reached → after ≡ before) → IsPort after → AreOnly after →
-    IsStartsText rules arrivals until rate (text_of_starts (nanos_of_octet rate) (map (start_of after.arrivals) after.starts))
+    IsStartsText rules arrivals until rate (text_of_starts (ticks_of_octet rate) (map (start_of after.arrivals) after.starts))
 IsStartsText-run rules arrivals until rate before after fresh ran past facts only =
     let state = state_at rules arrivals until before after fresh ran past in
     record {
       starts = after.starts;
       legal = subst (λ (p : PortState). AreLegal p.rules p.arrivals p.reached p.starts) state facts.legal;
       only = subst AreOnly state only;
-      written = ap (λ (p : PortState). text_of_starts (nanos_of_octet rate) (map (start_of p.arrivals) p.starts)) state;
+      written = ap (λ (p : PortState). text_of_starts (ticks_of_octet rate) (map (start_of p.arrivals) p.starts)) state;
     }

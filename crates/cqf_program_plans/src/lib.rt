@@ -14,7 +14,8 @@
 //!   they keep their deadline for sure ([`LatencyOutput`], with a [`Latency`] a row, and its `Verdict`). [`latencies_of_rows`] has
 //!   this of the rows of a table, and [`link_costs`] what they cost of each link in a cycle at most. [`add_cost`] adds what one costs
 //!   to sums. [`parted`] parts streams from their deadlines.
-//!   [`told_latencies_hold`] says that frames take no less and no more in any run over the plan, and that the verdicts are true.
+//!   [`told_latencies_hold`] says that frames take no less and no more in any run over the plan, and that the verdicts are true;
+//!   [`told_latencies_hold_loosely`] says it of every loose network.
 //!
 //! Each command is a folder, in `src/` and in `specs/`: there `Output` of each has the value of an input, and `Told` or `Text` what an output
 //! tells (`Latency/Input` the value, of `latency`).
@@ -53,7 +54,7 @@ pub use compile::outputs::ConfigOutput;
 pub use latency::command::latency_output;
 pub use latency::costs::link_costs;
 pub use latency::latencies::Latency;
-pub use latency::laws::told_latencies_hold;
+pub use latency::laws::{told_latencies_hold, told_latencies_hold_loosely};
 pub use latency::listeners::{latencies_of_rows, listener_at, most_to};
 pub use latency::outputs::LatencyOutput;
 pub use latency::reading::parted;

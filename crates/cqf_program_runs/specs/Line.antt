@@ -17,11 +17,19 @@ use Rattle.cqf_program_scenario.specs.Scenario.{Scenario}
 
 -- the link from bridge a to station s: 1,000 Mb/s, with a delay of 500 ns
 abbrev pub line_link : Link
-line_link = record { from = 0; to = Station 0; rate = Mb1000; delay = 500 }
+line_link = record { from = 0; to = Station 0; rate = Mb1000; delay = 500; least = 500; guard = None }
 
--- the domain: a cycle time of 125,000 ns and a guard time of 5,000 ns
+-- the domain: a cycle time of 125,000 ns and a guard time of 5,000 ns, and one clock
 abbrev pub line_domain : Domain
-line_domain = record { limits = profile; cycle_time = 125000; guard = 5000; bridges = codes "a" ∷ []; stations = codes "s" ∷ []; links = line_link ∷ [] }
+line_domain = record {
+  limits = profile;
+  cycle_time = 125000;
+  guard = 5000;
+  sync = 0;
+  bridges = codes "a" ∷ [];
+  stations = codes "s" ∷ [];
+  links = line_link ∷ [];
+}
 
 -- what is asked for: the stream x with 1,500 octets a cycle, from bridge a to station s
 abbrev pub line_asked : Asked

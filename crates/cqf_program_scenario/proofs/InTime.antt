@@ -1,5 +1,5 @@
 -- Each start of a book is whole in time to be told.
-use Rattle.std.proofs.Common.{◌≡◌, ◌∙◌, ℕ, ◌*◌, ◌/◌, ◌<◌, ◌≤◌, ◌^◌, List, All, Contains, ap, arith, length, mul-le-mul_right, subst}
+use Rattle.std.proofs.Common.{◌≡◌, ◌∙◌, ℕ, ◌*◌, ◌/◌, ◌<◌, ◌≤◌, ◌^◌, List, All, Contains, ap, arith, length, mul-le-mul_right, refl, subst}
 use Rattle.cqf_units.proofs.Cycles.{cycle_upto}
 use Rattle.cqf_lists.proofs.Members.{all_from_members}
 use Rattle.cqf_model.specs.declared.frames.Started.{Started}
@@ -30,7 +30,7 @@ starts_in_time run book promise accepted short = all_from_members (InTime run) b
     one : (s : Started) → Contains book.starts s → InTime run s
     one s c =
         let b = of_batch run promise.is_book.net.carried (length run.tables) s (subst (λ (xs : List Started). Contains xs s) promise.is_book.are_starts c) in
-        let cycle = promise.means.whole b.link b.of.sent b.of.inside ∙ b.of.in_cycle in
+        let cycle = promise.means.whole b.link b.of.sent b.of.sent b.of.inside b.of.inside refl ∙ b.of.in_cycle in
         let first : whole_at run.domain b.link b.of.sent < 1000000000000 =
         early run.domain.cycle_time (whole_at run.domain b.link b.of.sent) b.cycle (omega (arith, accepted.cycle_least)) accepted.cycle_most
         (omega (arith, b.in_run, short)) cycle in

@@ -54,7 +54,7 @@ fn open_given(alloc: Global, cycles: u32, given: RunInput) -> Result<Opened, Mem
     let requests = given.requests.as_slice();
     let script = given.script.as_slice();
     let orders = given.orders.as_slice();
-    let calls = calls_of(alloc, script, requests, orders)?;
+    let calls = calls_of(alloc, &given.domain, script, requests, orders)?;
     let RunInput {
         domain,
         sealer,

@@ -6,7 +6,7 @@ ghost use Rattle.cqf_press.specs.Press.{Puts};
 ghost use Rattle.cqf_report.specs.Starts.{lines_of_port, start_fields, text_of_starts};
 ghost use Rattle.cqf_report.specs.Written.{line_of_fields};
 ghost use Rattle.cqf_program_scenario.specs.PortLines.{AreTellable};
-ghost use Rattle.cqf_units.specs.Timing.{nanos_of_octet};
+ghost use Rattle.cqf_units.specs.Timing.{ticks_of_octet};
 
 use cqf_model::{Arrival, Start};
 use cqf_press::{Press, Sink};
@@ -23,7 +23,7 @@ fn put_start_at<W: Sink>(
 )
     requires inside { start.0 < length arrivals.now }
     requires early { start.1 < 2 ^ 63 }
-    ensures { Puts W.contents press.old press.new (line_of_fields (start_fields (nanos_of_octet rate) (start_of arrivals.now start))) }
+    ensures { Puts W.contents press.old press.new (line_of_fields (start_fields (ticks_of_octet rate) (start_of arrivals.now start))) }
 {
     let (place, instant) = start;
     let arrival = arrivals[place];
@@ -44,7 +44,7 @@ fn put_each<W: Sink>(
     rate: Rate,
 )
     requires { AreTellable arrivals.now starts.now }
-    ensures { Puts W.contents press.old press.new (lines_of_port (nanos_of_octet rate) (map (start_of arrivals.now) starts.now)) }
+    ensures { Puts W.contents press.old press.new (lines_of_port (ticks_of_octet rate) (map (start_of arrivals.now) starts.now)) }
 {
     for start in starts {
         put_start_at(press, arrivals, *start, rate);
@@ -60,7 +60,7 @@ pub fn put_starts_of_port<W: Sink>(
     rate: Rate,
 )
     requires { AreTellable arrivals.now starts.now }
-    ensures { Puts W.contents press.old press.new (text_of_starts (nanos_of_octet rate) (map (start_of arrivals.now) starts.now)) }
+    ensures { Puts W.contents press.old press.new (text_of_starts (ticks_of_octet rate) (map (start_of arrivals.now) starts.now)) }
 {
     put_port_header(press);
     put_each(press, arrivals, starts, rate);

@@ -1,7 +1,8 @@
 -- Streams that are all placed are all admitted, each with what its talker needs.
 use Rattle.std.proofs.Common.{◌≡◌, ◌∙◌, ◌≤◌, ◌+◌, ◌*◌, ◌%◌, ℕ, zero, suc, Bool, true, false, List, [], ◌∷◌, Option, Some, None, Result, Ok, Err, All, ap, arith, if◌then◌else◌, map, refl, subst, subst₂, sym}
-use Rattle.std.specs.Prelude.{find, option_map, slice_get}
+use Rattle.std.specs.Prelude.{◌&&◌, find, nat_le, nat_lt, option_map, slice_get}
 use Rattle.std.specs.Option.{ForSome, option_map_or}
+use Rattle.std.proofs.lemmas.Bool.{and_parts}
 use Rattle.std.proofs.lemmas.Option.{same_Some}
 use Rattle.std.proofs.lemmas.List.Elements.{All-cons, All-nil}
 use Rattle.cqf_lists.specs.Lists.{or_else}
@@ -26,7 +27,7 @@ use Rattle.cqf_sketch.specs.declared.pacing.Pacing.TheVariants as pacing
 use Rattle.cqf_program_placing.specs.Placing.{ArePlacedFrom, IsAnswered, IsAskedFor, IsPlacedBy, PlacedOr, Placed, Unplaced, answered}
 use Rattle.cqf_program_placing.specs.Placing.{reserved_by, reserved_on, turns_on}
 use Rattle.cqf_program_placing.specs.Settled.{SettledStream}
-use Rattle.cqf_program_placing.specs.Turns.{MayBeFirst, can_step, every_in, is_in_step}
+use Rattle.cqf_program_placing.specs.Turns.{MayBeFirst, can_step, every_in, is_in_step, keeps_step}
 use Rattle.cqf_program_placing.proofs.PlaceLemmas.{reserved_enough, reserved_there}
 use Rattle.cqf_program_placing.proofs.Stepping.{may_be_first}
 use Rattle.cqf_program_sketch.specs.Judging.{first_late, first_unplaced, flow_of, flows_placed, late_fault, traffic_by}
@@ -40,7 +41,7 @@ answered_placed d asked here (Some refused) h = absurd (cc)
 -- what is known of a stream that is placed: it is asked for under its name with its reservation in its cycles, and granted
 pub record IsGranted (d : Domain) (entries : List Recorded) (stream : SettledStream) (asked : Asked) (after : List Recorded) : Type 0 where
   pub named : asked.name ≡ stream.name
-  pub reserved : reserved_on d.cycle_time stream ≡ Ok asked.octets
+  pub reserved : reserved_on d.cycle_time d.sync stream ≡ Ok asked.octets
   pub every : asked.every ≡ every_in (turns_on d.cycle_time stream)
   pub phase : MayBeFirst (turns_on d.cycle_time stream) asked.phase
   pub granted : refusal_of d (held_in d entries (seals entries)) asked ≡ None
@@ -48,7 +49,7 @@ pub record IsGranted (d : Domain) (entries : List Recorded) (stream : SettledStr
 
 -- where its branches are found
 granted_routed : (d : Domain) (entries : List Recorded) (stream : SettledStream) (octets : ℕ) (paths : List Branch) (asked : Asked) (after : List Recorded) →
-    reserved_on d.cycle_time stream ≡ Ok octets → IsAskedFor d entries stream.name octets (turns_on d.cycle_time stream) paths (Placed asked) after →
+    reserved_on d.cycle_time d.sync stream ≡ Ok octets → IsAskedFor d entries stream.name octets (turns_on d.cycle_time stream) paths (Placed asked) after →
     IsGranted d entries stream asked after
 granted_routed d entries stream octets paths asked after reserves is =
     let there : Asked = asked_with stream.name octets (every_in (turns_on d.cycle_time stream)) is.phase paths in
@@ -69,14 +70,14 @@ never_placed asked found h = absurd (cc)
 
 -- by its branches, where they are found
 granted_answered : (d : Domain) (entries : List Recorded) (stream : SettledStream) (octets : ℕ) (routed : Result (List Branch) PlanFault) (asked : Asked)
-    (after : List Recorded) → reserved_on d.cycle_time stream ≡ Ok octets →
+    (after : List Recorded) → reserved_on d.cycle_time d.sync stream ≡ Ok octets →
     IsAnswered d entries stream.name octets (turns_on d.cycle_time stream) routed (Placed asked) after → IsGranted d entries stream asked after
 granted_answered d entries stream octets (Ok paths) asked after reserves h = granted_routed d entries stream octets paths asked after reserves h
 granted_answered d entries stream octets (Err found) asked after reserves h = never_placed asked found h.0
 
 -- and by its reservation
 pub granted_by : (d : Domain) (entries : List Recorded) (stream : SettledStream) (reserves : Result ℕ PlanFault) (asked : Asked) (after : List Recorded) →
-    reserved_on d.cycle_time stream ≡ reserves → IsPlacedBy d entries stream reserves (Placed asked) after → IsGranted d entries stream asked after
+    reserved_on d.cycle_time d.sync stream ≡ reserves → IsPlacedBy d entries stream reserves (Placed asked) after → IsGranted d entries stream asked after
 granted_by d entries stream (Ok octets) asked after same h = granted_answered d entries stream octets h.routed asked after same h.is_answered
 granted_by d entries stream (Err found) asked after same h = never_placed asked found h.0
 
@@ -129,19 +130,19 @@ is_told cycle_time pacing phase (Some t) =
 
 -- streams that are all placed, as a plant has them, behind some entries
 pub record AreAllGranted (d : Domain) (entries : List Recorded) (streams : List SettledStream) (flows : List FlowText) (end : List Recorded) : Type 0 where
-  pub taken_over : AreTakenOver d.cycle_time streams flows
+  pub taken_over : AreTakenOver d.cycle_time d.sync streams flows
   pub admitted : (place : ℕ) → admitted_from d entries place (map asked_in flows) ≡ Ok end
   pub granted : AreGranted d entries (map asked_in flows)
   pub enough : All (ReservesEnough d.cycle_time) flows
   pub no_seal : seals end ≡ seals entries
 
 -- none
-none_taken_over : (cycle_time : ℕ) → AreTakenOver cycle_time [] []
-none_taken_over cycle_time = record { as_many = refl; each = λ place stream flow is at. absurd (cc) }
+none_taken_over : (cycle_time sync : ℕ) → AreTakenOver cycle_time sync [] []
+none_taken_over cycle_time sync = record { as_many = refl; each = λ place stream flow is at. absurd (cc) }
 
 no_stream : (d : Domain) (entries end : List Recorded) → end ≡ entries → AreAllGranted d entries [] [] end
 no_stream d entries end same = record {
-  taken_over = none_taken_over d.cycle_time;
+  taken_over = none_taken_over d.cycle_time d.sync;
   admitted = λ place. ap Ok (sym same);
   granted = tt;
   enough = All-nil (ReservesEnough d.cycle_time);
@@ -149,14 +150,16 @@ no_stream d entries end same = record {
 }
 
 -- one whose talker is to be in step is so, and its phase is chosen
-in_step_chosen : (cycle_time : ℕ) (given : Pacing) (traffic : Option TrafficText) → can_step cycle_time given traffic ≡ true → given ≡ pacing.InStep →
-    option_map_or (is_in_step cycle_time given) traffic false ≡ true
-in_step_chosen cycle_time (pacing.Given every phase) traffic can same = absurd (cc)
-in_step_chosen cycle_time pacing.InStep traffic can same = can
+in_step_chosen : (cycle_time sync : ℕ) (given : Pacing) (traffic : Option TrafficText) → can_step cycle_time sync given traffic ≡ true →
+    given ≡ pacing.InStep → option_map_or (is_in_step cycle_time given) traffic false ≡ true
+in_step_chosen cycle_time sync (pacing.Given every phase) traffic can same = absurd (cc)
+in_step_chosen cycle_time sync pacing.InStep None can same = absurd (cc)
+in_step_chosen cycle_time sync pacing.InStep (Some t) can same =
+    (and_parts (keeps_step cycle_time t) (nat_le sync (t.offset % cycle_time) && nat_lt (t.offset % cycle_time + t.jitter + sync) cycle_time) can).0
 
 -- one
 one_taken_over : (d : Domain) (entries after : List Recorded) (stream : SettledStream) (asked : Asked) → IsGranted d entries stream asked after →
-    IsTakenOver d.cycle_time stream (flow_of d.cycle_time stream asked)
+    IsTakenOver d.cycle_time d.sync stream (flow_of d.cycle_time stream asked)
 one_taken_over d entries after stream asked granted =
     let told = is_told d.cycle_time stream.pacing asked.phase stream.traffic in
     record {
@@ -164,19 +167,21 @@ one_taken_over d entries after stream asked granted =
       deadline = refl;
       every = granted.every;
       phase = granted.phase;
-      in_step = in_step_chosen d.cycle_time stream.pacing stream.traffic (reserved_there d.cycle_time stream asked.octets granted.reserved).0;
+      in_step = in_step_chosen d.cycle_time d.sync stream.pacing stream.traffic (reserved_there d.cycle_time d.sync stream asked.octets granted.reserved).0;
+      apart = (reserved_there d.cycle_time d.sync stream asked.octets granted.reserved).0;
       promise = told.promise;
       whole = told.whole;
       chosen = told.chosen;
     }
 
-more_taken_over : (cycle_time : ℕ) (stream : SettledStream) (flow : FlowText) (streams : List SettledStream) (flows : List FlowText) →
-    IsTakenOver cycle_time stream flow → AreTakenOver cycle_time streams flows → AreTakenOver cycle_time (stream ∷ streams) (flow ∷ flows)
-more_taken_over cycle_time stream flow streams flows one rest = record { as_many = ap (λ n. suc n) rest.as_many; each = at }
+more_taken_over : (cycle_time sync : ℕ) (stream : SettledStream) (flow : FlowText) (streams : List SettledStream) (flows : List FlowText) →
+    IsTakenOver cycle_time sync stream flow → AreTakenOver cycle_time sync streams flows →
+    AreTakenOver cycle_time sync (stream ∷ streams) (flow ∷ flows)
+more_taken_over cycle_time sync stream flow streams flows one rest = record { as_many = ap (λ n. suc n) rest.as_many; each = at }
   where
     at : (place : ℕ) (s : SettledStream) (f : FlowText) → slice_get (stream ∷ streams) place ≡ Some s → slice_get (flow ∷ flows) place ≡ Some f →
-        IsTakenOver cycle_time s f
-    at zero s f is there = subst₂ (λ (x : SettledStream) (y : FlowText). IsTakenOver cycle_time x y) (same_Some stream s is) (same_Some flow f there) one
+        IsTakenOver cycle_time sync s f
+    at zero s f is there = subst₂ (λ (x : SettledStream) (y : FlowText). IsTakenOver cycle_time sync x y) (same_Some stream s is) (same_Some flow f there) one
     at (suc place) s f is there = rest.each place s f is there
 
 -- one before others
@@ -184,7 +189,7 @@ one_stream : (d : Domain) (entries after end : List Recorded) (stream : SettledS
     SealsAreCounted → IsGranted d entries stream asked after → AreAllGranted d after streams flows end →
     AreAllGranted d entries (stream ∷ streams) (flow_of d.cycle_time stream asked ∷ flows) end
 one_stream d entries after end stream streams asked flows counted granted rest = record {
-  taken_over = more_taken_over d.cycle_time stream (flow_of d.cycle_time stream asked) streams flows (one_taken_over d entries after stream asked granted)
+  taken_over = more_taken_over d.cycle_time d.sync stream (flow_of d.cycle_time stream asked) streams flows (one_taken_over d entries after stream asked granted)
       rest.taken_over;
   admitted = λ place.
       ap (λ r. refuse r (stream_line place) (admitted_from d (with_asked d entries asked) (place + 1) (map asked_in flows))) granted.granted
@@ -193,7 +198,7 @@ one_stream d entries after end stream streams asked flows counted granted rest =
   granted = (granted.granted, subst (λ (there : List Recorded). AreGranted d there (map asked_in flows)) granted.entered rest.granted);
   enough = All-cons (ReservesEnough d.cycle_time) (flow_of d.cycle_time stream asked) flows
       (enough_told d.cycle_time stream.pacing asked.phase asked.octets stream.traffic
-      (enough_for stream.octets stream.traffic d.cycle_time asked.octets (reserved_there d.cycle_time stream asked.octets granted.reserved).1)) rest.enough;
+      (enough_for stream.octets stream.traffic d.cycle_time asked.octets (reserved_there d.cycle_time d.sync stream asked.octets granted.reserved).1)) rest.enough;
   no_seal = let one : seals (with_asked d entries asked) ≡ seals entries + 0 = counted entries 0 (Admits asked) (reply_to d entries (Admits asked)) in
       let there : seals after ≡ seals (with_asked d entries asked) = ap seals granted.entered in
       let behind : seals end ≡ seals after = rest.no_seal in
@@ -209,7 +214,7 @@ all_granted d [] entries end (become ∷ more) counted none placed = absurd plac
 all_granted d (stream ∷ streams) entries end [] counted none placed = absurd placed
 all_granted d (stream ∷ streams) entries end (Placed asked ∷ more) counted none placed =
     one_stream d entries placed.0 end stream streams asked (flows_placed d.cycle_time streams more) counted
-    (granted_by d entries stream (reserved_on d.cycle_time stream) asked placed.0 refl placed.1)
+    (granted_by d entries stream (reserved_on d.cycle_time d.sync stream) asked placed.0 refl placed.1)
     (all_granted d streams placed.0 end more counted none placed.2)
 all_granted d (stream ∷ streams) entries end (Unplaced found ∷ more) counted none placed = absurd (cc)
 

@@ -1,9 +1,9 @@
 -- What is offered of a plan's stream whose phase was chosen comes in the cycles in which the stream reserves.
 use Rattle.std.proofs.Common.{◌≡◌, ◌≢◌, ◌∙◌, ◌<◌, ◌≤◌, ◌+◌, ◌-◌, ◌*◌, ◌/◌, ◌%◌, ◌==◌, ◌&&◌, ℕ, zero, suc, Bool, true, false, List, [], ◌∷◌, Option, Some, None, AllPairs, Contains, ap, arith, div-add-mod', eq-eqb, eqb-true, fold, if◌then◌else◌, inl, inr, ltb-true, map, max, refl, slice_get, subst, sym}
-use Rattle.std.specs.Prelude.{nat_lt, option_map}
+use Rattle.std.specs.Prelude.{nat_le, nat_lt, option_map}
 use Rattle.std.specs.Option.{option_map_or}
 use Rattle.std.proofs.Math.Nat.{add-mul-mod_self_right, mod-lt, mod-mod, mul-mod_left}
-use Rattle.std.proofs.lemmas.Bool.{and_parts, cases_lt}
+use Rattle.std.proofs.lemmas.Bool.{and_parts, cases_lt, leb-true}
 use Rattle.std.proofs.lemmas.List.Sums.{fold-append}
 use Rattle.std.proofs.lemmas.Option.{get_or_from_slice_get, slice_get_within}
 use Rattle.cqf_lists.specs.Lists.{each_below}
@@ -26,7 +26,7 @@ use Rattle.cqf_traffic.specs.Offering.{offers_before}
 use Rattle.cqf_sketch.specs.declared.pacing.Pacing.{Pacing}
 use Rattle.cqf_sketch.specs.declared.pacing.Pacing.TheVariants as pacing
 use Rattle.cqf_program_offers.specs.OffersOutput.{asked_in, sender_of}
-use Rattle.cqf_program_placing.specs.Turns.{MayBeFirst, every_in, every_of, is_in_step, keeps_step, turns_by}
+use Rattle.cqf_program_placing.specs.Turns.{MayBeFirst, can_step, every_in, every_of, is_in_step, keeps_step, stays_in_step, turns_by}
 use Rattle.cqf_program_placing.proofs.Stepping.{divisor_at}
 use Rattle.cqf_program_sketch.specs.PlanLaws.{ChosenStreamsComeInTurns}
 use Rattle.cqf_program_sketch.proofs.SoundPlans.{plan_granted, told_plan_is_admitted}
@@ -106,23 +106,24 @@ named_apart d flows pairs i k a b before first second same =
     ∙ ap (λ (s : TalkerStream). s.name) (sym (get_or_from_slice_get senders k b a second)))
 
 -- what is known of a stream whose phase is chosen
-record IsChosen (cycle_time : ℕ) (traffic : Option TrafficText) (every phase : ℕ) : Type 0 where
+record IsChosen (cycle_time sync : ℕ) (traffic : Option TrafficText) (every phase : ℕ) : Type 0 where
   t : TrafficText
   has : traffic ≡ Some t
-  keeps : keeps_step cycle_time t ≡ true
+  stays : stays_in_step cycle_time sync t ≡ true
   is_every : every ≡ every_of (t.interval / cycle_time)
   early : phase < every_of (t.interval / cycle_time)
 
-is_chosen : (cycle_time : ℕ) (given : Pacing) (traffic : Option TrafficText) (every phase : ℕ) →
-    option_map_or (is_in_step cycle_time given) traffic false ≡ true → every ≡ every_in (turns_by cycle_time given traffic) →
-    MayBeFirst (turns_by cycle_time given traffic) phase → IsChosen cycle_time traffic every phase
-is_chosen cycle_time given None every phase chosen is may = absurd (cc)
-is_chosen cycle_time (pacing.Given many first) (Some t) every phase chosen is may = absurd (cc)
-is_chosen cycle_time pacing.InStep (Some t) every phase chosen is may =
+is_chosen : (cycle_time sync : ℕ) (given : Pacing) (traffic : Option TrafficText) (every phase : ℕ) →
+    option_map_or (is_in_step cycle_time given) traffic false ≡ true → can_step cycle_time sync given traffic ≡ true →
+    every ≡ every_in (turns_by cycle_time given traffic) → MayBeFirst (turns_by cycle_time given traffic) phase →
+    IsChosen cycle_time sync traffic every phase
+is_chosen cycle_time sync given None every phase chosen can is may = absurd (cc)
+is_chosen cycle_time sync (pacing.Given many first) (Some t) every phase chosen can is may = absurd (cc)
+is_chosen cycle_time sync pacing.InStep (Some t) every phase chosen can is may =
     record {
       t = t;
       has = refl;
-      keeps = chosen;
+      stays = can;
       is_every = is;
       early = may;
     }
@@ -131,33 +132,39 @@ is_chosen cycle_time pacing.InStep (Some t) every phase chosen is may =
 comes_in_turn : (d : Domain) (flows : List FlowText) (flow : FlowText) (place until : ℕ) (seed : Option ℕ) (x : Offer) (t : TrafficText) →
     OffersComeInTurns → AreNamedApart (map (sender_of d) flows) → slice_get flows place ≡ Some flow →
     flow.1 ≡ Some (record t { offset = flow.0.0.phase * d.cycle_time + t.offset % d.cycle_time }) → 0 < d.cycle_time →
-    keeps_step d.cycle_time t ≡ true → flow.0.0.every ≡ every_of (t.interval / d.cycle_time) → flow.0.0.phase < every_of (t.interval / d.cycle_time) →
-    Contains (offers_named flow.0.0.name (offers_before until seed (map (sender_of d) flows))) x →
-    is_turn (pace_of (asked_in flow)) 0 (cycle_of d x.at.0) ≡ true
-comes_in_turn d flows flow place until seed x t come apart there has some keeps is early among =
+    stays_in_step d.cycle_time d.sync t ≡ true → flow.0.0.every ≡ every_of (t.interval / d.cycle_time) → flow.0.0.phase < every_of (t.interval / d.cycle_time) →
+    Contains (offers_named flow.0.0.name (offers_before until seed (map (sender_of d) flows))) x → (at : ℕ) → x.at.0 ≤ at + d.sync → at ≤ x.at.0 + d.sync →
+    is_turn (pace_of (asked_in flow)) 0 (cycle_of d at) ≡ true
+comes_in_turn d flows flow place until seed x t come apart there has some stays is early among at no_sooner no_later =
     let every : ℕ = every_of (t.interval / d.cycle_time) in
     let phase : ℕ = flow.0.0.phase in
     let told : TrafficText = record t { offset = phase * d.cycle_time + t.offset % d.cycle_time } in
-    let parts = and_parts (t.interval % d.cycle_time == 0) (nat_lt (t.offset % d.cycle_time + t.jitter) d.cycle_time) keeps in
+    let both = and_parts (keeps_step d.cycle_time t)
+    (nat_le d.sync (t.offset % d.cycle_time) && nat_lt (t.offset % d.cycle_time + t.jitter + d.sync) d.cycle_time) stays in
+    let parts = and_parts (t.interval % d.cycle_time == 0) (nat_lt (t.offset % d.cycle_time + t.jitter) d.cycle_time) both.0 in
+    let clocks = and_parts (nat_le d.sync (t.offset % d.cycle_time)) (nat_lt (t.offset % d.cycle_time + t.jitter + d.sync) d.cycle_time) both.1 in
     let whole : t.interval % (every * d.cycle_time) ≡ 0 =
     times_many t.interval d.cycle_time every (eqb-true (t.interval % d.cycle_time) 0 parts.0) (every_divides (t.interval / d.cycle_time) (omega (arith, early))) in
-    let within : told.offset % d.cycle_time + told.jitter < d.cycle_time =
-    subst (λ n. n + t.jitter < d.cycle_time) (sym (behind_beginning phase d.cycle_time t.offset))
-    (ltb-true (t.offset % d.cycle_time + t.jitter) d.cycle_time parts.1) in
-    let comes : x.at.0 / d.cycle_time % every ≡ told.offset / d.cycle_time % every =
-    come until seed (map (sender_of d) flows) (sender_of d flow) told d.cycle_time every apart
-    (contains_map (sender_of d) flows flow (contains_at flows place flow there)) has some (omega (arith, early)) whole within x among in
-    subst (λ n. is_turn (record { pause = n - 1; phase = phase }) 0 (x.at.0 / d.cycle_time) ≡ true) (sym is)
-    (turn_of every phase (x.at.0 / d.cycle_time) early (comes ∙ ap (λ n. n % every) (in_its_cycle phase d.cycle_time t.offset some)))
+    let behind : d.sync ≤ told.offset % d.cycle_time =
+    subst (λ n. d.sync ≤ n) (sym (behind_beginning phase d.cycle_time t.offset)) (leb-true d.sync (t.offset % d.cycle_time) clocks.0) in
+    let within : told.offset % d.cycle_time + told.jitter + d.sync < d.cycle_time =
+    subst (λ n. n + t.jitter + d.sync < d.cycle_time) (sym (behind_beginning phase d.cycle_time t.offset))
+    (ltb-true (t.offset % d.cycle_time + t.jitter + d.sync) d.cycle_time clocks.1) in
+    let comes : at / d.cycle_time % every ≡ told.offset / d.cycle_time % every =
+    come until seed (map (sender_of d) flows) (sender_of d flow) told d.cycle_time every d.sync apart
+    (contains_map (sender_of d) flows flow (contains_at flows place flow there)) has some (omega (arith, early)) whole behind within x among at no_sooner
+    no_later in
+    subst (λ n. is_turn (record { pause = n - 1; phase = phase }) 0 (at / d.cycle_time) ≡ true) (sym is)
+    (turn_of every phase (at / d.cycle_time) early (comes ∙ ap (λ n. n % every) (in_its_cycle phase d.cycle_time t.offset some)))
 
 pub chosen_streams_come_in_turns : SealsAreCounted → AdmittedHaveNames → OffersComeInTurns → ChosenStreamsComeInTurns
-chosen_streams_come_in_turns counted names come sketch streams d flows place stream flow until seed x plan here there chosen among =
+chosen_streams_come_in_turns counted names come sketch streams d flows place stream flow until seed x plan here there chosen among at no_sooner no_later =
     let taken = (told_plan_is_admitted counted sketch streams d flows plan).taken_over.each place stream flow here there in
-    let of = is_chosen d.cycle_time stream.pacing stream.traffic flow.0.0.every flow.0.0.phase chosen taken.every taken.phase in
+    let of = is_chosen d.cycle_time d.sync stream.pacing stream.traffic flow.0.0.every flow.0.0.phase chosen taken.apart taken.every taken.phase in
     let told : flow.1 ≡ Some (record of.t { offset = flow.0.0.phase * d.cycle_time + of.t.offset % d.cycle_time }) =
     taken.chosen chosen
     ∙ ap (option_map (λ (t : TrafficText). record t { offset = flow.0.0.phase * d.cycle_time + t.offset % d.cycle_time })) of.has in
     let same : d.cycle_time ≡ plan.cycle_time = ap (λ (there : Domain). there.cycle_time) (plan.domain_is ∙ plan.are_placed.domain) in
     comes_in_turn d flows flow place until seed x of.t come
     (named_apart d flows (names d (map asked_in flows) (plan_granted counted sketch streams d flows plan))) there told (omega (arith, same, plan.open_to))
-    of.keeps of.is_every of.early among
+    of.stays of.is_every of.early among at no_sooner no_later

@@ -6,7 +6,7 @@ use Rattle.cqf_topology.specs.declared.faults.DomainFault.TheVariants as domain
 use Rattle.cqf_topology.specs.DomainText.{first_taken, if_so}
 use Rattle.cqf_topology.proofs.Refusals.{and_then-Ok, refuse-Ok}
 use Rattle.cqf_sketch.specs.declared.faults.SketchFault.TheVariants.{Domain, TwoTalkerLinks}
-use Rattle.cqf_sketch.specs.Edges.{Edge, first_long_delay, first_long_gap, first_twice, joined}
+use Rattle.cqf_sketch.specs.Edges.{Edge, first_long_delay, first_long_gap, first_long_guard, first_long_sync, first_twice, joined}
 use Rattle.cqf_sketch.specs.SketchDomain.{AreCandidates, IsSketch, SketchDomain, checked, is_guard_too_long, is_too_many, name_taken}
 use Rattle.cqf_sketch.specs.SketchDomain.{second_talker, sketch_domain_of_text, sketch_with, with_edges, with_names}
 use Rattle.cqf_sketch.specs.SketchText.{SketchText, sketch_of_text}
@@ -34,10 +34,12 @@ with_these_edges text edges sketch e =
     let a = refuse-Ok (first_twice edges) (λ (element : ℕ). Domain (domain.LinkTwice element)) _ sketch e in
     let b = refuse-Ok (second_talker text edges) (λ (station : List ℕ). TwoTalkerLinks station) _ sketch a.1 in
     let c = refuse-Ok (if_so (is_guard_too_long text)) (λ (u : Unit {0}). Domain domain.GuardTooLong) _ sketch b.1 in
-    let f = refuse-Ok (first_long_delay text.guard edges) (λ (element : ℕ). Domain (domain.DelayTooLong element)) _ sketch c.1 in
+    let k = refuse-Ok (first_long_guard text.candidates text.guard edges) (λ (element : ℕ). Domain (domain.LinkGuardTooLong element)) _ sketch c.1 in
+    let f = refuse-Ok (first_long_delay text.sync text.guard edges) (λ (element : ℕ). Domain (domain.DelayTooLong element)) _ sketch k.1 in
     let g = refuse-Ok (first_long_gap text.guard edges) (λ (element : ℕ). Domain (domain.GapTooLong element)) _ sketch f.1 in
-    let h = refuse-Ok (if_so (is_too_many text edges)) (λ (u : Unit {0}). Domain domain.TooMany) (Ok (sketch_with text edges)) sketch g.1 in
-    let same = h.1 in
+    let h = refuse-Ok (if_so (is_too_many text edges)) (λ (u : Unit {0}). Domain domain.TooMany) _ sketch g.1 in
+    let m = refuse-Ok (first_long_sync text.sync edges) (λ (element : ℕ). Domain (domain.SyncTooLong element)) (Ok (sketch_with text edges)) sketch h.1 in
+    let same = m.1 in
     cc
 
 -- the domain of a sketch's text is a sketch
@@ -51,7 +53,7 @@ read_is_sketch limits given text sketch are e =
     let (edges, joined_are, checks) = and_then-Ok (joined draft.bridges draft.stations 0 draft.links) (with_edges draft) sketch numbered in
     subst IsSketch (with_these_edges draft edges sketch checks)
     (passed_is_sketch draft edges readable (passes_sketch draft edges sketch checks)
-    (all_joined draft.bridges draft.stations 0 draft.links edges readable.delays_most joined_are) bridges_apart stations_apart)
+    (all_joined draft.bridges draft.stations 0 draft.links edges readable.times_are_read joined_are) bridges_apart stations_apart)
 
 -- and has the limits within which it was read
 read_limits : (limits : Limits) (given : Option (List ℕ)) (text : List ℕ) (sketch : SketchDomain) → sketch_domain_of_text limits given text ≡ Ok sketch →

@@ -21,7 +21,7 @@ one_early : (d : Domain) (entries after : List Recorded) (stream : SettledStream
     IsPlacing d entries stream become after → BeginsEarly become
 one_early d entries after stream (Unplaced found) paced is = tt
 one_early d entries after stream (Placed asked) paced is =
-    let granted = granted_by d entries stream (reserved_on d.cycle_time stream) asked after refl is in
+    let granted = granted_by d entries stream (reserved_on d.cycle_time d.sync stream) asked after refl is in
     first_is_early d.cycle_time stream.pacing stream.traffic asked.phase paced granted.phase
 
 -- so is each

@@ -1,7 +1,7 @@
 -- Which candidate for the cycle time is taken, and what is told where none is good (profile).
 use Rattle.std.specs.Prelude.{ℕ, ◌≡◌, ◌<◌, ◌==◌, ◌++◌, List, ◌∷◌, [], All, codes, decimal, fold, if◌then◌else◌, length, nat_lt, Option, Some, None, IsSome}
 use Rattle.cqf_model.specs.Domain.{Domain}
-use Rattle.cqf_sketch.specs.SketchDomain.{SketchDomain}
+use Rattle.cqf_sketch.specs.SketchDomain.{SketchDomain, longest_guard}
 use Rattle.cqf_traffic.specs.FlowsText.{FlowText}
 use Rattle.cqf_press.specs.Stops.{fault_line}
 use Rattle.cqf_program_placing.specs.Faults.{plan_fault_text}
@@ -30,7 +30,7 @@ pub record IsPlanned (sketch : SketchDomain) (streams : List SettledStream) (d :
   pub told : List Candidate
   pub judged : AreJudgedBy sketch streams before told
   pub bad : All IsBad told
-  pub open_to : sketch.guard < cycle_time
+  pub open_to : longest_guard sketch < cycle_time
   pub placed : PlacedStreams
   pub are_placed : ArePlacedAt sketch streams cycle_time placed
   pub good : (candidate_of streams placed).fault ≡ None

@@ -7,7 +7,7 @@ use Rattle.cqf_model.specs.declared.topology.Row.{Row}
 use Rattle.cqf_model.specs.Domain.{Domain, budget}
 use Rattle.cqf_model.specs.History.{Asked, held_in, seals}
 use Rattle.cqf_admission.specs.Costs.{most_cost}
-use Rattle.cqf_sketch.specs.SketchDomain.{SketchDomain, domain_at}
+use Rattle.cqf_sketch.specs.SketchDomain.{SketchDomain, domain_at, longest_guard}
 use Rattle.cqf_traffic.specs.FlowsText.{FlowText}
 use Rattle.cqf_traffic.specs.TrafficText.{TrafficText}
 use Rattle.cqf_sketch.specs.declared.pacing.Pacing.{Pacing}
@@ -120,7 +120,7 @@ candidate_of streams placed =
     candidate_by placed.domain.cycle_time (length (those_placed streams placed.outcomes)) (shares_of placed.domain (rows_placed placed))
     (latencies_placed streams placed) (first_unplaced streams placed.outcomes)
 
--- what is told of one that isn't above the guard time: nothing is placed
+-- what is told of one that isn't above each guard time: nothing is placed
 abbrev pub shut_candidate : ℕ → Candidate
 shut_candidate cycle_time =
     record { cycle_time = cycle_time; placed = 0; used = None; late = 0; tightest = None; fault = Some shut.GuardTooLong }
@@ -132,8 +132,8 @@ pub record ArePlacedAt (sketch : SketchDomain) (streams : List SettledStream) (c
 
 -- what is told of a candidate
 pub record IsJudgedBy (sketch : SketchDomain) (streams : List SettledStream) (cycle_time : ℕ) (candidate : Candidate) : Type 0 where
-  pub shut : cycle_time ≤ sketch.guard → candidate ≡ shut_candidate cycle_time
-  pub open_to : sketch.guard < cycle_time → (placed : PlacedStreams) × ArePlacedAt sketch streams cycle_time placed × (candidate ≡ candidate_of streams placed)
+  pub shut : cycle_time ≤ longest_guard sketch → candidate ≡ shut_candidate cycle_time
+  pub open_to : longest_guard sketch < cycle_time → (placed : PlacedStreams) × ArePlacedAt sketch streams cycle_time placed × (candidate ≡ candidate_of streams placed)
 
 -- and of some, in their order
 abbrev pub AreJudgedBy : SketchDomain → List SettledStream → List ℕ → List Candidate → Type 0

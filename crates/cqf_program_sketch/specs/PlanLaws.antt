@@ -21,7 +21,7 @@ use Rattle.cqf_program_offers.specs.OffersOutput.{asked_in, sender_of}
 use Rattle.cqf_program_placing.specs.Placing.{PlacedStreams, is_chosen_on, turns_on}
 use Rattle.cqf_program_placing.specs.Room.{ArePlacedByRoom, MayBeWays}
 use Rattle.cqf_program_placing.specs.Settled.{SettledStream}
-use Rattle.cqf_program_placing.specs.Turns.{MayBeFirst, every_in}
+use Rattle.cqf_program_placing.specs.Turns.{MayBeFirst, can_step, every_in}
 use Rattle.cqf_program_sketch.specs.Choosing.{IsPlanned}
 use Rattle.cqf_program_sketch.specs.Judging.{ArePlacedAt}
 use Rattle.cqf_program_sketch.specs.PlanOutput.{Sketched, sketch_input}
@@ -33,22 +33,23 @@ deadlines_of flows = map (λ (flow : FlowText). flow.0.1) flows
 -- what a plan on a cycle time takes over of a settled stream: its name, its deadline, in which cycles it is offered, but for a phase that is to
 -- be chosen, as it is wherever its talker is to be in step, and what its talker promises; all of its traffic where no phase is; and else its offers begin in the first of its cycles, as far
 -- behind the cycle's beginning as they would have begun behind that of another
-pub record IsTakenOver (cycle_time : ℕ) (stream : SettledStream) (flow : FlowText) : Type 0 where
+pub record IsTakenOver (cycle_time sync : ℕ) (stream : SettledStream) (flow : FlowText) : Type 0 where
   pub name : flow.0.0.name ≡ stream.name
   pub deadline : flow.0.1 ≡ stream.deadline
   pub every : flow.0.0.every ≡ every_in (turns_on cycle_time stream)
   pub phase : MayBeFirst (turns_on cycle_time stream) flow.0.0.phase
   pub in_step : stream.pacing ≡ pacing.InStep → is_chosen_on cycle_time stream ≡ true
+  pub apart : can_step cycle_time sync stream.pacing stream.traffic ≡ true
   pub promise : option_map promise_of flow.1 ≡ option_map promise_of stream.traffic
   pub whole : is_chosen_on cycle_time stream ≡ false → flow.1 ≡ stream.traffic
   pub chosen : is_chosen_on cycle_time stream ≡ true →
       flow.1 ≡ option_map (λ (t : TrafficText). record t { offset = flow.0.0.phase * cycle_time + t.offset % cycle_time }) stream.traffic
 
 -- so it does of each of some, in their order
-pub record AreTakenOver (cycle_time : ℕ) (streams : List SettledStream) (flows : List FlowText) : Type 0 where
+pub record AreTakenOver (cycle_time sync : ℕ) (streams : List SettledStream) (flows : List FlowText) : Type 0 where
   pub as_many : length flows ≡ length streams
   pub each : (place : ℕ) (stream : SettledStream) (flow : FlowText) → slice_get streams place ≡ Some stream → slice_get flows place ≡ Some flow →
-      IsTakenOver cycle_time stream flow
+      IsTakenOver cycle_time sync stream flow
 
 -- a stream reserves what its talker needs of a cycle
 abbrev pub ReservesEnough : ℕ → FlowText → Type 0
@@ -57,7 +58,7 @@ ReservesEnough cycle_time flow = ForSome flow.1 (λ (t : TrafficText). needed cy
 -- a plan of all of these streams, in their order: each is admitted before cycle 0, and reserves what its talker needs of a cycle, so that none
 -- is refused for less; the frames of none may miss its deadline, and `latency --strict` says so
 pub record IsSoundPlan (streams : List SettledStream) (d : Domain) (flows : List FlowText) : Type 0 where
-  pub taken_over : AreTakenOver d.cycle_time streams flows
+  pub taken_over : AreTakenOver d.cycle_time d.sync streams flows
   pub entries : List Recorded
   pub admitted : admitted_from d [] 1 (map asked_in flows) ≡ Ok entries
   pub enough : All (ReservesEnough d.cycle_time) flows
@@ -71,14 +72,15 @@ ToldPlanIsAdmitted =
     (sketch : SketchDomain) (streams : List SettledStream) (d : Domain) (flows : List FlowText) → IsPlanned sketch streams d flows →
     IsSoundPlan streams d flows
 
--- what is offered of a plan's stream whose phase was chosen comes in the cycles in which the stream reserves, for every seed and without one
+-- what is offered of a plan's stream whose phase was chosen comes in the cycles in which the stream reserves, for every seed and without one,
+-- by its talker's clock, and by the edge bridge's, which may be as far apart from it as the domain states
 abbrev pub ChosenStreamsComeInTurns : Type 0
 ChosenStreamsComeInTurns =
     (sketch : SketchDomain) (streams : List SettledStream) (d : Domain) (flows : List FlowText) (place : ℕ) (stream : SettledStream) (flow : FlowText)
     (until : ℕ) (seed : Option ℕ) (x : Offer) → IsPlanned sketch streams d flows → slice_get streams place ≡ Some stream →
     slice_get flows place ≡ Some flow → is_chosen_on d.cycle_time stream ≡ true →
-    Contains (offers_named flow.0.0.name (offers_before until seed (map (sender_of d) flows))) x →
-    is_turn (pace_of (asked_in flow)) 0 (cycle_of d x.at.0) ≡ true
+    Contains (offers_named flow.0.0.name (offers_before until seed (map (sender_of d) flows))) x → (at : ℕ) → x.at.0 ≤ at + d.sync → at ≤ x.at.0 + d.sync →
+    is_turn (pace_of (asked_in flow)) 0 (cycle_of d at) ≡ true
 
 -- the streams of an input that is a sketch, whose branches may be ways, are placed where there is room, on each cycle time that is open to it
 abbrev pub SketchesArePlacedByRoom : Type 0

@@ -1,6 +1,6 @@
 -- What the inner functions say of cycle times that are tried.
 use Rattle.std.specs.Prelude.{ℕ, ◌≡◌, ◌<◌, List, All, IfSome, Option, Some, None, length, map}
-use Rattle.cqf_sketch.specs.SketchDomain.{SketchDomain}
+use Rattle.cqf_sketch.specs.SketchDomain.{SketchDomain, longest_guard}
 use Rattle.cqf_program_placing.specs.Placing.{BeginsEarly, PlacedStreams, outcome_value}
 use Rattle.cqf_program_placing.specs.Settled.{SettledStream}
 use Rattle.cqf_program_sketch.specs.declared.candidates.Candidate.{Candidate}
@@ -24,7 +24,7 @@ pub record IsTried (sketch : SketchDomain) (streams : List SettledStream) (cycle
 
 -- a cycle time is good, and its plant's streams are these
 pub record IsGoodOn (sketch : SketchDomain) (streams : List SettledStream) (cycle_time : ℕ) (tried : Tried) : Type 0 where
-  pub open_to : sketch.guard < cycle_time
+  pub open_to : longest_guard sketch < cycle_time
   pub tried_is : IsTried sketch streams cycle_time tried
   pub good : tried.candidate.fault ≡ None
 

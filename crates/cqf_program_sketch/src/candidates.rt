@@ -10,7 +10,7 @@ use std::fmt;
 /// Why a candidate isn't good (profile).
 #[derive(Debug, Drop)]
 pub enum CandidateFault {
-    /// It isn't above the guard time.
+    /// It isn't above each guard time.
     GuardTooLong,
     /// The stream of this name isn't placed, or may be late.
     Stream(Name, PlanFault),
@@ -35,7 +35,7 @@ pub struct Candidate {
     /// How many streams are placed.
     pub placed: usize,
     /// The greatest share of a link's budget that is held, in thousandths, rounded down; none where no link has a budget, or it isn't
-    /// above the guard time.
+    /// above each guard time.
     pub used: Option<u64>,
     /// Of how many streams and listeners a frame may be late.
     pub late: usize,
@@ -58,7 +58,7 @@ impl fmt::Display for CandidateFault {
 }
 
 impl Candidate {
-    /// What is told of a cycle time, in nanoseconds, that isn't above the guard time: nothing is placed.
+    /// What is told of a cycle time, in nanoseconds, that isn't above each guard time: nothing is placed.
     pub(crate) fn shut(cycle_time: u32) -> Candidate
         ensures { result ≡ shut_candidate cycle_time }
     {

@@ -49,7 +49,7 @@ fn choice_at(
     requires settled { AreSettled sketch.now (map settled_value streams.now) }
     ensures { IfOk result (ComesOf sketch.now (map settled_value streams.now) cycle_time) }
 {
-    if cycle_time <= sketch.guard() {
+    if cycle_time <= sketch.longest_guard() {
         return Ok(Choice::Unplanned(Candidate::shut(cycle_time)));
     }
     let tried = try_cycle(alloc, sketch, streams, cycle_time)?;

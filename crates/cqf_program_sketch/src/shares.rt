@@ -6,20 +6,12 @@ ghost use Rattle.cqf_laws_history.specs.StateLaws.{AreHeld};
 ghost use Rattle.cqf_model.specs.Domain.{budget};
 ghost use Rattle.cqf_program_sketch.specs.Judging.{greatest_of, larger, share_of, shares_of};
 
+use cqf_admission::budget_on;
 use cqf_model::Row;
 use cqf_program_plans::link_costs;
 use cqf_topology::Domain;
-use cqf_units::{Memory, budget};
+use cqf_units::Memory;
 use std::alloc::Global;
-
-/// The budget of a link, in octets a cycle.
-fn budget_on(domain: &Domain, link: u16) -> u32
-    requires { link < length domain.now.links }
-    ensures { result ≡ budget domain.now link }
-{
-    let rate = domain.link(link).rate;
-    budget(domain.cycle_time(), domain.guard(), rate).0
-}
 
 /// The greater of a share and that of a budget that is held, in thousandths, rounded down. Of no budget there is none.
 fn with_share(most: Option<u64>, budget: u32, held: u32) -> Option<u64>
@@ -42,7 +34,7 @@ fn greatest_by(domain: &Domain, held: &[u32]) -> Option<u64>
 {
     let mut most = None;
     for link in 0..domain.links() {
-        most = with_share(most, budget_on(domain, link), held[usize::from(link)]);
+        most = with_share(most, budget_on(domain, link).0, held[usize::from(link)]);
     }
     most
 }

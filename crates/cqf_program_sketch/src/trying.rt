@@ -59,7 +59,7 @@ pub(crate) fn try_cycle(
     Ok(tried)
 }
 
-/// What is told of a cycle time, in nanoseconds, for settled streams of a sketch: of one that isn't above the guard time, that nothing is
+/// What is told of a cycle time, in nanoseconds, for settled streams of a sketch: of one that isn't above each guard time, that nothing is
 /// placed; else how many streams are placed, how much of the links' budgets is held, how tight deadlines are, and why it isn't good
 /// (profile).
 ///
@@ -75,7 +75,7 @@ pub fn judge(
     requires settled { AreSettled sketch.now (map settled_value streams.now) }
     ensures { IfOk result (IsJudgedBy sketch.now (map settled_value streams.now) cycle_time) }
 {
-    if cycle_time <= sketch.guard() {
+    if cycle_time <= sketch.longest_guard() {
         return Ok(Candidate::shut(cycle_time));
     }
     let tried = try_cycle(alloc, sketch, streams, cycle_time)?;

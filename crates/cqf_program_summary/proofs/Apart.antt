@@ -17,7 +17,7 @@ use Rattle.cqf_model.specs.declared.topology.Node.TheVariants.{Bridge, Station}
 use Rattle.cqf_model.specs.declared.topology.Row.{Row}
 use Rattle.cqf_model.specs.Domain.{Domain, end_of, node_named}
 use Rattle.cqf_model.specs.History.{Asked, Branch, broken_place, first_place, is_bridge, is_broken_at, is_loop_at, is_pace, is_stray, node_at, refused_at, refused_if, tree_of}
-use Rattle.cqf_model.specs.Limits.{hops_within}
+use Rattle.cqf_model.specs.Limits.{hops_within, most_reserved}
 use Rattle.cqf_model.specs.Table.{IsTree}
 use Rattle.cqf_model.proofs.Texts.{is_text_same}
 use Rattle.cqf_laws_history.proofs.Branches.{IsBranch, first_is_bridge, is_branch, no_repeat}
@@ -94,7 +94,7 @@ module _ (d : Domain) (paths : List Branch) (g : IsGoodTree d paths) where
 -- a stream of good form has good branches
 good_branches : (d : Domain) (asked : Asked) → form_refusal d asked ≡ None → tree_refusal d asked.paths ≡ None
 good_branches d asked good =
-    let in_range = nat_le 64 asked.octets && nat_le asked.octets 60000 in
+    let in_range = nat_le 64 asked.octets && nat_le asked.octets most_reserved in
     let behind_octets = or_else (refused_if (not (is_pace asked.every asked.phase)) BadPace) (tree_refusal d asked.paths) in
     let behind_name = or_else (refused_if (not in_range) BadOctets) behind_octets in
     let named = or_else_none (refused_if (not (is_name asked.name)) BadName) behind_name good in

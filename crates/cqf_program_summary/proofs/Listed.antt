@@ -21,6 +21,7 @@ use Rattle.cqf_model.specs.declared.topology.Link.{Link}
 use Rattle.cqf_model.specs.declared.topology.Row.{Row}
 use Rattle.cqf_model.specs.Domain.{Domain, IsAccepted, end_of, is_text}
 use Rattle.cqf_model.specs.History.{Asked, pace_of, tree_of}
+use Rattle.cqf_model.specs.Limits.{most_reserved}
 use Rattle.cqf_model.specs.Table.{cost_on, uses}
 use Rattle.cqf_model.proofs.Represented.{few_links}
 use Rattle.cqf_laws_history.specs.StateLaws.{granted_row}
@@ -55,14 +56,14 @@ none_listed d listing names streams none = record {
 }
 
 -- what a row's stream costs of a link in a cycle is bounded
-short : (row : Row) (l cycle : ℕ) → row.octets ≤ 60000 → cost_on row l cycle ≤ 100000
+short : (row : Row) (l cycle : ℕ) → row.octets ≤ most_reserved → cost_on row l cycle ≤ 2000000
 short row l cycle few = elim (cases_Bool (uses row.tree.items row.pace l cycle)) [
   | inl goes ↦ omega (arith, few, ap {B = ℕ} (λ (b : Bool). if b then cost_of row.octets else 0) goes)
   | inr stays ↦ omega (arith, ap {B = ℕ} (λ (b : Bool). if b then cost_of row.octets else 0) stays)
 ]
 
 -- so it has room beside costs that are bounded
-pub room_bounded : (costs : Turned) (row : Row) → costs.links ≡ 4096 → AreBounded costs → row.octets ≤ 60000 →
+pub room_bounded : (costs : Turned) (row : Row) → costs.links ≡ 4096 → AreBounded costs → row.octets ≤ most_reserved →
     HasRoomFor costs row.tree.items row.pace (cost_of row.octets)
 room_bounded costs row all bounded few l cycle low = omega (arith, short row l cycle few, bounded l cycle (omega (arith, low, all)))
 
@@ -86,10 +87,10 @@ pub bounded_listing : (d : Domain) (streams : List Asked) (listing : SummaryList
 bounded_listing d streams listing is l cycle low = omega (arith, is.bounded l cycle low, is.few)
 
 -- and so are the most of them
-pub most_bounded : (costs : Turned) (row : Row) (l : ℕ) → AreBounded costs → l < 4096 → cost_beside costs (Some row) l ≤ 2 ^ 32 * 100000
+pub most_bounded : (costs : Turned) (row : Row) (l : ℕ) → AreBounded costs → l < 4096 → cost_beside costs (Some row) l ≤ 2 ^ 29 * 2000000
 most_bounded costs row l bounded low =
-    most_within (λ cycle. if uses row.tree.items row.pace l cycle then sum_on costs l cycle ∷ [] else []) 80 (2 ^ 32 * 100000) (λ cycle x among.
-    subst (λ (n : ℕ). n ≤ 2 ^ 32 * 100000)
+    most_within (λ cycle. if uses row.tree.items row.pace l cycle then sum_on costs l cycle ∷ [] else []) 80 (2 ^ 29 * 2000000) (λ cycle x among.
+    subst (λ (n : ℕ). n ≤ 2 ^ 29 * 2000000)
     (contains_one (sum_on costs l cycle) x (contains_if (uses row.tree.items row.pace l cycle) (sum_on costs l cycle ∷ []) x among)) (bounded l cycle low))
 
 -- the links of a row's hops are represented
@@ -171,11 +172,11 @@ module _ (d : Domain) (told : List Asked) (asked : Asked) (l cycle : ℕ) where
   -- is what its row adds, which is bounded
   pub costs_more : (costs after : Turned) → l < costs.links → sum_on costs l cycle ≡ cost_of_good d told l cycle → CostsWith costs (row_of_stream d asked) after →
       MayBeSummed (row_of_stream d asked) →
-      (sum_on after l cycle ≡ cost_of_good d (told ++ asked ∷ []) l cycle) × (sum_on after l cycle ≤ sum_on costs l cycle + 100000)
+      (sum_on after l cycle ≡ cost_of_good d (told ++ asked ∷ []) l cycle) × (sum_on after l cycle ≤ sum_on costs l cycle + 2000000)
   costs_more costs after low are adds summable = by (form_refusal d asked) refl adds summable
     where
       by : (o : Option Refused) → form_refusal d asked ≡ o → CostsWith costs (row_unless d asked o) after → MayBeSummed (row_unless d asked o) →
-          (sum_on after l cycle ≡ cost_of_good d (told ++ asked ∷ []) l cycle) × (sum_on after l cycle ≤ sum_on costs l cycle + 100000)
+          (sum_on after l cycle ≡ cost_of_good d (told ++ asked ∷ []) l cycle) × (sum_on after l cycle ≤ sum_on costs l cycle + 2000000)
       by None e adds sum =
           let more = adds.each l cycle low in
           let whole = told_cost_more ∙ ap (λ (o : Option Refused). cost_of_good d told l cycle + cost_more o) e in
@@ -192,7 +193,7 @@ costs_all before after (Some row) all adds = adds.links ∙ all
 
 -- with a stream more
 pub listing_more : (d : Domain) (before : List Asked) (asked : Asked) (listing after : SummaryListing) → IsListing d before listing → is_name asked.name ≡ true →
-    list_any (λ (a : Asked). is_text a.name asked.name) (told_streams before) ≡ false → length listing.names.keys < 2 ^ 32 →
+    list_any (λ (a : Asked). is_text a.name asked.name) (told_streams before) ≡ false → length listing.names.keys < 2 ^ 29 →
     MayBeSummed (row_of_stream d asked) → ListsOne listing asked.name (row_of_stream d asked) after → IsListing d (before ++ asked ∷ []) after
 listing_more d before asked listing after is named new few summable adds =
     let told = told_streams before in
@@ -200,7 +201,7 @@ listing_more d before asked listing after is named new few summable adds =
     let longer : length (told_streams (before ++ asked ∷ [])) ≡ length told + 1 = ap length grown ∙ length_push told asked in
     let as_many : length listing.names.keys ≡ length told = ap length is.names ∙ length-map told (λ (a : Asked). a.name) in
     let cost : (l cycle : ℕ) → l < 4096 → (sum_on after.costs l cycle ≡ cost_of_good d (told ++ asked ∷ []) l cycle)
-    × (sum_on after.costs l cycle ≤ sum_on listing.costs l cycle + 100000)
+    × (sum_on after.costs l cycle ≤ sum_on listing.costs l cycle + 2000000)
     = λ l cycle low. costs_more d told asked l cycle listing.costs after.costs (omega (arith, low, is.all)) (is.costs l cycle low) adds.costs summable in
     record {
       names = adds.names

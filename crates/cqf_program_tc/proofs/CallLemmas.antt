@@ -4,6 +4,7 @@ use Rattle.std.proofs.Common.{Some, None, append-nil, ap, append_assoc}
 use Rattle.std.proofs.Common.{arith, codes, cond, decimal, filter, if◌then◌else◌, inl, inr, length, refl, slice_get, suc, subst, sym, take, zero, ◌+◌}
 use Rattle.std.specs.List.{flat_map, list_all}
 use Rattle.std.specs.Option.{option_map_or}
+use Rattle.std.specs.Prelude.{is_some}
 use Rattle.std.specs.Str.Parse.{digits_value}
 use Rattle.std.proofs.lemmas.Bool.{and_from, cases_Bool, cases_lt, eqb-true}
 use Rattle.std.proofs.lemmas.Fmt.{digits_value-decimal}
@@ -17,8 +18,10 @@ use Rattle.cqf_text.proofs.DecimalLemmas.{own}
 use Rattle.cqf_text.specs.Lines.{lines_of}
 use Rattle.cqf_model.proofs.Represented.{few_bridges}
 use Rattle.cqf_model.specs.declared.topology.Hop.{Hop}
+use Rattle.cqf_model.specs.declared.topology.Link.{Link}
 use Rattle.cqf_model.specs.declared.topology.Row.{Row}
-use Rattle.cqf_model.specs.Domain.{Domain, bridge_of, is_text, leaves}
+use Rattle.cqf_model.specs.Domain.{Domain, bridge_of, guard_by, is_text, leaves}
+use Rattle.cqf_model.specs.GateList.{Entry, port_list}
 use Rattle.cqf_model.proofs.Texts.{is_text_itself, is_text_same}
 use Rattle.cqf_topology.specs.NodeNames.{name_of_bridge, name_of_link}
 use Rattle.cqf_topology.specs.DomainText.{IsDomain}
@@ -28,8 +31,8 @@ use Rattle.cqf_gates.specs.StreamText.{is_shut}
 use Rattle.cqf_model.specs.declared.gates.StreamEntry.{StreamEntry}
 use Rattle.cqf_program_plans.specs.EndNames.{name_of_end}
 use Rattle.cqf_program_tc.specs.Bridge.{bridge_text, clearing_by, each_link, each_stream, frame_needs, gate_call, gate_target, if_left}
-use Rattle.cqf_program_tc.specs.Bridge.{link_call, link_lines, list_call, pauses, plain_call}
-use Rattle.cqf_program_tc.specs.Words.{closed_words, entry_words, list_words, octets_word, open_words}
+use Rattle.cqf_program_tc.specs.Bridge.{link_call, link_lines, list_call, list_of_own, own_list, pauses, plain_call}
+use Rattle.cqf_program_tc.specs.Words.{closed_words, entry_words, list_words, octets_word, open_words, tx_words}
 use Rattle.cqf_program_tc.specs.Bridge.{link_need, needs_by, out_need, stream_at, stream_clearing, stream_gates, stream_lines, stream_needs, way_at}
 use Rattle.cqf_program_tc.specs.Bridge.{way_clearing, way_in, way_need, way_out, ways_out}
 use Rattle.cqf_program_tc.specs.Calls.{ScriptsCallWhatIsDue, calls_at, calls_due, function_of_bridge, gate_calls, head_of, is_call, lines_before}
@@ -39,7 +42,7 @@ use Rattle.cqf_program_tc.specs.Text.{choice_text, tc_text}
 use Rattle.cqf_program_tc.specs.Variables.{link_variable, stream_variable}
 use Rattle.cqf_program_tc.specs.Wanted.{text_up_to, wanted_at, wanted_by}
 use Rattle.cqf_program_tc.proofs.VariableLines.{is_no_space, link_all, link_variable_within, pass_space, stream_all, stream_variable_within}
-use Rattle.cqf_program_tc.proofs.Functions.{by_list_found, gate_found, link_found, to_bridges}
+use Rattle.cqf_program_tc.proofs.Functions.{by_list_found, gate_found, link_found, to_bridges, tx_within}
 use Rattle.cqf_program_tc.proofs.Lines.{AreWithin, IsWithin, Reads, both_true, bridge_within, decimal_within, end_within, link_within, name_within}
 use Rattle.cqf_program_tc.proofs.Lines.{begins, onto, reads_line, reads_none, reads_pieces, reads_then, within_onto, within_then}
 
@@ -153,6 +156,18 @@ up_to byte (x ∷ text) rest none same =
     ap (λ (b : Bool). if b then [] else x ∷ text_up_to byte (text ++ byte ∷ rest)) (not_true (x == byte) parts.0)
     ∙ ap (λ (more : List ℕ). x ∷ more) (up_to byte text rest parts.1 same)
 
+-- the words of a link's own list stand in one line
+own_within : (d : Domain) (link : ℕ) → IsWithin (own_list d link)
+own_within d link = of_link (slice_get d.links link)
+  where
+    of_list : (own : Bool) (entries : List Entry) → IsWithin (if own then codes " \"" ++ (tx_words entries ++ codes "\"") else [])
+    of_list true entries = within_then (tx_words entries) (codes "\"") (tx_within entries) refl
+    of_list false entries = refl
+
+    of_link : (o : Option Link) → IsWithin (option_map_or (list_of_own d) o [])
+    of_link None = refl
+    of_link (Some link) = of_list (is_some link.guard) (port_list d.cycle_time (guard_by d.guard link))
+
 -- of a bridge of a domain
 module _ (d : Domain) (domain : IsDomain d) (bridge : ℕ) where
   -- the variable of a link, in a line
@@ -228,7 +243,8 @@ module _ (d : Domain) (domain : IsDomain d) (bridge : ℕ) where
   says_link : (link : ℕ) → Says (if_left d bridge (link_lines d) link) (link_calls d bridge link) []
   says_link link =
       let call : IsWithin (link_call d link) =
-      within_onto (codes "    link \"$OUT_" ∷ link_variable d link ∷ []) (codes "\"") (refl, (link_named link, refl)) in
+      within_onto (codes "    link \"$OUT_" ∷ link_variable d link ∷ codes "\"" ∷ []) (own_list d link)
+      (refl, (link_named link, (refl, own_within d link))) in
       says_if (leaves d link bridge) (link_lines d link) (link_call d link ∷ [])
       (says_line (codes "    # link " ∷ decimal link ∷ codes " " ∷ name_of_link d link ∷ []) [] (link_call d link ++ 10 ∷ []) (link_call d link ∷ []) [] []
       (refl, (decimal_within link, (refl, (link_within d domain link, refl)))) refl refl refl (says_call (link_call d link) call refl refl refl))

@@ -13,12 +13,13 @@ use Rattle.cqf_model.specs.Domain.{Domain, is_text}
 use Rattle.cqf_model.specs.GateList.{Entry, port_list}
 use Rattle.cqf_model.specs.Limits.{streams_within}
 use Rattle.cqf_topology.specs.DomainText.{IsDomain}
-use Rattle.cqf_program_tc.specs.Bridge.{pauses}
+use Rattle.cqf_program_tc.specs.Bridge.{has_own_guard, pauses}
 use Rattle.cqf_program_tc.specs.Calls.{head_of, lines_behind, lines_before, lines_of_function}
 use Rattle.cqf_program_tc.specs.Checks.{checks_text}
 use Rattle.cqf_program_tc.specs.Program.{object_end, object_text, octal, octal_word, program_text}
 use Rattle.cqf_program_tc.specs.Text.{bridges_text, by_list_command, by_list_lines, by_list_text, choice_text, class_words, filter_words, list_gates_text}
-use Rattle.cqf_program_tc.specs.Text.{gate_command, given_text, last_gate, link_text, list_command, multiple, name_text, notes_text, port_end}
+use Rattle.cqf_program_tc.specs.Text.{common_words, gate_command, given_text, given_words, last_gate, link_note, link_text, list_command, multiple, name_text}
+use Rattle.cqf_program_tc.specs.Text.{notes_text, port_end, port_words}
 use Rattle.cqf_program_tc.specs.Text.{names_text, no_gates_text, old_gates_text, opening_text, tc_gate_text, tc_text, undo_gate, undo_list, usage_text}
 use Rattle.cqf_program_tc.specs.Words.{gate_words, tx_words}
 use Rattle.cqf_program_tc.proofs.Lines.{IsWithin, Reads, Skips, begins, behind_within, bridge_within, decimal_within, is_within, none_within}
@@ -109,6 +110,13 @@ program_skipped : (d : Domain) (software : Bool) → Skips is_head_byte (program
 program_skipped d true = object_skipped d.cycle_time
 program_skipped d false = nothing_skipped
 
+note_by : (own : Bool) → Skips is_head_byte (if own then codes "# shellcheck disable=SC2086\n" else [])
+note_by true = skips is_head_byte (codes "# shellcheck disable=SC2086\n") refl refl
+note_by false = nothing_skipped
+
+note_skipped : (d : Domain) → Skips is_head_byte (link_note d)
+note_skipped d = note_by (list_any has_own_guard d.links)
+
 old_gates_by : (few : Bool) → Skips is_head_byte (old_gates_text (if few then codes "1024" else codes "16384"))
 old_gates_by true = skips is_head_byte (old_gates_text (codes "1024")) refl refl
 old_gates_by false = skips is_head_byte (old_gates_text (codes "16384")) refl refl
@@ -123,7 +131,7 @@ no_gates_skipped = skips is_head_byte no_gates_text refl refl
 hex_within : (n : ℕ) → is_within (hex_digit n) ≡ true
 hex_within n = grind (arith, nat_tests)
 
-tx_within : (entries : List Entry) → IsWithin (tx_words entries)
+pub tx_within : (entries : List Entry) → IsWithin (tx_words entries)
 tx_within [] = refl
 tx_within (entry ∷ entries) =
     let line : IsWithin (line_of_gates entry) =
@@ -133,8 +141,15 @@ tx_within (entry ∷ entries) =
 
 list_within : (d : Domain) (software : Bool) → IsWithin (list_command d software)
 list_within d software =
-    within_then (tx_words (port_list d.cycle_time d.guard)) (port_end software) (tx_within (port_list d.cycle_time d.guard)) (end_of_port software)
+    within_then (port_words d) (port_end software) (of_words (list_any has_own_guard d.links)) (end_of_port software)
   where
+    common : IsWithin (common_words d)
+    common = tx_within (port_list d.cycle_time d.guard)
+
+    of_words : (own : Bool) → IsWithin (if own then given_words d else common_words d)
+    of_words true = within_then (common_words d) (codes "}") common refl
+    of_words false = common
+
     end_of_port : (b : Bool) → IsWithin (port_end b)
     end_of_port true = refl
     end_of_port false = refl
@@ -203,23 +218,26 @@ module _ (d : Domain) (software : Bool) (gates : ℕ → ℕ) (rows : List Row) 
       let own_gates = tc_gate_text d software ++ list_gates_text software rows in
       let last = no_gates_text ++ own_gates in
       let behind_link = (old_gates_text (last_gate d)) ++ last in
-      let behind_program = link_text d software ++ behind_link in
+      let behind_note = link_text d software ++ behind_link in
+      let behind_program = link_note d ++ behind_note in
       let behind_checks = program_text d software ++ behind_program in
       let functions = link_text d software ++ ((old_gates_text (last_gate d)) ++ (no_gates_text ++ (tc_gate_text d software ++ rest))) in
-      let one : (checks_text ++ behind_checks) ++ tail ≡ checks_text ++ (program_text d software ++ functions) =
+      let one : (checks_text ++ behind_checks) ++ tail ≡ checks_text ++ (program_text d software ++ (link_note d ++ functions)) =
       append_assoc checks_text behind_checks tail
       ∙ ap (λ text. checks_text ++ text) (append_assoc (program_text d software) behind_program tail
-      ∙ ap (λ text. program_text d software ++ text) (append_assoc (link_text d software) behind_link tail
+      ∙ ap (λ text. program_text d software ++ text) (append_assoc (link_note d) behind_note tail
+      ∙ ap (λ text. link_note d ++ text) (append_assoc (link_text d software) behind_link tail
       ∙ ap (λ text. link_text d software ++ text) (append_assoc (old_gates_text (last_gate d)) last tail
       ∙ ap (λ text. (old_gates_text (last_gate d)) ++ text) (append_assoc no_gates_text own_gates tail
-      ∙ ap (λ text. no_gates_text ++ text) (append_assoc (tc_gate_text d software) (list_gates_text software rows) tail))))) in
+      ∙ ap (λ text. no_gates_text ++ text) (append_assoc (tc_gate_text d software) (list_gates_text software rows) tail)))))) in
       text_passed y head (usage_text d rows) _ of_head (usage_skipped d rows)
       ∙ text_passed y head (notes_text software) _ of_head (notes_skipped software)
       ∙ text_passed y head (opening_text d) _ of_head (opening_skipped d domain)
       ∙ text_passed y head (given_text d rows) _ of_head (given_skipped d rows)
       ∙ ap (λ text. lines_behind (y ∷ head) (lines_of text)) one
-      ∙ text_passed y head checks_text (program_text d software ++ functions) of_head checks_skipped
-      ∙ text_passed y head (program_text d software) functions of_head (program_skipped d software)
+      ∙ text_passed y head checks_text (program_text d software ++ (link_note d ++ functions)) of_head checks_skipped
+      ∙ text_passed y head (program_text d software) (link_note d ++ functions) of_head (program_skipped d software)
+      ∙ text_passed y head (link_note d) functions of_head (note_skipped d)
 
   -- the function of a link is read
   pub link_found : IsDomain d → lines_of_function (codes "link") (tc_text d software gates rows) ≡ list_command d software ∷ undo_list ∷ []

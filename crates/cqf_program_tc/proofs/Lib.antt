@@ -12,3 +12,4 @@ pub mod LeavingRows
 pub mod NotedRows
 mod Rounds
 mod Ready
+mod Owned

@@ -4,7 +4,7 @@ use Rattle.std.specs.Global.{Global}
 use Rattle.std.specs.declared.vec.Vec.{Vec}
 use Rattle.cqf_model.specs.declared.topology.Row.{Row}
 use Rattle.cqf_model.specs.Domain.{Domain}
-use Rattle.cqf_program_tc.specs.Output.{AreWordsOf, IsReadyPlan}
+use Rattle.cqf_program_tc.specs.Output.{IsReadyPlan}
 
 pub ready_as : (d e : Domain) (rows others : List Row) (places at : List (List ℕ)) (links ways streams names : List (Vec ℕ Global)) → e ≡ d → others ≡ rows →
     at ≡ places → ways ≡ links → names ≡ streams → IsReadyPlan d rows places links streams → IsReadyPlan e others at ways names
@@ -14,8 +14,3 @@ ready_as d e rows others places at links ways streams names of_domain of_rows of
     (subst (λ (x : List (List ℕ)). IsReadyPlan d rows x ways names) (sym of_places)
     (subst (λ (x : List (Vec ℕ Global)). IsReadyPlan d rows places x names) (sym of_links)
     (subst (λ (x : List (Vec ℕ Global)). IsReadyPlan d rows places links x) (sym of_streams) ready))))
-
-pub words_as : (d e : Domain) (ports others gates words : List ℕ) → e ≡ d → others ≡ ports → words ≡ gates → AreWordsOf d ports gates → AreWordsOf e others words
-words_as d e ports others gates words of_domain of_ports of_gates are =
-    subst (λ (x : Domain). AreWordsOf x others words) (sym of_domain)
-    (subst (λ (x : List ℕ). AreWordsOf d x words) (sym of_ports) (subst (λ (x : List ℕ). AreWordsOf d ports x) (sym of_gates) are))

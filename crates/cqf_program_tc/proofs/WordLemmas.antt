@@ -1,12 +1,12 @@
 -- The words of lists are read as the lists.
 use Rattle.std.proofs.Common.{ℕ, ◌≡◌, ◌<◌, ◌+◌, ◌-◌, ◌^◌, ◌++◌, ◌==◌, ◌∙◌, ◌/◌, ◌%◌, ◌&&◌, Bool, true, false, not, cond}
 use Rattle.std.proofs.Common.{suc, List, [], ◌∷◌, Some, Ok, All, ap, append_assoc, arith, codes, decimal, get_or, leb}
-use Rattle.std.proofs.Common.{length, refl, sym, take, ◌*◌, ◌≤◌, Option, if◌then◌else◌, mod-lt}
-use Rattle.std.specs.Option.{option_and_then}
+use Rattle.std.proofs.Common.{length, refl, slice_get, subst, sym, take, ◌*◌, ◌≤◌, None, Option, if◌then◌else◌, inl, inr, mod-lt}
+use Rattle.std.specs.Option.{option_and_then, option_map_or, unwrap_or}
 use Rattle.std.proofs.Math.Nat.{mod-one}
 use Rattle.std.proofs.lemmas.Bool.{eqb-true}
 use Rattle.std.proofs.lemmas.Nat.{mul-le}
-use Rattle.std.specs.Prelude.{drop, option_map}
+use Rattle.std.specs.Prelude.{drop, is_some, option_map}
 use Rattle.std.specs.Char.{is_ascii_digit}
 use Rattle.std.specs.List.{list_all}
 use Rattle.std.specs.Str.Parse.{digits_value}
@@ -14,13 +14,16 @@ use Rattle.std.proofs.lemmas.Bool.Decides.{nat_tests}
 use Rattle.std.proofs.lemmas.Fmt.{decimal_nonempty, length-decimal-le, digits_decimal, digits_value-decimal}
 use Rattle.std.proofs.lemmas.List.{append-nil, take_more}
 use Rattle.std.proofs.lemmas.List.Elements.{All-cons, All-nil}
+use Rattle.std.proofs.lemmas.Option.{slice_get_cases, slice_get_past}
 use Rattle.std.proofs.lemmas.List.Sums.{AllPass-from_list_all, list_all-from_AllPass}
 use Rattle.cqf_text.proofs.DecimalLemmas.{own}
 use Rattle.cqf_text.specs.Decimal.{decimal_value, is_decimal}
 use Rattle.cqf_model.specs.GateList.{Entry, port_list}
 use Rattle.cqf_model.specs.declared.gates.StreamEntry.{StreamEntry}
+use Rattle.cqf_model.specs.declared.topology.Link.{Link}
 use Rattle.cqf_model.specs.declared.topology.Pace.{Pace}
-use Rattle.cqf_model.specs.Domain.{is_text}
+use Rattle.cqf_model.specs.Domain.{Domain, IsAccepted, guard_by, is_text}
+use Rattle.cqf_model.specs.Network.{compiled_lists}
 use Rattle.cqf_model.specs.Paces.{each_cycle}
 use Rattle.cqf_model.specs.Table.{depth_behind}
 use Rattle.cqf_compile.proofs.Paces.{short_round}
@@ -30,7 +33,8 @@ use Rattle.cqf_gates.proofs.RoundTrip.{list_of_text-text}
 use Rattle.cqf_gates.specs.GateListText.{hex_digit, line_of_gates, text_of_entries}
 use Rattle.cqf_gates.specs.TxList.{IsTxList}
 use Rattle.cqf_gates.specs.TxText.{list_of_text}
-use Rattle.cqf_program_tc.specs.Laws.{ScriptsHoldTheLists}
+use Rattle.cqf_program_tc.specs.Laws.{ScriptsHoldTheLists, words_by, words_for}
+use Rattle.cqf_program_tc.specs.Text.{common_words}
 use Rattle.cqf_program_tc.specs.Words.{before_others, closed_words, entry_words, list_words, octets_of_word, open_words}
 use Rattle.cqf_program_tc.specs.Words.{gate_of_parts, gate_of_words, gate_words, in_front, lines_of_words, parted, tx_of_words, tx_words}
 
@@ -355,12 +359,36 @@ port_in_range cycle_time guard small short =
     each_of_four (λ (entry : Entry). (entry.0 < 256) × (entry.1 < 2 ^ 32)) (0xBF, cycle_time - guard) (0x00, guard) (0x7F, cycle_time - guard) (0x00, guard)
     (omega arith, open_time) (omega arith, closed_time) (omega arith, open_time) (omega arith, closed_time)
 
+-- the words of a list by a guard time are read as it
+read_by : (cycle_time guard : ℕ) → cycle_time < 2 ^ 32 → 0 < guard → guard < cycle_time →
+    tx_of_words (tx_words (port_list cycle_time guard)) ≡ Some (Ok (port_list cycle_time guard))
+read_by cycle_time guard small some short =
+    tx_again (port_list cycle_time guard) (port_is_list cycle_time guard some short) (port_in_range cycle_time guard small short)
+
+-- so are those of a link, whether or not it has a guard time of its own
+read_of : (cycle_time guard : ℕ) (time : Option ℕ) → cycle_time < 2 ^ 32 → 0 < unwrap_or time guard → unwrap_or time guard < cycle_time →
+    tx_of_words (if is_some time then tx_words (port_list cycle_time (unwrap_or time guard)) else tx_words (port_list cycle_time guard))
+    ≡ Some (Ok (port_list cycle_time (unwrap_or time guard)))
+read_of cycle_time guard None small some short = read_by cycle_time guard small some short
+read_of cycle_time guard (Some time) small some short = read_by cycle_time time small some short
+
+ports_read : (d : Domain) → IsAccepted d → d.cycle_time < 2 ^ 32 → (l : ℕ) → tx_of_words (words_for d l) ≡ Some (Ok (compiled_lists d l))
+ports_read d accepted small l =
+    elim (slice_get_cases d.links l).1 [
+      | inl w ↦
+          (let good = accepted.links_good l w.0 w.2 in
+          subst (λ (o : Option Link). tx_of_words (option_map_or (words_by d) o (common_words d)) ≡ Some (Ok (port_list d.cycle_time (option_map_or (guard_by d.guard) o d.guard))))
+          (sym w.2) (read_of d.cycle_time d.guard w.0.guard small (omega (arith, good.delay_short)) good.guard_short))
+      | inr w ↦
+          subst (λ (o : Option Link). tx_of_words (option_map_or (words_by d) o (common_words d)) ≡ Some (Ok (port_list d.cycle_time (option_map_or (guard_by d.guard) o d.guard))))
+          (sym (slice_get_past d.links l w.0)) (read_by d.cycle_time d.guard small accepted.guard_some accepted.guard_short)
+    ]
+
 pub lists_held : ScriptsHoldTheLists
 lists_held d accepted =
     let small : d.cycle_time < 2 ^ 32 = omega (arith, accepted.cycle_most) in
     record {
-      ports = tx_again (port_list d.cycle_time d.guard) (port_is_list d.cycle_time d.guard accepted.guard_some accepted.guard_short)
-          (port_in_range d.cycle_time d.guard small accepted.guard_short);
+      ports = ports_read d accepted small;
       gates = λ octets depth pace none. gate_again d.cycle_time octets small ∙ ap Some (sym (plain_spans d.cycle_time octets pace depth none));
       lists = λ row bridge octets good some few.
           list_again octets (gate_at d row bridge)

@@ -1,18 +1,20 @@
 -- What a bridge does in the script, line by line (profile).
 use Rattle.std.specs.Prelude.{ℕ, ◌++◌, ◌==◌, List, [], Bool, true, false, Option, Some, None, codes, decimal}
-use Rattle.std.specs.Prelude.{if◌then◌else◌, length, not, option_map, slice_get, take}
+use Rattle.std.specs.Prelude.{if◌then◌else◌, is_some, length, not, option_map, slice_get, take}
 use Rattle.std.specs.Option.{option_map_or}
 use Rattle.std.specs.List.{flat_map, list_any}
 use Rattle.cqf_lists.specs.Lists.{each_below}
 use Rattle.cqf_model.specs.declared.topology.Hop.{Hop}
+use Rattle.cqf_model.specs.declared.topology.Link.{Link}
 use Rattle.cqf_model.specs.declared.topology.Row.{Row}
-use Rattle.cqf_model.specs.Domain.{Domain, bridge_of, leaves}
+use Rattle.cqf_model.specs.Domain.{Domain, bridge_of, guard_by, leaves}
+use Rattle.cqf_model.specs.GateList.{port_list}
 use Rattle.cqf_model.specs.Table.{same_way}
 use Rattle.cqf_topology.specs.NodeNames.{name_of_bridge, name_of_link}
 use Rattle.cqf_compile.specs.BridgeGates.{first_hop, gate_at}
 use Rattle.cqf_program_plans.specs.EndNames.{name_of_end}
 use Rattle.cqf_program_tc.specs.Variables.{link_variable, stream_variable}
-use Rattle.cqf_program_tc.specs.Words.{list_words}
+use Rattle.cqf_program_tc.specs.Words.{list_words, tx_words}
 
 -- the variable of the interface by which a stream comes, where the stream's own variable is given
 abbrev pub way_in : Domain → List ℕ → Option ℕ → List ℕ
@@ -75,9 +77,21 @@ frame_needs variable gate row =
 abbrev pub way_clearing : Domain → List ℕ → Option ℕ → List ℕ
 way_clearing d variable way = codes "    no_gates \"$" ++ (way_in d variable way ++ codes "\"\n")
 
+-- whether a link has a guard time of its own, and so a list of its own
+abbrev pub has_own_guard : Link → Bool
+has_own_guard link = is_some link.guard
+
+-- the words of the list of a link that has a guard time of its own, as the second parameter of a call; none of another
+abbrev pub list_of_own : Domain → Link → List ℕ
+list_of_own d link =
+    if has_own_guard link then codes " \"" ++ (tx_words (port_list d.cycle_time (guard_by d.guard link)) ++ codes "\"") else []
+
+abbrev pub own_list : Domain → ℕ → List ℕ
+own_list d link = option_map_or (list_of_own d) (slice_get d.links link) []
+
 -- the call that sets the list of a link that leaves the bridge
 abbrev pub link_call : Domain → ℕ → List ℕ
-link_call d link = codes "    link \"$OUT_" ++ (link_variable d link ++ codes "\"")
+link_call d link = codes "    link \"$OUT_" ++ (link_variable d link ++ (codes "\"" ++ own_list d link))
 
 -- the lines of the link
 abbrev pub link_lines : Domain → ℕ → List ℕ

@@ -1,23 +1,34 @@
 -- The lists of the script are those that are compiled, and begin anew together.
-use Rattle.std.specs.Prelude.{ℕ, ◌≡◌, ◌+◌, ◌-◌, ◌*◌, ◌%◌, ◌^◌, ◌≤◌, ◌<◌, Contains, List, Some, Ok}
+use Rattle.std.specs.Prelude.{ℕ, ◌≡◌, ◌+◌, ◌-◌, ◌*◌, ◌%◌, ◌^◌, ◌≤◌, ◌<◌, Contains, List, Some, Ok, if◌then◌else◌, slice_get}
+use Rattle.std.specs.Option.{option_map_or}
 use Rattle.cqf_compile.specs.BridgeGates.{gate_at}
 use Rattle.cqf_admission.specs.Turns.{AreOfGoodPaces, IsGoodPace}
 use Rattle.cqf_gates.specs.ReservedSpans.{reserved_spans}
 use Rattle.cqf_model.specs.declared.topology.Pace.{Pace}
 use Rattle.cqf_model.specs.declared.topology.Row.{Row}
-use Rattle.cqf_model.specs.Domain.{Domain, IsAccepted}
+use Rattle.cqf_model.specs.declared.topology.Link.{Link}
+use Rattle.cqf_model.specs.Domain.{Domain, IsAccepted, guard_by}
 use Rattle.cqf_model.specs.GateList.{port_list}
 use Rattle.cqf_model.specs.Limits.{most_reserved}
+use Rattle.cqf_model.specs.Network.{compiled_lists}
 use Rattle.cqf_model.specs.StreamGate.{gate_cycles}
-use Rattle.cqf_program_tc.specs.Text.{rounds_in}
+use Rattle.cqf_program_tc.specs.Bridge.{has_own_guard}
+use Rattle.cqf_program_tc.specs.Text.{common_words, rounds_in}
 use Rattle.cqf_program_tc.specs.Words.{gate_of_words, gate_words, list_words, tx_of_words, tx_words}
 
--- in each accepted domain the words of a port are read as the list that each port is compiled to; those of the function of stream
+-- the words that the function of a port has for a link: the call's where the link has a guard time of its own, and else the function's own
+abbrev pub words_by : Domain → Link → List ℕ
+words_by d link = if has_own_guard link then tx_words (port_list d.cycle_time (guard_by d.guard link)) else common_words d
+
+abbrev pub words_for : Domain → ℕ → List ℕ
+words_for d l = option_map_or (words_by d) (slice_get d.links l) (common_words d)
+
+-- in each accepted domain the words of a port are read as the list that the port is compiled to; those of the function of stream
 -- gates, where the fifth parameter is a reservation's octets, as the list that the gate of a stream is compiled to that is offered in
 -- each cycle, wherever its frames are; and those that a stream of another pace gives as the list that its gate at a bridge is compiled
 -- to
 pub record ScriptListsReadBack (d : Domain) : Type 0 where
-  pub ports : tx_of_words (tx_words (port_list d.cycle_time d.guard)) ≡ Some (Ok (port_list d.cycle_time d.guard))
+  pub ports : (l : ℕ) → tx_of_words (words_for d l) ≡ Some (Ok (compiled_lists d l))
   pub gates : (octets depth : ℕ) (pace : Pace) → pace.pause ≡ 0 → gate_of_words octets (gate_words d.cycle_time) ≡ Some (reserved_spans d.cycle_time octets pace depth)
   pub lists : (row : Row) (bridge octets : ℕ) → IsGoodPace row.pace → 0 < row.octets → row.octets ≤ most_reserved →
       gate_of_words octets (list_words (gate_at d row bridge)) ≡ Some (gate_at d row bridge)

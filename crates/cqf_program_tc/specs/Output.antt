@@ -16,7 +16,6 @@ use Rattle.cqf_model.specs.declared.topology.Node.{Node}
 use Rattle.cqf_model.specs.declared.topology.Node.TheVariants.{Bridge, Station}
 use Rattle.cqf_model.specs.declared.topology.Row.{Row}
 use Rattle.cqf_model.specs.Domain.{Domain, node_named}
-use Rattle.cqf_model.specs.GateList.{port_list}
 use Rattle.cqf_model.specs.History.{Asked, held_in}
 use Rattle.cqf_press.specs.Stops.{fault_line, or_line}
 use Rattle.cqf_program_plans.specs.Compile.Output.{admitted_from, compile_input}
@@ -25,7 +24,7 @@ use Rattle.cqf_program_tc.specs.Env.{env_text}
 use Rattle.cqf_program_tc.specs.Rows.{AreByBridge}
 use Rattle.cqf_program_tc.specs.Text.{tc_text}
 use Rattle.cqf_program_tc.specs.Variables.{AreNamed}
-use Rattle.cqf_program_tc.specs.Words.{gate_words, tx_words}
+use Rattle.cqf_program_tc.specs.Words.{gate_words}
 
 -- a domain, the streams that are asked for, and what the input says of links and streams in real bridges
 pub record Addressed : Type 0 where
@@ -100,11 +99,6 @@ text_of_tc script = tc_text script.domain script.software (gate_index script.add
 abbrev pub text_of_env : EnvFile → List ℕ
 text_of_env file = env_text file.domain file.interfaces file.addresses file.rows file.bridge
 
--- the words of a domain's lists: that of each port, and that of each stream's gate
-pub record AreWordsOf (d : Domain) (ports gates : List ℕ) : Type 0 where
-  pub of_ports : ports ≡ tx_words (port_list d.cycle_time d.guard)
-  pub of_gates : gates ≡ gate_words d.cycle_time
-
 -- what both are told from can be: the rows' paces are good, it is known which of them leave a bridge, and links and streams have their
 -- variables
 pub record IsReadyPlan (d : Domain) (rows : List Row) (places : List (List ℕ)) (links streams : List (Vec ℕ Global)) : Type 0 where
@@ -112,9 +106,10 @@ pub record IsReadyPlan (d : Domain) (rows : List Row) (places : List (List ℕ))
   pub by_bridge : AreByBridge d rows places
   pub named : AreNamed d rows links streams
 
-pub record IsReadyScript (d : Domain) (rows : List Row) (places : List (List ℕ)) (links streams : List (Vec ℕ Global)) (ports gates : List ℕ) : Type 0 where
+-- and where it is a script, there are the words of each stream's gate
+pub record IsReadyScript (d : Domain) (rows : List Row) (places : List (List ℕ)) (links streams : List (Vec ℕ Global)) (gates : List ℕ) : Type 0 where
   pub plan : IsReadyPlan d rows places links streams
-  pub words : AreWordsOf d ports gates
+  pub words : gates ≡ gate_words d.cycle_time
 
 -- of one of the domain's bridges
 pub record IsReadyFile (d : Domain) (rows : List Row) (places : List (List ℕ)) (links streams : List (Vec ℕ Global)) (bridge : ℕ) : Type 0 where

@@ -7,7 +7,7 @@ use Rattle.cqf_model.specs.Domain.{Domain}
 use Rattle.cqf_model.specs.GateList.{port_list}
 use Rattle.cqf_model.specs.Limits.{most_every, streams_within}
 use Rattle.cqf_topology.specs.NodeNames.{name_of_bridge}
-use Rattle.cqf_program_tc.specs.Bridge.{bridge_text, pauses}
+use Rattle.cqf_program_tc.specs.Bridge.{bridge_text, has_own_guard, pauses}
 use Rattle.cqf_program_tc.specs.Checks.{checks_text}
 use Rattle.cqf_program_tc.specs.Program.{program_text}
 use Rattle.cqf_program_tc.specs.Words.{gate_words, tx_words}
@@ -94,15 +94,31 @@ given_text d rows =
 abbrev pub port_end : Bool → List ℕ
 port_end software = if software then codes " clockid CLOCK_TAI" else codes " flags 0x2"
 
+-- the words of the list of each other link
+abbrev pub common_words : Domain → List ℕ
+common_words d = tx_words (port_list d.cycle_time d.guard)
+
+-- those of the second parameter, if it is given, and else these
+abbrev pub given_words : Domain → List ℕ
+given_words d = codes " ${2:-" ++ (common_words d ++ codes "}")
+
+-- the words in the command: where some link has a guard time of its own, those of the second parameter, if it is given
+abbrev pub port_words : Domain → List ℕ
+port_words d = if list_any has_own_guard d.links then given_words d else common_words d
+
 -- the command that sets the transmission gates of an interface, with priority, traffic class and queue p alike for p from 0 to 7
 abbrev pub list_command : Domain → Bool → List ℕ
 list_command d software =
     codes "    $tc qdisc replace dev \"$1\" parent root handle 100: taprio num_tc 8 map 0 1 2 3 4 5 6 7 0 0 0 0 0 0 0 0"
-    ++ (codes " queues 1@0 1@1 1@2 1@3 1@4 1@5 1@6 1@7 base-time \"$BASE\"" ++ (tx_words (port_list d.cycle_time d.guard) ++ port_end software))
+    ++ (codes " queues 1@0 1@1 1@2 1@3 1@4 1@5 1@6 1@7 base-time \"$BASE\"" ++ (port_words d ++ port_end software))
 
 -- the words behind it that note how it is taken back
 abbrev pub undo_list : List ℕ
 undo_list = codes "    undo=\"qdisc del dev $1 root/$undo\""
+
+-- where some link has a guard time of its own, a comment for checkers of scripts: that parameter is to be split into its words
+abbrev pub link_note : Domain → List ℕ
+link_note d = if list_any has_own_guard d.links then codes "# shellcheck disable=SC2086\n" else []
 
 abbrev pub link_text : Domain → Bool → List ℕ
 link_text d software =
@@ -219,7 +235,8 @@ abbrev pub functions_text : Domain → Bool → List Row → List ℕ
 functions_text d software rows =
     checks_text
     ++ (program_text d software
-    ++ (link_text d software ++ (old_gates_text (last_gate d) ++ (no_gates_text ++ (tc_gate_text d software ++ list_gates_text software rows)))))
+    ++ (link_note d
+    ++ (link_text d software ++ (old_gates_text (last_gate d) ++ (no_gates_text ++ (tc_gate_text d software ++ list_gates_text software rows))))))
 
 -- the script of a domain and the rows of its streams, with the indexes of their gates by number, by hardware or in software
 abbrev pub tc_text : Domain → Bool → (ℕ → ℕ) → List Row → List ℕ

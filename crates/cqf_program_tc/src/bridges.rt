@@ -1,25 +1,28 @@
 //! What a bridge does in the script.
-ghost use Rattle.std.specs.Prelude.{◌≡◌, [], Some, None, if◌then◌else◌};
+ghost use Rattle.std.specs.Prelude.{◌≡◌, ◌<◌, ◌++◌, [], Some, None, codes, false, if◌then◌else◌, length, slice_get};
 ghost use Rattle.std.specs.List.{flat_map};
 ghost use Rattle.std.specs.Option.{option_map_or};
 ghost use Rattle.cqf_addressing.specs.Streams.{gate_index};
 ghost use Rattle.cqf_compile.specs.BridgeGates.{first_hop};
 ghost use Rattle.cqf_model.specs.declared.topology.Hop.{Hop as AHop};
 ghost use Rattle.cqf_model.specs.Domain.{bridge_of};
+ghost use Rattle.cqf_model.specs.Network.{compiled_lists};
 ghost use Rattle.cqf_admission.specs.Turns.{AreOfGoodPaces, IsGoodPace};
 ghost use Rattle.cqf_press.specs.Press.{Puts};
 ghost use Rattle.cqf_program_plans.specs.EndNames.{name_of_end};
 ghost use Rattle.cqf_program_tc.specs.Bridge.{bridge_text, clearing_by, each_link, each_stream, frame_needs};
-ghost use Rattle.cqf_program_tc.specs.Bridge.{gate_call, gate_target, if_left, link_call, link_lines, link_need, list_call, needs_by, plain_call};
-ghost use Rattle.cqf_program_tc.specs.Bridge.{out_need, stream_clearing, stream_gates, stream_lines, stream_needs};
+ghost use Rattle.cqf_program_tc.specs.Bridge.{gate_call, gate_target, has_own_guard, if_left, link_call, link_lines, link_need, list_call, needs_by, plain_call};
+ghost use Rattle.cqf_program_tc.specs.Bridge.{out_need, own_list, stream_clearing, stream_gates, stream_lines, stream_needs};
 ghost use Rattle.cqf_program_tc.specs.Bridge.{way_clearing, way_in, way_need, way_out, ways_out};
 ghost use Rattle.cqf_program_tc.specs.Rows.{places_at};
 ghost use Rattle.cqf_program_tc.specs.Variables.{AreNamed};
+ghost use Rattle.cqf_program_tc.specs.Words.{tx_words};
 
 use crate::lists::{pauses, put_list_words};
 use crate::plan::{Plan, Stream, put_link_variable, stream_at};
 use crate::ways::way_of;
-use cqf_compile::{first_hop, gate_of, leaves};
+use crate::words::put_tx_words;
+use cqf_compile::{first_hop, gate_of, leaves, port_list_of};
 use cqf_model::{Hop, Row};
 use cqf_press::{Press, Sink};
 use cqf_topology::{Domain, put_bridge, put_link, put_node};
@@ -167,6 +170,32 @@ fn put_clearing<W: Sink>(
     press.put(b"\"\n");
 }
 
+/// Whether a link has a guard time of its own, and so a list of its own. A link that the domain lacks hasn't.
+pub(crate) fn has_own_list(domain: &Domain, link: u16) -> bool
+    ensures { result ≡ option_map_or has_own_guard (slice_get domain.now.links link) false }
+{
+    link < domain.links() && domain.link(link).guard.is_some()
+}
+
+/// Puts the words of a link's list, as a parameter.
+fn put_list_parameter<W: Sink>(press: &mut Press<'_, W>, domain: &Domain, link: u16)
+    requires { link < length domain.now.links }
+    ensures { Puts W.contents press.old press.new (codes " \"" ++ (tx_words (compiled_lists domain.now link) ++ codes "\"")) }
+{
+    press.put(b" \"");
+    put_tx_words(press, &port_list_of(domain, link));
+    press.put(b"\"");
+}
+
+/// Puts the words of the list of a link that has a guard time of its own, as a parameter; nothing of another.
+fn put_own_list<W: Sink>(press: &mut Press<'_, W>, domain: &Domain, link: u16)
+    ensures { Puts W.contents press.old press.new (own_list domain.now link) }
+{
+    if has_own_list(domain, link) {
+        put_list_parameter(press, domain, link);
+    }
+}
+
 /// Puts the call that sets the list of a link that leaves the bridge.
 fn put_link_call<W: Sink>(press: &mut Press<'_, W>, plan: Plan<'_>, link: u16)
     requires { AreNamed plan.domain.now plan.rows.now plan.links.now plan.streams.now }
@@ -175,6 +204,7 @@ fn put_link_call<W: Sink>(press: &mut Press<'_, W>, plan: Plan<'_>, link: u16)
     press.put(b"    link \"$OUT_");
     put_link_variable(press, plan, link);
     press.put(b"\"");
+    put_own_list(press, plan.domain, link);
 }
 
 /// Puts the lines of a link that leaves the bridge.

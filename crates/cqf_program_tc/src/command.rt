@@ -11,9 +11,8 @@ ghost use Rattle.cqf_program_tc.specs.Rows.{places_in};
 use crate::outputs::{EnvOutput, ReadyPlan, TcOutput};
 use crate::rows::places_by_bridge;
 use crate::variables::{link_variables, stream_variables};
-use crate::words::{write_gate_words, write_tx_words};
+use crate::words::write_gate_words;
 use cqf_addressing::{LinkInterfaces, StreamAddress, addresses_part, interfaces_part};
-use cqf_gates::compiled_list;
 use cqf_model::{Limits, Node, Row};
 use cqf_press::{REFUSED, Sheet, Stop};
 use cqf_program_plans::{read_plan, rows_of_cycle_0};
@@ -107,13 +106,10 @@ fn script_ready(alloc: Global, software: bool, plan: ReadyPlan) -> Result<TcOutp
       software = software;
     }) }
 {
-    let port_list = compiled_list(plan.domain.cycle_time(), plan.domain.guard());
-    let port_words = write_tx_words(alloc, &port_list)?;
     let gate_words = write_gate_words(alloc, plan.domain.cycle_time().0 as u32)?;
     let sheet = Sheet::new(alloc)?;
     Ok(TcOutput {
         plan,
-        port_words,
         gate_words,
         software,
         sheet,

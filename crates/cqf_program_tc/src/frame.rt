@@ -1,15 +1,19 @@
 //! The script's parts that are the same for each bridge.
 ghost use Rattle.std.specs.Prelude.{◌≡◌, if◌then◌else◌, length};
+ghost use Rattle.std.specs.List.{list_any};
 ghost use Rattle.cqf_lists.specs.Lists.{each_below};
-ghost use Rattle.cqf_model.specs.GateList.{port_list};
 ghost use Rattle.cqf_press.specs.Press.{Puts};
-ghost use Rattle.cqf_program_tc.specs.Text.{choice_line, choice_text, gate_command, given_text, link_text, list_command};
-ghost use Rattle.cqf_program_tc.specs.Text.{making_text, offload_notes, port_end, removing_text, software_notes};
+ghost use Rattle.cqf_program_tc.specs.Text.{choice_line, choice_text, common_words, gate_command, given_text, given_words, link_note, link_text, list_command};
+ghost use Rattle.cqf_program_tc.specs.Text.{making_text, offload_notes, port_end, port_words, removing_text, software_notes};
 ghost use Rattle.cqf_program_tc.specs.Text.{last_gate, multiple, name_text, names_text, no_gates_text, notes_text, old_gates_text};
 ghost use Rattle.cqf_program_tc.specs.Text.{opening_text, tc_gate_text, usage_text};
-ghost use Rattle.cqf_program_tc.specs.Words.{gate_words, tx_words};
+ghost use Rattle.cqf_program_tc.specs.Bridge.{has_own_guard};
+ghost use Rattle.cqf_program_tc.specs.Words.{gate_words};
 
+use crate::bridges::has_own_list;
 use crate::lists::{class_words, filter_words, rounds_in};
+use crate::words::put_tx_words;
+use cqf_gates::compiled_list;
 use cqf_model::Row;
 use cqf_press::{Press, Sink};
 use cqf_topology::{Domain, put_bridge};
@@ -179,36 +183,73 @@ fn port_end(software: bool) -> &'static [u8]
     }
 }
 
+/// Whether some link has a guard time of its own, and so a list of its own.
+fn has_own_guards(domain: &Domain) -> bool
+    ensures { result ≡ list_any has_own_guard domain.now.links }
+{
+    for link in 0..domain.links() {
+        if has_own_list(domain, link) {
+            return true;
+        }
+    }
+    false
+}
+
+/// Puts the words of the list of each link that has no guard time of its own.
+fn put_common_words<W: Sink>(press: &mut Press<'_, W>, domain: &Domain)
+    ensures { Puts W.contents press.old press.new (common_words domain.now) }
+{
+    let list = compiled_list(domain.cycle_time(), domain.guard());
+    put_tx_words(press, &list);
+}
+
+/// Puts the words of the second parameter, if it is given, and else of that list.
+fn put_given_words<W: Sink>(press: &mut Press<'_, W>, domain: &Domain)
+    ensures { Puts W.contents press.old press.new (given_words domain.now) }
+{
+    press.put(b" ${2:-");
+    put_common_words(press, domain);
+    press.put(b"}");
+}
+
+/// Puts the words of the list in the command: where some link has a guard time of its own, those of the second parameter, if it is given.
+fn put_port_words<W: Sink>(press: &mut Press<'_, W>, domain: &Domain)
+    ensures { Puts W.contents press.old press.new (port_words domain.now) }
+{
+    if has_own_guards(domain) {
+        put_given_words(press, domain);
+    } else {
+        put_common_words(press, domain);
+    }
+}
+
 /// Puts the command that sets the transmission gates of an interface.
-fn put_list_command<W: Sink>(
-    press: &mut Press<'_, W>,
-    domain: &Domain,
-    software: bool,
-    port_words: &[u8],
-)
-    requires { port_words.now ≡ tx_words (port_list domain.now.cycle_time domain.now.guard) }
+fn put_list_command<W: Sink>(press: &mut Press<'_, W>, domain: &Domain, software: bool)
     ensures { Puts W.contents press.old press.new (list_command domain.now software) }
 {
     press.put(
         b"    $tc qdisc replace dev \"$1\" parent root handle 100: taprio num_tc 8 map 0 1 2 3 4 5 6 7 0 0 0 0 0 0 0 0",
     );
     press.put(b" queues 1@0 1@1 1@2 1@3 1@4 1@5 1@6 1@7 base-time \"$BASE\"");
-    press.put(port_words);
+    put_port_words(press, domain);
     press.put(port_end(software));
 }
 
+/// Puts a comment for checkers of scripts, where some link has a guard time of its own: its list comes as one parameter.
+pub(crate) fn put_link_note<W: Sink>(press: &mut Press<'_, W>, domain: &Domain)
+    ensures { Puts W.contents press.old press.new (link_note domain.now) }
+{
+    if has_own_guards(domain) {
+        press.put(b"# shellcheck disable=SC2086\n");
+    }
+}
+
 /// Puts the function that sets the transmission gates of an interface.
-pub(crate) fn put_link_function<W: Sink>(
-    press: &mut Press<'_, W>,
-    domain: &Domain,
-    software: bool,
-    port_words: &[u8],
-)
-    requires { port_words.now ≡ tx_words (port_list domain.now.cycle_time domain.now.guard) }
+pub(crate) fn put_link_function<W: Sink>(press: &mut Press<'_, W>, domain: &Domain, software: bool)
     ensures { Puts W.contents press.old press.new (link_text domain.now software) }
 {
     press.put(b"# the transmission gates of the interface $1\nlink() {\n");
-    put_list_command(press, domain, software, port_words);
+    put_list_command(press, domain, software);
     press.put(b"\n");
     press.put(b"    undo=\"qdisc del dev $1 root/$undo\"");
     press.put(b"\n}\n\n");

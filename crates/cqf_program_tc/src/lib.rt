@@ -2,7 +2,7 @@
 //! such a script wants of a bridge.
 //!
 //! - [`tc_output`]: a POSIX shell script that sets the compiled gates on each bridge by `tc` ([`TcOutput`]), by the hardware of its interfaces
-//!   or in software. `write_tx_words` and `write_gate_words` have gate lists as words of `tc`, and [`scripts_hold_the_lists`] says that the
+//!   or in software. `put_tx_words` and `write_gate_words` have gate lists as words of `tc`, and [`scripts_hold_the_lists`] says that the
 //!   words of each script are read as the lists that are compiled. [`scripts_call_what_is_due`] reads the script's lines back: each bridge
 //!   sets these lists at each of its links, and the gate of each stream with its index and its octets, and no others.
 //! - [`env_output`]: the file of a bridge's variables, with the values that the input gives ([`EnvOutput`]). It has just those that the

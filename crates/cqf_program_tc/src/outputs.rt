@@ -40,12 +40,10 @@ impl ReadyPlan {
     }
 }
 
-/// What the output of `compile --format tc` is told from: a plan, the words of the list that each port has and of the list that each stream's
-/// gate has, whether the gates are to be in software, and a sheet.
+/// What the output of `compile --format tc` is told from: a plan, the words of the list that each stream's gate has, whether the gates are to be in software, and a sheet.
 #[derive(Drop)]
 pub struct TcOutput {
     pub(crate) plan: ReadyPlan,
-    pub(crate) port_words: Vec<u8>,
     pub(crate) gate_words: Vec<u8>,
     pub(crate) software: bool,
     pub(crate) sheet: Sheet,
@@ -60,7 +58,7 @@ impl Model for TcOutput {
     ghost view = { λ o. record { domain = o.plan.domain; rows = o.plan.rows.items; addresses = o.plan.addresses.items; software = o.software } };
 
     ghost invariant = { λ o. IsReadyScript o.plan.domain o.plan.rows.items (places_in o.plan.places.items) o.plan.links.items o.plan.streams.items
-        o.port_words.items o.gate_words.items };
+        o.gate_words.items };
 }
 
 /// What the output of `compile --format env` is told from: a plan, the number of a bridge, and a sheet.

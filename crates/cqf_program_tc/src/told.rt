@@ -2,15 +2,17 @@
 ghost use Rattle.cqf_addressing.specs.Streams.{gate_index};
 ghost use Rattle.cqf_press.specs.Edge.{HasTold, writing};
 ghost use Rattle.cqf_press.specs.Press.{Puts};
-ghost use Rattle.cqf_program_tc.specs.Output.{AreWordsOf, IsReadyPlan, text_of_tc};
+ghost use Rattle.cqf_program_tc.specs.Output.{IsReadyPlan, text_of_tc};
 ghost use Rattle.cqf_program_tc.specs.Rows.{places_in};
 ghost use Rattle.cqf_program_tc.specs.Text.{bridges_text, functions_text, tc_text};
+ghost use Rattle.cqf_program_tc.specs.Words.{gate_words};
+ghost use Rattle.std.specs.Prelude.{◌≡◌};
 
 use crate::bridges::put_bridge_function;
 use crate::checks::put_checks;
 use crate::frame::{
-    put_choice, put_gate_function, put_given, put_link_function, put_no_gates_function, put_notes,
-    put_old_gates_function, put_opening, put_usage,
+    put_choice, put_gate_function, put_given, put_link_function, put_link_note,
+    put_no_gates_function, put_notes, put_old_gates_function, put_opening, put_usage,
 };
 use crate::lists::put_list_gates;
 use crate::outputs::TcOutput;
@@ -32,38 +34,37 @@ fn put_bridges<W: Sink>(press: &mut Press<'_, W>, plan: Plan<'_>, places: &[Vec<
     }
 }
 
-/// Puts the functions that bridges call, with the words of the lists of ports and of gates.
+/// Puts the functions that bridges call, with the words of the lists of gates.
 fn put_functions<W: Sink>(
     press: &mut Press<'_, W>,
     domain: &Domain,
     software: bool,
     rows: &[Row],
-    port_words: &[u8],
-    gate_words: &[u8],
+    gate_list: &[u8],
 )
-    requires { AreWordsOf domain.now port_words.now gate_words.now }
+    requires { gate_list.now ≡ gate_words domain.now.cycle_time }
     ensures { Puts W.contents press.old press.new (functions_text domain.now software rows.now) }
 {
     put_checks(press);
     put_program(press, domain, software);
-    put_link_function(press, domain, software, port_words);
+    put_link_note(press, domain);
+    put_link_function(press, domain, software);
     put_old_gates_function(press, domain);
     put_no_gates_function(press);
-    put_gate_function(press, domain, software, gate_words);
+    put_gate_function(press, domain, software, gate_list);
     put_list_gates(press, software, rows);
 }
 
-/// Puts the script of a plan, of which it is known which streams leave a bridge, with the words of the lists of ports and of gates.
+/// Puts the script of a plan, of which it is known which streams leave a bridge, with the words of the lists of gates.
 fn put_script<W: Sink>(
     press: &mut Press<'_, W>,
     plan: Plan<'_>,
     software: bool,
     places: &[Vec<usize>],
-    port_words: &[u8],
-    gate_words: &[u8],
+    gate_list: &[u8],
 )
     requires ready { IsReadyPlan plan.domain.now plan.rows.now (places_in places.now) plan.links.now plan.streams.now }
-    requires words { AreWordsOf plan.domain.now port_words.now gate_words.now }
+    requires words { gate_list.now ≡ gate_words plan.domain.now.cycle_time }
     ensures { Puts W.contents press.old press.new
         (tc_text plan.entry.domain.now software (gate_index plan.entry.addresses.now) plan.entry.rows.now) }
 {
@@ -71,14 +72,7 @@ fn put_script<W: Sink>(
     put_notes(press, software);
     put_opening(press, plan.domain);
     put_given(press, plan.domain, plan.rows);
-    put_functions(
-        press,
-        plan.domain,
-        software,
-        plan.rows,
-        port_words,
-        gate_words,
-    );
+    put_functions(press, plan.domain, software, plan.rows, gate_list);
     put_bridges(press, plan, places);
     put_choice(press, plan.domain, software);
 }
@@ -90,7 +84,6 @@ impl TcOutput {
     {
         let TcOutput {
             plan,
-            port_words,
             gate_words,
             software,
             sheet,
@@ -101,7 +94,6 @@ impl TcOutput {
             plan.as_plan(),
             software,
             plan.places.as_slice(),
-            port_words.as_slice(),
             gate_words.as_slice(),
         );
         let _told = press.close();

@@ -1,48 +1,36 @@
 //! Gate lists as words of `tc`.
-ghost use Rattle.std.specs.Prelude.{ℕ, ◌≡◌, ◌<◌, ◌^◌, ◌++◌, IfOk, OnOk, Ok, Some, codes, string_bytes};
+ghost use Rattle.std.specs.Prelude.{ℕ, ◌≡◌, ◌<◌, ◌^◌, ◌++◌, IfOk, Ok, Some, codes, string_bytes};
 ghost use Rattle.cqf_gates.specs.GateListText.{line_of_gates};
 ghost use Rattle.cqf_model.specs.Paces.{each_cycle};
 ghost use Rattle.cqf_gates.specs.ReservedSpans.{reserved_spans};
+ghost use Rattle.cqf_press.specs.Press.{Puts};
 ghost use Rattle.cqf_program_tc.specs.Words.{gate_of_words, gate_words, tx_of_words, tx_words};
 
-use cqf_gates::{TxList, hex_digit_of};
+use cqf_compile::put_gates;
+use cqf_gates::TxList;
+use cqf_press::{Press, Sink};
 use cqf_units::Memory;
 use std::alloc::{AllocError, Global};
 
-/// Puts the states and the interval of an entry behind the words before them.
-fn push_numbers(alloc: Global, words: &mut Vec<u8>, states: u8, interval: u32) -> Result<(), Memory>
-    ensures words { OnOk result (words.new.items ≡ words.old.items ++ line_of_gates (states, interval)) }
+/// Puts the words of an entry of a port's list.
+fn put_entry<W: Sink>(press: &mut Press<'_, W>, states: u8, interval: u32)
+    ensures words { Puts W.contents press.old press.new (codes " sched-entry S " ++ line_of_gates (states, interval)) }
     ensures ranges { (states < 256) × (interval < 2 ^ 32) }
 {
-    let end = format!(in alloc; " {interval}")?;
-    words.push(hex_digit_of(states / 16))?;
-    words.push(hex_digit_of(states % 16))?;
-    words.extend_from_slice(end.as_bytes())?;
-    Ok(())
+    press.put(b" sched-entry S ");
+    put_gates(press, states, interval);
 }
 
-/// Puts the words of an entry behind those before it.
-fn push_entry(alloc: Global, words: &mut Vec<u8>, states: u8, interval: u32) -> Result<(), Memory>
-    ensures words { OnOk result (words.new.items ≡ words.old.items ++ (codes " sched-entry S " ++ line_of_gates (states, interval))) }
-    ensures ranges { (states < 256) × (interval < 2 ^ 32) }
-{
-    words.extend_from_slice(b" sched-entry S ")?;
-    push_numbers(alloc, words, states, interval)?;
-    Ok(())
-}
-
-/// The words of `tc` that set the list of a port: a space before each, and for each entry `sched-entry S`, the states in two
+/// Puts the words of `tc` that set the list of a port: a space before each, and for each entry `sched-entry S`, the states in two
 /// upper case hexadecimal digits, where bit k is class k, and the interval in nanoseconds. They are read as the list again
 /// (man tc-taprio; profile).
-pub fn write_tx_words(alloc: Global, list: &TxList) -> Result<Vec<u8>, Memory>
-    ensures words { IfOk result (λ words. words.items ≡ tx_words list.now) }
-    ensures again { IfOk result (λ words. tx_of_words words.items ≡ Some (Ok list.now)) }
+pub(crate) fn put_tx_words<W: Sink>(press: &mut Press<'_, W>, list: &TxList)
+    ensures words { Puts W.contents press.old press.new (tx_words list.now) }
+    ensures again { tx_of_words (tx_words list.now) ≡ Some (Ok list.now) }
 {
-    let mut words = Vec::new(alloc);
     for entry in list.entries() {
-        push_entry(alloc, &mut words, entry.0, entry.1)?;
+        put_entry(press, entry.0, entry.1);
     }
-    Ok(words)
 }
 
 /// The words of the list of a stream's gate, as a text.

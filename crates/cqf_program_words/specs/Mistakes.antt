@@ -12,9 +12,9 @@ told_of texts = texts.0.now ++ (texts.1.now ++ texts.2.now)
 abbrev pub value_of : Text → List Row → Text
 value_of option rows = unwrap_or (first_of option rows) []
 
--- of `port`, where the rate isn't one of the three
+-- of `port`, where the rate isn't one of the nine
 abbrev pub mistake_of_rate : Text → Text
-mistake_of_rate rate = codes "--rate " ++ (rate ++ codes " is no rate: 10, 100 or 1000 (Mb/s)")
+mistake_of_rate rate = codes "--rate " ++ (rate ++ codes " is no rate: 10, 100, 1000, 2500, 5000, 10000, 25000, 40000 or 100000 (Mb/s)")
 
 -- of `plan`, where the word names no candidates
 abbrev pub mistake_of_candidates : Text → Text

@@ -7,7 +7,7 @@ use Rattle.clap.specs.declared.error.kind.ErrorKind.{ErrorKind}
 use Rattle.clap.specs.declared.error.kind.ErrorKind.TheVariants.{DisplayHelp, DisplayVersion, OutOfMemory}
 use Rattle.cqf_units.specs.Name.{is_name}
 use Rattle.cqf_units.specs.declared.timing.Rate.{Rate}
-use Rattle.cqf_units.specs.declared.timing.Rate.TheVariants.{Mb10, Mb100, Mb1000}
+use Rattle.cqf_units.specs.declared.timing.Rate.TheVariants.{Mb10, Mb100, Mb1000, Mb2500, Mb5000, Mb10000, Mb25000, Mb40000, Mb100000}
 use Rattle.cqf_program_words.specs.declared.candidates.Candidates.{Candidates}
 use Rattle.cqf_program_words.specs.declared.words.Format.{Format}
 use Rattle.cqf_program_words.specs.declared.words.Format.TheVariants as form
@@ -48,6 +48,12 @@ abbrev pub rate_text : Rate → Text
 rate_text Mb10 = codes "10"
 rate_text Mb100 = codes "100"
 rate_text Mb1000 = codes "1000"
+rate_text Mb2500 = codes "2500"
+rate_text Mb5000 = codes "5000"
+rate_text Mb10000 = codes "10000"
+rate_text Mb25000 = codes "25000"
+rate_text Mb40000 = codes "40000"
+rate_text Mb100000 = codes "100000"
 
 -- a flag is given just where its value is `true`
 abbrev pub IsFlagGiven : Bool → Option Text → Type 0

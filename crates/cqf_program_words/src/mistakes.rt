@@ -22,11 +22,15 @@ fn value_of<'v>(values: &ArgMatches<'v>, option: &str) -> &'v str
     }
 }
 
-/// Of `port`: the rate isn't one of the three.
+/// Of `port`: the rate isn't one of the nine.
 fn mistake_of_rate(rate: &str) -> Mistake<'_>
     ensures { told_of result ≡ mistake_of_rate rate.now }
 {
-    ("--rate ", rate, " is no rate: 10, 100 or 1000 (Mb/s)")
+    (
+        "--rate ",
+        rate,
+        " is no rate: 10, 100, 1000, 2500, 5000, 10000, 25000, 40000 or 100000 (Mb/s)",
+    )
 }
 
 /// Of `plan`: the word names no candidates.

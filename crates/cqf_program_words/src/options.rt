@@ -137,7 +137,8 @@ impl CommandOption {
     fn about(self, is_large: bool) -> &'static str {
         match self {
             CommandOption::Until => "starts before this instant, in nanoseconds, 1 to 100000000",
-            CommandOption::Rate => "the link's rate in Mb/s: 10, 100 or 1000",
+            CommandOption::Rate =>
+                "the link's rate in Mb/s: 10, 100, 1000, 2500, 5000, 10000, 25000, 40000 or 100000",
             CommandOption::Cycles => "the number of cycles, 1 to 100000",
             CommandOption::Format => "the form of the output: list, tc, env or json",
             CommandOption::Bridge => "the bridge whose variables are written, with --format env",

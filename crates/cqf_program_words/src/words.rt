@@ -132,7 +132,7 @@ fn number_in(text: Option<&str>, least: u64, most: u64) -> Option<u64>
     }
 }
 
-/// The rate of the text, if it is one of the three.
+/// The rate of the text, if it is one of the nine.
 fn rate_of(text: Option<&str>) -> Option<Rate>
     ensures { MatchOption result ((rate : Rate) → ¬ (option_map (λ text. text.now) text.entry ≡ Some (rate_text rate)))
         (λ rate. option_map (λ text. text.now) text.entry ≡ Some (rate_text rate)) }
@@ -141,6 +141,12 @@ fn rate_of(text: Option<&str>) -> Option<Rate>
         "10" => Some(Rate::Mb10),
         "100" => Some(Rate::Mb100),
         "1000" => Some(Rate::Mb1000),
+        "2500" => Some(Rate::Mb2500),
+        "5000" => Some(Rate::Mb5000),
+        "10000" => Some(Rate::Mb10000),
+        "25000" => Some(Rate::Mb25000),
+        "40000" => Some(Rate::Mb40000),
+        "100000" => Some(Rate::Mb100000),
         _ => None,
     }
 }

@@ -12,6 +12,8 @@ fn link_to(from: u16, to: Node) -> Link {
         to,
         rate: Rate::Mb1000,
         delay: 500,
+        least: 500,
+        guard: None,
     }
 }
 

@@ -5,7 +5,7 @@ use cqf_lanes::{
     open_run_plain,
 };
 use cqf_units::{
-    Cycle, Name, Nanos, Octets, Rate, budget, cost, cycle_of, end_of, idle_from, octet_time, wire,
+    Cycle, Name, Nanos, Octets, Rate, budget, cost, cycle_of, end_of, idle_from, octet_ticks, wire,
 };
 use std::alloc::Global;
 
@@ -27,7 +27,7 @@ fn are_reserved() -> bool {
 /// Whether a frame of 64 octets takes as long as it is to.
 fn are_timed() -> bool {
     let frame = Octets(64);
-    octet_time(Rate::Mb10) == 800
+    octet_ticks(Rate::Mb10) == 20_000
         && wire(frame) == Octets(84)
         && end_of(Nanos(0), frame, Rate::Mb1000) == Nanos(576)
         && idle_from(Nanos(0), frame, Rate::Mb1000) == Nanos(672)

@@ -2,6 +2,7 @@
 use Rattle.std.proofs.Common.{◌≡◌, ℕ, zero, suc, ◌+◌, ◌-◌, ◌<◌, ◌≤◌, Bool, true, false, cond, List, length, map, filter, take, min, inl, inr, refl, sym}
 use Rattle.std.proofs.Common.{ap, ap₂, ◌∙◌, subst, arith, Contains, All, AllPairs, append_assoc, append-nil, get_or, set}
 use Rattle.std.specs.Prelude.{[], ◌∷◌, ◌++◌, ◌==◌, ◌&&◌, ◌⊎◌, Option, Some, None, slice_get, slice_set, if◌then◌else◌}
+use Rattle.std.specs.Arc.{arc_value}
 use Rattle.std.specs.Global.{Global}
 use Rattle.std.specs.List.{flat_map, list_any}
 use Rattle.std.specs.List.Sorted.{IsPermutation}
@@ -554,7 +555,7 @@ module _ (place : ℕ) (before after : Relay) (goes : SendsOn place before after
   -- the bridge stands so with it
   stands_then : StandsSo d come then_sent after
   stands_then = record {
-    of_domain = goes.same.domain ∙ stands.of_domain;
+    of_domain = ap arc_value goes.same.domain ∙ stands.of_domain;
     tables_taken = goes.same.tables ∙ stands.tables_taken;
     offers_taken = stands.offers_taken;
     into = ap (λ (list : Vec Inlet Global). map link_in list.items) goes.same.inlets ∙ stands.into ∙ ap (links_into d) (sym goes.same.number);

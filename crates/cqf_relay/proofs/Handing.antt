@@ -3,6 +3,7 @@ use Rattle.std.proofs.Common.{◌≡◌, ◌∙◌, ℕ, ◌+◌, ◌-◌, ◌<�
 use Rattle.std.proofs.Common.{List, [], ◌++◌, Some, All, length, map, set, set-set, option_map}
 use Rattle.std.proofs.Common.{refl, sym, ap, subst, arith}
 use Rattle.std.specs.Prelude.{slice_get}
+use Rattle.std.specs.Arc.{arc_value}
 use Rattle.std.specs.Global.{Global}
 use Rattle.std.specs.declared.vec.Vec.{Vec}
 use Rattle.std.proofs.lemmas.List.{map-set}
@@ -163,7 +164,7 @@ relay_with d come sends before after place old new same was is link known sent o
     stands.rows.room) in
     let rows : AreKnown come.tables before.known after.outlets.items = record { below = stands.rows.below; last = stands.rows.last; room = room } in
     record {
-      of_domain = same.domain ∙ stands.of_domain;
+      of_domain = ap arc_value same.domain ∙ stands.of_domain;
       tables_taken = same.tables ∙ stands.tables_taken;
       offers_taken = stands.offers_taken;
       into = ap (λ (inlets : Vec Inlet Global). map link_in inlets.items) same.inlets ∙ stands.into ∙ ap (links_into d) (sym same.number);

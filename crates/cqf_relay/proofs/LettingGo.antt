@@ -3,6 +3,7 @@ use Rattle.std.proofs.Common.{◌≡◌, ◌∙◌, ℕ, ◌+◌, ◌-◌, ◌<�
 use Rattle.std.proofs.Common.{List, Some, All, filter, get_or, length, map, set}
 use Rattle.std.proofs.Common.{sym, ap, subst, inl, inr, arith, take, take_all}
 use Rattle.std.specs.Prelude.{slice_get}
+use Rattle.std.specs.Arc.{arc_value}
 use Rattle.std.specs.Global.{Global}
 use Rattle.std.specs.declared.vec.Vec.{Vec}
 use Rattle.std.proofs.lemmas.Bool.{cases_order}
@@ -142,7 +143,7 @@ relay_lets_go d come sends least before after go stands =
     let least_in : least ≤ new = omega arith in
     let old_in : stands.least ≤ new = omega arith in
     record {
-      of_domain = go.domain ∙ stands.of_domain;
+      of_domain = ap arc_value go.domain ∙ stands.of_domain;
       tables_taken = go.tables ∙ stands.tables_taken;
       offers_taken = stands.offers_taken;
       into = go.inlets.links ∙ stands.into ∙ ap (links_into d) (sym go.number);

@@ -2,6 +2,7 @@
 use Rattle.std.proofs.Common.{ℕ, ◌≡◌, ◌∙◌, ◌+◌, ◌-◌, ◌<◌, ◌≤◌, ◌==◌, Bool, true, false, List, [], ◌∷◌, ◌++◌, length}
 use Rattle.std.proofs.Common.{add-one, refl, sym, ap, subst, inl, arith, Option, Some, map, append-nil}
 use Rattle.std.specs.Prelude.{All, filter, slice_get, if◌then◌else◌}
+use Rattle.std.specs.Arc.{arc_value}
 use Rattle.std.specs.List.{list_any}
 use Rattle.std.specs.Option.{option_map_or}
 use Rattle.std.proofs.lemmas.List.{map_push}
@@ -11,7 +12,7 @@ use Rattle.cqf_lists.specs.Lists.{each_below}
 use Rattle.cqf_lists.proofs.Members.{all_from_members, contains_none}
 use Rattle.cqf_model.specs.declared.topology.Link.{Link}
 use Rattle.cqf_model.specs.Domain.{Domain, enters, leaves, node_is}
-use Rattle.cqf_units.specs.Timing.{nanos_of_octet}
+use Rattle.cqf_units.specs.Timing.{ticks_of_octet}
 use Rattle.cqf_relay.specs.declared.inlet.Inlet.{Inlet}
 use Rattle.cqf_relay.specs.declared.leads.By.{By}
 use Rattle.cqf_relay.specs.declared.log.ArrivedFrame.{ArrivedFrame}
@@ -122,9 +123,9 @@ new_inlet_stands inlet new = record {
 
 -- the wire of a link of a domain
 wire_of_link : (d : Domain) (l : ℕ) (link : Link) → slice_get d.links l ≡ Some link →
-    wire_on d l ≡ record { octet_time = nanos_of_octet link.rate; delay = link.delay; cycle_time = d.cycle_time; onward = is_onward d l }
+    wire_on d l ≡ record { octet_time = ticks_of_octet link.rate; delay = link.delay; cycle_time = d.cycle_time; onward = is_onward d l }
 wire_of_link d l link at = let wire : Option Link → Wire = λ found. record {
-  octet_time = option_map_or (λ (it : Link). nanos_of_octet it.rate) found 0;
+  octet_time = option_map_or (λ (it : Link). ticks_of_octet it.rate) found 0;
   delay = option_map_or (λ (it : Link). it.delay) found 0;
   cycle_time = d.cycle_time;
   onward = is_onward d l;
@@ -162,7 +163,7 @@ new_tidy d bridge outlets are = all_from_members IsTidy outlets (λ outlet there
     nothing_tidy outlet (omega (arith, new.told, new.sent)) new.pending)
 
 -- a bridge that has done nothing
-pub new_stands : (d : Domain) (new : Relay) → new.domain ≡ d → new.tables ≡ 0 → AreNewInlets d new.number new.inlets.items →
+pub new_stands : (d : Domain) (new : Relay) → arc_value new.domain ≡ d → new.tables ≡ 0 → AreNewInlets d new.number new.inlets.items →
     AreNewOutlets d new.number new.outlets.items → new.known ≡ 0 → new.edge.number ≡ new.number → new.edge.used.items ≡ [] →
     new.edge.log.frames.items ≡ [] → StandsSo d nothing_yet (λ l. []) new
 new_stands d new of_domain tables into from known number used log = record {

@@ -4,9 +4,9 @@ use Rattle.std.proofs.Common.{append_assoc, leb, ltb}
 use Rattle.std.specs.List.Sorted.{IsNonDecreasingBy, IsPermutation}
 use Rattle.std.proofs.lemmas.Bool.{and_parts, cond-true, leb-true, ltb-true}
 use Rattle.std.proofs.lemmas.List.{append-nil, map-append, take_all, take_more}
-use Rattle.std.proofs.Math.Nat.{mul-add, mul_comm}
 use Rattle.cqf_model.specs.declared.frames.Sent.{Sent}
-use Rattle.cqf_units.specs.Timing.{ending_of}
+use Rattle.cqf_units.specs.Timing.{ending_of, slot_of, time_of}
+use Rattle.cqf_units.proofs.Times.{slot_joins}
 use Rattle.cqf_tape.specs.declared.tape.Mark.{Mark}
 use Rattle.cqf_tape.specs.Tapes.{mark_of_sent}
 use Rattle.cqf_relay.specs.declared.inlet.Inlet.{Inlet}
@@ -179,13 +179,16 @@ whole_in_time wire offset octets room =
 
 -- with the gap behind it, it takes little longer
 pub soon_behind : (wire : Wire) (offset octets : ℕ) → offset + time_on wire octets < wire.cycle_time → wire.cycle_time < 2 ^ 32 →
-    offset + wire.octet_time * (octets + 20) < 2 ^ 40
-soon_behind wire offset octets whole cycle = omega (arith, whole, cycle, mul-add wire.octet_time octets 20, mul-add wire.octet_time octets 8)
+    wire.octet_time < 2 ^ 32 → offset + slot_of octets wire.octet_time < 2 ^ 40
+soon_behind wire offset octets whole cycle small = omega (arith, whole, cycle, small, slot_joins octets wire.octet_time)
 
 -- when a frame is whole, from the beginning of its cycle
 pub whole_from_cycle : (begins offset octets octet_time delay : ℕ) →
-    offset + (octet_time * (octets + 8) + delay) ≡ ending_of (begins + offset) octets octet_time + delay - begins
-whole_from_cycle begins offset octets octet_time delay = omega (arith, mul_comm (octets + 8) octet_time)
+    offset + (time_of (octets + 8) octet_time + delay) ≡ ending_of (begins + offset) octets octet_time + delay - begins
+whole_from_cycle begins offset octets octet_time delay = numbers (time_of (octets + 8) octet_time)
+  where
+    numbers : (sent : ℕ) → offset + (sent + delay) ≡ begins + offset + sent + delay - begins
+    numbers sent = omega arith
 
 -- a frame on the tape, and on its way
 abbrev pub mark_at : ArrivedFrame → ℕ → Mark
@@ -198,16 +201,16 @@ module _ (cycle offset : ℕ) (came : ArrivedFrame) (before after : Outlet) (wir
     (sent : after.sent ≡ before.sent) (told : after.told ≡ before.told) where
   -- where a frame has room, it stands on the tape, and where its link ends in another bridge it's to be handed on
   pub sends_one : (begins time taken : ℕ) → begins ≡ cycle * before.wire.cycle_time → time ≡ time_on before.wire came.octets →
-      taken ≡ before.wire.octet_time * (came.octets + 20) → has_room_on before.wire offset came.octets ≡ true →
-      before.wire.cycle_time < 2 ^ 32 → after.tape.link ≡ before.tape.link → after.tape.background.items ≡ before.tape.background.items →
+      taken ≡ slot_of came.octets before.wire.octet_time → has_room_on before.wire offset came.octets ≡ true →
+      before.wire.cycle_time < 2 ^ 32 → before.wire.octet_time < 2 ^ 32 → after.tape.link ≡ before.tape.link → after.tape.background.items ≡ before.tape.background.items →
       after.tape.starts.items ≡ before.tape.starts.items ++ mark_at came (begins + offset) ∷ [] →
       (before.wire.onward ≡ true → Hands cycle (moving_at came (offset + time) 0) before.pending after.pending) →
       (before.wire.onward ≡ false → after.pending ≡ before.pending) → SendsOne cycle offset came before after (offset + taken)
-  sends_one begins time taken begins_is time_is taken_is room long link background marked handed left =
+  sends_one begins time taken begins_is time_is taken_is room long few link background marked handed left =
       let frame = sent_at before.wire cycle offset came in
       let is : frame ∷ [] ≡ sends_of before.wire cycle offset (came ∷ []) =
       sym (cond-true (has_room_on before.wire offset came.octets) (frame ∷ []) [] room) in
-      let next : offset + taken ≡ offset + before.wire.octet_time * (came.octets + 20) = ap (λ (n : ℕ). offset + n) taken_is in
+      let next : offset + taken ≡ offset + slot_of came.octets before.wire.octet_time = ap (λ (n : ℕ). offset + n) taken_is in
       let begins_at = cycle * before.wire.cycle_time in
       let whole : offset + time ≡ ending_of (begins_at + offset) came.octets before.wire.octet_time + before.wire.delay - begins_at =
       ap (λ (n : ℕ). offset + n) time_is ∙ whole_from_cycle begins_at offset came.octets before.wire.octet_time before.wire.delay in
@@ -225,11 +228,11 @@ module _ (cycle offset : ℕ) (came : ArrivedFrame) (before after : Outlet) (wir
           ends = left;
         });
         as_far = sent;
-        next_is = next ∙ sym (cond-true (has_room_on before.wire offset came.octets) (offset + before.wire.octet_time * (came.octets + 20)) offset room);
+        next_is = next ∙ sym (cond-true (has_room_on before.wire offset came.octets) (offset + slot_of came.octets before.wire.octet_time) offset room);
         small = omega (
           arith,
           next,
-          soon_behind before.wire offset came.octets (whole_in_time before.wire offset came.octets room).1 long,
+          soon_behind before.wire offset came.octets (whole_in_time before.wire offset came.octets room).1 long few,
         );
       }
 

@@ -2,6 +2,7 @@
 use Rattle.std.proofs.Common.{ℕ, ◌≡◌, ◌∙◌, ◌+◌, ◌-◌, ◌<◌, ◌≤◌, ◌⊎◌, List, [], ◌∷◌, ◌++◌, length, length-append, nat_le}
 use Rattle.std.proofs.Common.{refl, sym, ap, subst, inl, inr, arith, Some, map, get_or, append-nil}
 use Rattle.std.specs.Prelude.{All, Contains, filter, slice_get}
+use Rattle.std.specs.Arc.{arc_value}
 use Rattle.std.specs.List.Sorted.{IsPermutation}
 use Rattle.std.proofs.lemmas.Bool.{cases_lt, cases_order, eq-eqb, le-leb, ne_eqb}
 use Rattle.std.proofs.lemmas.List.{get_or-append_right, get_or-map, get_or_append_left, get_or_at, get_or_past, length-map, length_push, same_lists}
@@ -361,13 +362,13 @@ abbrev pub with_edge : Relay → Edge → Relay
 with_edge learned edge = record learned { tables = learned.tables + 1; edge = edge }
 
 module _ (table : List Row) (offers : List Offered) (before learned : Relay) (edge : Edge) (learn : LearnsRows table before learned)
-    (took : TakesOffers learned.domain learned.tables table offers learned.edge edge) where
+    (took : TakesOffers (arc_value learned.domain) learned.tables table offers learned.edge edge) where
   -- the edge took the offers as it was before
-  takes : TakesOffers before.domain before.tables table offers before.edge edge
+  takes : TakesOffers (arc_value before.domain) before.tables table offers before.edge edge
   takes =
-      subst (λ (from : Edge). TakesOffers before.domain before.tables table offers from edge) learn.edge
-      (subst (λ (cycle : ℕ). TakesOffers before.domain cycle table offers learned.edge edge) learn.tables
-      (subst (λ (d : Domain). TakesOffers d learned.tables table offers learned.edge edge) learn.domain took))
+      subst (λ (from : Edge). TakesOffers (arc_value before.domain) before.tables table offers from edge) learn.edge
+      (subst (λ (cycle : ℕ). TakesOffers (arc_value before.domain) cycle table offers learned.edge edge) learn.tables
+      (subst (λ (d : Domain). TakesOffers d learned.tables table offers learned.edge edge) (ap arc_value learn.domain) took))
 
   -- however the bridge stood, it stands with the table
   table_stands : (d : Domain) (come : Come) (sends : Sendings) → StandsSo d come sends before → MayBeTables d (come.tables ++ table ∷ []) →
@@ -376,7 +377,7 @@ module _ (table : List Row) (offers : List Offered) (before learned : Relay) (ed
       let more : length (come.tables ++ table ∷ []) ≡ length come.tables + 1 = length_push come.tables table in
       let further : length (come.offers ++ offers ∷ []) ≡ length come.offers + 1 = length_push come.offers offers in
       record {
-        of_domain = learn.domain ∙ stood.of_domain;
+        of_domain = ap arc_value learn.domain ∙ stood.of_domain;
         tables_taken = omega (arith, more, learn.tables, stood.tables_taken);
         offers_taken = omega (arith, more, further, stood.offers_taken);
         into = ap (λ inlets. map link_in inlets.items) learn.inlets ∙ stood.into ∙ ap (links_into d) (sym learn.number);
@@ -435,7 +436,7 @@ module _ (table : List Row) (offers : List Offered) (before learned : Relay) (ed
     behind = takes.behind;
     are_drops = λ d come sends stood may.
         subst (λ (it : Domain). IsPermutation (dropped_behind it before.number before.tables table [] offers) takes.fresh) stood.of_domain
-        (subst (λ (bridge : ℕ). IsPermutation (dropped_behind before.domain bridge before.tables table [] offers) takes.fresh) stood.edge.number
+        (subst (λ (bridge : ℕ). IsPermutation (dropped_behind (arc_value before.domain) bridge before.tables table [] offers) takes.fresh) stood.edge.number
         (takes.are_drops (subst (λ (next : ℕ). CountsUpto next before.edge.used.items) (sym stood.tables_taken) stood.edge.counted)));
     by_frame = takes.by_frame;
   }

@@ -4,6 +4,7 @@ use Rattle.std.proofs.Common.{List, [], ◌++◌, Some, All, AllPairs, Contains,
 use Rattle.std.proofs.Common.{refl, sym, ap, subst, inl, inr, arith, append-nil, get_or-set_other, get_or-set_same, eq-eqb, ne_eqb}
 use Rattle.std.proofs.Common.{length-append, length-set}
 use Rattle.std.specs.Prelude.{Err, Ok, OnOk, Result, slice_get}
+use Rattle.std.specs.Arc.{arc_value}
 use Rattle.std.specs.Global.{Global}
 use Rattle.std.specs.List.Sorted.{IsNonDecreasingBy, IsPermutation}
 use Rattle.std.specs.declared.vec.Vec.{Vec}
@@ -312,7 +313,7 @@ relay_takes d come sends place stretch before after takes next stands =
     let rows : AreKnown come.tables before.known after.outlets.items =
     subst (λ (outlets : Vec Outlet Global). AreKnown come.tables before.known outlets.items) (sym takes.outlets) stands.rows in
     record {
-      of_domain = takes.domain ∙ stands.of_domain;
+      of_domain = ap arc_value takes.domain ∙ stands.of_domain;
       tables_taken = takes.tables ∙ stands.tables_taken;
       offers_taken = stands.offers_taken;
       into = ap (map link_in) takes.is

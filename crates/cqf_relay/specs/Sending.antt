@@ -5,7 +5,7 @@ use Rattle.std.specs.List.Sorted.{IsNonDecreasingBy, IsPermutation}
 use Rattle.cqf_model.specs.declared.frames.Sent.{Sent}
 use Rattle.cqf_model.specs.declared.topology.Link.{Link}
 use Rattle.cqf_model.specs.declared.topology.Row.{Row}
-use Rattle.cqf_units.specs.Timing.{ending_of, nanos_of_octet, wire_of}
+use Rattle.cqf_units.specs.Timing.{ending_of, slot_of, ticks_of_octet, time_of}
 use Rattle.cqf_tape.specs.Tapes.{mark_of_sent}
 use Rattle.cqf_relay.specs.declared.inlet.Inlet.{Inlet}
 use Rattle.cqf_relay.specs.declared.leads.Leads.{Leads}
@@ -23,14 +23,14 @@ use Rattle.cqf_relay.specs.Queues.{AreByCycle, AreLeads, key_of_queued, queue_of
 
 -- how long a frame takes from its start until it is whole at a link's end, and whether it is so within the cycle, if it starts at an offset
 abbrev pub time_on : Wire → ℕ → ℕ
-time_on wire octets = wire.octet_time * (octets + 8) + wire.delay
+time_on wire octets = time_of (octets + 8) wire.octet_time + wire.delay
 
 abbrev pub has_room_on : Wire → ℕ → ℕ → Bool
 has_room_on wire offset octets = nat_le octets 65535 && nat_lt (offset + time_on wire octets) wire.cycle_time
 
 -- where the next frame may start behind one
 abbrev pub offset_behind : Wire → ℕ → ArrivedFrame → ℕ
-offset_behind wire offset came = if has_room_on wire offset came.octets then offset + wire.octet_time * wire_of came.octets else offset
+offset_behind wire offset came = if has_room_on wire offset came.octets then offset + slot_of came.octets wire.octet_time else offset
 
 -- a frame that starts at an offset in a cycle
 abbrev pub sent_at : Wire → ℕ → ℕ → ArrivedFrame → Sent
@@ -147,7 +147,7 @@ pub record IsTidy (outlet : Outlet) : Type 0 where
 
 -- a link that has sent nothing
 pub record IsNewOutlet (cycle_time number : ℕ) (link : Link) (onward : Bool) (outlet : Outlet) : Type 0 where
-  pub wire : outlet.wire ≡ record { octet_time = nanos_of_octet link.rate; delay = link.delay; cycle_time = cycle_time; onward = onward }
+  pub wire : outlet.wire ≡ record { octet_time = ticks_of_octet link.rate; delay = link.delay; cycle_time = cycle_time; onward = onward }
   pub no_rows : outlet.leads.rows.items ≡ []
   pub no_needs : outlet.leads.needs.items ≡ []
   pub unused : outlet.leads.used ≡ false

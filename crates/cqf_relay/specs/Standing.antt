@@ -1,6 +1,7 @@
 -- How far a bridge's links have gone on, by what has come to it (profile).
 use Rattle.std.specs.Prelude.{ℕ, ◌≡◌, ◌+◌, ◌-◌, ◌≤◌, ◌<◌, ◌⊎◌, ◌++◌, ◌==◌, ◌&&◌, Bool, true, false, if◌then◌else◌, nat_le, slice_index_or}
 use Rattle.std.specs.Prelude.{List, [], ◌∷◌, Some, All, AllPairs, Contains, filter, length, map, slice_get, slice_set, take}
+use Rattle.std.specs.Arc.{arc_value}
 use Rattle.std.specs.List.{flat_map, list_any}
 use Rattle.std.specs.List.Sorted.{IsNonDecreasingBy, IsPermutation}
 use Rattle.std.specs.Option.{option_map_or}
@@ -171,7 +172,7 @@ pub record AreKnown (tables : List (List Row)) (known : ℕ) (outlets : List Out
 
 -- a bridge stands so: this has come to it, and its links have sent this
 pub record StandsSo (d : Domain) (come : Come) (sends : Sendings) (relay : Relay) : Type 0 where
-  pub of_domain : relay.domain ≡ d
+  pub of_domain : arc_value relay.domain ≡ d
   pub tables_taken : relay.tables ≡ length come.tables
   pub offers_taken : length come.offers ≡ length come.tables
   pub into : map link_in relay.inlets.items ≡ links_into d relay.number

@@ -12,7 +12,7 @@ use crate::queue::{Queued, gather, key};
 use crate::wire::Wire;
 use cqf_model::{Link, Row};
 use cqf_tape::{Mark, Tape};
-use cqf_units::{Memory, Nanos, octet_time};
+use cqf_units::{Memory, Nanos, octet_ticks};
 use std::alloc::Global;
 use std::mem::replace;
 
@@ -46,7 +46,7 @@ impl Outlet {
     {
         Outlet {
             wire: Wire {
-                octet_time: octet_time(link.rate) as u32,
+                octet_time: octet_ticks(link.rate) as u32,
                 delay: link.delay,
                 cycle_time: cycle_time.0 as u32,
                 onward,

@@ -1,5 +1,6 @@
 //! A bridge whose links go on by themselves.
 ghost use Rattle.cqf_relay.specs.Sending.{IsTidy};
+ghost use Rattle.std.specs.Arc.{arc_value};
 ghost use Rattle.std.specs.Prelude.{◌≡◌, ◌<◌, ◌≤◌, All, IfOk, OnOk, [], length, map, true, false};
 ghost use Rattle.cqf_model.specs.Domain.{node_is};
 ghost use Rattle.cqf_relay.specs.Standing.{AreNewInlets, AreNewOutlets, AreOfCycle, GoesOnAlone, HandsOn, IsOver, KeepsBack, LearnOnEach, LearnsRows, LetsGo, MayReach};
@@ -17,6 +18,7 @@ use cqf_topology::Domain;
 use cqf_units::{Cycle, Memory};
 use std::alloc::Global;
 use std::mem::replace;
+use std::sync::Arc;
 
 /// How many cycles beyond that up to which all links have sent a bridge takes tables of: so cycles aren't closed far ahead of what is sent.
 const AHEAD: u32 = 64;
@@ -24,7 +26,8 @@ const AHEAD: u32 = 64;
 /// A bridge of a run of so many cycles: how many tables it has taken, its links by number, and its edge.
 #[derive(Drop)]
 pub struct Relay {
-    domain: Domain,
+    /// The relays of a run share one.
+    domain: Arc<Domain>,
     number: u16,
     cycles: u32,
     tables: u32,
@@ -100,16 +103,22 @@ fn learn_on_each(outlets: &mut [Outlet], row: &Row) -> Result<(), Memory>
 }
 
 impl Relay {
-    /// A bridge of the domain in a run of so many cycles, which has done nothing. `Memory` where a growth is refused.
-    pub fn new(alloc: Global, domain: &Domain, number: u16, cycles: u32) -> Result<Relay, Memory>
+    /// A bridge of the domain, which it shares with the caller, in a run of so many cycles, which has done nothing. `Memory` where a growth
+    /// is refused.
+    pub fn new(
+        alloc: Global,
+        domain: &Arc<Domain>,
+        number: u16,
+        cycles: u32,
+    ) -> Result<Relay, Memory>
         ensures number { IfOk result (λ relay. relay.number ≡ number) }
         ensures cycles { IfOk result (λ relay. relay.cycles ≡ cycles) }
         ensures drops { IfOk result (λ relay. relay.edge.drops.items ≡ []) }
-        ensures stands { IfOk result (StandsSo domain.now nothing_yet (λ l. [])) }
+        ensures stands { IfOk result (StandsSo (arc_value domain.now) nothing_yet (λ l. [])) }
         ensures tidy { IfOk result (λ relay. All IsTidy relay.outlets.items) }
     {
         Ok(Relay {
-            domain: domain.try_copy(alloc)?,
+            domain: Arc::try_clone(domain)?,
             number,
             cycles,
             tables: 0,
@@ -130,7 +139,7 @@ impl Relay {
 
     /// The domain.
     pub fn domain(&self) -> &Domain
-        ensures { result.now ≡ self.now.domain }
+        ensures { result.now ≡ arc_value self.now.domain }
     {
         &self.domain
     }
@@ -200,7 +209,7 @@ impl Relay {
     /// Takes the table of the next cycle, with the bridge's offers of the cycle, by instant, then place. `Memory` where a growth is refused.
     pub fn take_table(&mut self, table: &Table, offers: &[Offered]) -> Result<(), Memory>
         requires early { self.old.tables < self.old.cycles }
-        requires offers { AreOfCycle self.old.domain self.old.tables offers.now }
+        requires offers { AreOfCycle (arc_value self.old.domain) self.old.tables offers.now }
         ensures { OnOk result (TakesTable table.now.rows offers.now self.old self.new) }
     {
         self.learn_rows(table)?;

@@ -1,11 +1,14 @@
 //! How long a link takes for frames.
 ghost use Rattle.std.specs.Prelude.{◌≡◌, ◌<◌, ◌^◌, ◌*◌, ◌+◌};
+ghost use Rattle.cqf_units.specs.Timing.{slot_of};
 ghost use Rattle.cqf_relay.specs.Sending.{has_room_on, time_on};
+
+use cqf_units::time_in_ticks;
 
 /// How long a link takes for frames, in nanoseconds.
 #[derive(Clone, Copy, Debug, PartialEq, Eq)]
 pub struct Wire {
-    /// For an octet.
+    /// For an octet, in ticks of 40 picoseconds.
     pub octet_time: u32,
     pub delay: u32,
     /// How long a cycle is.
@@ -20,7 +23,7 @@ impl Wire {
         requires { octets < 2 ^ 16 }
         ensures { result ≡ time_on self.now octets }
     {
-        u64::from(self.octet_time) * (u64::from(octets) + 8) + u64::from(self.delay)
+        time_in_ticks(u64::from(octets) + 8, u64::from(self.octet_time)) + u64::from(self.delay)
     }
 
     /// Whether a frame is whole within a cycle, if it starts so long behind the cycle's beginning. What the gates of a run let pass always is.
@@ -34,8 +37,8 @@ impl Wire {
     /// How long a frame and the gap behind it take.
     pub(crate) fn taken_by(&self, octets: u32) -> u64
         requires { octets < 2 ^ 16 }
-        ensures { result ≡ self.now.octet_time * (octets + 20) }
+        ensures { result ≡ slot_of octets self.now.octet_time }
     {
-        u64::from(self.octet_time) * (u64::from(octets) + 20)
+        time_in_ticks(u64::from(octets) + 20, u64::from(self.octet_time))
     }
 }

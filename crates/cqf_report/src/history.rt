@@ -118,7 +118,7 @@ fn put_text<W: Sink>(press: &mut Press<'_, W>, entry: &Entry)
             put_call(press, entry.seat, b" admit ", name, entry.reply);
         }
         Call::AdmitPaced(request) => {
-            let name = request.name.as_str();
+            let name = request.request().name.as_str();
             put_call(press, entry.seat, b" admit ", name, entry.reply);
         }
         Call::Withdraw(name) => {

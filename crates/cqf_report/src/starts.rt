@@ -2,7 +2,7 @@
 
 ghost use Rattle.std.specs.Prelude.{◌≡◌, ◌^◌, ◌<◌, All, IfOk};
 ghost use Rattle.cqf_press.specs.Press.{Puts};
-ghost use Rattle.cqf_units.specs.Timing.{nanos_of_octet};
+ghost use Rattle.cqf_units.specs.Timing.{ticks_of_octet};
 ghost use Rattle.cqf_report.specs.Written.{line_of_fields};
 ghost use Rattle.cqf_report.specs.Starts.{lines_of_port, start_fields, start_header, text_of_starts};
 
@@ -21,7 +21,7 @@ pub fn put_port_header<W: Sink>(press: &mut Press<'_, W>)
 /// Puts the line of a start, with the instant at which its frame is over at this rate.
 pub fn put_port_start<W: Sink>(press: &mut Press<'_, W>, start: &Start, rate: Rate)
     requires { start.now.start.0 < 2 ^ 63 }
-    ensures { Puts W.contents press.old press.new (line_of_fields (start_fields (nanos_of_octet rate) start.now)) }
+    ensures { Puts W.contents press.old press.new (line_of_fields (start_fields (ticks_of_octet rate) start.now)) }
 {
     let end = end_of(start.start, Octets(start.octets), rate);
     press.put_number(start.class);
@@ -37,7 +37,7 @@ pub fn put_port_start<W: Sink>(press: &mut Press<'_, W>, start: &Start, rate: Ra
 /// Puts a line for each start.
 fn put_each<W: Sink>(press: &mut Press<'_, W>, starts: &[Start], rate: Rate)
     requires { All (λ start. start.start.0 < 2 ^ 63) starts.now }
-    ensures { Puts W.contents press.old press.new (lines_of_port (nanos_of_octet rate) starts.now) }
+    ensures { Puts W.contents press.old press.new (lines_of_port (ticks_of_octet rate) starts.now) }
 {
     for start in starts {
         put_port_start(press, start, rate);
@@ -48,7 +48,7 @@ fn put_each<W: Sink>(press: &mut Press<'_, W>, starts: &[Start], rate: Rate)
 /// at which the frame is over, at this rate (IEEE 802.3). The error is want of memory.
 pub fn write_starts(alloc: Global, starts: &[Start], rate: Rate) -> Result<Vec<u8>, Memory>
     requires { All (λ start. start.start.0 < 2 ^ 63) starts.now }
-    ensures { IfOk result (λ text. text.items ≡ text_of_starts (nanos_of_octet rate) starts.now) }
+    ensures { IfOk result (λ text. text.items ≡ text_of_starts (ticks_of_octet rate) starts.now) }
 {
     let mut told = Told::new(Vec::new(alloc));
     let mut press = Press::new(&mut told, Sheet::new(alloc)?);

@@ -7,9 +7,9 @@ use Rattle.cqf_lists.proofs.Members.{all_from_members, contains_from_filter}
 use Rattle.cqf_model.specs.declared.topology.Node.{Node}
 use Rattle.cqf_model.specs.declared.topology.Node.TheVariants.{Bridge, Station}
 use Rattle.cqf_model.specs.Domain.{node_or}
-use Rattle.cqf_model.specs.Limits.{longest_cycle}
 use Rattle.cqf_topology.specs.declared.faults.DomainFault.TheVariants.{UnknownName}
 use Rattle.cqf_topology.specs.DomainText.{place_of, with_front}
+use Rattle.cqf_topology.specs.LinkTimes.{AreReadTimes}
 use Rattle.cqf_topology.proofs.Accepted.{place-within}
 use Rattle.cqf_topology.proofs.Refusals.{and_then-Ok, ok_or-Ok}
 use Rattle.cqf_sketch.specs.declared.draft.SketchLink.{SketchLink}
@@ -31,16 +31,16 @@ named_inside bridges stations name node e = by (place_of name bridges) (place_of
         let same : Station s ≡ node = cc in subst (NodeInside (length bridges) (length stations)) same (place-within name stations s is_s)
     by None None is_b is_s found = absurd cc
 
--- what joining gives of an edge: its ends are there, it may lead from the one to the other, and its delay is in range
+-- what joining gives of an edge: its ends are there, it may lead from the one to the other, and its times are such as are read
 pub record IsJoinedEdge (bridges stations : ℕ) (edge : Edge) : Type 0 where
   pub inside : EdgeInside bridges stations edge
   pub may : may_lead edge.from edge.to ≡ true
-  pub delay_most : edge.delay ≤ longest_cycle
+  pub times_are_read : AreReadTimes edge.times
 
 -- so is a link that is joined
-edge_joined : (bridges stations : List (List ℕ)) (element : ℕ) (way : OneWay) (edge : Edge) → way.delay ≤ longest_cycle →
+edge_joined : (bridges stations : List (List ℕ)) (element : ℕ) (way : OneWay) (edge : Edge) → AreReadTimes way.times →
     joined_edge bridges stations element way ≡ Ok edge → IsJoinedEdge (length bridges) (length stations) edge
-edge_joined bridges stations element way edge most e =
+edge_joined bridges stations element way edge read e =
     let (from, from_is, rest) = and_then-Ok (ok_or (end_named bridges stations way.from) (Domain (UnknownName way.from))) _ edge e in
     let (to, to_is, last) = and_then-Ok (ok_or (end_named bridges stations way.to) (Domain (UnknownName way.to))) _ edge rest in
     by from to (may_lead from to) refl
@@ -49,13 +49,13 @@ edge_joined bridges stations element way edge most e =
   where
     by : (from to : Node) (may : Bool) → may_lead from to ≡ may → NodeInside (length bridges) (length stations) from →
         NodeInside (length bridges) (length stations) to →
-        cond may (Ok (record { from = from; to = to; rate = way.rate; delay = way.delay; element = element })) (Err (Domain (UnknownName way.to))) ≡ Ok edge →
+        cond may (Ok (record { from = from; to = to; times = way.times; element = element })) (Err (Domain (UnknownName way.to))) ≡ Ok edge →
         IsJoinedEdge (length bridges) (length stations) edge
     by from to true may from_in to_in found =
-        let made : Edge = record { from = from; to = to; rate = way.rate; delay = way.delay; element = element } in
+        let made : Edge = record { from = from; to = to; times = way.times; element = element } in
         let same : made ≡ edge = cc in
         subst (IsJoinedEdge (length bridges) (length stations)) same
-        (record { inside = record { from_inside = from_in; to_inside = to_in }; may = may; delay_most = most })
+        (record { inside = record { from_inside = from_in; to_inside = to_in }; may = may; times_are_read = read })
     by from to false may from_in to_in found = absurd cc
 
 -- a way that may lead there may lead back
@@ -74,27 +74,27 @@ directions_joined bridges stations true edge is =
     (record {
       inside = record { from_inside = is.inside.to_inside; to_inside = is.inside.from_inside };
       may = may_lead_back edge.from edge.to is.may;
-      delay_most = is.delay_most;
+      times_are_read = is.times_are_read;
     })
     (All-nil (IsJoinedEdge bridges stations)))
 directions_joined bridges stations false edge is = All-cons (IsJoinedEdge bridges stations) edge [] is (All-nil (IsJoinedEdge bridges stations))
 
--- the delays of the links behind the first
-later_delays : (link : SketchLink) (links : List SketchLink) → All (λ (l : SketchLink). l.there.delay ≤ longest_cycle) (link ∷ links) →
-    All (λ (l : SketchLink). l.there.delay ≤ longest_cycle) links
-later_delays link links most k d within = most (suc k) d (omega (arith, within))
+-- the times of the links behind the first
+later_times : (link : SketchLink) (links : List SketchLink) → All (λ (l : SketchLink). AreReadTimes l.there.times) (link ∷ links) →
+    All (λ (l : SketchLink). AreReadTimes l.there.times) links
+later_times link links read k d within = read (suc k) d (omega (arith, within))
 
 -- and of all
 pub all_joined : (bridges stations : List (List ℕ)) (element : ℕ) (links : List SketchLink) (edges : List Edge) →
-    All (λ (l : SketchLink). l.there.delay ≤ longest_cycle) links → joined bridges stations element links ≡ Ok edges →
+    All (λ (l : SketchLink). AreReadTimes l.there.times) links → joined bridges stations element links ≡ Ok edges →
     All (IsJoinedEdge (length bridges) (length stations)) edges
-all_joined bridges stations element [] edges most e =
+all_joined bridges stations element [] edges read e =
     let same : [] ≡ edges = cc in subst (All (IsJoinedEdge (length bridges) (length stations))) same (All-nil (IsJoinedEdge (length bridges) (length stations)))
-all_joined bridges stations element (link ∷ links) edges most e =
+all_joined bridges stations element (link ∷ links) edges read e =
     let (edge, edge_is, more) = and_then-Ok (joined_edge bridges stations element link.there) _ edges e in
-    by (λ rest is. all_joined bridges stations (suc element) links rest (later_delays link links most) is) edge
+    by (λ rest is. all_joined bridges stations (suc element) links rest (later_times link links read) is) edge
     (joined bridges stations (suc element) links) refl
-    (edge_joined bridges stations element link.there edge (most 0 link (omega arith)) edge_is) more
+    (edge_joined bridges stations element link.there edge (read 0 link (omega arith)) edge_is) more
   where
     by : ((rest : List Edge) → joined bridges stations (suc element) links ≡ Ok rest → All (IsJoinedEdge (length bridges) (length stations)) rest) →
         (edge : Edge) (r : Result (List Edge) SketchFault) → joined bridges stations (suc element) links ≡ r →

@@ -1,10 +1,10 @@
 -- A sketch that passed its checks has an accepted plant with each cycle time that is open, and talkers' links of its own.
-use Rattle.std.proofs.Common.{◌≡◌, ◌≢◌, ◌≤◌, ◌<◌, ◌*◌, ◌∙◌, ℕ, All, AllPairs, Bool, true, false, ◌&&◌, ◌||◌, Contains, List, [], ◌∷◌, ◌++◌, Option, Some, None}
-use Rattle.std.proofs.Common.{cond, get_or, length, map, nat_le, nat_lt, ap, refl, subst, sym, arith}
+use Rattle.std.proofs.Common.{◌≡◌, ◌≢◌, ◌≤◌, ◌<◌, ◌+◌, ◌∙◌, ℕ, zero, suc, All, AllPairs, Bool, true, false, ◌&&◌, ◌||◌, Contains, List, [], ◌∷◌, ◌++◌, Option, Some, None}
+use Rattle.std.proofs.Common.{cond, get_or, length, map, max, nat_le, nat_lt, ap, inl, inr, refl, subst, sym, arith}
 use Rattle.std.specs.Prelude.{find, not, slice_get, unwrap_or}
 use Rattle.std.specs.List.{list_all, list_any}
 use Rattle.std.specs.Option.{option_or}
-use Rattle.std.proofs.lemmas.Bool.{true≢false}
+use Rattle.std.proofs.lemmas.Bool.{cases_lt, true≢false}
 use Rattle.std.proofs.lemmas.Bool.Decides.{nat_tests}
 use Rattle.std.proofs.lemmas.List.{length-map}
 use Rattle.std.proofs.lemmas.List.Kept.{AllPairs-filter}
@@ -12,25 +12,27 @@ use Rattle.std.proofs.lemmas.List.Sums.{length-filter}
 use Rattle.std.proofs.lemmas.Option.{slice_get-get_or}
 use Rattle.cqf_lists.proofs.Members.{all_from_members, any_member, contains_at, contains_from_filter, contains_from_map, find_member, find_some}
 use Rattle.cqf_lists.proofs.Pairs.{pairs_from_map, pairs_map, pairs_weaker}
-use Rattle.cqf_units.specs.Timing.{nanos_of_octet}
+use Rattle.std.proofs.Math.Nat.{le-max_left, le-max_right, max-eq_left, max-eq_right}
+use Rattle.cqf_units.specs.Timing.{ticks_of_octet, time_of}
 use Rattle.cqf_model.specs.declared.limits.Limits.{Limits}
 use Rattle.cqf_model.specs.declared.topology.Link.{Link}
 use Rattle.cqf_model.specs.declared.topology.Node.{Node}
 use Rattle.cqf_model.specs.declared.topology.Node.TheVariants.{Bridge, Station}
-use Rattle.cqf_model.specs.Domain.{Domain, IsAcceptedLink, IsNode}
+use Rattle.cqf_model.specs.Domain.{Domain, IsAcceptedLink, IsNode, guard_by}
 use Rattle.cqf_model.proofs.Links.{same_node_itself}
 use Rattle.cqf_topology.specs.DomainText.{IsDomain, NoLinkTwice, first_taken}
-use Rattle.cqf_topology.proofs.Accepted.{first_taken-append}
+use Rattle.cqf_topology.specs.LinkTimes.{guard_within, has_long_delay as is_delay_long, has_long_gap as is_gap_long, has_long_sync as is_sync_long}
+use Rattle.cqf_topology.proofs.Accepted.{first_taken-append, not_above, not_reached}
 use Rattle.cqf_topology.proofs.Distinct.{first_taken-None}
 use Rattle.cqf_topology.proofs.Repeats.{first_repeat-None}
 use Rattle.cqf_topology.proofs.Repeats.{first_repeat as first_of_repeats}
 use Rattle.cqf_sketch.specs.declared.domain.TalkerLink.{TalkerLink}
-use Rattle.cqf_sketch.specs.Edges.{Edge, ends_of, first_repeat, from_alone, has_long_delay, has_long_gap, is_station}
-use Rattle.cqf_sketch.specs.Edges.{is_talkers, may_lead, plant_count, same_pair}
+use Rattle.cqf_sketch.specs.Edges.{Edge, ends_of, first_repeat, from_alone, has_long_delay, has_long_gap, has_long_guard, has_long_sync, is_station}
+use Rattle.cqf_sketch.specs.Edges.{is_talkers, may_lead, plant_count, reaches_each, same_pair}
 use Rattle.cqf_sketch.specs.Edges.{talkers_of}
 use Rattle.cqf_sketch.specs.SketchDomain.{HasTalkerLinks, IsCycleTime, IsOpenCycle, IsReadableSketch, IsSketch, IsTalkerLink}
 use Rattle.cqf_sketch.specs.SketchDomain.{NodeInside, SketchDomain, domain_at}
-use Rattle.cqf_sketch.specs.SketchDomain.{link_of, number_of, open_cycle, plant_of, sketch_with, talker_of}
+use Rattle.cqf_sketch.specs.SketchDomain.{link_of, longest_guard, longest_of, number_of, open_cycle, plant_of, sketch_with, talker_of}
 use Rattle.cqf_sketch.specs.SketchText.{SketchText}
 use Rattle.cqf_sketch.proofs.CheckedLemmas.{PassesSketch}
 use Rattle.cqf_sketch.proofs.InsideLemmas.{IsJoinedEdge}
@@ -62,21 +64,27 @@ some_above guard (cycle ∷ cycles) h = by (nat_le cycle guard) (nat_lt guard cy
         unreached : nat_le cycle guard ≡ false → nat_lt guard cycle ≡ false → ⊥
         unreached r a = grind (arith, nat_tests)
 
--- some candidate is above the guard time
-pub one_above : (sketch : SketchDomain) → IsSketch sketch → find (nat_lt sketch.guard) sketch.candidates ≡ None → ⊥
+-- some candidate is above each guard time
+pub one_above : (sketch : SketchDomain) → IsSketch sketch → find (nat_lt (longest_guard sketch)) sketch.candidates ≡ None → ⊥
 one_above sketch is none =
-    let (cycle, there, above) = any_member (nat_lt sketch.guard) sketch.candidates is.some_open in
-    true≢false (sym above ∙ none_found (nat_lt sketch.guard) sketch.candidates cycle none there)
+    let (cycle, there, above) = any_member (nat_lt (longest_guard sketch)) sketch.candidates is.some_open in
+    true≢false (sym above ∙ none_found (nat_lt (longest_guard sketch)) sketch.candidates cycle none there)
+
+-- a number that a test tells to be above another
+is_above : (guard cycle : ℕ) → nat_lt guard cycle ≡ true → guard < cycle
+is_above guard cycle above = grind (arith, nat_tests)
 
 -- the first of them is open
 pub open_is_open : (sketch : SketchDomain) → IsSketch sketch → IsOpenCycle sketch (open_cycle sketch)
-open_is_open sketch is = by (find (nat_lt sketch.guard) sketch.candidates) refl
+open_is_open sketch is = by (find (nat_lt (longest_guard sketch)) sketch.candidates) refl
   where
-    by : (o : Option ℕ) → find (nat_lt sketch.guard) sketch.candidates ≡ o → IsOpenCycle sketch (unwrap_or o 0)
+    by : (o : Option ℕ) → find (nat_lt (longest_guard sketch)) sketch.candidates ≡ o → IsOpenCycle sketch (unwrap_or o 0)
     by (Some cycle) found =
-        let (there, passes) = find_member (nat_lt sketch.guard) sketch.candidates cycle found in
-        let above : nat_lt sketch.guard cycle ≡ true = passes in
-        record { in_range = of_member IsCycleTime sketch.candidates cycle is.are_candidates.cycle_times there; above_guard = grind (arith, nat_tests) }
+        let (there, passes) = find_member (nat_lt (longest_guard sketch)) sketch.candidates cycle found in
+        record {
+          in_range = of_member IsCycleTime sketch.candidates cycle is.are_candidates.cycle_times there;
+          above_guards = is_above (longest_guard sketch) cycle passes;
+        }
     by None none = absurd (one_above sketch is none)
 
 -- the first that repeats, by the definition of the lemmas
@@ -136,14 +144,53 @@ talker_there bridges stations (Station s) (Bridge b) is may from_in to_in = (fro
 talker_there bridges stations (Station s) (Station t) is may from_in to_in = absurd cc
 talker_there bridges stations (Bridge a) to is may from_in to_in = absurd cc
 
--- a delay and a gap of the plant that aren't found too long
-short_delay : (talkers : Bool) (guard delay : ℕ) → talkers ≡ false → (not talkers && nat_le guard delay) ≡ false → delay < guard
-short_delay true guard delay is e = absurd (true≢false is)
-short_delay false guard delay is e = let long : nat_le guard delay ≡ false = e in grind (arith, nat_tests)
+-- what a link of the plant isn't found to be it isn't
+not_such : (talkers such : Bool) → talkers ≡ false → (not talkers && such) ≡ false → such ≡ false
+not_such true such is e = absurd (true≢false is)
+not_such false such is e = e
 
-short_gap : (talkers : Bool) (guard gap : ℕ) → talkers ≡ false → (not talkers && nat_lt guard gap) ≡ false → gap ≤ guard
-short_gap true guard gap is e = absurd (true≢false is)
-short_gap false guard gap is e = let long : nat_lt guard gap ≡ false = e in grind (arith, nat_tests)
+-- the longest guard time is that of a link, or that of all others
+longest_unreached : (cycles : List ℕ) (guard : ℕ) (links : List Link) → reaches_each cycles guard ≡ false →
+    ((k : ℕ) (link : Link) → slice_get links k ≡ Some link → (others : ℕ) → reaches_each cycles others ≡ false →
+    reaches_each cycles (guard_by others link) ≡ false) → reaches_each cycles (longest_of guard links) ≡ false
+longest_unreached cycles guard [] is each = is
+longest_unreached cycles guard (link ∷ links) is each =
+    longest_unreached cycles (max guard (guard_by guard link)) links (either guard (guard_by guard link) is (each 0 link refl guard is))
+    (λ k other at. each (suc k) other at)
+  where
+    -- the greater of two is one of them
+    either : (a b : ℕ) → reaches_each cycles a ≡ false → reaches_each cycles b ≡ false → reaches_each cycles (max a b) ≡ false
+    either a b one other = elim (cases_lt a b) [
+      | inl less ↦ subst (λ n. reaches_each cycles n ≡ false) (sym (max-eq_right (omega (arith, less)))) other
+      | inr more ↦ subst (λ n. reaches_each cycles n ≡ false) (sym (max-eq_left (omega (arith, more)))) one
+    ]
+
+-- no guard time is above the longest
+longest_others : (guard : ℕ) (links : List Link) → guard ≤ longest_of guard links
+longest_others guard [] = omega arith
+longest_others guard (link ∷ links) =
+    let here : guard ≤ max guard (guard_by guard link) = le-max_left guard (guard_by guard link) in
+    let more : max guard (guard_by guard link) ≤ longest_of guard (link ∷ links) = longest_others (max guard (guard_by guard link)) links in
+    omega (arith, here, more)
+
+longest_own : (guard others : ℕ) (links : List Link) → guard ≤ others → (k : ℕ) (link : Link) → slice_get links k ≡ Some link →
+    guard_by guard link ≤ longest_of others links
+longest_own guard others [] few k link at = absurd cc
+longest_own guard others (first ∷ links) few zero link at =
+    let same : first ≡ link = cc in
+    let own : guard_by guard first ≤ guard_by others first = by first.guard in
+    let here : guard_by others first ≤ max others (guard_by others first) = le-max_right others (guard_by others first) in
+    let more : max others (guard_by others first) ≤ longest_of others (first ∷ links) = longest_others (max others (guard_by others first)) links in
+    let all : guard_by guard first ≤ longest_of others (first ∷ links) = omega (arith, own, here, more) in
+    subst (λ (l : Link). guard_by guard l ≤ longest_of others (first ∷ links)) same all
+  where
+    -- by its own, or by that of all others
+    by : (own : Option ℕ) → unwrap_or own guard ≤ unwrap_or own others
+    by None = few
+    by (Some n) = omega arith
+longest_own guard others (first ∷ links) few (suc k) link at =
+    let more : others ≤ max others (guard_by others first) = le-max_left others (guard_by others first) in
+    longest_own guard (max others (guard_by others first)) links (omega (arith, few, more)) k link at
 
 -- what isn't denied
 not_denied : (b : Bool) → not b ≡ true → b ≡ false
@@ -157,26 +204,51 @@ module _ (text : SketchText) (edges : List Edge) (readable : IsReadableSketch te
   of_plant edge c =
       let (there, plants) = contains_from_filter (λ (e : Edge). not (is_talkers e)) edges edge c in (there, not_denied (is_talkers edge) plants)
 
-  -- a link of the plant is accepted
-  edge_accepted : (cycle_time : ℕ) (edge : Edge) → Contains (plant_of edges) edge →
+  -- a link of the plant is accepted, where its guard time is below the cycle time
+  edge_accepted : (cycle_time : ℕ) (edge : Edge) → Contains (plant_of edges) edge → guard_by text.guard (link_of edge) < cycle_time →
       IsAcceptedLink (domain_at (sketch_with text edges) cycle_time) (link_of edge)
-  edge_accepted cycle_time edge c =
+  edge_accepted cycle_time edge c below =
       let (there, plants) = of_plant edge c in
       let is = of_member (IsJoinedEdge (length text.bridges) (length text.stations)) edges edge all there in
       record {
         from_bridge = bridge_there (length text.bridges) (length text.stations) edge.from plants is.inside.from_inside;
         to_node = node_there (domain_at (sketch_with text edges) cycle_time) edge.to is.inside.to_inside;
         not_to_itself = other_end edge.from edge.to plants is.may;
-        delay_short = short_delay (is_talkers edge) text.guard edge.delay plants (none_found (has_long_delay text.guard) edges edge passed.no_delay there);
-        gap_short = short_gap (is_talkers edge) text.guard (12 * nanos_of_octet edge.rate) plants
-            (none_found (has_long_gap text.guard) edges edge passed.no_gap there);
+        least_short = is.times_are_read.ordered;
+        delay_short = not_reached (guard_within text.guard edge.times) (edge.times.delay + text.sync)
+            (not_such (is_talkers edge) (is_delay_long text.sync text.guard edge.times) plants
+            (none_found (has_long_delay text.sync text.guard) edges edge passed.no_delay there));
+        sync_short = not_above (time_of 72 (ticks_of_octet edge.times.rate) + edge.times.least) text.sync
+            (not_such (is_talkers edge) (is_sync_long text.sync edge.times) plants (none_found (has_long_sync text.sync) edges edge passed.no_sync there));
+        gap_short = not_above (guard_within text.guard edge.times) (time_of 12 (ticks_of_octet edge.times.rate))
+            (not_such (is_talkers edge) (is_gap_long text.guard edge.times) plants (none_found (has_long_gap text.guard) edges edge passed.no_gap there));
+        guard_short = below;
       }
 
-  link_accepted : (cycle_time l : ℕ) (link : Link) → slice_get (map link_of (plant_of edges)) l ≡ Some link →
-      IsAcceptedLink (domain_at (sketch_with text edges) cycle_time) link
-  link_accepted cycle_time l link at =
-      let (edge, there, is) = contains_from_map link_of (plant_of edges) link (contains_at (map link_of (plant_of edges)) l link at) in
-      subst (IsAcceptedLink (domain_at (sketch_with text edges) cycle_time)) is (edge_accepted cycle_time edge there)
+  link_accepted : (cycle_time : ℕ) → longest_guard (sketch_with text edges) < cycle_time → (l : ℕ) (link : Link) →
+      slice_get (map link_of (plant_of edges)) l ≡ Some link → IsAcceptedLink (domain_at (sketch_with text edges) cycle_time) link
+  link_accepted cycle_time above l link at =
+      let links = map link_of (plant_of edges) in
+      let (edge, there, is) = contains_from_map link_of (plant_of edges) link (contains_at links l link at) in
+      let below : guard_by text.guard link < cycle_time = omega (arith, above, longest_own text.guard text.guard links (omega arith) l link at) in
+      subst (IsAcceptedLink (domain_at (sketch_with text edges) cycle_time)) is
+      (edge_accepted cycle_time edge there (subst (λ (x : Link). guard_by text.guard x < cycle_time) (sym is) below))
+
+  -- no guard time reaches each candidate
+  guards_unreached : reaches_each text.candidates (longest_guard (sketch_with text edges)) ≡ false
+  guards_unreached =
+      longest_unreached text.candidates text.guard (map link_of (plant_of edges)) passed.some_open (λ k link at others is.
+      let (edge, there, same) = contains_from_map link_of (plant_of edges) link (contains_at (map link_of (plant_of edges)) k link at) in
+      let (inside, plants) = of_plant edge there in
+      let own = not_such (is_talkers edge) (reaches_each text.candidates (guard_within text.guard edge.times)) plants
+      (none_found (has_long_guard text.candidates text.guard) edges edge passed.no_guard inside) in
+      subst (λ (x : Link). reaches_each text.candidates (guard_by others x) ≡ false) same (by edge.times.guard own others is))
+    where
+      -- by its own, or by that of all others
+      by : (own : Option ℕ) → reaches_each text.candidates (unwrap_or own text.guard) ≡ false → (others : ℕ) → reaches_each text.candidates others ≡ false →
+          reaches_each text.candidates (unwrap_or own others) ≡ false
+      by None own others is = is
+      by (Some n) own others is = own
 
   -- no link of the plant stands twice
   pub plant_once : NoLinkTwice (map link_of (plant_of edges))
@@ -200,13 +272,14 @@ module _ (text : SketchText) (edges : List Edge) (readable : IsReadableSketch te
       cycle_least = open_to.in_range.least;
       cycle_most = open_to.in_range.most;
       guard_some = readable.guard_some;
-      guard_short = open_to.above_guard;
+      guard_short = omega (arith, open_to.above_guards, longest_others text.guard (map link_of (plant_of edges)));
       some_bridge = readable.some_bridge;
       few_bridges = passed.few_bridges;
       few_stations = passed.few_stations;
       few_links = omega (arith, plant_links, passed.few_links);
-      links_good = link_accepted cycle_time;
+      links_good = link_accepted cycle_time open_to.above_guards;
     };
+    sync_most = readable.sync_most;
     bridges_named = readable.bridges_named;
     stations_named = readable.stations_named;
     distinct = (first_taken-None [] (text.bridges ++ text.stations)
@@ -221,7 +294,7 @@ module _ (text : SketchText) (edges : List Edge) (readable : IsReadableSketch te
       let (there, talks) = contains_from_filter is_talkers edges edge kept in
       let is = of_member (IsJoinedEdge (length text.bridges) (length text.stations)) edges edge all there in
       let ends = talker_there (length text.bridges) (length text.stations) edge.from edge.to talks is.may is.inside.from_inside is.inside.to_inside in
-      subst (IsTalkerLink (sketch_with text edges)) same (record { station_there = ends.0; bridge_there = ends.1; delay_most = is.delay_most })
+      subst (IsTalkerLink (sketch_with text edges)) same (record { station_there = ends.0; bridge_there = ends.1; delay_most = is.times_are_read.delay_most })
 
   -- and no station has two
   talkers_good : HasTalkerLinks (sketch_with text edges)
@@ -241,16 +314,16 @@ module _ (text : SketchText) (edges : List Edge) (readable : IsReadableSketch te
   passed_is_sketch bridges_apart stations_apart = record {
     domains = plant_accepted bridges_apart stations_apart;
     are_candidates = readable.are_candidates;
-    some_open = some_above text.guard text.candidates passed.some_open;
+    some_open = some_above (longest_guard (sketch_with text edges)) text.candidates guards_unreached;
     has_talkers = talkers_good;
   }
 
 -- sketches of equal parts
-pub same_sketch : (limits limits' : Limits) (candidates candidates' : List ℕ) (guard guard' : ℕ) (bridges bridges' stations stations' : List (List ℕ)) (links links' : List Link)
-    (talkers talkers' : List TalkerLink) → limits ≡ limits' → candidates ≡ candidates' → guard ≡ guard' → bridges ≡ bridges' → stations ≡ stations' → links ≡ links' →
+pub same_sketch : (limits limits' : Limits) (candidates candidates' : List ℕ) (guard guard' sync sync' : ℕ) (bridges bridges' stations stations' : List (List ℕ)) (links links' : List Link)
+    (talkers talkers' : List TalkerLink) → limits ≡ limits' → candidates ≡ candidates' → guard ≡ guard' → sync ≡ sync' → bridges ≡ bridges' → stations ≡ stations' → links ≡ links' →
     talkers ≡ talkers'
     → ◌≡◌ {A = SketchDomain}
-    (record { limits = limits; candidates = candidates; guard = guard; bridges = bridges; stations = stations; links = links; talkers = talkers })
-    (record { limits = limits'; candidates = candidates'; guard = guard'; bridges = bridges'; stations = stations'; links = links'; talkers = talkers' })
-same_sketch limits limits' candidates candidates' guard guard' bridges bridges' stations stations' links links' talkers talkers' m c g b s l t =
-    λ i. record { limits = m i; candidates = c i; guard = g i; bridges = b i; stations = s i; links = l i; talkers = t i }
+    (record { limits = limits; candidates = candidates; guard = guard; sync = sync; bridges = bridges; stations = stations; links = links; talkers = talkers })
+    (record { limits = limits'; candidates = candidates'; guard = guard'; sync = sync'; bridges = bridges'; stations = stations'; links = links'; talkers = talkers' })
+same_sketch limits limits' candidates candidates' guard guard' sync sync' bridges bridges' stations stations' links links' talkers talkers' m c g a b s l t =
+    λ i. record { limits = m i; candidates = c i; guard = g i; sync = a i; bridges = b i; stations = s i; links = l i; talkers = t i }

@@ -10,12 +10,13 @@ use Rattle.toml.specs.Data.{Data, Items, Members, as_array, as_integer, as_table
 use Rattle.cqf_lists.specs.Results.{and_then}
 use Rattle.cqf_units.specs.Name.{is_name}
 use Rattle.cqf_model.specs.declared.limits.Limits.{Limits}
-use Rattle.cqf_model.specs.Limits.{longest_cycle}
-use Rattle.cqf_topology.specs.declared.keys.Key.TheVariants.{Cycle, Guard, Bridges, Stations, Links, From, To, Rate, Delay}
+use Rattle.cqf_topology.specs.declared.keys.Key.TheVariants.{Cycle, Guard, Bridges, Stations, Links, From, To}
 use Rattle.cqf_topology.specs.declared.toml_faults.TomlFault.{TomlFault}
 use Rattle.cqf_topology.specs.declared.toml_faults.TomlFault.TheVariants.{BadValue}
 use Rattle.cqf_topology.specs.Fields.{are_tables, name_from, names_at, number_from, read_at, value_at, whole_document, within_range}
-use Rattle.cqf_topology.specs.DomainText.{if_some, link_keys, rate_from}
+use Rattle.cqf_topology.specs.DomainText.{if_some, link_keys, sync_from}
+use Rattle.cqf_topology.specs.LinkTimes.{AreReadTimes, times_read}
+use Rattle.cqf_topology.proofs.Ordered.{sync-range, times-read}
 use Rattle.cqf_topology.proofs.Refusals.{and_then-Ok, and_then-Some, each_from-All, if_some-Ok, names-named, number-range, ok_or-Ok, within_range-Some}
 use Rattle.cqf_sketch.specs.declared.draft.SketchLink.{SketchLink}
 use Rattle.cqf_sketch.specs.declared.draft.OneWay.{OneWay}
@@ -76,41 +77,40 @@ candidates_range : (given : Option (List ℕ)) (table : Members) (found : List �
 candidates_range None table found are h = table_range (value_at Cycle table) found h
 candidates_range (Some cycles) table found are h = let same : cycles ≡ found = cc in subst AreCandidates same are
 
--- the delay of a link
-way_range : (table : Members) (way : OneWay) → one_way_read table ≡ Ok way → way.delay ≤ longest_cycle
+-- the times of a link
+way_range : (table : Members) (way : OneWay) → one_way_read table ≡ Ok way → AreReadTimes way.times
 way_range table way h =
     let (from, from_is, h1) = and_then-Ok (read_at From name_from table) _ way h in
     let (to, to_is, h2) = and_then-Ok (read_at To name_from table) _ way h1 in
-    let (rate, rate_is, h3) = and_then-Ok (read_at Rate rate_from table) _ way h2 in
-    let (delay, delay_is, h4) = and_then-Ok (read_at Delay (number_from 0 10000000) table) _ way h3 in
-    let made : OneWay = record { from = from; to = to; rate = rate; delay = delay } in
+    let (times, times_are, h3) = and_then-Ok (times_read table) _ way h2 in
+    let made : OneWay = record { from = from; to = to; times = times } in
     let same : made ≡ way = cc in
-    subst (λ (w : OneWay). w.delay ≤ longest_cycle) same (number-range Delay 0 10000000 table delay delay_is).1
+    subst (λ (w : OneWay). AreReadTimes w.times) same (times-read table times times_are)
 
-link_range : (table : Members) (link : SketchLink) → link_read table ≡ Ok link → link.there.delay ≤ longest_cycle
+link_range : (table : Members) (link : SketchLink) → link_read table ≡ Ok link → AreReadTimes link.there.times
 link_range table link h =
     let (there, there_is, h1) = and_then-Ok (or_sketch (one_way_read table)) _ link h in
     let (duplex, duplex_is, h2) = and_then-Ok (duplex_at table) _ link h1 in
     let made : SketchLink = record { there = there; duplex = duplex } in
     let same : made ≡ link = cc in
-    subst (λ (l : SketchLink). l.there.delay ≤ longest_cycle) same (way_range table there (or_sketch_read (one_way_read table) there there_is))
+    subst (λ (l : SketchLink). AreReadTimes l.there.times) same (way_range table there (or_sketch_read (one_way_read table) there there_is))
 
 element_range : (d : Data) (link : SketchLink) → and_then (ok_or (as_table d) (sketch_fault (BadValue Links))) link_read ≡ Ok link →
-    link.there.delay ≤ longest_cycle
+    AreReadTimes link.there.times
 element_range d link h =
     let (table, is, read) = and_then-Ok (ok_or (as_table d) (sketch_fault (BadValue Links))) link_read link h in link_range table link read
 
--- the delays of all
-array_range : (items : Items) (links : List SketchLink) → links_of_array items ≡ Ok links → All (λ (l : SketchLink). l.there.delay ≤ longest_cycle) links
+-- those of all
+array_range : (items : Items) (links : List SketchLink) → links_of_array items ≡ Ok links → All (λ (l : SketchLink). AreReadTimes l.there.times) links
 array_range items links h = by (are_tables items) h
   where
-    by : (b : Bool) → cond b (links_from items) (Err (sketch_fault (BadValue Links))) ≡ Ok links → All (λ (l : SketchLink). l.there.delay ≤ longest_cycle) links
+    by : (b : Bool) → cond b (links_from items) (Err (sketch_fault (BadValue Links))) ≡ Ok links → All (λ (l : SketchLink). AreReadTimes l.there.times) links
     by true read =
-        each_from-All (λ (l : SketchLink). l.there.delay ≤ longest_cycle)
+        each_from-All (λ (l : SketchLink). AreReadTimes l.there.times)
         (λ d. and_then (ok_or (as_table d) (sketch_fault (BadValue Links))) link_read) element_range items links read
     by false read = absurd cc
 
-links_range : (table : Members) (links : List SketchLink) → links_read table ≡ Ok links → All (λ (l : SketchLink). l.there.delay ≤ longest_cycle) links
+links_range : (table : Members) (links : List SketchLink) → links_read table ≡ Ok links → All (λ (l : SketchLink). AreReadTimes l.there.times) links
 links_range table links h =
     let (items, is, array) = and_then-Ok (or_sketch (read_at Links as_array table)) links_of_array links h in array_range items links array
 
@@ -120,20 +120,22 @@ table_readable : (limits : Limits) (given : Option (List ℕ)) (table : Members)
 table_readable limits given table text are h =
     let (candidates, candidates_are, h1) = and_then-Ok (or_sketch (candidates_read given table)) _ text h in
     let (guard, guard_is, h2) = and_then-Ok (or_sketch (read_at Guard (number_from 1 10000000) table)) _ text h1 in
-    let (bridges, bridges_are, h3) = and_then-Ok (or_sketch (and_then (names_at Bridges table) (if_some Bridges))) _ text h2 in
-    let (stations, stations_are, h4) = and_then-Ok (or_sketch (names_at Stations table)) _ text h3 in
-    let (links, links_are, h5) = and_then-Ok (links_read table) _ text h4 in
+    let (sync, sync_is, h3) = and_then-Ok (or_sketch (sync_from table)) _ text h2 in
+    let (bridges, bridges_are, h4) = and_then-Ok (or_sketch (and_then (names_at Bridges table) (if_some Bridges))) _ text h3 in
+    let (stations, stations_are, h5) = and_then-Ok (or_sketch (names_at Stations table)) _ text h4 in
+    let (links, links_are, h6) = and_then-Ok (links_read table) _ text h5 in
     let (names, named, some) = and_then-Ok (names_at Bridges table) (if_some Bridges) bridges (or_sketch_read _ bridges bridges_are) in
     let some_is = if_some-Ok Bridges names bridges some in
-    let made : SketchText = record { limits = limits; candidates = candidates; guard = guard; bridges = bridges; stations = stations; links = links } in
+    let made : SketchText = record { limits = limits; candidates = candidates; guard = guard; sync = sync; bridges = bridges; stations = stations; links = links } in
     let same : made ≡ text = cc in
     subst IsReadableSketch same (record {
       are_candidates = candidates_range given table candidates are (or_sketch_read _ candidates candidates_are);
       guard_some = (number-range Guard 1 10000000 table guard (or_sketch_read _ guard guard_is)).0;
+      sync_most = sync-range table sync (or_sketch_read _ sync sync_is);
       some_bridge = some_is.1;
       bridges_named = subst (All (λ name. IsTrue (is_name name))) some_is.0 (names-named Bridges table names named);
       stations_named = names-named Stations table stations (or_sketch_read _ stations stations_are);
-      delays_most = links_range table links links_are;
+      times_are_read = links_range table links links_are;
     })
 
 -- and within which limits
@@ -142,10 +144,11 @@ table_limits : (limits : Limits) (given : Option (List ℕ)) (table : Members) (
 table_limits limits given table text h =
     let (candidates, candidates_are, h1) = and_then-Ok (or_sketch (candidates_read given table)) _ text h in
     let (guard, guard_is, h2) = and_then-Ok (or_sketch (read_at Guard (number_from 1 10000000) table)) _ text h1 in
-    let (bridges, bridges_are, h3) = and_then-Ok (or_sketch (and_then (names_at Bridges table) (if_some Bridges))) _ text h2 in
-    let (stations, stations_are, h4) = and_then-Ok (or_sketch (names_at Stations table)) _ text h3 in
-    let (links, links_are, h5) = and_then-Ok (links_read table) _ text h4 in
-    let made : SketchText = record { limits = limits; candidates = candidates; guard = guard; bridges = bridges; stations = stations; links = links } in
+    let (sync, sync_is, h3) = and_then-Ok (or_sketch (sync_from table)) _ text h2 in
+    let (bridges, bridges_are, h4) = and_then-Ok (or_sketch (and_then (names_at Bridges table) (if_some Bridges))) _ text h3 in
+    let (stations, stations_are, h5) = and_then-Ok (or_sketch (names_at Stations table)) _ text h4 in
+    let (links, links_are, h6) = and_then-Ok (links_read table) _ text h5 in
+    let made : SketchText = record { limits = limits; candidates = candidates; guard = guard; sync = sync; bridges = bridges; stations = stations; links = links } in
     let same : made ≡ text = cc in ap (λ (t : SketchText). t.limits) (sym same)
 
 pub draft_limits : (limits : Limits) (given : Option (List ℕ)) (text : List ℕ) (draft : SketchText) → sketch_of_text limits given text ≡ Ok draft →

@@ -1,11 +1,9 @@
 -- The links of a sketch one direction each, by the nodes that they join (profile).
-use Rattle.std.specs.Prelude.{ℕ, ◌*◌, ◌++◌, List, [], ◌∷◌, ◌==◌, ◌&&◌, Bool, true, false, if◌then◌else◌, count_by, filter, find, length, map, nat_le, nat_lt, not, ok_or}
+use Rattle.std.specs.Prelude.{ℕ, ◌++◌, List, [], ◌∷◌, ◌==◌, ◌&&◌, Bool, true, false, if◌then◌else◌, count_by, filter, find, length, map, nat_le, not, ok_or}
 use Rattle.std.specs.Prelude.{option_map, slice_get, Option, Some, None, Result, Ok, Err, suc}
 use Rattle.std.specs.Option.{option_map_or}
-use Rattle.std.specs.List.{list_any}
+use Rattle.std.specs.List.{list_all, list_any}
 use Rattle.cqf_lists.specs.Results.{and_then}
-use Rattle.cqf_units.specs.Timing.{nanos_of_octet}
-use Rattle.cqf_units.specs.declared.timing.Rate.{Rate}
 use Rattle.cqf_model.specs.declared.topology.Node.{Node}
 use Rattle.cqf_model.specs.declared.topology.Node.TheVariants.{Bridge, Station}
 use Rattle.cqf_model.specs.Domain.{node_or, same_node}
@@ -13,6 +11,8 @@ use Rattle.cqf_topology.specs.declared.faults.DomainFault.TheVariants as domain
 use Rattle.cqf_topology.specs.declared.joined.End.{End}
 use Rattle.cqf_topology.specs.DomainText.{place_of, with_front}
 use Rattle.cqf_topology.specs.JoinedLink.{node_of}
+use Rattle.cqf_topology.specs.LinkTimes.{guard_within, has_long_delay as is_delay_long, has_long_gap as is_gap_long, has_long_sync as is_sync_long}
+use Rattle.cqf_topology.specs.declared.times.LinkTimes.{LinkTimes}
 use Rattle.cqf_sketch.specs.declared.draft.SketchLink.{SketchLink}
 use Rattle.cqf_sketch.specs.declared.draft.OneWay.{OneWay}
 use Rattle.cqf_sketch.specs.declared.faults.SketchFault.{SketchFault}
@@ -22,8 +22,7 @@ use Rattle.cqf_sketch.specs.declared.faults.SketchFault.TheVariants as fault
 pub record Edge : Type 0 where
   pub from : Node
   pub to : Node
-  pub rate : Rate
-  pub delay : ℕ
+  pub times : LinkTimes
   pub element : ℕ
 
 -- the node of a name: a bridge, or else a station
@@ -43,12 +42,12 @@ joined_edge bridges stations element way =
     and_then (ok_or (end_named bridges stations way.from) (fault.Domain (domain.UnknownName way.from))) (λ from.
     and_then (ok_or (end_named bridges stations way.to) (fault.Domain (domain.UnknownName way.to))) (λ to.
     if may_lead from to
-    then Ok (record { from = from; to = to; rate = way.rate; delay = way.delay; element = element })
+    then Ok (record { from = from; to = to; times = way.times; element = element })
     else Err (fault.Domain (domain.UnknownName way.to))))
 
 -- the same link back, and a link's directions, there before back
 abbrev pub back_of : Edge → Edge
-back_of edge = record { from = edge.to; to = edge.from; rate = edge.rate; delay = edge.delay; element = edge.element }
+back_of edge = record { from = edge.to; to = edge.from; times = edge.times; element = edge.element }
 
 abbrev pub edges_of : Bool → Edge → List Edge
 edges_of true edge = edge ∷ back_of edge ∷ []
@@ -106,19 +105,39 @@ from_alone edge = (edge.from, edge.from)
 abbrev pub first_again : List Edge → Option Node
 first_again edges = option_map (from_at edges) (first_repeat [] (map from_alone edges))
 
--- the element of the first edge of the plant whose delay isn't below the guard time, and of the first whose gap behind a frame is
--- above it
-abbrev pub has_long_delay : ℕ → Edge → Bool
-has_long_delay guard edge = not (is_talkers edge) && nat_le guard edge.delay
+-- a guard time reaches each of some cycle times
+abbrev pub reaches_each : List ℕ → ℕ → Bool
+reaches_each cycles guard = list_all (λ cycle. nat_le cycle guard) cycles
+
+-- of an edge of the plant: its guard time reaches each candidate; its greatest delay and how far clocks may be apart, together, aren't below
+-- its guard time; its gap behind a frame is above it; and clocks may be further apart than a shortest frame and the least delay take together
+abbrev pub has_long_guard : List ℕ → ℕ → Edge → Bool
+has_long_guard candidates guard edge = not (is_talkers edge) && reaches_each candidates (guard_within guard edge.times)
+
+abbrev pub has_long_delay : ℕ → ℕ → Edge → Bool
+has_long_delay sync guard edge = not (is_talkers edge) && is_delay_long sync guard edge.times
 
 abbrev pub has_long_gap : ℕ → Edge → Bool
-has_long_gap guard edge = not (is_talkers edge) && nat_lt guard (12 * nanos_of_octet edge.rate)
+has_long_gap guard edge = not (is_talkers edge) && is_gap_long guard edge.times
 
-abbrev pub first_long_delay : ℕ → List Edge → Option ℕ
-first_long_delay guard edges = option_map (λ (edge : Edge). edge.element) (find (has_long_delay guard) edges)
+abbrev pub has_long_sync : ℕ → Edge → Bool
+has_long_sync sync edge = not (is_talkers edge) && is_sync_long sync edge.times
+
+-- the element of the first edge that is so
+abbrev pub first_such : (Edge → Bool) → List Edge → Option ℕ
+first_such test edges = option_map (λ (edge : Edge). edge.element) (find test edges)
+
+abbrev pub first_long_guard : List ℕ → ℕ → List Edge → Option ℕ
+first_long_guard candidates guard edges = first_such (has_long_guard candidates guard) edges
+
+abbrev pub first_long_delay : ℕ → ℕ → List Edge → Option ℕ
+first_long_delay sync guard edges = first_such (has_long_delay sync guard) edges
 
 abbrev pub first_long_gap : ℕ → List Edge → Option ℕ
-first_long_gap guard edges = option_map (λ (edge : Edge). edge.element) (find (has_long_gap guard) edges)
+first_long_gap guard edges = first_such (has_long_gap guard) edges
+
+abbrev pub first_long_sync : ℕ → List Edge → Option ℕ
+first_long_sync sync edges = first_such (has_long_sync sync) edges
 
 -- how many edges are the plant's
 abbrev pub plant_count : List Edge → ℕ

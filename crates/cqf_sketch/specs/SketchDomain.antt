@@ -1,30 +1,33 @@
 -- The domain of a sketch, or the first fault of its text (profile).
-use Rattle.std.specs.Prelude.{ℕ, ◌≡◌, ◌≢◌, ◌<◌, ◌≤◌, List, [], ◌||◌, All, AllPairs, Bool, IsTrue, filter, find, length, map, nat_le, nat_lt, not}
+use Rattle.std.specs.Prelude.{ℕ, ◌≡◌, ◌≢◌, ◌<◌, ◌≤◌, List, [], ◌∷◌, ◌||◌, All, AllPairs, Bool, IsTrue, filter, find, length, map, max, nat_lt, not}
 use Rattle.std.specs.Prelude.{option_map, slice_index_or, unwrap_or, Option, None, Result, Ok}
-use Rattle.std.specs.List.{list_all, list_any}
+use Rattle.std.specs.List.{list_any}
 use Rattle.cqf_lists.specs.Results.{and_then, refuse}
 use Rattle.cqf_units.specs.Name.{is_name}
-use Rattle.cqf_model.specs.Domain.{Domain}
+use Rattle.cqf_model.specs.Domain.{Domain, guard_by}
 use Rattle.cqf_model.specs.declared.limits.Limits.{Limits}
 use Rattle.cqf_model.specs.Limits.{bridges_within, links_within, longest_cycle, stations_within}
 use Rattle.cqf_model.specs.declared.topology.Link.{Link}
 use Rattle.cqf_model.specs.declared.topology.Node.{Node}
 use Rattle.cqf_model.specs.declared.topology.Node.TheVariants.{Bridge, Station}
 use Rattle.cqf_topology.specs.declared.faults.DomainFault.TheVariants as domain
-use Rattle.cqf_topology.specs.DomainText.{IsDomain, domain_with, first_taken, if_so}
+use Rattle.cqf_topology.specs.DomainText.{IsDomain, domain_with, first_taken, if_so, link_with}
+use Rattle.cqf_topology.specs.LinkTimes.{AreReadTimes}
 use Rattle.cqf_sketch.specs.declared.draft.SketchLink.{SketchLink}
 use Rattle.cqf_sketch.specs.declared.domain.TalkerLink.{TalkerLink}
 use Rattle.cqf_sketch.specs.declared.faults.SketchFault.{SketchFault}
 use Rattle.cqf_sketch.specs.declared.faults.SketchFault.TheVariants as fault
-use Rattle.cqf_sketch.specs.Edges.{Edge, first_again, first_long_delay, first_long_gap, first_twice, is_talkers, joined, plant_count, talkers_of}
+use Rattle.cqf_sketch.specs.Edges.{Edge, first_again, first_long_delay, first_long_gap, first_long_guard, first_long_sync, first_twice}
+use Rattle.cqf_sketch.specs.Edges.{is_talkers, joined, plant_count, reaches_each, talkers_of}
 use Rattle.cqf_sketch.specs.SketchText.{SketchText, sketch_of_text}
 
--- a sketch's domain: its limits, candidates for the cycle time, in the order of wish, the guard time, names by number, the plant's links by
--- number, and the talkers' links
+-- a sketch's domain: its limits, candidates for the cycle time, in the order of wish, the guard time, how far clocks may be apart, names by
+-- number, the plant's links by number, and the talkers' links
 pub record SketchDomain : Type 0 where
   pub limits : Limits
   pub candidates : List ℕ
   pub guard : ℕ
+  pub sync : ℕ
   pub bridges : List (List ℕ)
   pub stations : List (List ℕ)
   pub links : List Link
@@ -32,21 +35,29 @@ pub record SketchDomain : Type 0 where
 
 -- the plant's domain with a cycle time, within the sketch's limits
 abbrev pub domain_at : SketchDomain → ℕ → Domain
-domain_at sketch cycle_time = domain_with sketch.limits cycle_time sketch.guard sketch.bridges sketch.stations sketch.links
+domain_at sketch cycle_time = domain_with sketch.limits cycle_time sketch.guard sketch.sync sketch.bridges sketch.stations sketch.links
 
 -- what a cycle may take, in nanoseconds
 pub record IsCycleTime (cycle_time : ℕ) : Type 0 where
   pub least : 10000 ≤ cycle_time
   pub most : cycle_time ≤ longest_cycle
 
--- a cycle time is open to a sketch: the plant can have it, for the guard time is below it
+-- the longest guard time of some links, where that of each other is this
+abbrev pub longest_of : ℕ → List Link → ℕ
+longest_of guard [] = guard
+longest_of guard (link ∷ links) = longest_of (max guard (guard_by guard link)) links
+
+abbrev pub longest_guard : SketchDomain → ℕ
+longest_guard sketch = longest_of sketch.guard sketch.links
+
+-- a cycle time is open to a sketch: the plant can have it, for each guard time is below it
 pub record IsOpenCycle (sketch : SketchDomain) (cycle_time : ℕ) : Type 0 where
   pub in_range : IsCycleTime cycle_time
-  pub above_guard : sketch.guard < cycle_time
+  pub above_guards : longest_guard sketch < cycle_time
 
--- the first candidate above the guard time
+-- the first candidate above each guard time
 abbrev pub open_cycle : SketchDomain → ℕ
-open_cycle sketch = unwrap_or (find (nat_lt sketch.guard) sketch.candidates) 0
+open_cycle sketch = unwrap_or (find (nat_lt (longest_guard sketch)) sketch.candidates) 0
 
 -- candidates for a cycle time: 1 to 1,000 of them
 pub record AreCandidates (cycles : List ℕ) : Type 0 where
@@ -70,7 +81,7 @@ pub record HasTalkerLinks (sketch : SketchDomain) : Type 0 where
 pub record IsSketch (sketch : SketchDomain) : Type 0 where
   pub domains : (cycle_time : ℕ) → IsOpenCycle sketch cycle_time → IsDomain (domain_at sketch cycle_time)
   pub are_candidates : AreCandidates sketch.candidates
-  pub some_open : IsTrue (list_any (nat_lt sketch.guard) sketch.candidates)
+  pub some_open : IsTrue (list_any (nat_lt (longest_guard sketch)) sketch.candidates)
   pub has_talkers : HasTalkerLinks sketch
 
 -- the number of a node among its like
@@ -83,10 +94,10 @@ abbrev pub plant_of : List Edge → List Edge
 plant_of edges = filter (λ edge. not (is_talkers edge)) edges
 
 abbrev pub link_of : Edge → Link
-link_of edge = record { from = number_of edge.from; to = edge.to; rate = edge.rate; delay = edge.delay }
+link_of edge = link_with (number_of edge.from) edge.to edge.times
 
 abbrev pub talker_of : Edge → TalkerLink
-talker_of edge = record { station = number_of edge.from; bridge = number_of edge.to; rate = edge.rate; delay = edge.delay }
+talker_of edge = record { station = number_of edge.from; bridge = number_of edge.to; rate = edge.times.rate; delay = edge.times.delay }
 
 -- the name of a station
 abbrev pub station_named : List (List ℕ) → Node → List ℕ
@@ -104,7 +115,7 @@ is_too_many text edges =
 
 -- the guard time reaches each candidate, and so the greatest
 abbrev pub is_guard_too_long : SketchText → Bool
-is_guard_too_long text = list_all (λ cycle. nat_le cycle text.guard) text.candidates
+is_guard_too_long text = reaches_each text.candidates text.guard
 
 -- the domain that the text says, with these edges
 abbrev pub sketch_with : SketchText → List Edge → SketchDomain
@@ -112,6 +123,7 @@ sketch_with text edges = record {
   limits = text.limits;
   candidates = text.candidates;
   guard = text.guard;
+  sync = text.sync;
   bridges = text.bridges;
   stations = text.stations;
   links = map link_of (plant_of edges);
@@ -124,10 +136,12 @@ with_edges text edges =
     refuse (first_twice edges) (λ element. fault.Domain (domain.LinkTwice element)) (
     refuse (second_talker text edges) fault.TwoTalkerLinks (
     refuse (if_so (is_guard_too_long text)) (λ _. fault.Domain domain.GuardTooLong) (
-    refuse (first_long_delay text.guard edges) (λ element. fault.Domain (domain.DelayTooLong element)) (
+    refuse (first_long_guard text.candidates text.guard edges) (λ element. fault.Domain (domain.LinkGuardTooLong element)) (
+    refuse (first_long_delay text.sync text.guard edges) (λ element. fault.Domain (domain.DelayTooLong element)) (
     refuse (first_long_gap text.guard edges) (λ element. fault.Domain (domain.GapTooLong element)) (
     refuse (if_so (is_too_many text edges)) (λ _. fault.Domain domain.TooMany) (
-    Ok (sketch_with text edges)))))))
+    refuse (first_long_sync text.sync edges) (λ element. fault.Domain (domain.SyncTooLong element)) (
+    Ok (sketch_with text edges)))))))))
 
 -- a name that stood earlier, as a fault
 abbrev pub name_taken : List ℕ → SketchFault
@@ -166,10 +180,11 @@ StationInside stations (Station s) = s < stations
 pub record IsReadableSketch (text : SketchText) : Type 0 where
   pub are_candidates : AreCandidates text.candidates
   pub guard_some : 0 < text.guard
+  pub sync_most : text.sync ≤ longest_cycle
   pub some_bridge : 0 < length text.bridges
   pub bridges_named : All (λ name. IsTrue (is_name name)) text.bridges
   pub stations_named : All (λ name. IsTrue (is_name name)) text.stations
-  pub delays_most : All (λ (link : SketchLink). link.there.delay ≤ longest_cycle) text.links
+  pub times_are_read : All (λ (link : SketchLink). AreReadTimes link.there.times) text.links
 
 -- a text's names by number: none of them stands twice
 pub record HasNumberedNames (text : SketchText) (bridges stations : List (List ℕ)) : Type 0 where

@@ -4,11 +4,12 @@ use Rattle.toml.specs.Data.{Data, Items, Members, as_array, as_bool, as_table, g
 use Rattle.cqf_lists.specs.Results.{and_then}
 use Rattle.cqf_model.specs.declared.limits.Limits.{Limits}
 use Rattle.cqf_topology.specs.declared.keys.Key.{Key}
-use Rattle.cqf_topology.specs.declared.keys.Key.TheVariants.{Cycle, Guard, Bridges, Stations, Links, From, To, Rate, Delay}
+use Rattle.cqf_topology.specs.declared.keys.Key.TheVariants.{Cycle, Guard, Bridges, Stations, Links, From, To}
 use Rattle.cqf_topology.specs.declared.toml_faults.TomlFault.{TomlFault}
 use Rattle.cqf_topology.specs.declared.toml_faults.TomlFault.TheVariants.{BadValue}
 use Rattle.cqf_topology.specs.Fields.{are_tables, each_from, name_from, names_at, number_from, read_at, value_at, whole_document}
-use Rattle.cqf_topology.specs.DomainText.{domain_keys, if_some, link_keys, rate_from}
+use Rattle.cqf_topology.specs.DomainText.{domain_keys, if_some, link_keys, sync_from}
+use Rattle.cqf_topology.specs.LinkTimes.{times_read}
 use Rattle.cqf_sketch.specs.declared.draft.SketchLink.{SketchLink}
 use Rattle.cqf_sketch.specs.declared.draft.OneWay.{OneWay}
 use Rattle.cqf_sketch.specs.declared.faults.SketchFault.{SketchFault}
@@ -21,11 +22,12 @@ pub record SketchText : Type 0 where
   pub limits : Limits
   pub candidates : List ℕ
   pub guard : ℕ
+  pub sync : ℕ
   pub bridges : List (List ℕ)
   pub stations : List (List ℕ)
   pub links : List SketchLink
 
--- its keys, in reading order: where candidates are given, that of the cycle time isn't read
+-- the keys that it owes, in reading order: where candidates are given, that of the cycle time isn't read
 abbrev pub sketch_keys : Option (List ℕ) → List Key
 sketch_keys None = domain_keys
 sketch_keys (Some given) = Guard ∷ Bridges ∷ Stations ∷ Links ∷ []
@@ -71,9 +73,8 @@ abbrev pub one_way_read : Members → Result OneWay TomlFault
 one_way_read table =
     and_then (read_at From name_from table) (λ from.
     and_then (read_at To name_from table) (λ to.
-    and_then (read_at Rate rate_from table) (λ rate.
-    and_then (read_at Delay (number_from 0 10000000) table) (λ delay.
-    Ok (record { from = from; to = to; rate = rate; delay = delay })))))
+    and_then (times_read table) (λ times.
+    Ok (record { from = from; to = to; times = times }))))
 
 abbrev pub link_read : Members → Result SketchLink SketchFault
 link_read table =
@@ -96,10 +97,11 @@ abbrev pub sketch_from : Limits → Option (List ℕ) → Members → Result Ske
 sketch_from limits given table =
     and_then (or_sketch (candidates_read given table)) (λ candidates.
     and_then (or_sketch (read_at Guard (number_from 1 10000000) table)) (λ guard.
+    and_then (or_sketch (sync_from table)) (λ sync.
     and_then (or_sketch (and_then (names_at Bridges table) (if_some Bridges))) (λ bridges.
     and_then (or_sketch (names_at Stations table)) (λ stations.
     and_then (links_read table) (λ links.
-    Ok (record { limits = limits; candidates = candidates; guard = guard; bridges = bridges; stations = stations; links = links }))))))
+    Ok (record { limits = limits; candidates = candidates; guard = guard; sync = sync; bridges = bridges; stations = stations; links = links })))))))
 
 -- what a sketch's domain says, or its first fault in being read
 abbrev pub sketch_of_text : Limits → Option (List ℕ) → List ℕ → Result SketchText SketchFault

@@ -2,7 +2,8 @@
 ghost use Rattle.std.specs.Prelude.{◌≡◌, ◌<◌, All, IfOk, IfSome, Some, length, map, option_map};
 ghost use Rattle.cqf_topology.specs.Fields.{Gives};
 ghost use Rattle.cqf_sketch.specs.SketchDomain.{EdgeInside, StationInside, is_guard_too_long, is_too_many, second_talker, sketch_with, with_edges};
-ghost use Rattle.cqf_sketch.specs.Edges.{element_at, ends_of, first_again, first_long_delay, first_long_gap, first_twice, from_alone, from_at, pair_of, plant_count, talkers_of};
+ghost use Rattle.cqf_sketch.specs.Edges.{element_at, ends_of, first_again, first_long_delay, first_long_gap, first_long_guard, first_long_sync, first_twice};
+ghost use Rattle.cqf_sketch.specs.Edges.{from_alone, from_at, has_long_delay, has_long_gap, has_long_guard, has_long_sync, pair_of, plant_count, reaches_each, talkers_of};
 
 use crate::SketchFault;
 use crate::draft::SketchDraft;
@@ -113,24 +114,95 @@ pub(crate) fn talkers_of(alloc: Global, edges: &[JoinedEdge]) -> Result<Vec<Join
     Ok(talkers)
 }
 
-/// The element of the first link of the plant whose delay isn't below the guard time.
-pub(crate) fn find_long_delay(edges: &[JoinedEdge], guard: u32) -> Option<usize>
-    ensures { result ≡ first_long_delay guard edges.now }
+/// Whether a guard time reaches each of the candidates.
+fn reaches_each(candidates: &[u32], guard: u32) -> bool
+    ensures { result ≡ reaches_each candidates.now guard }
+{
+    candidates.iter().all(|cycle| *cycle <= guard)
+}
+
+/// Whether the link is the plant's and its guard time reaches each candidate.
+fn has_long_guard(edge: JoinedEdge, candidates: &[u32], guard: u32) -> bool
+    ensures { result ≡ has_long_guard candidates.now guard edge }
+{
+    if edge.is_talkers() {
+        return false;
+    }
+    reaches_each(candidates, edge.times().guard_within(guard))
+}
+
+/// Whether the link is the plant's, and its greatest delay and how far clocks may be apart, together, aren't below its guard time.
+fn has_long_delay(edge: JoinedEdge, sync: u32, guard: u32) -> bool
+    ensures { result ≡ has_long_delay sync guard edge }
+{
+    if edge.is_talkers() {
+        return false;
+    }
+    edge.times().has_long_delay(sync, guard)
+}
+
+/// Whether the link is the plant's and the gap behind a frame takes longer than its guard time.
+fn has_long_gap(edge: JoinedEdge, guard: u32) -> bool
+    ensures { result ≡ has_long_gap guard edge }
+{
+    if edge.is_talkers() {
+        return false;
+    }
+    edge.times().has_long_gap(guard)
+}
+
+/// Whether the link is the plant's, and clocks may be further apart than a shortest frame and its least delay take together.
+fn has_long_sync(edge: JoinedEdge, sync: u32) -> bool
+    ensures { result ≡ has_long_sync sync edge }
+{
+    if edge.is_talkers() {
+        return false;
+    }
+    edge.times().has_long_sync(sync)
+}
+
+/// The element of the first link of the plant whose guard time reaches each candidate.
+fn find_long_guard(edges: &[JoinedEdge], candidates: &[u32], guard: u32) -> Option<usize>
+    ensures { result ≡ first_long_guard candidates.now guard edges.now }
 {
     for edge in edges {
-        if edge.has_long_delay(guard) {
+        if has_long_guard(*edge, candidates, guard) {
             return Some(edge.element());
         }
     }
     None
 }
 
-/// The element of the first link of the plant on which the gap behind a frame isn't within the guard time.
-pub(crate) fn find_long_gap(edges: &[JoinedEdge], guard: u32) -> Option<usize>
+/// The element of the first link of the plant whose greatest delay and how far clocks may be apart, together, aren't below its guard time.
+fn find_long_delay(edges: &[JoinedEdge], sync: u32, guard: u32) -> Option<usize>
+    ensures { result ≡ first_long_delay sync guard edges.now }
+{
+    for edge in edges {
+        if has_long_delay(*edge, sync, guard) {
+            return Some(edge.element());
+        }
+    }
+    None
+}
+
+/// The element of the first link of the plant on which the gap behind a frame takes longer than its guard time.
+fn find_long_gap(edges: &[JoinedEdge], guard: u32) -> Option<usize>
     ensures { result ≡ first_long_gap guard edges.now }
 {
     for edge in edges {
-        if edge.has_long_gap(guard) {
+        if has_long_gap(*edge, guard) {
+            return Some(edge.element());
+        }
+    }
+    None
+}
+
+/// The element of the first link of the plant on which clocks may be further apart than a shortest frame and its least delay take together.
+fn find_long_sync(edges: &[JoinedEdge], sync: u32) -> Option<usize>
+    ensures { result ≡ first_long_sync sync edges.now }
+{
+    for edge in edges {
+        if has_long_sync(*edge, sync) {
             return Some(edge.element());
         }
     }
@@ -154,8 +226,7 @@ pub(crate) fn plant_count(edges: &[JoinedEdge]) -> usize
 fn is_guard_too_long(draft: &SketchDraft) -> bool
     ensures { result ≡ is_guard_too_long draft.now }
 {
-    let guard = draft.guard();
-    draft.candidates().iter().all(|cycle| *cycle <= guard)
+    reaches_each(draft.candidates(), draft.guard())
 }
 
 /// Whether there are more bridges, stations or links of the plant than a domain may have.
@@ -178,6 +249,7 @@ pub(crate) fn check(
     ensures { Gives (SketchFault.Domain DomainFault.Memory) (λ _. sketch_with draft.now edges.now) result (with_edges draft.now edges.now) }
 {
     let guard = draft.guard();
+    let sync = draft.sync();
     if let Some(element) = find_twice(alloc, edges)? {
         return Err(SketchFault::Domain(DomainFault::LinkTwice(element)));
     }
@@ -187,7 +259,10 @@ pub(crate) fn check(
     if is_guard_too_long(draft) {
         return Err(SketchFault::Domain(DomainFault::GuardTooLong));
     }
-    if let Some(element) = find_long_delay(edges, guard) {
+    if let Some(element) = find_long_guard(edges, draft.candidates(), guard) {
+        return Err(SketchFault::Domain(DomainFault::LinkGuardTooLong(element)));
+    }
+    if let Some(element) = find_long_delay(edges, sync, guard) {
         return Err(SketchFault::Domain(DomainFault::DelayTooLong(element)));
     }
     if let Some(element) = find_long_gap(edges, guard) {
@@ -195,6 +270,9 @@ pub(crate) fn check(
     }
     if is_too_many(draft, edges) {
         return Err(SketchFault::Domain(DomainFault::TooMany));
+    }
+    if let Some(element) = find_long_sync(edges, sync) {
+        return Err(SketchFault::Domain(DomainFault::SyncTooLong(element)));
     }
     Ok(())
 }

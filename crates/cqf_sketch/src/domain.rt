@@ -3,7 +3,7 @@ ghost use Rattle.std.specs.Prelude.{◌≡◌, All, IfOk, IfSome, find, map, nat
 ghost use Rattle.cqf_model.specs.Limits.{most_bridges, most_stations};
 ghost use Rattle.cqf_sketch.specs.Edges.{talkers_of};
 ghost use Rattle.cqf_topology.specs.Fields.{Gives};
-ghost use Rattle.cqf_sketch.specs.SketchDomain.{AreCandidates, AreCheckedEdges, HasNumberedNames, HasTalkerLinks, IsOpenCycle, IsReadableSketch, domain_at, open_cycle};
+ghost use Rattle.cqf_sketch.specs.SketchDomain.{AreCandidates, AreCheckedEdges, HasNumberedNames, HasTalkerLinks, IsOpenCycle, IsReadableSketch, domain_at, longest_guard, longest_of, open_cycle};
 ghost use Rattle.cqf_sketch.specs.SketchDomain.{EdgeInside, checked, link_of, plant_of, sketch_domain_of_text, sketch_with, talker_of, with_names};
 
 use crate::SketchFault;
@@ -24,17 +24,18 @@ pub struct TalkerLink {
     /// The number of the bridge in which it ends.
     pub bridge: u16,
     pub rate: Rate,
-    /// In nanoseconds.
+    /// The greatest delay, in nanoseconds.
     pub delay: u32,
 }
 
-/// The domain of a sketch: its limits, candidates for its cycle time, in the order of wish, its guard time, its bridges and stations by name
-/// and by number, the plant's directed links by number, and the talkers' links.
+/// The domain of a sketch: its limits, candidates for its cycle time, in the order of wish, its guard time, how far its clocks may be apart,
+/// its bridges and stations by name and by number, the plant's directed links by number, and the talkers' links.
 #[derive(Debug, Drop)]
 pub struct SketchDomain {
     limits: Limits,
     candidates: Vec<u32>,
     guard: u32,
+    sync: u32,
     bridges: NameList,
     stations: NameList,
     links: LinkList,
@@ -50,6 +51,7 @@ impl Model for SketchDomain {
       limits = d.limits;
       candidates = d.candidates.items;
       guard = d.guard;
+      sync = d.sync;
       bridges = d.bridges.keys;
       stations = d.stations.keys;
       links = d.links.items;
@@ -60,6 +62,7 @@ impl Model for SketchDomain {
       limits = d.limits;
       candidates = d.candidates.items;
       guard = d.guard;
+      sync = d.sync;
       bridges = d.bridges.keys;
       stations = d.stations.keys;
       links = d.links.items;
@@ -67,7 +70,18 @@ impl Model for SketchDomain {
     }) };
 }
 
-/// The first candidate above the guard time.
+/// The longest guard time of some links, where that of each other is this.
+fn longest_of(guard: u32, links: &[Link]) -> u32
+    ensures { result ≡ longest_of guard links.now }
+{
+    let mut longest = guard;
+    for link in links {
+        longest = longest.max(link.guard_by(longest));
+    }
+    longest
+}
+
+/// The first candidate above a guard time.
 fn first_above(candidates: &[u32], guard: u32) -> Option<u32>
     ensures { result ≡ find (nat_lt guard) candidates.now }
 {
@@ -144,6 +158,7 @@ impl SketchDomain {
             limits: draft.limits(),
             candidates,
             guard: draft.guard(),
+            sync: draft.sync(),
             bridges,
             stations,
             links,
@@ -171,9 +186,11 @@ impl SketchDomain {
     /// bridges before stations, that stood earlier; `UnknownName`, of the first `from` that names no node, or `to` that names no node
     /// other than that, and no bridge where `from` is a station; `LinkTwice`, of the first link that leads as an earlier one does, also
     /// back; `TwoTalkerLinks`, of the first station that gets a second; `GuardTooLong`, where the guard time reaches the greatest
-    /// candidate; `DelayTooLong` and `GapTooLong`, of the first link of the plant whose delay isn't below the guard time, and on which
-    /// the gap behind a frame takes longer; and `TooMany`, where there are more bridges, stations or links of the plant than may be.
-    /// `Memory` where a growth is refused.
+    /// candidate, and `LinkGuardTooLong`, of the first link of the plant whose own does; `DelayTooLong`, of the first link of the plant
+    /// whose greatest delay and how far clocks may be apart, together, aren't below its guard time, and `GapTooLong`, of the first on
+    /// which the gap behind a frame takes longer; `TooMany`, where there are more bridges, stations or links of the plant than may be;
+    /// and `SyncTooLong`, of the first link of the plant on which clocks may be further apart than a shortest frame and its least delay
+    /// take together. `Memory` where a growth is refused.
     pub fn read(
         alloc: Global,
         text: &[u8],
@@ -188,7 +205,7 @@ impl SketchDomain {
         SketchDomain::of_draft(alloc, &draft)
     }
 
-    /// The plant's domain with a cycle time that is open, in nanoseconds: 10,000 to 10,000,000, and above the guard time. It is
+    /// The plant's domain with a cycle time that is open, in nanoseconds: 10,000 to 10,000,000, and above each guard time. It is
     /// accepted.
     ///
     /// # Errors
@@ -204,6 +221,7 @@ impl SketchDomain {
             self.limits,
             cycle_time,
             self.guard,
+            self.sync,
             bridges,
             stations,
             links,
@@ -211,7 +229,7 @@ impl SketchDomain {
     }
 
     /// The candidates for the cycle time, in the order of wish: 1 to 1,000 of them, each from 10,000 to 10,000,000 ns. Each that is
-    /// above the guard time is open.
+    /// above each guard time is open.
     pub fn candidates(&self) -> &[u32]
         ensures value { result.now ≡ self.now.candidates }
         ensures few { AreCandidates result.now }
@@ -219,22 +237,32 @@ impl SketchDomain {
         self.candidates.as_slice()
     }
 
-    /// The first candidate above the guard time, in nanoseconds. There is one.
+    /// The first candidate above each guard time, in nanoseconds. There is one.
     pub fn open_cycle(&self) -> u32
         ensures first { result ≡ open_cycle self.now }
         ensures is_open { IsOpenCycle self.now result }
     {
-        match first_above(self.candidates.as_slice(), self.guard) {
+        let links = self.links.as_slice();
+        let candidates = self.candidates.as_slice();
+        let longest = longest_of(self.guard, links);
+        match first_above(candidates, longest) {
             Some(cycle) => cycle,
             None => unreachable!(),
         }
     }
 
-    /// The guard time, in nanoseconds.
-    pub fn guard(&self) -> u32
-        ensures { result ≡ self.now.guard }
+    /// The longest guard time, in nanoseconds: of the links of the plant that have their own, and of all others.
+    pub fn longest_guard(&self) -> u32
+        ensures { result ≡ longest_guard self.now }
     {
-        self.guard
+        longest_of(self.guard, self.links.as_slice())
+    }
+
+    /// How far any two clocks may be apart, in nanoseconds.
+    pub fn sync(&self) -> u32
+        ensures { result ≡ self.now.sync }
+    {
+        self.sync
     }
 
     /// The plant's links, by number.

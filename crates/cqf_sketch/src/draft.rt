@@ -12,10 +12,10 @@ use crate::SketchFault;
 use crate::cycles::candidates_at;
 use cqf_model::{LONGEST_CYCLE, Limits};
 use cqf_topology::{
-    DomainFault, Key, TomlFault, are_all_tables, array_at, name_at, names_at, number_at, rate_at,
-    read_document, value_at,
+    DomainFault, Key, LinkTimes, TomlFault, are_all_tables, array_at, name_at, names_at, number_at,
+    read_document, sync_at, times_at,
 };
-use cqf_units::{Name, Rate};
+use cqf_units::Name;
 use std::alloc::Global;
 use std::marker::Model;
 use toml::{Table, Value};
@@ -25,9 +25,7 @@ use toml::{Table, Value};
 pub struct OneWay {
     pub from: Name,
     pub to: Name,
-    pub rate: Rate,
-    /// In nanoseconds.
-    pub delay: u32,
+    pub times: LinkTimes,
 }
 
 /// A link of a sketch: there, and where it is `duplex` back too.
@@ -43,6 +41,7 @@ pub struct SketchDraft {
     limits: Limits,
     candidates: Vec<u32>,
     guard: u32,
+    sync: u32,
     bridges: Vec<Name>,
     stations: Vec<Name>,
     links: Vec<SketchLink>,
@@ -53,7 +52,7 @@ impl Model for SketchDraft {
 
     ghost Value = { SketchText };
 
-    ghost view = { λ d. record { limits = d.limits; candidates = d.candidates.items; guard = d.guard; bridges = d.bridges.items; stations = d.stations.items; links = d.links.items } };
+    ghost view = { λ d. record { limits = d.limits; candidates = d.candidates.items; guard = d.guard; sync = d.sync; bridges = d.bridges.items; stations = d.stations.items; links = d.links.items } };
 }
 
 impl SketchDraft {
@@ -77,6 +76,12 @@ impl SketchDraft {
         self.guard
     }
 
+    pub fn sync(&self) -> u32
+        ensures { result ≡ self.now.sync }
+    {
+        self.sync
+    }
+
     pub fn bridges(&self) -> &[Name]
         ensures { result.now ≡ self.now.bridges }
     {
@@ -96,7 +101,7 @@ impl SketchDraft {
     }
 }
 
-/// The keys of a sketch's domain, in reading order.
+/// The keys that a sketch's domain owes, in reading order.
 const KEYS: [Key; 5] = [
     Key::Cycle,
     Key::Guard,
@@ -105,7 +110,7 @@ const KEYS: [Key; 5] = [
     Key::Links,
 ];
 
-/// The keys of a link's table that each has, in reading order.
+/// The keys that a link's table owes, in reading order.
 const LINK_KEYS: [Key; 4] = [Key::From, Key::To, Key::Rate, Key::Delay];
 
 /// The way there of a link's table.
@@ -114,14 +119,8 @@ fn read_one_way(table: &Table) -> Result<OneWay, TomlFault>
 {
     let from = name_at(table, Key::From)?;
     let to = name_at(table, Key::To)?;
-    let rate = rate_at(table)?;
-    let delay = number_at(table, Key::Delay, 0, LONGEST_CYCLE)?;
-    Ok(OneWay {
-        from,
-        to,
-        rate,
-        delay,
-    })
+    let times = times_at(table)?;
+    Ok(OneWay { from, to, times })
 }
 
 /// Whether a value means a way back too.
@@ -230,6 +229,7 @@ fn read_table(
 {
     let candidates = read_candidates(alloc, table, given)?;
     let guard = number_at(table, Key::Guard, 1, LONGEST_CYCLE)?;
+    let sync = sync_at(table)?;
     let bridges = read_bridges(alloc, table)?;
     let stations = names_at(alloc, table, Key::Stations)?;
     let links = read_links(alloc, table)?;
@@ -237,6 +237,7 @@ fn read_table(
         limits,
         candidates,
         guard,
+        sync,
         bridges,
         stations,
         links,

@@ -4,14 +4,14 @@ ghost use Rattle.cqf_model.specs.Limits.{most_bridges, most_stations};
 ghost use Rattle.cqf_topology.specs.Fields.{Gives};
 ghost use Rattle.cqf_topology.specs.JoinedLink.{node_of};
 ghost use Rattle.cqf_sketch.specs.SketchDomain.{EdgeInside, NodeInside, link_of, number_of, talker_of};
-ghost use Rattle.cqf_sketch.specs.Edges.{back_of, edges_of, ends_of, from_alone, has_long_delay, has_long_gap, is_talkers, joined, joined_edge, may_lead, pair_of};
+ghost use Rattle.cqf_sketch.specs.Edges.{back_of, edges_of, ends_of, from_alone, is_talkers, joined, joined_edge, may_lead, pair_of};
 
 use crate::SketchFault;
 use crate::domain::TalkerLink;
 use crate::draft::{OneWay, SketchLink};
 use cqf_model::{Link, Node};
-use cqf_topology::{DomainFault, End, NameList, end_of_name};
-use cqf_units::{Memory, Name, Rate, octet_time};
+use cqf_topology::{DomainFault, End, LinkTimes, NameList, end_of_name};
+use cqf_units::{Memory, Name};
 use std::alloc::Global;
 use std::marker::Model;
 
@@ -20,8 +20,7 @@ use std::marker::Model;
 pub(crate) struct JoinedEdge {
     from: End,
     to: End,
-    rate: Rate,
-    delay: u32,
+    times: LinkTimes,
     element: usize,
 }
 
@@ -31,9 +30,9 @@ impl Model for JoinedEdge {
 
     ghost Value = { Edge };
 
-    ghost view = { λ e. record { from = node_of e.from; to = node_of e.to; rate = e.rate; delay = e.delay; element = e.element } };
+    ghost view = { λ e. record { from = node_of e.from; to = node_of e.to; times = e.times; element = e.element } };
 
-    ghost inverse = { λ e. record { from = end_of_joined e.from; to = end_of_joined e.to; rate = e.rate; delay = e.delay; element = e.element } };
+    ghost inverse = { λ e. record { from = end_of_joined e.from; to = end_of_joined e.to; times = e.times; element = e.element } };
 }
 
 /// Whether a link may lead from a node to a node.
@@ -70,8 +69,7 @@ fn join_edge(
     Ok(JoinedEdge {
         from,
         to,
-        rate: way.rate,
-        delay: way.delay,
+        times: way.times,
         element,
     })
 }
@@ -116,8 +114,10 @@ impl JoinedEdge {
         Link {
             from: small_number(self.from),
             to: small_node(self.to),
-            rate: self.rate,
-            delay: self.delay,
+            rate: self.times.rate,
+            delay: self.times.delay,
+            least: self.times.least,
+            guard: self.times.guard,
         }
     }
 
@@ -129,8 +129,8 @@ impl JoinedEdge {
         TalkerLink {
             station: small_number(self.from),
             bridge: small_number(self.to),
-            rate: self.rate,
-            delay: self.delay,
+            rate: self.times.rate,
+            delay: self.times.delay,
         }
     }
 
@@ -141,24 +141,11 @@ impl JoinedEdge {
         self.element
     }
 
-    /// Whether it is the plant's and its delay isn't below the guard time.
-    pub(crate) fn has_long_delay(self, guard: u32) -> bool
-        ensures { result ≡ has_long_delay guard self }
+    /// What its table says beside its ends.
+    pub(crate) fn times(self) -> LinkTimes
+        ensures { result ≡ self.times }
     {
-        if self.is_talkers() {
-            return false;
-        }
-        guard <= self.delay
-    }
-
-    /// Whether it is the plant's and the gap behind a frame isn't within the guard time.
-    pub(crate) fn has_long_gap(self, guard: u32) -> bool
-        ensures { result ≡ has_long_gap guard self }
-    {
-        if self.is_talkers() {
-            return false;
-        }
-        u64::from(guard) < 12 * octet_time(self.rate)
+        self.times
     }
 
     /// The same link back.
@@ -168,8 +155,7 @@ impl JoinedEdge {
         JoinedEdge {
             from: self.to,
             to: self.from,
-            rate: self.rate,
-            delay: self.delay,
+            times: self.times,
             element: self.element,
         }
     }

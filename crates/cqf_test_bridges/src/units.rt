@@ -1,6 +1,6 @@
 //! Names, reservations and times.
 use cqf_units::{
-    Cycle, Name, Nanos, Octets, Rate, budget, cost, cycle_of, end_of, idle_from, octet_time, wire,
+    Cycle, Name, Nanos, Octets, Rate, budget, cost, cycle_of, end_of, idle_from, octet_ticks, wire,
 };
 use std::alloc::Global;
 
@@ -62,11 +62,17 @@ fn a_name_has_1_to_32_bytes_of_the_set(rt: HostRuntime) {
 /// Octets that are reserved, and what they cost: 20 more for each frame of 64.
 const COSTS: &[(u32, u32)] = &[(64, 84), (1500, 1960), (11_440, 15_000), (60_000, 78_740)];
 
-/// Rates, the nanoseconds of an octet, and the budget of a cycle of 125,000 ns with a guard time of 5,000 ns.
+/// Rates, the ticks of 40 ps of an octet, and the budget of a cycle of 125,000 ns with a guard time of 5,000 ns.
 const RATES: &[(Rate, u64, u32)] = &[
-    (Rate::Mb10, 800, 150),
-    (Rate::Mb100, 80, 1500),
-    (Rate::Mb1000, 8, 15_000),
+    (Rate::Mb10, 20_000, 150),
+    (Rate::Mb100, 2000, 1500),
+    (Rate::Mb1000, 200, 15_000),
+    (Rate::Mb2500, 80, 37_388),
+    (Rate::Mb5000, 40, 74_556),
+    (Rate::Mb10000, 20, 148_235),
+    (Rate::Mb25000, 8, 362_068),
+    (Rate::Mb40000, 5, 572_727),
+    (Rate::Mb100000, 2, 1_312_500),
 ];
 
 /// Instants, and their cycles of 125,000 ns.
@@ -81,8 +87,8 @@ fn reservations_cost_their_octets_and_the_gaps(rt: HostRuntime) {
 
 #[test]
 fn octets_take_their_time_and_the_budget_is_the_cycle_without_the_guard(rt: HostRuntime) {
-    for (rate, nanoseconds, octets) in RATES {
-        assert!(rt; octet_time(*rate) == *nanoseconds);
+    for (rate, ticks, octets) in RATES {
+        assert!(rt; octet_ticks(*rate) == *ticks);
         assert!(rt; budget(Nanos(125_000), Nanos(5000), *rate) == Octets(*octets));
     }
 }
@@ -98,6 +104,8 @@ fn a_cycle_begins_at_its_first_instant(rt: HostRuntime) {
 fn frames_end_and_the_port_idles_at_the_worked_instants(rt: HostRuntime) {
     assert!(rt; wire(Octets(64)) == Octets(84));
     assert!(rt; end_of(Nanos(10), Octets(64), Rate::Mb1000) == Nanos(586));
+    assert!(rt; end_of(Nanos(10), Octets(64), Rate::Mb10000) == Nanos(68));
+    assert!(rt; idle_from(Nanos(10), Octets(64), Rate::Mb100000) == Nanos(17));
     assert!(rt; idle_from(Nanos(10), Octets(64), Rate::Mb1000) == Nanos(682));
     assert!(rt; end_of(Nanos(0), Octets(1522), Rate::Mb1000) == Nanos(12_240));
 }

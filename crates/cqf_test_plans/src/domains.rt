@@ -63,6 +63,28 @@ const CHANGES: &[(&str, &str, &str)] = &[
     ("delay = 600", "delay = 4000", "DelayTooLong 1"),
     ("delay = 700", "delay = 4000", "read"),
     ("\"s\", \"t\"", "\"s\", \"s\"", "NameTaken s"),
+    ("guard = 4000", "guard = 4000\nsync = 1076", "read"),
+    ("guard = 4000", "guard = 4000\nsync = 1077", "SyncTooLong 0"),
+    (
+        "guard = 4000",
+        "guard = 4000\nsync = 3400",
+        "DelayTooLong 1",
+    ),
+    ("guard = 4000", "guard = 4000\nsync = -1", "BadValue sync"),
+    ("delay = 500", "delay = [400, 600]", "read"),
+    ("delay = 500", "delay = [600, 400]", "BadValue delay"),
+    ("delay = 700", "delay = [700, 4000]", "read"),
+    ("delay = 500", "delay = 500, guard = 0", "BadValue guard"),
+    ("delay = 500", "delay = 500, guard = 501", "read"),
+    ("delay = 500", "delay = 500, guard = 500", "DelayTooLong 0"),
+    ("delay = 500", "delay = 500, guard = 200000", "read"),
+    (
+        "delay = 500",
+        "delay = 500, guard = 250000",
+        "LinkGuardTooLong 0",
+    ),
+    ("delay = 700", "delay = 700, guard = 250000", "read"),
+    ("rate = 1000", "rate = 25000", "read"),
 ];
 
 #[test]
@@ -99,17 +121,38 @@ fn opens_at(alloc: Global, text: &str, cycle: u64) -> bool {
     }
 }
 
-/// A candidate that the guard time reaches isn't open.
+/// Whether the sketch, its candidates the other way round and another text in the place of a part of it, has the plant with this cycle
+/// time.
+fn turned_opens_at(alloc: Global, old: &str, new: &str, cycle: u64) -> bool {
+    let Ok(turned) = SKETCH.replacen(alloc, "[250000, 125000]", "[125000, 250000]", 1) else {
+        return false;
+    };
+    match turned.replacen(alloc, old, new, 1) {
+        Ok(text) => opens_at(alloc, text.as_str(), cycle),
+        Err(_) => false,
+    }
+}
+
+/// A candidate that a guard time reaches isn't open.
 #[test]
 fn the_plant_has_the_first_open_cycle(rt: HostRuntime) {
     assert!(rt; opens_at(rt.alloc(), SKETCH, 250_000));
-    match SKETCH.replacen(
-        rt.alloc(),
-        "[250000, 125000]\nguard = 4000",
-        "[125000, 250000]\nguard = 125000",
-        1,
-    ) {
-        Ok(text) => assert!(rt; opens_at(rt.alloc(), text.as_str(), 250_000)),
-        Err(_) => assert!(rt; false),
-    }
+    assert!(rt; turned_opens_at(rt.alloc(), "", "", 125_000));
+    assert!(rt; turned_opens_at(rt.alloc(), "guard = 4000", "guard = 125000", 250_000));
+    assert!(rt;
+        turned_opens_at(
+            rt.alloc(),
+            "delay = 600",
+            "delay = 600, guard = 125000",
+            250_000
+        )
+    );
+    assert!(rt;
+        turned_opens_at(
+            rt.alloc(),
+            "delay = 600",
+            "delay = 600, guard = 124999",
+            125_000
+        )
+    );
 }

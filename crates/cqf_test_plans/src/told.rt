@@ -183,6 +183,54 @@ octets = 64
 path = [\"a\", \"s\"]
 ";
 
+/// Clocks that may be apart, a link whose delay varies, with a guard time of its own, and one at another rate.
+const LOOSE: &str = "bridges = [\"a\"]
+cycle = 125000
+guard = 5000
+stations = [\"s\", \"t\"]
+streams = []
+sync = 500
+
+[[links]]
+delay = [400, 600]
+from = \"a\"
+guard = 2000
+rate = 2500
+to = \"s\"
+
+[[links]]
+delay = 500
+from = \"a\"
+rate = 100000
+to = \"t\"
+";
+
+/// A plant that says of its clocks and of a link's delay what stands where nothing is said, and a guard time of a link's own that is the
+/// domain's.
+const EXACT: &str = "bridges = [\"a\"]
+cycle = 125000
+guard = 5000
+sync = 0
+stations = [\"s\"]
+links = [{ from = \"a\", to = \"s\", rate = 40000, delay = [500, 500], guard = 5000 }]
+streams = []
+";
+
+/// The same plant, told.
+const EXACT_TOLD: &str = "bridges = [\"a\"]
+cycle = 125000
+guard = 5000
+stations = [\"s\"]
+streams = []
+
+[[links]]
+delay = 500
+from = \"a\"
+guard = 5000
+rate = 40000
+to = \"s\"
+";
+
 /// Whether a plant that is read and told again is another text.
 fn is_told_as(alloc: Global, text: &str, wanted: &str) -> bool {
     let Ok(domain) = Domain::read(alloc, text.as_bytes()) else {
@@ -199,7 +247,7 @@ fn is_told_as(alloc: Global, text: &str, wanted: &str) -> bool {
 
 #[test]
 fn told_plants_are_told_again(rt: HostRuntime) {
-    for text in [PLAN, ALONE, PACED] {
+    for text in [PLAN, ALONE, PACED, LOOSE] {
         assert!(rt; is_told_as(rt.alloc(), text, text), "{text}");
     }
 }
@@ -207,4 +255,9 @@ fn told_plants_are_told_again(rt: HostRuntime) {
 #[test]
 fn streams_of_each_cycle_are_told_without_their_cycles(rt: HostRuntime) {
     assert!(rt; is_told_as(rt.alloc(), EACH_CYCLE, EACH_CYCLE_TOLD));
+}
+
+#[test]
+fn exact_plants_are_told_without_what_is_as_if_unsaid(rt: HostRuntime) {
+    assert!(rt; is_told_as(rt.alloc(), EXACT, EXACT_TOLD));
 }

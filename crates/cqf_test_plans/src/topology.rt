@@ -102,6 +102,187 @@ fn a_changed_line_is_refused_by_its_first_fault(rt: HostRuntime) {
     }
 }
 
+/// Two bridges in a row, whose clocks may be apart and whose links' delays vary.
+const LOOSE: &str = "cycle = 125000
+guard = 5000
+sync = 500
+bridges = [\"a\", \"b\"]
+stations = [\"s\"]
+links = [
+    { from = \"a\", to = \"b\", rate = 1000, delay = [400, 600] },
+    { from = \"b\", to = \"s\", rate = 1000, delay = [400, 600] },
+]
+";
+
+/// A part of that text, another in its place, and the answer. A shortest frame takes 576 ns of a link.
+const LOOSE_CHANGES: &[(&str, &str, &str)] = &[
+    ("", "", "read"),
+    ("sync = 500", "sync = 976", "read"),
+    ("sync = 500", "sync = 977", "SyncTooLong 0"),
+    ("sync = 500", "sync = 1000", "SyncTooLong 0"),
+    (
+        "[400, 600] },\n    { from = \"b\"",
+        "[600, 600] },\n    { from = \"b\"",
+        "read",
+    ),
+    (
+        "sync = 500\nbridges = [\"a\", \"b\"]\nstations = [\"s\"]\nlinks = [\n    { from = \"a\", to = \"b\", rate = 1000, delay = [400,",
+        "sync = 1000\nbridges = [\"a\", \"b\"]\nstations = [\"s\"]\nlinks = [\n    { from = \"a\", to = \"b\", rate = 1000, delay = [500,",
+        "SyncTooLong 1",
+    ),
+    ("600]", "4499]", "read"),
+    ("600]", "4500]", "DelayTooLong 0"),
+    ("600]", "4600]", "DelayTooLong 0"),
+    ("sync = 500", "sync = 4400", "DelayTooLong 0"),
+    ("sync = 500", "sync = 10000000", "DelayTooLong 0"),
+    ("sync = 500", "sync = 10000001", "BadValue sync"),
+    ("sync = 500", "sync = -1", "BadValue sync"),
+    ("sync = 500", "sync = [500]", "BadValue sync"),
+    (
+        "guard = 5000\nsync = 500",
+        "guard = 0\nsync = -1",
+        "BadValue guard",
+    ),
+    (
+        "sync = 500\nbridges = [\"a\"",
+        "sync = -1\nbridges = [\"A\"",
+        "BadValue sync",
+    ),
+    ("[400, 600]", "[600, 400]", "BadValue delay"),
+    ("[400, 600]", "[600, 600]", "read"),
+    ("[400, 600]", "600", "read"),
+    ("[400, 600]", "[]", "BadValue delay"),
+    ("[400, 600]", "[600]", "BadValue delay"),
+    ("[400, 600]", "[400, 500, 600]", "BadValue delay"),
+    ("[400, 600]", "[-1, 600]", "BadValue delay"),
+    ("[400, 600]", "[400, 10000001]", "BadValue delay"),
+    ("[400, 600]", "[400, \"600\"]", "BadValue delay"),
+    (
+        "rate = 1000, delay = [400, 600]",
+        "rate = 999, delay = [600, 400]",
+        "BadValue rate",
+    ),
+    ("[400, 600]", "[600, 400], guard = 0", "BadValue delay"),
+    ("[400, 600]", "[400, 600], guard = 0", "BadValue guard"),
+    (
+        "[400, 600]",
+        "[400, 600], guard = 10000001",
+        "BadValue guard",
+    ),
+    (
+        "[400, 600]",
+        "[400, 600], guard = \"5000\"",
+        "BadValue guard",
+    ),
+    ("[400, 600]", "[400, 600], guard = 1101", "read"),
+    ("[400, 600]", "[400, 600], guard = 1100", "DelayTooLong 0"),
+    ("[400, 600]", "[400, 6000], guard = 6501", "read"),
+    ("[400, 600]", "[400, 600], guard = 124999", "read"),
+    (
+        "[400, 600]",
+        "[400, 600], guard = 125000",
+        "LinkGuardTooLong 0",
+    ),
+    (
+        "[400, 600] },\n    { from = \"b\", to = \"s\", rate = 1000, delay = [400, 600]",
+        "[400, 6000] },\n    { from = \"b\", to = \"s\", rate = 1000, delay = [400, 600], guard = 125000",
+        "LinkGuardTooLong 1",
+    ),
+    (
+        "guard = 5000\nsync = 500\nbridges = [\"a\", \"b\"]\nstations = [\"s\"]\nlinks = [\n    { from = \"a\", to = \"b\", rate = 1000, delay = [400, 600]",
+        "guard = 125000\nsync = 500\nbridges = [\"a\", \"b\"]\nstations = [\"s\"]\nlinks = [\n    { from = \"a\", to = \"b\", rate = 1000, delay = [400, 600], guard = 125000",
+        "GuardTooLong",
+    ),
+];
+
+#[test]
+fn a_changed_loose_domain_is_refused_by_its_first_fault(rt: HostRuntime) {
+    for (old, new, wanted) in LOOSE_CHANGES {
+        assert!(rt;
+            changed_answers(rt.alloc(), LOOSE, old, new, wanted),
+            "{new}: {wanted}"
+        );
+    }
+}
+
+/// Whether a domain is that one.
+fn is_loose(domain: &Domain) -> bool {
+    let first = Link {
+        from: 0,
+        to: Node::Bridge(1),
+        rate: Rate::Mb1000,
+        delay: 600,
+        least: 400,
+        guard: Some(2000),
+    };
+    domain.sync() == Nanos(500) && domain.links() == 2 && domain.link(0) == first
+}
+
+/// Whether that domain, the first link with a guard time of its own, is read and copied.
+fn is_loose_read(alloc: Global) -> bool {
+    let Ok(text) = LOOSE.replacen(alloc, "600]", "600], guard = 2000", 1) else {
+        return false;
+    };
+    let Ok(domain) = Domain::read(alloc, text.as_bytes()) else {
+        return false;
+    };
+    match domain.try_copy(alloc) {
+        Ok(copy) => is_loose(&domain) && is_loose(&copy),
+        Err(_) => false,
+    }
+}
+
+#[test]
+fn clocks_and_links_own_times_are_read_and_copied(rt: HostRuntime) {
+    assert!(rt; is_loose_read(rt.alloc()));
+}
+
+/// Each rate in Mb/s; the nanoseconds of the gap behind a frame, and of a shortest frame with its preamble.
+const RATES: &[(u32, u32, u32)] = &[
+    (10, 9600, 57600),
+    (100, 960, 5760),
+    (1000, 96, 576),
+    (2500, 39, 231),
+    (5000, 20, 116),
+    (10000, 10, 58),
+    (25000, 4, 24),
+    (40000, 3, 15),
+    (100_000, 1, 6),
+];
+
+/// Whether a domain of one link at a rate, with no delay, is answered so.
+fn rate_answers(alloc: Global, guard: u32, sync: u32, rate: u32, wanted: &str) -> bool {
+    let text = format!(in alloc;
+        "cycle = 125000\nguard = {guard}\nsync = {sync}\nbridges = [\"a\"]\nstations = [\"s\"]\nlinks = [{{ from = \"a\", to = \"s\", rate = {rate}, delay = 0 }}]\n"
+    );
+    match text {
+        Ok(text) => answers(alloc, text.as_bytes(), wanted),
+        Err(_) => false,
+    }
+}
+
+#[test]
+fn each_rate_has_its_gap_and_its_shortest_frame(rt: HostRuntime) {
+    for (rate, gap, shortest) in RATES {
+        assert!(rt; rate_answers(rt.alloc(), *gap, 0, *rate, "read"), "{rate}");
+        if *gap > 1 {
+            assert!(rt;
+                rate_answers(rt.alloc(), *gap - 1, 0, *rate, "GapTooLong 0"),
+                "{rate}"
+            );
+        }
+        assert!(rt;
+            rate_answers(rt.alloc(), 100_000, *shortest, *rate, "read"),
+            "{rate}"
+        );
+        assert!(rt;
+            rate_answers(rt.alloc(), 100_000, *shortest + 1, *rate, "SyncTooLong 0"),
+            "{rate}"
+        );
+    }
+    assert!(rt; rate_answers(rt.alloc(), 100_000, 0, 2501, "BadValue rate"));
+}
+
 /// The guard time and the rate of the one link, others in their places, and the answer: a gap is within the guard time.
 const GAPS: &[(&str, &str)] = &[
     (
@@ -166,6 +347,8 @@ const LAST: Link = Link {
     to: Node::Station(0),
     rate: Rate::Mb1000,
     delay: 500,
+    least: 500,
+    guard: None,
 };
 
 /// Whether a domain has the times, names, nodes and the last link of the line.
@@ -175,6 +358,7 @@ fn is_line(domain: &Domain) -> bool {
     }
     domain.cycle_time() == Nanos(125_000)
         && domain.guard() == Nanos(5000)
+        && domain.sync() == Nanos(0)
         && domain.bridge_name(2).as_str() == "c"
         && domain.station_name(0).as_str() == "s"
         && domain.link(2) == LAST

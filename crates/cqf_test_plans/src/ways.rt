@@ -14,6 +14,8 @@ const fn link(from: u16, to: Node) -> Link {
         to,
         rate: Rate::Mb1000,
         delay: 500,
+        least: 500,
+        guard: None,
     }
 }
 

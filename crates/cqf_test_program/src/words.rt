@@ -386,7 +386,7 @@ const MISTAKES: &[(&[&str], &str)] = &[
     ),
     (
         &["port", "--until", "5", "--rate", "20"],
-        "cqf: words: --rate 20 is no rate: 10, 100 or 1000 (Mb/s)\n",
+        "cqf: words: --rate 20 is no rate: 10, 100, 1000, 2500, 5000, 10000, 25000, 40000 or 100000 (Mb/s)\n",
     ),
     (
         &["compile", "--format", "TC"],

@@ -7,26 +7,28 @@ use Rattle.std.proofs.lemmas.Bool.Decides.{nat_tests}
 use Rattle.std.proofs.lemmas.Iterator.Adapters.{position_from-zero}
 use Rattle.std.proofs.lemmas.List.{append-nil}
 use Rattle.std.proofs.lemmas.List.Quantifiers.{position-Some}
-use Rattle.std.proofs.lemmas.Option.{slice_get-get_or}
+use Rattle.std.proofs.lemmas.Option.{get_or_from_slice_get, slice_get-get_or, slice_get_within}
 use Rattle.cqf_units.specs.Name.{is_name}
-use Rattle.cqf_units.specs.Timing.{nanos_of_octet}
+use Rattle.cqf_units.specs.Timing.{ticks_of_octet, time_of}
 use Rattle.cqf_model.specs.declared.limits.Limits.{Limits}
 use Rattle.cqf_model.specs.declared.topology.Link.{Link}
 use Rattle.cqf_model.specs.declared.topology.Node.{Node}
 use Rattle.cqf_model.specs.declared.topology.Node.TheVariants.{Bridge, Station}
-use Rattle.cqf_model.specs.Domain.{Domain, IsNode, node_or, same_node}
-use Rattle.cqf_model.specs.Limits.{bridges_within, links_within, stations_within}
+use Rattle.cqf_model.specs.Domain.{Domain, IsNode, guard_by, node_or, same_node}
 use Rattle.cqf_topology.specs.declared.draft.DraftLink.{DraftLink}
 use Rattle.cqf_topology.specs.declared.keys.Key.TheVariants.{Cycle, Guard, Bridges, Stations, Links}
 use Rattle.cqf_topology.specs.declared.faults.DomainFault.{DomainFault}
 use Rattle.cqf_topology.specs.declared.faults.DomainFault.TheVariants as fault
 use Rattle.cqf_lists.specs.Results.{and_then, refuse}
 use Rattle.cqf_topology.specs.Fields.{and_first, read_at, whole_document, tables_of_key, number_from, names_at}
+use Rattle.cqf_topology.specs.LinkTimes.{AreReadTimes, has_long_delay, has_long_gap, has_long_guard, has_long_sync, times_of}
 use Rattle.cqf_topology.specs.DomainText.{DomainText, IsReadable, HasNames, IsNumberedDomain, IsDomain, NoLinkTwice, is_among, first_taken, place_of, apart}
-use Rattle.cqf_topology.specs.DomainText.{joined, first_long_delay, first_long_gap, if_some, link_read, link_keys, domain_keys, domain_from, read_text, checked}
-use Rattle.cqf_topology.specs.DomainText.{joined_link, with_links}
+use Rattle.cqf_topology.specs.DomainText.{joined, if_some, link_read, link_keys, link_with, domain_keys, domain_from, read_text, checked}
+use Rattle.cqf_topology.specs.DomainText.{joined_link, sync_from, with_links, with_these}
 use Rattle.cqf_topology.specs.JoinedLink.{HasSmallEnds, IsSmallNode}
 use Rattle.cqf_topology.proofs.Distinct.{first_taken-None}
+use Rattle.cqf_topology.proofs.Ordered.{links-read, sync-range}
+use Rattle.cqf_topology.proofs.Passed.{Passes}
 use Rattle.cqf_topology.proofs.Refusals.{and_then-Ok, refuse-Ok, ok_or-Ok, number-range, names-named, if_some-Ok}
 
 -- what a text says is in its ranges and forms
@@ -34,22 +36,25 @@ pub domain_from-readable : (limits : Limits) (table : _) (d : DomainText) → do
 domain_from-readable limits table d h =
     let (cycle_time, at_cycle, h1) = and_then-Ok (read_at Cycle (number_from 10000 10000000) table) _ d h in
     let (guard, at_guard, h2) = and_then-Ok (read_at Guard (number_from 1 10000000) table) _ d h1 in
-    let (bridges, at_bridges, h3) = and_then-Ok (and_then (names_at Bridges table) (if_some Bridges)) _ d h2 in
-    let (stations, at_stations, h4) = and_then-Ok (names_at Stations table) _ d h3 in
-    let (links, at_links, h5) = and_then-Ok (tables_of_key Links link_read table) _ d h4 in
+    let (sync, at_sync, h3) = and_then-Ok (sync_from table) _ d h2 in
+    let (bridges, at_bridges, h4) = and_then-Ok (and_then (names_at Bridges table) (if_some Bridges)) _ d h3 in
+    let (stations, at_stations, h5) = and_then-Ok (names_at Stations table) _ d h4 in
+    let (links, at_links, h6) = and_then-Ok (tables_of_key Links link_read table) _ d h5 in
     let (names, named, some) = and_then-Ok (names_at Bridges table) (if_some Bridges) bridges at_bridges in
     let some_is = if_some-Ok Bridges names bridges some in
     let cycle_range = number-range Cycle 10000 10000000 table cycle_time at_cycle in
     let guard_range = number-range Guard 1 10000000 table guard at_guard in
-    let d' : DomainText = record { limits = limits; cycle_time = cycle_time; guard = guard; bridges = bridges; stations = stations; links = links } in
+    let d' : DomainText = record { limits = limits; cycle_time = cycle_time; guard = guard; sync = sync; bridges = bridges; stations = stations; links = links } in
     let is : d' ≡ d = cc in
     subst IsReadable is (record {
       cycle_least = cycle_range.0;
       cycle_most = cycle_range.1;
       guard_some = guard_range.0;
+      sync_most = sync-range table sync at_sync;
       some_bridge = some_is.1;
       bridges_named = subst (All (λ name. IsTrue (is_name name))) some_is.0 (names-named Bridges table names named);
       stations_named = names-named Stations table stations at_stations;
+      times_are_read = links-read table links at_links;
     })
 
 -- what is read of a text is readable
@@ -162,6 +167,13 @@ none-passes {A} p i (y ∷ ys) h k x at = by (p y) refl (λ none j there. none-p
 pub position-None : {A : Type 0} (p : A → Bool) (xs : List A) → position p xs ≡ None → (k : ℕ) (x : A) → slice_get xs k ≡ Some x → p x ≡ false
 position-None p xs h = none-passes p 0 xs (sym (position_from-zero p xs) ∙ h)
 
+-- numbers that a test told to be below, or not above
+pub not_reached : (most n : ℕ) → nat_le most n ≡ false → n < most
+not_reached most n e = grind (arith, nat_tests)
+
+pub not_above : (most n : ℕ) → nat_lt most n ≡ false → n ≤ most
+not_above most n e = grind (arith, nat_tests)
+
 -- the ends of a link are the domain's
 pub record HasEnds (d : Domain) (link : Link) : Type 0 where
   pub from_bridge : link.from < length d.bridges
@@ -189,7 +201,7 @@ apart-ends d name l from to link from_there to_there h = by (same_node to (Bridg
   where
     -- the link between the two nodes
     joint : Link
-    joint = record { from = from; to = to; rate = l.rate; delay = l.delay }
+    joint = link_with from to l.times
 
     -- a node that the test tells from the bridge isn't the bridge
     differs : same_node to (Bridge from) ≡ false → to ≢ Bridge from
@@ -212,31 +224,66 @@ joined_link-ends d l link h =
     (place-within l.from d.bridges from (ok_or-Ok _ (fault.UnknownName l.from) from at_from))
     (node-within d l.to to (ok_or-Ok _ (fault.UnknownName l.to) to at_to)) h2
 
--- and so has each
+-- and the delays of the text's, which are in order
+apart-ordered : (name : List ℕ) (l : DraftLink) (from : ℕ) (to : Node) (link : Link) → AreReadTimes l.times → apart name l from to ≡ Ok link →
+    link.least ≤ link.delay
+apart-ordered name l from to link read h = by (same_node to (Bridge from)) h
+  where
+    -- the link that is made has them, where its ends are apart
+    by : (b : Bool) → cond b (Err (fault.UnknownName name)) (Ok (link_with from to l.times)) ≡ Ok link → link.least ≤ link.delay
+    by true h = absurd (cc)
+    by false h = let same : link_with from to l.times ≡ link = cc in subst (λ (x : Link). x.least ≤ x.delay) same read.ordered
+
+joined_link-ordered : (bridges stations : List (List ℕ)) (l : DraftLink) (link : Link) → AreReadTimes l.times →
+    joined_link bridges stations l ≡ Ok link → link.least ≤ link.delay
+joined_link-ordered bridges stations l link read h =
+    let (from, at_from, h1) = and_then-Ok (ok_or (place_of l.from bridges) (fault.UnknownName l.from)) _ link h in
+    let (to, at_to, h2) = and_then-Ok (ok_or (node_or (place_of l.to bridges) (place_of l.to stations)) (fault.UnknownName l.to)) _ link h1 in
+    apart-ordered l.to l from to link read h2
+
+module _ (bridges stations : List (List ℕ)) (P : Link → Type 0) where
+  -- what holds of each link that is joined holds of all
+  joined-each : (ls : List DraftLink) → ((k : ℕ) (l : DraftLink) → slice_get ls k ≡ Some l → (link : Link) → joined_link bridges stations l ≡ Ok link → P link)
+      → (links : List Link) → joined bridges stations ls ≡ Ok links → (k : ℕ) (link : Link) → slice_get links k ≡ Some link → P link
+  joined-each [] each links h k link at = let none : links ≡ [] = cc in absurd (by (subst (λ xs. slice_get xs k ≡ Some link) none at))
+    where
+      -- an empty list has no link
+      by : slice_get [] k ≡ Some link → ⊥
+      by e = cc
+  joined-each (l ∷ ls) each links h k link at =
+      by (joined_link bridges stations l) (joined bridges stations ls) refl refl
+      (λ xs more j there. joined-each ls (λ n m inside. each (suc n) m inside) xs more j link there) h k at
+    where
+      -- where it holds of each link of the rest, it does with this one in front
+      there : (x : Link) (xs : List Link) → joined_link bridges stations l ≡ Ok x → ((j : ℕ) → slice_get xs j ≡ Some link → P link)
+          → (k : ℕ) → slice_get (x ∷ xs) k ≡ Some link → P link
+      there x xs here rest zero at = let same : x ≡ link = cc in subst P same (each 0 l refl x here)
+      there x xs here rest (suc k) at = rest k at
+
+      -- it holds of each link, where the first and the rest are joined
+      by : (r : Result Link DomainFault) (rest : Result (List Link) DomainFault) → joined_link bridges stations l ≡ r → joined bridges stations ls ≡ rest
+          → ((xs : List Link) → joined bridges stations ls ≡ Ok xs → (j : ℕ) → slice_get xs j ≡ Some link → P link)
+          → and_first r rest ≡ Ok links → (k : ℕ) → slice_get links k ≡ Some link → P link
+      by (Err e) rest here more all h k at = absurd (cc)
+      by (Ok x) (Err e) here more all h k at = absurd (cc)
+      by (Ok x) (Ok xs) here more all h k at = let same : links ≡ x ∷ xs = cc in
+          there x xs here (all xs more) k (subst (λ ys. slice_get ys k ≡ Some link) same at)
+
+-- each link that is joined has its ends
 pub joined-ends : (d : Domain) (ls : List DraftLink) (links : List Link) → joined d.bridges d.stations ls ≡ Ok links → (k : ℕ) (link : Link) →
     slice_get links k ≡ Some link → HasEnds d link
-joined-ends d [] links h k link at = let none : links ≡ [] = cc in absurd (by (subst (λ xs. slice_get xs k ≡ Some link) none at))
-  where
-    -- an empty list has no link
-    by : slice_get [] k ≡ Some link → ⊥
-    by e = cc
-joined-ends d (l ∷ ls) links h k link at =
-    by (joined_link d.bridges d.stations l) (joined d.bridges d.stations ls) refl refl (λ xs more j there. joined-ends d ls xs more j link there) h k at
-  where
-    -- where each link of the rest has its ends, each does with this one in front
-    there : (x : Link) (xs : List Link) → joined_link d.bridges d.stations l ≡ Ok x → ((j : ℕ) → slice_get xs j ≡ Some link → HasEnds d link)
-        → (k : ℕ) → slice_get (x ∷ xs) k ≡ Some link → HasEnds d link
-    there x xs here rest zero at = let same : x ≡ link = cc in subst (HasEnds d) same (joined_link-ends d l x here)
-    there x xs here rest (suc k) at = rest k at
+joined-ends d ls = joined-each d.bridges d.stations (HasEnds d) ls (λ k l inside. joined_link-ends d l)
 
-    -- each link has its ends, where the first and the rest are joined
-    by : (r : Result Link DomainFault) (rest : Result (List Link) DomainFault) → joined_link d.bridges d.stations l ≡ r → joined d.bridges d.stations ls ≡ rest
-        → ((xs : List Link) → joined d.bridges d.stations ls ≡ Ok xs → (j : ℕ) → slice_get xs j ≡ Some link → HasEnds d link)
-        → and_first r rest ≡ Ok links → (k : ℕ) → slice_get links k ≡ Some link → HasEnds d link
-    by (Err e) rest here more all h k at = absurd (cc)
-    by (Ok x) (Err e) here more all h k at = absurd (cc)
-    by (Ok x) (Ok xs) here more all h k at = let same : links ≡ x ∷ xs = cc in
-        there x xs here (all xs more) k (subst (λ ys. slice_get ys k ≡ Some link) same at)
+-- what holds of all holds of the one at a place
+of_place : {A : Type 0} (P : A → Type 0) (xs : List A) → All P xs → (k : ℕ) (x : A) → slice_get xs k ≡ Some x → P x
+of_place P xs all k x at = subst P (get_or_from_slice_get xs k x x at) (all k x (slice_get_within xs k x at))
+
+-- and its delays in order
+joined-ordered : (bridges stations : List (List ℕ)) (ls : List DraftLink) → All (λ (l : DraftLink). AreReadTimes l.times) ls →
+    (links : List Link) → joined bridges stations ls ≡ Ok links → (k : ℕ) (link : Link) → slice_get links k ≡ Some link → link.least ≤ link.delay
+joined-ordered bridges stations ls read =
+    joined-each bridges stations (λ link. link.least ≤ link.delay) ls (λ k l inside link.
+    joined_link-ordered bridges stations l link (of_place (λ (l : DraftLink). AreReadTimes l.times) ls read k l inside))
 
 -- the number of a node fits two octets
 small-node : (d : Domain) (n : Node) → length d.bridges ≤ 1024 → length d.stations ≤ 4096 → IsNode d n → IsSmallNode n
@@ -252,55 +299,58 @@ joined-small t bridges stations links n few few_too k link inside =
   where
     -- a domain of these names and links
     d : Domain
-    d = record { limits = t.limits; cycle_time = 0; guard = 0; bridges = bridges; stations = stations; links = links }
+    d = record { limits = t.limits; cycle_time = 0; guard = 0; sync = 0; bridges = bridges; stations = stations; links = links }
 
     -- its links are those of the text, joined
     there : joined bridges stations t.links ≡ Ok links
     there = (λ i. joined (n.bridges_are i) (n.stations_are i) t.links) ∙ n.joined_are
 
 -- the domain of a text that passed its checks is accepted, and its names are names, each once
-pub checked-accepted : (t : DomainText) (d : Domain) → IsNumberedDomain t d.bridges d.stations d.links → d.cycle_time ≡ t.cycle_time → d.guard ≡ t.guard
-    → NoLinkTwice d.links → d.guard < d.cycle_time → first_long_delay d.guard d.links ≡ None → first_long_gap d.guard d.links ≡ None
-    → length d.bridges ≤ bridges_within d.limits → length d.stations ≤ stations_within d.limits → length d.links ≤ links_within d.limits → IsDomain d
-checked-accepted t d n same_cycle same_guard once short no_delay no_gap few_bridges few_stations few_links =
+pub checked-accepted : (t : DomainText) (bridges stations : List (List ℕ)) (links : List Link) → IsNumberedDomain t bridges stations links → NoLinkTwice links
+    → Passes t links → IsDomain (with_these t links)
+checked-accepted t bridges stations links n once p =
     record {
       accepted = record {
-        cycle_least = omega (arith, n.readable.cycle_least);
-        cycle_most = omega (arith, n.readable.cycle_most);
-        guard_some = omega (arith, n.readable.guard_some);
-        guard_short = short;
-        some_bridge = omega (arith, n.readable.some_bridge, ap length n.bridges_are);
-        few_bridges = few_bridges;
-        few_stations = few_stations;
-        few_links = few_links;
+        cycle_least = n.readable.cycle_least;
+        cycle_most = n.readable.cycle_most;
+        guard_some = n.readable.guard_some;
+        guard_short = p.short;
+        some_bridge = n.readable.some_bridge;
+        few_bridges = p.few_bridges;
+        few_stations = p.few_stations;
+        few_links = p.few_links;
         links_good = λ l link at.
-            let ends = joined-ends d t.links d.links there l link at in
+            let ends = joined-ends (with_these t links) t.links links n.joined_are l link at in
             record {
               from_bridge = ends.from_bridge;
               to_node = ends.to_node;
               not_to_itself = ends.not_to_itself;
-              delay_short = short_delay link (position-None (λ (l : Link). nat_le d.guard l.delay) d.links no_delay l link at);
-              gap_short = short_gap link (position-None (λ (l : Link). nat_lt d.guard (12 * nanos_of_octet l.rate)) d.links no_gap l link at);
+              least_short = joined-ordered t.bridges t.stations t.links n.readable.times_are_read links n.joined_are l link at;
+              delay_short = short_delay link (position-None (λ (x : Link). has_long_delay t.sync t.guard (times_of x)) links p.no_delay l link at);
+              sync_short = short_sync link (position-None (λ (x : Link). has_long_sync t.sync (times_of x)) links p.no_sync l link at);
+              gap_short = short_gap link (position-None (λ (x : Link). has_long_gap t.guard (times_of x)) links p.no_gap l link at);
+              guard_short = short_guard link (position-None (λ (x : Link). has_long_guard t.cycle_time t.guard (times_of x)) links p.no_guard l link at);
             };
       };
-      bridges_named = subst (All (λ name. IsTrue (is_name name))) (sym n.bridges_are) n.readable.bridges_named;
-      stations_named = subst (All (λ name. IsTrue (is_name name))) (sym n.stations_are) n.readable.stations_named;
-      distinct = (first_taken-None [] (d.bridges ++ d.stations) (ap (first_taken []) (sym names) ∙ n.distinct)).1;
+      sync_most = n.readable.sync_most;
+      bridges_named = n.readable.bridges_named;
+      stations_named = n.readable.stations_named;
+      distinct = (first_taken-None [] (t.bridges ++ t.stations) n.distinct).1;
       no_link_twice = once;
     }
   where
-    -- the domain's links are those of the text, joined
-    there : joined d.bridges d.stations t.links ≡ Ok d.links
-    there = (λ i. joined (n.bridges_are i) (n.stations_are i) t.links) ∙ n.joined_are
+    -- a delay that isn't found too long, with the clocks' difference, is below the guard time
+    short_delay : (link : Link) → has_long_delay t.sync t.guard (times_of link) ≡ false → link.delay + t.sync < guard_by t.guard link
+    short_delay link e = not_reached (guard_by t.guard link) (link.delay + t.sync) e
 
-    -- the names of the text are those of the domain
-    names : t.bridges ++ t.stations ≡ d.bridges ++ d.stations
-    names = λ i. sym n.bridges_are i ++ sym n.stations_are i
-
-    -- a delay that isn't found too long is below the guard time
-    short_delay : (link : Link) → nat_le d.guard link.delay ≡ false → link.delay < d.guard
-    short_delay link e = grind (arith, nat_tests)
+    -- clocks that aren't found too far apart are no further apart than a shortest frame and the least delay take
+    short_sync : (link : Link) → has_long_sync t.sync (times_of link) ≡ false → t.sync ≤ time_of 72 (ticks_of_octet link.rate) + link.least
+    short_sync link e = not_above (time_of 72 (ticks_of_octet link.rate) + link.least) t.sync e
 
     -- a gap that isn't found too long is at most the guard time
-    short_gap : (link : Link) → nat_lt d.guard (12 * nanos_of_octet link.rate) ≡ false → 12 * nanos_of_octet link.rate ≤ d.guard
-    short_gap link e = grind (arith, nat_tests)
+    short_gap : (link : Link) → has_long_gap t.guard (times_of link) ≡ false → time_of 12 (ticks_of_octet link.rate) ≤ guard_by t.guard link
+    short_gap link e = not_above (guard_by t.guard link) (time_of 12 (ticks_of_octet link.rate)) e
+
+    -- a guard time that isn't found too long is below the cycle time
+    short_guard : (link : Link) → has_long_guard t.cycle_time t.guard (times_of link) ≡ false → guard_by t.guard link < t.cycle_time
+    short_guard link e = not_reached t.cycle_time (guard_by t.guard link) e

@@ -3,6 +3,7 @@ pub mod HeldEnds
 mod LinkEnds
 pub mod FirstNamed
 pub mod Refusals
+pub mod Ordered
 pub mod Accepted
 pub mod Nodes
 pub mod Distinct
@@ -11,3 +12,4 @@ pub mod Told
 pub mod Passed
 pub mod Fronts
 pub mod Copies
+mod Alike

@@ -6,18 +6,20 @@ use Rattle.cqf_model.specs.declared.topology.Link.{Link}
 use Rattle.cqf_topology.specs.declared.faults.DomainFault.TheVariants as fault
 use Rattle.cqf_model.specs.Domain.{Domain}
 use Rattle.cqf_model.specs.Limits.{bridges_within, links_within, stations_within}
-use Rattle.cqf_topology.specs.DomainText.{DomainText, first_long_delay, first_long_gap, first_twice, if_so, is_too_many, with_links}
+use Rattle.cqf_topology.specs.DomainText.{DomainText, first_long_delay, first_long_gap, first_long_guard, first_long_sync, first_twice, if_so, is_too_many, with_links}
 use Rattle.cqf_topology.proofs.Refusals.{refuse-Ok}
 
 -- what the checks give
 pub record Passes (d : DomainText) (links : List Link) : Type 0 where
   pub no_twice : first_twice [] links ≡ None
   pub short : d.guard < d.cycle_time
-  pub no_delay : first_long_delay d.guard links ≡ None
+  pub no_guard : first_long_guard d.cycle_time d.guard links ≡ None
+  pub no_delay : first_long_delay d.sync d.guard links ≡ None
   pub no_gap : first_long_gap d.guard links ≡ None
   pub few_bridges : length d.bridges ≤ bridges_within d.limits
   pub few_stations : length d.stations ≤ stations_within d.limits
   pub few_links : length links ≤ links_within d.limits
+  pub no_sync : first_long_sync d.sync links ≡ None
 
 -- what isn't so fails its test
 pub not_so : (b : Bool) → if_so b ≡ None → b ≡ false
@@ -36,9 +38,11 @@ pub passes : (d : DomainText) (links : List Link) (found : Domain) → with_link
 passes d links found h =
     let twice = refuse-Ok (first_twice [] links) fault.LinkTwice _ found h in
     let short = refuse-Ok (if_so (nat_le d.cycle_time d.guard)) (λ _. fault.GuardTooLong) _ found twice.1 in
-    let delay = refuse-Ok (first_long_delay d.guard links) fault.DelayTooLong _ found short.1 in
+    let own = refuse-Ok (first_long_guard d.cycle_time d.guard links) fault.LinkGuardTooLong _ found short.1 in
+    let delay = refuse-Ok (first_long_delay d.sync d.guard links) fault.DelayTooLong _ found own.1 in
     let gap = refuse-Ok (first_long_gap d.guard links) fault.GapTooLong _ found delay.1 in
     let few = refuse-Ok (if_so (is_too_many d.limits d.bridges d.stations links)) (λ _. fault.TooMany) _ found gap.1 in
+    let sync = refuse-Ok (first_long_sync d.sync links) fault.SyncTooLong _ found few.1 in
     let not_long : nat_le d.cycle_time d.guard ≡ false = not_so (nat_le d.cycle_time d.guard) short.0 in
     let none = no_more (nat_lt (bridges_within d.limits) (length d.bridges)) (nat_lt (stations_within d.limits) (length d.stations)) (nat_lt (links_within d.limits) (length links))
     (not_so (is_too_many d.limits d.bridges d.stations links) few.0) in
@@ -48,9 +52,11 @@ passes d links found h =
     record {
       no_twice = twice.0;
       short = grind (arith, nat_tests);
+      no_guard = own.0;
       no_delay = delay.0;
       no_gap = gap.0;
       few_bridges = ltb-false (bridges_within d.limits) (length d.bridges) bridges;
       few_stations = ltb-false (stations_within d.limits) (length d.stations) stations;
       few_links = ltb-false (links_within d.limits) (length links) all;
+      no_sync = sync.0;
     }

@@ -2,6 +2,7 @@
 use Rattle.std.proofs.Common.{◌≡◌, ◌≢◌, ℕ, ◌≤◌, ◌<◌, List, [], ◌∷◌, Bool, true, false, ◌&&◌, nat_le, cond, Option, Some, None, Result, Ok, Err, ℤ, pos, negsuc}
 use Rattle.std.proofs.Common.{length, All, IsTrue, ok_or, refl, ap, sym, subst, ◌∙◌, arith}
 use Rattle.std.specs.Option.{option_and_then}
+use Rattle.std.specs.Prelude.{IfSome}
 use Rattle.std.specs.Result.{IsErrAnd}
 use Rattle.std.proofs.lemmas.Bool.{and_parts}
 use Rattle.std.proofs.lemmas.Bool.Decides.{nat_tests}
@@ -11,7 +12,7 @@ use Rattle.cqf_units.specs.Name.{is_name}
 use Rattle.cqf_topology.specs.declared.keys.Key.{Key}
 use Rattle.cqf_topology.specs.declared.toml_faults.TomlFault.TheVariants.{BadValue}
 use Rattle.cqf_lists.specs.Results.{and_then, refuse}
-use Rattle.cqf_topology.specs.Fields.{Gives, and_first, value_at, read_at, each_from, within_range, number_from, if_name, name_from, names_at}
+use Rattle.cqf_topology.specs.Fields.{Gives, and_first, value_at, read_at, each_from, within_range, number_from, number_if, number_if_by, if_name, name_from, names_at}
 use Rattle.cqf_topology.specs.DomainText.{if_some}
 
 -- two steps that went well
@@ -55,6 +56,23 @@ number-range key least most table n h =
     let (d, at, from) = and_then-Some (number_from least most) (value_at key table) n (ok_or-Ok _ (BadValue key) n h) in
     let (z, integer, within) = and_then-Some (within_range least most) (as_integer d) n from in
     within_range-Some least most z n within
+
+-- and so is one that may be absent
+pub number_if-range : (key : Key) (least most : ℕ) (table : Members) (found : Option ℕ) → number_if key least most table ≡ Ok found →
+    IfSome found (λ n. (least ≤ n) × (n ≤ most))
+number_if-range key least most table found h = by (value_at key table) h
+  where
+    -- what is said of it
+    InRange : Option ℕ → Type 0
+    InRange = λ o. IfSome o (λ n. (least ≤ n) × (n ≤ most))
+
+    -- whether there is one or not
+    by : (o : Option Data) → number_if_by o key least most table ≡ Ok found → InRange found
+    by None h = let same : None ≡ found = cc in subst InRange same tt
+    by (Some d) h =
+        let (n, read, some) = and_then-Ok (read_at key (number_from least most) table) (λ n. Ok (Some n)) found h in
+        let same : Some n ≡ found = cc in
+        subst InRange same (number-range key least most table n read)
 
 -- what each element that was read is
 pub each_from-All : {A E : Type 0} (P : A → Type 0) (reader : Data → Result A E) → ((d : Data) (x : A) → reader d ≡ Ok x → P x)

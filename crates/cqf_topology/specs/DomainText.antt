@@ -1,29 +1,29 @@
 -- The domain that a text means, or the first fault of the text (profile).
-use Rattle.std.specs.Prelude.{ℕ, ◌≡◌, ◌*◌, ◌<◌, ◌≤◌, ◌≢◌, ℤ, pos, negsuc, List, [], ◌∷◌, ◌++◌, ◌==◌, ◌&&◌, ◌||◌, Bool, true, false, if◌then◌else◌, length}
-use Rattle.std.specs.Prelude.{nat_le, nat_lt, position, slice_get, AllPairs, Option, Some, None, option_and_then, ok_or, Result, Ok, Err, All, IsTrue}
+use Rattle.std.specs.Prelude.{ℕ, ◌≡◌, ◌<◌, ◌≤◌, ◌≢◌, List, [], ◌∷◌, ◌++◌, ◌==◌, ◌&&◌, ◌||◌, Bool, true, false, if◌then◌else◌, length}
+use Rattle.std.specs.Prelude.{nat_le, nat_lt, position, slice_get, AllPairs, Option, Some, None, ok_or, Result, Ok, Err, All, IsTrue}
 use Rattle.std.specs.List.{list_any}
-use Rattle.toml.specs.Data.{Data, as_integer, Members}
+use Rattle.std.specs.Option.{unwrap_or}
+use Rattle.toml.specs.Data.{Members}
 use Rattle.cqf_units.specs.Name.{is_name}
-use Rattle.cqf_units.specs.Timing.{nanos_of_octet}
-use Rattle.cqf_units.specs.declared.timing.Rate.{Rate as LinkRate}
-use Rattle.cqf_units.specs.declared.timing.Rate.TheVariants.{Mb10, Mb100, Mb1000}
 use Rattle.cqf_model.specs.declared.topology.Link.{Link}
 use Rattle.cqf_model.specs.declared.topology.Node.{Node}
 use Rattle.cqf_model.specs.declared.topology.Node.TheVariants.{Bridge}
 use Rattle.cqf_model.specs.Domain.{Domain, IsAccepted, is_text, node_or, same_node}
 use Rattle.cqf_topology.specs.declared.draft.DraftLink.{DraftLink}
 use Rattle.cqf_topology.specs.declared.keys.Key.{Key}
-use Rattle.cqf_topology.specs.declared.keys.Key.TheVariants.{Cycle, Guard, Bridges, Stations, Links, From, To, Rate, Delay}
+use Rattle.cqf_topology.specs.declared.keys.Key.TheVariants.{Cycle, Guard, Sync, Bridges, Stations, Links, From, To, Rate, Delay}
+use Rattle.cqf_topology.specs.declared.times.LinkTimes.{LinkTimes}
 use Rattle.cqf_topology.specs.declared.toml_faults.TomlFault.{TomlFault}
 use Rattle.cqf_topology.specs.declared.toml_faults.TomlFault.TheVariants as early
 use Rattle.cqf_topology.specs.declared.faults.DomainFault.{DomainFault}
 use Rattle.cqf_topology.specs.declared.faults.DomainFault.TheVariants as fault
 use Rattle.cqf_lists.specs.Results.{and_then, refuse}
-use Rattle.cqf_topology.specs.Fields.{and_first, whole_document, read_at, tables_of_key, number_from, name_from, names_at}
+use Rattle.cqf_topology.specs.Fields.{and_first, whole_document, read_at, tables_of_key, number_from, number_if, name_from, names_at}
+use Rattle.cqf_topology.specs.LinkTimes.{AreReadTimes, has_long_delay, has_long_gap, has_long_guard, has_long_sync, times_of, times_read}
 use Rattle.cqf_model.specs.declared.limits.Limits.{Limits}
 use Rattle.cqf_model.specs.Limits.{bridges_within, links_within, longest_cycle, profile, stations_within}
 
--- the keys of a domain text, and those of each of its links, in reading order
+-- the keys that a domain text owes, and those that each of its links does, in reading order
 abbrev pub domain_keys : List Key
 domain_keys = Cycle ∷ Guard ∷ Bridges ∷ Stations ∷ Links ∷ []
 
@@ -36,20 +36,10 @@ pub record DomainText : Type 0 where
   pub limits : Limits
   pub cycle_time : ℕ
   pub guard : ℕ
+  pub sync : ℕ
   pub bridges : List (List ℕ)
   pub stations : List (List ℕ)
   pub links : List DraftLink
-
--- a rate, written in Mb/s
-abbrev pub rate_of : ℤ → Option LinkRate
-rate_of (negsuc n) = None
-rate_of (pos n) =
-    if n == 10 then Some Mb10
-    else (if n == 100 then Some Mb100
-    else (if n == 1000 then Some Mb1000 else None))
-
-abbrev pub rate_from : Data → Option LinkRate
-rate_from d = option_and_then rate_of (as_integer d)
 
 -- an array of at least one name
 abbrev pub if_some : {A : Type 0} → Key → List A → Result (List A) TomlFault
@@ -61,24 +51,28 @@ abbrev pub link_read : Members → Result DraftLink TomlFault
 link_read table =
     and_then (read_at From name_from table) (λ from.
     and_then (read_at To name_from table) (λ to.
-    and_then (read_at Rate rate_from table) (λ rate.
-    and_then (read_at Delay (number_from 0 10000000) table) (λ delay.
-    Ok (record { from = from; to = to; rate = rate; delay = delay })))))
+    and_then (times_read table) (λ times.
+    Ok (record { from = from; to = to; times = times }))))
 
 -- what was read already, before what is read of the rest
 abbrev pub with_front : {A E : Type 0} → List A → Result (List A) E → Result (List A) E
 with_front done (Ok rest) = Ok (done ++ rest)
 with_front done (Err e) = Err e
 
+-- how far clocks may be apart, by a domain's table: not at all where nothing stands there
+abbrev pub sync_from : Members → Result ℕ TomlFault
+sync_from table = and_then (number_if Sync 0 10000000 table) (λ sync. Ok (unwrap_or sync 0))
+
 -- a domain's table
 abbrev pub domain_from : Limits → Members → Result DomainText TomlFault
 domain_from limits table =
     and_then (read_at Cycle (number_from 10000 10000000) table) (λ cycle_time.
     and_then (read_at Guard (number_from 1 10000000) table) (λ guard.
+    and_then (sync_from table) (λ sync.
     and_then (and_then (names_at Bridges table) (if_some Bridges)) (λ bridges.
     and_then (names_at Stations table) (λ stations.
     and_then (tables_of_key Links link_read table) (λ links.
-    Ok (record { limits = limits; cycle_time = cycle_time; guard = guard; bridges = bridges; stations = stations; links = links }))))))
+    Ok (record { limits = limits; cycle_time = cycle_time; guard = guard; sync = sync; bridges = bridges; stations = stations; links = links })))))))
 
 -- the first of some names that stood earlier
 abbrev pub is_among : List ℕ → List (List ℕ) → Bool
@@ -92,12 +86,16 @@ first_taken earlier (name ∷ names) = if is_among name earlier then Some name e
 abbrev pub numbered_with : List (List ℕ) → List (List ℕ) → List (List ℕ) → Result (List (List ℕ)) DomainFault
 numbered_with others done names = refuse (first_taken (others ++ done) names) fault.NameTaken (Ok (done ++ names))
 
+-- a link of these parts
+abbrev pub link_with : ℕ → Node → LinkTimes → Link
+link_with from to times = record { from = from; to = to; rate = times.rate; delay = times.delay; least = times.least; guard = times.guard }
+
 -- a link with its ends found: its `from` has to name a bridge, and its `to` a node other than that
 abbrev pub apart : List ℕ → DraftLink → ℕ → Node → Result Link DomainFault
 apart name link from to =
     if same_node to (Bridge from)
     then Err (fault.UnknownName name)
-    else Ok (record { from = from; to = to; rate = link.rate; delay = link.delay })
+    else Ok (link_with from to link.times)
 
 -- the place of a name among some names
 abbrev pub place_of : List ℕ → List (List ℕ) → Option ℕ
@@ -124,13 +122,20 @@ first_twice earlier [] = None
 first_twice earlier (link ∷ links) =
     if list_any (same_ends link) earlier then Some (length earlier) else first_twice (earlier ++ link ∷ []) links
 
--- the number of the first link whose delay isn't below the guard time, and of the first whose gap behind a frame is above
--- it
-abbrev pub first_long_delay : ℕ → List Link → Option ℕ
-first_long_delay guard links = position (λ (link : Link). nat_le guard link.delay) links
+-- the number of the first link whose guard time isn't below the cycle time; of the first whose greatest delay and how far clocks may be
+-- apart, together, aren't below its guard time; of the first whose gap behind a frame is above it; and of the first on which clocks may be
+-- further apart than a shortest frame and the least delay take together
+abbrev pub first_long_guard : ℕ → ℕ → List Link → Option ℕ
+first_long_guard cycle_time guard links = position (λ (link : Link). has_long_guard cycle_time guard (times_of link)) links
+
+abbrev pub first_long_delay : ℕ → ℕ → List Link → Option ℕ
+first_long_delay sync guard links = position (λ (link : Link). has_long_delay sync guard (times_of link)) links
 
 abbrev pub first_long_gap : ℕ → List Link → Option ℕ
-first_long_gap guard links = position (λ (link : Link). nat_lt guard (12 * nanos_of_octet link.rate)) links
+first_long_gap guard links = position (λ (link : Link). has_long_gap guard (times_of link)) links
+
+abbrev pub first_long_sync : ℕ → List Link → Option ℕ
+first_long_sync sync links = position (λ (link : Link). has_long_sync sync (times_of link)) links
 
 -- a unit where the test holds
 abbrev pub if_so : Bool → Option (Unit {0})
@@ -145,17 +150,20 @@ is_too_many limits bridges stations links =
 
 -- the domain that the text says, with these links
 abbrev pub with_these : DomainText → List Link → Domain
-with_these d links = record { limits = d.limits; cycle_time = d.cycle_time; guard = d.guard; bridges = d.bridges; stations = d.stations; links = links }
+with_these d links =
+    record { limits = d.limits; cycle_time = d.cycle_time; guard = d.guard; sync = d.sync; bridges = d.bridges; stations = d.stations; links = links }
 
 -- the domain that the text says, or the first check that it fails, each made over the whole before the next
 abbrev pub with_links : DomainText → List Link → Result Domain DomainFault
 with_links d links =
     refuse (first_twice [] links) fault.LinkTwice (
     refuse (if_so (nat_le d.cycle_time d.guard)) (λ _. fault.GuardTooLong) (
-    refuse (first_long_delay d.guard links) fault.DelayTooLong (
+    refuse (first_long_guard d.cycle_time d.guard links) fault.LinkGuardTooLong (
+    refuse (first_long_delay d.sync d.guard links) fault.DelayTooLong (
     refuse (first_long_gap d.guard links) fault.GapTooLong (
     refuse (if_so (is_too_many d.limits d.bridges d.stations links)) (λ _. fault.TooMany) (
-    Ok (with_these d links))))))
+    refuse (first_long_sync d.sync links) fault.SyncTooLong (
+    Ok (with_these d links))))))))
 
 -- the domain that the text says, or the first check that it fails, those of its names and ends before the others
 abbrev pub checked : DomainText → Result Domain DomainFault
@@ -191,9 +199,11 @@ pub record IsReadable (d : DomainText) : Type 0 where
   pub cycle_least : 10000 ≤ d.cycle_time
   pub cycle_most : d.cycle_time ≤ longest_cycle
   pub guard_some : 0 < d.guard
+  pub sync_most : d.sync ≤ longest_cycle
   pub some_bridge : 0 < length d.bridges
   pub bridges_named : All (λ name. IsTrue (is_name name)) d.bridges
   pub stations_named : All (λ name. IsTrue (is_name name)) d.stations
+  pub times_are_read : All (λ (link : DraftLink). AreReadTimes link.times) d.links
 
 -- a text's bridges by number: none of them stands twice
 pub record HasBridges (d : DomainText) (bridges : List (List ℕ)) : Type 0 where
@@ -222,14 +232,15 @@ abbrev pub IsOnlyLink : Domain → ℕ → Node → Option ℕ → Type 0
 IsOnlyLink d from to found = (number : ℕ) (link : Link) → slice_get d.links number ≡ Some link → link.from ≡ from → link.to ≡ to → found ≡ Some number
 
 -- the domain of these parts
-abbrev pub domain_with : Limits → ℕ → ℕ → List (List ℕ) → List (List ℕ) → List Link → Domain
-domain_with limits cycle_time guard bridges stations links =
-    record { limits = limits; cycle_time = cycle_time; guard = guard; bridges = bridges; stations = stations; links = links }
+abbrev pub domain_with : Limits → ℕ → ℕ → ℕ → List (List ℕ) → List (List ℕ) → List Link → Domain
+domain_with limits cycle_time guard sync bridges stations links =
+    record { limits = limits; cycle_time = cycle_time; guard = guard; sync = sync; bridges = bridges; stations = stations; links = links }
 
--- what a domain's text gives beyond being accepted: each name has the form of a name, no two are equal, and no two links
--- have the same ends
+-- what a domain's text gives beyond being accepted: clocks aren't further apart than a text can say, each name has the form of a name, no
+-- two are equal, and no two links have the same ends
 pub record IsDomain (d : Domain) : Type 0 where
   pub accepted : IsAccepted d
+  pub sync_most : d.sync ≤ longest_cycle
   pub bridges_named : All (λ name. IsTrue (is_name name)) d.bridges
   pub stations_named : All (λ name. IsTrue (is_name name)) d.stations
   pub distinct : AllPairs (λ a b. a ≢ b) (d.bridges ++ d.stations)

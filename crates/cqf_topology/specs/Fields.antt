@@ -8,7 +8,7 @@ use Rattle.toml.specs.Data.{Data, as_str, as_integer, as_array, as_table, Items,
 use Rattle.toml.specs.Parse.{parse_document}
 use Rattle.cqf_units.specs.Name.{is_name}
 use Rattle.cqf_topology.specs.declared.keys.Key.{Key}
-use Rattle.cqf_topology.specs.declared.keys.Key.TheVariants.{Cycle, Guard, Bridges, Stations, Links, From, To}
+use Rattle.cqf_topology.specs.declared.keys.Key.TheVariants.{Cycle, Guard, Sync, Bridges, Stations, Links, From, To}
 use Rattle.cqf_topology.specs.declared.keys.Key.TheVariants.{Rate, Delay, Streams, Name, Octets, Path, Paths}
 use Rattle.cqf_topology.specs.declared.keys.Key.TheVariants.{Deadline, Every, Phase}
 use Rattle.cqf_topology.specs.declared.toml_faults.TomlFault.{TomlFault}
@@ -23,6 +23,7 @@ Gives memory show (Err e) wanted = e ≢ memory → wanted ≡ Err e
 abbrev pub key_text : Key → List ℕ
 key_text Cycle = codes "cycle"
 key_text Guard = codes "guard"
+key_text Sync = codes "sync"
 key_text Bridges = codes "bridges"
 key_text Stations = codes "stations"
 key_text Links = codes "links"
@@ -121,6 +122,14 @@ number_or_by (Some d) key default table = read_at key (number_from 0 4294967295)
 
 abbrev pub number_or : Key → ℕ → Members → Result ℕ TomlFault
 number_or key default table = number_or_by (value_at key table) key default table
+
+-- the number within a range at a key, by what stands there: none where nothing does
+abbrev pub number_if_by : Option Data → Key → ℕ → ℕ → Members → Result (Option ℕ) TomlFault
+number_if_by None key least most table = Ok None
+number_if_by (Some d) key least most table = and_then (read_at key (number_from least most) table) (λ number. Ok (Some number))
+
+abbrev pub number_if : Key → ℕ → ℕ → Members → Result (Option ℕ) TomlFault
+number_if key least most table = number_if_by (value_at key table) key least most table
 
 -- a text of the form of a name
 abbrev pub if_name : List ℕ → Option (List ℕ)

@@ -1,5 +1,6 @@
 pub mod Fields
 pub mod TomlFaults
+pub mod LinkTimes
 pub mod DomainText
 pub mod JoinedLink
 pub mod Names

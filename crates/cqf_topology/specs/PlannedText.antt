@@ -1,10 +1,10 @@
 -- The streams that a text asks for with their deadlines, or the first fault of the text (profile).
-use Rattle.std.specs.Prelude.{ℕ, List, Option, Some, None, Result, Ok}
-use Rattle.toml.specs.Data.{Data, Members}
+use Rattle.std.specs.Prelude.{ℕ, List, Option, Result, Ok}
+use Rattle.toml.specs.Data.{Members}
 use Rattle.cqf_lists.specs.Results.{and_then}
 use Rattle.cqf_topology.specs.declared.keys.Key.TheVariants.{Streams, Deadline}
 use Rattle.cqf_topology.specs.declared.toml_faults.TomlFault.{TomlFault}
-use Rattle.cqf_topology.specs.Fields.{value_at, whole_document, read_at, tables_of_key, number_from}
+use Rattle.cqf_topology.specs.Fields.{whole_document, tables_of_key, number_if}
 use Rattle.cqf_topology.specs.declared.planned.Planned.{Planned}
 use Rattle.cqf_topology.specs.PacedText.{PacedText, paced_from, paced_text}
 use Rattle.cqf_topology.specs.StreamsText.{streams_keys, stream_keys}
@@ -16,13 +16,9 @@ PlannedText = PacedText × Option ℕ
 abbrev pub planned_text : Planned → PlannedText
 planned_text planned = (paced_text planned.request, planned.deadline)
 
--- the deadline of a stream's table, by what stands there: none where nothing does
-abbrev pub deadline_by : Option Data → Members → Result (Option ℕ) TomlFault
-deadline_by None table = Ok None
-deadline_by (Some d) table = and_then (read_at Deadline (number_from 1 4294967295) table) (λ deadline. Ok (Some deadline))
-
+-- the deadline of a stream's table: none where nothing stands there
 abbrev pub deadline_from : Members → Result (Option ℕ) TomlFault
-deadline_from table = deadline_by (value_at Deadline table) table
+deadline_from table = number_if Deadline 1 4294967295 table
 
 -- a stream's table: the deadline is read behind its other keys
 abbrev pub planned_from : Members → Result PlannedText TomlFault

@@ -1,5 +1,6 @@
 //! A domain of bridges and stations.
-ghost use Rattle.std.specs.Prelude.{◌≡◌, ◌<◌, length, slice_get, Some, IfOk};
+ghost use Rattle.std.specs.Arc.{arc_value};
+ghost use Rattle.std.specs.Prelude.{◌≡◌, ◌<◌, ◌↔◌, length, slice_get, Some, IfOk, true};
 ghost use Rattle.cqf_model.specs.Domain.{IsAccepted, node_named, link_between};
 ghost use Rattle.cqf_topology.specs.Fields.{Gives};
 ghost use Rattle.cqf_topology.specs.DomainText.{IsDomain, IsOnlyLink, IsReadable, HasBridges, HasNames, IsNumberedDomain};
@@ -8,23 +9,26 @@ ghost use Rattle.cqf_topology.specs.DomainText.{with_links, with_these, checked,
 use crate::DomainFault;
 use crate::draft::{Draft, read_draft};
 use crate::joined::{
-    JoinedLink, end_of_name, find_long_delay, find_long_gap, find_twice, join_links, links_of,
-    node_of_end, numbered_names,
+    JoinedLink, end_of_name, find_long_delay, find_long_gap, find_long_guard, find_long_sync,
+    find_twice, join_links, links_of, node_of_end, numbered_names,
 };
 use crate::link_list::LinkList;
 use crate::names::NameList;
+use crate::same::is_same_domain;
 use cqf_model::{Limits, Link, Node};
 use cqf_units::{Memory, Name, Nanos};
 use std::alloc::Global;
 use std::marker::Model;
+use std::sync::Arc;
 
-/// A domain: its cycle time and guard time, its bridges and stations by name and by number, and its directed links by
+/// A domain: its cycle time and guard time, how far its clocks may be apart, its bridges and stations by name and by number, and its directed links by
 /// number. It is accepted: cyclic queuing and forwarding works on it.
 #[derive(Debug, Drop)]
 pub struct Domain {
     limits: Limits,
     cycle_time: u32,
     guard: u32,
+    sync: u32,
     bridges: NameList,
     stations: NameList,
     links: LinkList,
@@ -36,12 +40,13 @@ impl Model for Domain {
 
     ghost Value = { DomainValue };
 
-    ghost view = { λ d. record { limits = d.limits; cycle_time = d.cycle_time; guard = d.guard; bridges = d.bridges.keys; stations = d.stations.keys; links = d.links.items } };
+    ghost view = { λ d. record { limits = d.limits; cycle_time = d.cycle_time; guard = d.guard; sync = d.sync; bridges = d.bridges.keys; stations = d.stations.keys; links = d.links.items } };
 
     ghost invariant = { λ d. IsDomain (record {
       limits = d.limits;
       cycle_time = d.cycle_time;
       guard = d.guard;
+      sync = d.sync;
       bridges = d.bridges.keys;
       stations = d.stations.keys;
       links = d.links.items;
@@ -53,13 +58,17 @@ fn check(alloc: Global, draft: &Draft, joined: &[JoinedLink]) -> Result<(), Doma
     ensures { Gives DomainFault.Memory (λ _. with_these draft.now joined.now) result (with_links draft.now joined.now) }
 {
     let guard = draft.guard();
+    let sync = draft.sync();
     if let Some(link) = find_twice(alloc, joined)? {
         return Err(DomainFault::LinkTwice(link));
     }
     if draft.cycle_time() <= guard {
         return Err(DomainFault::GuardTooLong);
     }
-    if let Some(link) = find_long_delay(joined, guard) {
+    if let Some(link) = find_long_guard(joined, draft.cycle_time(), guard) {
+        return Err(DomainFault::LinkGuardTooLong(link));
+    }
+    if let Some(link) = find_long_delay(joined, sync, guard) {
         return Err(DomainFault::DelayTooLong(link));
     }
     if let Some(link) = find_long_gap(joined, guard) {
@@ -71,6 +80,9 @@ fn check(alloc: Global, draft: &Draft, joined: &[JoinedLink]) -> Result<(), Doma
         || joined.len() > limits.links_within()
     {
         return Err(DomainFault::TooMany);
+    }
+    if let Some(link) = find_long_sync(joined, sync) {
+        return Err(DomainFault::SyncTooLong(link));
     }
     Ok(())
 }
@@ -143,6 +155,7 @@ impl Domain {
             limits: draft.limits(),
             cycle_time: draft.cycle_time(),
             guard: draft.guard(),
+            sync: draft.sync(),
             bridges,
             stations,
             links,
@@ -155,17 +168,19 @@ impl Domain {
         limits: Limits,
         cycle_time: u32,
         guard: u32,
+        sync: u32,
         bridges: NameList,
         stations: NameList,
         links: LinkList,
     ) -> Domain
-        requires { IsDomain (domain_with limits cycle_time guard bridges.keys stations.keys links.items) }
-        ensures { result ≡ domain_with limits cycle_time guard bridges.keys stations.keys links.items }
+        requires { IsDomain (domain_with limits cycle_time guard sync bridges.keys stations.keys links.items) }
+        ensures { result ≡ domain_with limits cycle_time guard sync bridges.keys stations.keys links.items }
     {
         Domain {
             limits,
             cycle_time,
             guard,
+            sync,
             bridges,
             stations,
             links,
@@ -181,8 +196,9 @@ impl Domain {
 
     /// The cycle time: all bridges divide time into cycles of it (IEEE 802.1Q, Annex T). It is 10,000 to 10,000,000 ns.
     ///
-    /// The domain is accepted: the guard time is within the cycle time, each link's delay is within the guard time, and so
-    /// is the gap behind a frame on each link.
+    /// The domain is accepted: each guard time is within the cycle time; each link's greatest delay and how far clocks may be apart,
+    /// together, are within the link's guard time, and so is the gap behind a frame on it; and clocks are no further apart than a
+    /// shortest frame and the link's least delay take together.
     pub fn cycle_time(&self) -> Nanos
         ensures value { result.0 ≡ self.now.cycle_time }
         ensures accepted { IsAccepted self.now }
@@ -201,11 +217,19 @@ impl Domain {
         let _ = &self.limits;
     }
 
-    /// The guard time: no transmission gate is open in the last so many nanoseconds of a cycle (profile).
+    /// The guard time of each link that has none of its own: no transmission gate is open in the last so many nanoseconds of a cycle
+    /// (profile).
     pub fn guard(&self) -> Nanos
         ensures { result.0 ≡ self.now.guard }
     {
         Nanos(u64::from(self.guard))
+    }
+
+    /// How far any two clocks of the domain may be apart (profile).
+    pub fn sync(&self) -> Nanos
+        ensures { result.0 ≡ self.now.sync }
+    {
+        Nanos(u64::from(self.sync))
     }
 
     /// How many bridges there are, from 1. They are numbered from 0.
@@ -288,9 +312,26 @@ impl Domain {
             limits: self.limits,
             cycle_time: self.cycle_time,
             guard: self.guard,
+            sync: self.sync,
             bridges,
             stations,
             links,
         })
+    }
+
+    /// A copy that may be shared, unless memory runs out.
+    pub fn try_share(&self, alloc: Global) -> Result<Arc<Domain>, Memory>
+        ensures { IfOk result (λ shared. arc_value shared ≡ self.now) }
+    {
+        let copy = self.try_copy(alloc)?;
+        let shared = Arc::new(alloc, copy)?;
+        Ok(shared)
+    }
+
+    /// Whether another has the same limits, times, nodes and links.
+    pub fn is_same(&self, other: &Domain) -> bool
+        ensures { (result ≡ true) ↔ (self.now ≡ other.now) }
+    {
+        is_same_domain(self, other)
     }
 }

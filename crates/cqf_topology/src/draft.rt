@@ -3,14 +3,15 @@ ghost use Rattle.std.specs.Prelude.{◌≡◌, ◌++◌, ◌∷◌, [], OnOk, Is
 ghost use Rattle.toml.specs.View.{view, table_view, items_view};
 ghost use Rattle.toml.specs.Data.{as_table};
 ghost use Rattle.cqf_lists.specs.Results.{and_then};
-ghost use Rattle.cqf_topology.specs.Fields.{Gives, read_at, tables_of_key, tables_from, names_at};
-ghost use Rattle.cqf_topology.specs.DomainText.{rate_of, rate_from, link_read, if_some, with_front, domain_from, read_text};
+ghost use Rattle.cqf_topology.specs.Fields.{Gives, tables_of_key, tables_from, names_at};
+ghost use Rattle.cqf_topology.specs.DomainText.{link_read, if_some, with_front, domain_from, read_text, sync_from};
 
 use crate::{
-    Key, TomlFault, are_all_tables, array_at, name_at, names_at, number_at, read_document, value_at,
+    Key, LinkTimes, TomlFault, are_all_tables, array_at, name_at, names_at, number_at, number_if,
+    read_document, times_at,
 };
 use cqf_model::{LONGEST_CYCLE, Limits};
-use cqf_units::{Name, Rate};
+use cqf_units::Name;
 use std::alloc::Global;
 use std::marker::Model;
 use toml::{Table, Value};
@@ -20,9 +21,7 @@ use toml::{Table, Value};
 pub(crate) struct DraftLink {
     pub from: Name,
     pub to: Name,
-    pub rate: Rate,
-    /// In nanoseconds.
-    pub delay: u32,
+    pub times: LinkTimes,
 }
 
 /// A domain as its text says it: times in nanoseconds, and links by the names of their ends; and the limits within which it
@@ -32,6 +31,7 @@ pub(crate) struct Draft {
     limits: Limits,
     cycle_time: u32,
     guard: u32,
+    sync: u32,
     bridges: Vec<Name>,
     stations: Vec<Name>,
     links: Vec<DraftLink>,
@@ -42,7 +42,7 @@ impl Model for Draft {
 
     ghost Value = { DomainText };
 
-    ghost view = { λ d. record { limits = d.limits; cycle_time = d.cycle_time; guard = d.guard; bridges = d.bridges.items; stations = d.stations.items; links = d.links.items } };
+    ghost view = { λ d. record { limits = d.limits; cycle_time = d.cycle_time; guard = d.guard; sync = d.sync; bridges = d.bridges.items; stations = d.stations.items; links = d.links.items } };
 }
 
 impl Draft {
@@ -64,6 +64,12 @@ impl Draft {
         self.guard
     }
 
+    pub fn sync(&self) -> u32
+        ensures { result ≡ self.now.sync }
+    {
+        self.sync
+    }
+
     pub fn bridges(&self) -> &[Name]
         ensures { result.now ≡ self.now.bridges }
     {
@@ -83,7 +89,7 @@ impl Draft {
     }
 }
 
-/// The keys of a domain text, in reading order.
+/// The keys that a domain text owes, in reading order.
 const KEYS: [Key; 5] = [
     Key::Cycle,
     Key::Guard,
@@ -92,43 +98,8 @@ const KEYS: [Key; 5] = [
     Key::Links,
 ];
 
-/// The keys of a link's table, in reading order.
+/// The keys that a link's table owes, in reading order.
 const LINK_KEYS: [Key; 4] = [Key::From, Key::To, Key::Rate, Key::Delay];
-
-/// The rate of so many Mb/s.
-fn rate_of_number(number: i64) -> Option<Rate>
-    ensures { result ≡ rate_of number }
-{
-    match number {
-        10 => Some(Rate::Mb10),
-        100 => Some(Rate::Mb100),
-        1000 => Some(Rate::Mb1000),
-        _ => None,
-    }
-}
-
-/// The rate that a value means.
-fn rate_of_value(value: &Value) -> Option<Rate>
-    ensures { result ≡ rate_from (view value.now) }
-{
-    match value.as_integer() {
-        Some(number) => rate_of_number(number),
-        None => None,
-    }
-}
-
-/// The rate of a link's table.
-///
-/// # Errors
-/// `BadValue` of `rate`, where none of the integers 10, 100 and 1000 stands there.
-pub fn rate_at(table: &Table) -> Result<Rate, TomlFault>
-    ensures { result ≡ read_at Key.Rate rate_from (table_view table.now) }
-{
-    match value_at(table, Key::Rate).and_then(rate_of_value) {
-        Some(rate) => Ok(rate),
-        None => Err(TomlFault::BadValue(Key::Rate)),
-    }
-}
 
 /// A link's table.
 fn read_link(table: &Table) -> Result<DraftLink, TomlFault>
@@ -136,14 +107,8 @@ fn read_link(table: &Table) -> Result<DraftLink, TomlFault>
 {
     let from = name_at(table, Key::From)?;
     let to = name_at(table, Key::To)?;
-    let rate = rate_at(table)?;
-    let delay = number_at(table, Key::Delay, 0, LONGEST_CYCLE)?;
-    Ok(DraftLink {
-        from,
-        to,
-        rate,
-        delay,
-    })
+    let times = times_at(table)?;
+    Ok(DraftLink { from, to, times })
 }
 
 /// A link, as an element of the array of links.
@@ -207,12 +172,24 @@ fn read_bridges(alloc: Global, table: &Table) -> Result<Vec<Name>, TomlFault>
     Ok(bridges)
 }
 
+/// How far any two clocks may be apart, in nanoseconds, by a domain's table: 0 where nothing stands there.
+///
+/// # Errors
+/// `BadValue` of `sync`, where no integer from 0 to 10,000,000 stands there.
+pub fn sync_at(table: &Table) -> Result<u32, TomlFault>
+    ensures { result ≡ sync_from (table_view table.now) }
+{
+    let sync = number_if(table, Key::Sync, 0, LONGEST_CYCLE)?;
+    Ok(sync.unwrap_or(0))
+}
+
 /// A domain's table.
 fn read_table(alloc: Global, table: &Table, limits: Limits) -> Result<Draft, TomlFault>
     ensures { Gives TomlFault.Memory (λ draft. draft) result (domain_from limits (table_view table.now)) }
 {
     let cycle_time = number_at(table, Key::Cycle, 10_000, LONGEST_CYCLE)?;
     let guard = number_at(table, Key::Guard, 1, LONGEST_CYCLE)?;
+    let sync = sync_at(table)?;
     let bridges = read_bridges(alloc, table)?;
     let stations = names_at(alloc, table, Key::Stations)?;
     let links = read_links(alloc, table)?;
@@ -220,6 +197,7 @@ fn read_table(alloc: Global, table: &Table, limits: Limits) -> Result<Draft, Tom
         limits,
         cycle_time,
         guard,
+        sync,
         bridges,
         stations,
         links,

@@ -28,12 +28,16 @@ pub enum DomainFault {
     LinkTwice(usize),
     /// The guard time isn't below the cycle time.
     GuardTooLong,
-    /// The first link whose delay isn't below the guard time.
+    /// The first link whose own guard time isn't below the cycle time.
+    LinkGuardTooLong(usize),
+    /// The first link whose greatest delay and how far clocks may be apart, together, aren't below its guard time.
     DelayTooLong(usize),
-    /// The first link on which the gap behind a frame, of 12 octets, takes longer than the guard time.
+    /// The first link on which the gap behind a frame, of 12 octets, takes longer than its guard time.
     GapTooLong(usize),
     /// More than 32 bridges, 64 stations or 64 links.
     TooMany,
+    /// The first link on which a shortest frame, with its preamble, takes less than clocks may be apart, the least delay included.
+    SyncTooLong(usize),
     /// A growth was refused.
     Memory,
 }
@@ -50,9 +54,11 @@ impl fmt::Display for DomainFault {
             DomainFault::UnknownName(name) => write!(f, "UnknownName {name}"),
             DomainFault::LinkTwice(link) => write!(f, "LinkTwice {link}"),
             DomainFault::GuardTooLong => f.write_str("GuardTooLong"),
+            DomainFault::LinkGuardTooLong(link) => write!(f, "LinkGuardTooLong {link}"),
             DomainFault::DelayTooLong(link) => write!(f, "DelayTooLong {link}"),
             DomainFault::GapTooLong(link) => write!(f, "GapTooLong {link}"),
             DomainFault::TooMany => f.write_str("TooMany"),
+            DomainFault::SyncTooLong(link) => write!(f, "SyncTooLong {link}"),
             DomainFault::Memory => f.write_str("Memory"),
         }
     }

@@ -3,7 +3,7 @@ ghost use Rattle.std.specs.Prelude.{◌≡◌, option_map, ok_or};
 ghost use Rattle.std.specs.Result.{result_map_both};
 ghost use Rattle.toml.specs.View.{view, table_view, items_view};
 ghost use Rattle.toml.specs.Data.{as_array};
-ghost use Rattle.cqf_topology.specs.Fields.{Gives, value_at, names_at, names_from, number_or, read_at, number_from, name_from, are_tables};
+ghost use Rattle.cqf_topology.specs.Fields.{Gives, value_at, names_at, names_from, number_or, number_if, read_at, number_from, name_from, are_tables};
 
 use crate::{Key, TomlFault};
 use cqf_units::Name;
@@ -18,7 +18,7 @@ pub fn value_at<'a>(table: &'a Table, key: Key) -> Option<&'a Value>
 }
 
 /// A number within a range, of a value.
-fn number_of(value: &Value, least: u32, most: u32) -> Option<u32>
+pub(crate) fn number_of(value: &Value, least: u32, most: u32) -> Option<u32>
     ensures { result ≡ number_from least most (view value.now) }
 {
     let number = match value.as_integer() {
@@ -56,6 +56,22 @@ pub fn number_or(table: &Table, key: Key, default: u32) -> Result<u32, TomlFault
         return Ok(default);
     }
     number_at(table, key, 0, u32::MAX)
+}
+
+/// The number at a key, which is an integer from `least` to `most`, or `None` where the table lacks the key.
+///
+/// # Errors
+/// `BadValue` of the key, where another value stands there.
+pub fn number_if(table: &Table, key: Key, least: u32, most: u32) -> Result<Option<u32>, TomlFault>
+    ensures { result ≡ number_if key least most (table_view table.now) }
+{
+    if value_at(table, key).is_none() {
+        return Ok(None);
+    }
+    match number_at(table, key, least, most) {
+        Ok(number) => Ok(Some(number)),
+        Err(fault) => Err(fault),
+    }
 }
 
 /// The text of a value.

@@ -1,19 +1,19 @@
 //! Links by the numbers of their ends, before these are known to be small.
-ghost use Rattle.std.specs.Prelude.{◌≡◌, ◌++◌, [], ◌∷◌, All, IfOk, OnOk, Ok, option_map, map, nat_le, nat_lt, ◌*◌, false};
+ghost use Rattle.std.specs.Prelude.{◌≡◌, ◌++◌, [], ◌∷◌, All, IfOk, OnOk, Ok, option_map, map, false};
 ghost use Rattle.std.specs.List.{list_any};
-ghost use Rattle.cqf_units.specs.Timing.{nanos_of_octet};
 ghost use Rattle.cqf_model.specs.Domain.{node_or};
 ghost use Rattle.cqf_lists.specs.Results.{refuse};
 ghost use Rattle.cqf_topology.specs.Fields.{Gives};
 ghost use Rattle.cqf_topology.specs.DomainText.{is_among, first_taken, numbered_with, place_of, joined_link, joined};
-ghost use Rattle.cqf_topology.specs.DomainText.{first_twice, first_long_delay, first_long_gap};
+ghost use Rattle.cqf_topology.specs.DomainText.{first_twice, first_long_delay, first_long_gap, first_long_guard, first_long_sync};
+ghost use Rattle.cqf_topology.specs.LinkTimes.{has_long_delay, has_long_gap, has_long_guard, has_long_sync, times_of};
 ghost use Rattle.cqf_topology.specs.JoinedLink.{node_of, ends_held, ends_of, are_same_ends, IsSmallNode, HasSmallEnds};
 
-use crate::DomainFault;
 use crate::draft::DraftLink;
 use crate::names::NameList;
+use crate::{DomainFault, LinkTimes};
 use cqf_model::{Link, Node};
-use cqf_units::{Memory, Name, Rate, octet_time};
+use cqf_units::{Memory, Name};
 use indexmap::IndexSet;
 use std::alloc::Global;
 use std::marker::Model;
@@ -30,19 +30,26 @@ pub enum End {
 pub(crate) struct JoinedLink {
     from: usize,
     to: End,
-    rate: Rate,
-    delay: u32,
+    times: LinkTimes,
 }
 
 impl Model for JoinedLink {
     ghost use Rattle.cqf_model.specs.declared.topology.Link.{Link};
     ghost use Rattle.cqf_topology.specs.JoinedLink.{node_of, end_of_joined};
+    ghost use Rattle.cqf_topology.specs.LinkTimes.{times_of};
 
     ghost Value = { Link };
 
-    ghost view = { λ l. record { from = l.from; to = node_of l.to; rate = l.rate; delay = l.delay } };
+    ghost view = { λ l. record {
+      from = l.from;
+      to = node_of l.to;
+      rate = l.times.rate;
+      delay = l.times.delay;
+      least = l.times.least;
+      guard = l.times.guard;
+    } };
 
-    ghost inverse = { λ link. record { from = link.from; to = end_of_joined link.to; rate = link.rate; delay = link.delay } };
+    ghost inverse = { λ link. record { from = link.from; to = end_of_joined link.to; times = times_of link } };
 }
 
 /// Whether the name is among either names.
@@ -121,8 +128,7 @@ fn join_link(
     Ok(JoinedLink {
         from,
         to,
-        rate: link.rate,
-        delay: link.delay,
+        times: link.times,
     })
 }
 
@@ -143,32 +149,64 @@ pub(crate) fn join_links(
     Ok(joined)
 }
 
-/// Whether the link's delay isn't within the guard time.
-fn has_long_delay(link: &JoinedLink, guard: u32) -> bool
-    ensures { result ≡ nat_le guard link.now.delay }
+/// Whether the link's guard time isn't below the cycle time.
+fn has_long_guard(link: &JoinedLink, cycle_time: u32, guard: u32) -> bool
+    ensures { result ≡ has_long_guard cycle_time guard (times_of link.now) }
 {
-    guard <= link.delay
+    link.times.has_long_guard(cycle_time, guard)
 }
 
-/// Whether the gap behind a frame isn't within the guard time.
+/// Whether the link's greatest delay and how far clocks may be apart, together, aren't below its guard time.
+fn has_long_delay(link: &JoinedLink, sync: u32, guard: u32) -> bool
+    ensures { result ≡ has_long_delay sync guard (times_of link.now) }
+{
+    link.times.has_long_delay(sync, guard)
+}
+
+/// Whether the gap behind a frame takes longer than the link's guard time.
 fn has_long_gap(link: &JoinedLink, guard: u32) -> bool
-    ensures { result ≡ nat_lt guard (12 * nanos_of_octet link.now.rate) }
+    ensures { result ≡ has_long_gap guard (times_of link.now) }
 {
-    u64::from(guard) < 12 * octet_time(link.rate)
+    link.times.has_long_gap(guard)
 }
 
-/// The first link whose delay isn't within the guard time.
-pub(crate) fn find_long_delay(links: &[JoinedLink], guard: u32) -> Option<usize>
-    ensures { result ≡ first_long_delay guard links.now }
+/// Whether clocks may be further apart than a shortest frame and the link's least delay take together.
+fn has_long_sync(link: &JoinedLink, sync: u32) -> bool
+    ensures { result ≡ has_long_sync sync (times_of link.now) }
 {
-    links.iter().position(|link| has_long_delay(link, guard))
+    link.times.has_long_sync(sync)
 }
 
-/// The first link on which the gap behind a frame isn't within the guard time.
+/// The first link whose guard time isn't below the cycle time.
+pub(crate) fn find_long_guard(links: &[JoinedLink], cycle_time: u32, guard: u32) -> Option<usize>
+    ensures { result ≡ first_long_guard cycle_time guard links.now }
+{
+    links
+        .iter()
+        .position(|link| has_long_guard(link, cycle_time, guard))
+}
+
+/// The first link whose greatest delay and how far clocks may be apart, together, aren't below its guard time.
+pub(crate) fn find_long_delay(links: &[JoinedLink], sync: u32, guard: u32) -> Option<usize>
+    ensures { result ≡ first_long_delay sync guard links.now }
+{
+    links
+        .iter()
+        .position(|link| has_long_delay(link, sync, guard))
+}
+
+/// The first link on which the gap behind a frame takes longer than its guard time.
 pub(crate) fn find_long_gap(links: &[JoinedLink], guard: u32) -> Option<usize>
     ensures { result ≡ first_long_gap guard links.now }
 {
     links.iter().position(|link| has_long_gap(link, guard))
+}
+
+/// The first link on which clocks may be further apart than a shortest frame and its least delay take together.
+pub(crate) fn find_long_sync(links: &[JoinedLink], sync: u32) -> Option<usize>
+    ensures { result ≡ first_long_sync sync links.now }
+{
+    links.iter().position(|link| has_long_sync(link, sync))
 }
 
 /// The node, where its number is small.
@@ -190,8 +228,10 @@ fn link_of(link: &JoinedLink) -> Link
     Link {
         from: link.from as u16,
         to: node_of_end(link.to),
-        rate: link.rate,
-        delay: link.delay,
+        rate: link.times.rate,
+        delay: link.times.delay,
+        least: link.times.least,
+        guard: link.times.guard,
     }
 }
 

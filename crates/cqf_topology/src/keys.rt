@@ -9,6 +9,7 @@ use std::fmt;
 pub enum Key {
     Cycle,
     Guard,
+    Sync,
     Bridges,
     Stations,
     Links,
@@ -34,6 +35,7 @@ impl Key {
         match self {
             Key::Cycle => "cycle",
             Key::Guard => "guard",
+            Key::Sync => "sync",
             Key::Bridges => "bridges",
             Key::Stations => "stations",
             Key::Links => "links",

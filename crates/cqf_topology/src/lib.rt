@@ -1,14 +1,14 @@
 //! Domains and streams, read from TOML texts, and the keys and values of such texts.
 //!
-//! - [`Domain`] is an accepted domain: its cycle time and guard time, its bridges and stations by name and number, and
-//!   its directed links. [`Domain::read`] gives the domain that a text means, or a [`DomainFault`], the first that is
+//! - [`Domain`] is an accepted domain: its cycle time and guard time, how far its clocks may be apart, its bridges and stations by name and
+//!   number, and its directed links. [`Domain::read`] gives the domain that a text means, or a [`DomainFault`], the first that is
 //!   wrong with it; [`Domain::read_within`] does so within other limits than plants have where none are set.
 //! - [`Request`] is a request for a stream, and [`read_streams`] gives those of a text, or a [`StreamsFault`]. [`PacedRequest`] is one
 //!   for a stream that isn't offered in each cycle, as [`read_paced_streams`] gives them, and [`Planned`] one with its deadline, as
 //!   [`read_planned_streams`] does.
 //! - [`begins_at`] tells whether a stream begins at a bridge.
 //! - [`put_link`] and [`put_ends`] put a link by the names of its ends, and [`put_bridge`] and [`put_node`] the name of a node.
-//! - [`read_document`] gives the table of a text in which no key is missing; [`number_at`], [`number_or`], [`name_at`], [`names_at`],
+//! - [`read_document`] gives the table of a text in which no key is missing; [`number_at`], [`number_or`], [`number_if`], [`name_at`], [`names_at`],
 //!   [`text_at`] and [`array_at`] read what stands at a [`Key`] of a table, and [`value_at`] is the value itself. [`TomlFault`] is the first
 //!   thing that is wrong with a text.
 //!
@@ -26,7 +26,8 @@
 //! ```
 //!
 //! is a domain of one bridge and one station, joined by link 0 from bridge 0 to station 0. With `delay = 5000` it is
-//! refused: `DelayTooLong 0`.
+//! refused: `DelayTooLong 0`. With `sync = 500` two clocks of it may be 500 ns apart, and `delay = [400, 600]` is a delay that varies; so each is
+//! refused that the guard time doesn't bear: `sync = 4600` with `delay = 500`, `DelayTooLong 0`.
 //!
 //! ```text
 //! cycle = 125000
@@ -51,17 +52,21 @@ mod names;
 mod node_names;
 mod paced;
 mod planned;
+mod same;
 mod streams;
 mod texts;
+mod times;
 mod toml_faults;
 
 pub use beginning::begins_at;
 pub use cqf_model::{Link, Node};
 pub use documents::read_document;
 pub use domain::Domain;
-pub use draft::rate_at;
+pub use draft::sync_at;
 pub use faults::DomainFault;
-pub use fields::{are_all_tables, array_at, name_at, names_at, number_at, number_or, value_at};
+pub use fields::{
+    are_all_tables, array_at, name_at, names_at, number_at, number_if, number_or, value_at,
+};
 pub use joined::{End, end_of_name, numbered_names};
 pub use keys::Key;
 pub use laws::{taken_is_first_repeated, twice_is_first_twin};
@@ -73,4 +78,5 @@ pub use planned::{Planned, deadline_of, read_planned, read_planned_streams};
 pub use streams::{Request, branches_of, read_streams};
 pub use texts::text_at;
 pub(crate) use texts::{text_lists_at, texts_at};
+pub use times::{LinkTimes, times_at};
 pub use toml_faults::{TomlFault, TomlFault as StreamsFault};

@@ -8,7 +8,7 @@ ghost use Rattle.cqf_topology.specs.PlannedText.{deadline_from, planned_from, pl
 
 use crate::paced::{PacedRequest, read_paced};
 use crate::streams::{KEYS, STREAM_KEYS};
-use crate::{Key, StreamsFault, are_all_tables, array_at, number_at, read_document, value_at};
+use crate::{Key, StreamsFault, are_all_tables, array_at, number_if, read_document};
 use std::alloc::Global;
 use toml::{Table, Value};
 
@@ -28,13 +28,7 @@ pub struct Planned {
 pub fn deadline_of(table: &Table) -> Result<Option<u32>, StreamsFault>
     ensures { result ≡ deadline_from (table_view table.now) }
 {
-    if value_at(table, Key::Deadline).is_none() {
-        return Ok(None);
-    }
-    match number_at(table, Key::Deadline, 1, u32::MAX) {
-        Ok(deadline) => Ok(Some(deadline)),
-        Err(fault) => Err(fault),
-    }
+    number_if(table, Key::Deadline, 1, u32::MAX)
 }
 
 /// The request of a stream's table, and its deadline.

@@ -287,10 +287,10 @@ offers_conform blocks skips until seed senders sender t apart among is ranges =
 -- ---- the cycles in which frames come
 
 -- where intervals are some times so many cycles long, and no frame is too late for its cycle, each comes in one of so many
-in_turn : (t : TrafficText) (cycle_time every block at : ℕ) → 0 < cycle_time → t.interval % (every * cycle_time) ≡ 0 →
-    t.offset % cycle_time + t.jitter < cycle_time → on_grid t block ≤ at → at ≤ on_grid t block + t.jitter →
-    at / cycle_time % every ≡ t.offset / cycle_time % every
-in_turn t cycle_time every block at some whole within from upto =
+in_turn : (t : TrafficText) (cycle_time every sync block at : ℕ) → 0 < cycle_time → t.interval % (every * cycle_time) ≡ 0 →
+    sync ≤ t.offset % cycle_time → t.offset % cycle_time + t.jitter + sync < cycle_time → on_grid t block ≤ at + sync →
+    at ≤ on_grid t block + t.jitter + sync → at / cycle_time % every ≡ t.offset / cycle_time % every
+in_turn t cycle_time every sync block at some whole behind_start within from upto =
     let first : ℕ = t.offset / cycle_time in
     let times : ℕ = t.interval / (every * cycle_time) in
     let begins : t.offset ≡ first * cycle_time + t.offset % cycle_time = sym (div-add-mod' t.offset cycle_time) in
@@ -298,24 +298,26 @@ in_turn t cycle_time every block at some whole within from upto =
     let behind : block * t.interval ≡ block * times * every * cycle_time = omega (arith, ap (λ n. block * n) long) in
     let grid : t.offset + block * t.interval ≡ (first + block * times * every) * cycle_time + t.offset % cycle_time = omega (arith, begins, behind) in
     ap (λ cycle. cycle % every)
-    (cycle_is cycle_time (first + block * times * every) at (omega (arith, grid, from)) (omega (arith, grid, upto, within)))
+    (cycle_is cycle_time (first + block * times * every) at (omega (arith, grid, from, behind_start)) (omega (arith, grid, upto, within)))
     ∙ add-mul-mod_self_right first (block * times) every
 
 -- so does each of a stream
-sent_in_turns : (until : ℕ) (sender : TalkerStream) (words : Option Lcg) (t : TrafficText) (cycle_time every : ℕ) → 0 < cycle_time →
-    t.interval % (every * cycle_time) ≡ 0 → t.offset % cycle_time + t.jitter < cycle_time → (x : Offer) →
-    Contains (sent_with until sender words (Some t)) x → x.at.0 / cycle_time % every ≡ t.offset / cycle_time % every
-sent_in_turns until sender words t cycle_time every some whole within x c =
-    let at : ℕ → ℕ = λ block. reached t words (suc block) in
-    let block = contains_from_below (λ block. block_before until sender t (at block)) (blocks_before until t) x c in
-    let here = contains_if (nat_lt (at block.0) until) (block_of sender t (at block.0)) x block.2 in
-    let comes : at block.0 ≡ x.at.0 = ap (λ (y : Offer). y.at.0) (copied_once (frame_of sender t (at block.0)) x t.frames here) in
-    subst (λ n. n / cycle_time % every ≡ t.offset / cycle_time % every) comes
-    (in_turn t cycle_time every block.0 (at block.0) some whole within (on_late t words block.0) (reached_most t words block.0))
+sent_in_turns : (until : ℕ) (sender : TalkerStream) (words : Option Lcg) (t : TrafficText) (cycle_time every sync : ℕ) → 0 < cycle_time →
+    t.interval % (every * cycle_time) ≡ 0 → sync ≤ t.offset % cycle_time → t.offset % cycle_time + t.jitter + sync < cycle_time → (x : Offer) →
+    Contains (sent_with until sender words (Some t)) x → (at : ℕ) → x.at.0 ≤ at + sync → at ≤ x.at.0 + sync →
+    at / cycle_time % every ≡ t.offset / cycle_time % every
+sent_in_turns until sender words t cycle_time every sync some whole behind within x c at no_sooner no_later =
+    let by_talker : ℕ → ℕ = λ block. reached t words (suc block) in
+    let block = contains_from_below (λ block. block_before until sender t (by_talker block)) (blocks_before until t) x c in
+    let here = contains_if (nat_lt (by_talker block.0) until) (block_of sender t (by_talker block.0)) x block.2 in
+    let comes : by_talker block.0 ≡ x.at.0 = ap (λ (y : Offer). y.at.0) (copied_once (frame_of sender t (by_talker block.0)) x t.frames here) in
+    let late : on_grid t block.0 ≤ by_talker block.0 = on_late t words block.0 in
+    let most : by_talker block.0 ≤ on_grid t block.0 + t.jitter = reached_most t words block.0 in
+    in_turn t cycle_time every sync block.0 at some whole behind within (omega (arith, comes, late, no_sooner)) (omega (arith, comes, most, no_later))
 
 -- and each of those that are offered of one by one
 pub offers_come_in_turns : OffersComeInTurns
-offers_come_in_turns until seed senders sender t cycle_time every apart among is some more whole within x c =
+offers_come_in_turns until seed senders sender t cycle_time every sync apart among is some more whole behind within x c at no_sooner no_later =
     let place = place_of_member senders sender among in
     let own = only_its_own until seed sender 0 senders place.0 apart place.1 in
     let words = words_of seed own.0 in
@@ -323,6 +325,6 @@ offers_come_in_turns until seed senders sender t cycle_time every apart among is
     let with : sent_by until seed own.0 sender ≡ sent = ap (λ traffic. sent_with until sender words traffic) is in
     let all : offers_named sender.name (offers_before until seed senders) ≡ in_order until sent =
     named_in_order until sender.name (sent_from until seed 0 senders) ∙ ap (in_order until) (own.1 ∙ with) in
-    let at = contains_from_below (λ at. filter (λ (y : Offer). y.at.0 == at) sent) until x (subst (λ (xs : List Offer). Contains xs x) all c) in
-    let there = (contains_from_filter (λ (y : Offer). y.at.0 == at.0) sent x at.2).0 in
-    sent_in_turns until sender words t cycle_time every some whole within x there
+    let by_instant = contains_from_below (λ n. filter (λ (y : Offer). y.at.0 == n) sent) until x (subst (λ (xs : List Offer). Contains xs x) all c) in
+    let there = (contains_from_filter (λ (y : Offer). y.at.0 == by_instant.0) sent x by_instant.2).0 in
+    sent_in_turns until sender words t cycle_time every sync some whole behind within x there at no_sooner no_later

@@ -1,5 +1,5 @@
 -- What streams offer so keeps their talkers' word.
-use Rattle.std.specs.Prelude.{ℕ, ◌≡◌, ◌+◌, ◌*◌, ◌/◌, ◌%◌, ◌<◌, List, Contains, Option, Some, slice_get}
+use Rattle.std.specs.Prelude.{ℕ, ◌≡◌, ◌+◌, ◌*◌, ◌/◌, ◌%◌, ◌<◌, ◌≤◌, List, Contains, Option, Some, slice_get}
 use Rattle.cqf_units.specs.Timing.{cycle_at}
 use Rattle.cqf_model.specs.declared.frames.Offer.{Offer}
 use Rattle.cqf_laws_timing.specs.Traffic.{Conforms, offers_named}
@@ -17,10 +17,11 @@ OffersConform = (until : ℕ) (seed : Option ℕ) (senders : List TalkerStream) 
     Contains senders sender → sender.traffic ≡ Some t → IsTrafficText t → Conforms (promise_of t) (offers_named sender.name (offers_before until seed senders))
 
 -- where each interval is some times so many cycles long, and a frame that is as late as may be comes in the cycle in which it stands on the
--- grid, all that is offered of a stream comes in one of so many cycles, those as far from one another as from that in which its offers begin
+-- grid, even by a clock that is so far apart from the talker's, all that is offered of a stream comes in one of so many cycles by such a clock,
+-- those as far from one another as from that in which its offers begin
 abbrev pub OffersComeInTurns : Type 0
-OffersComeInTurns = (until : ℕ) (seed : Option ℕ) (senders : List TalkerStream) (sender : TalkerStream) (t : TrafficText) (cycle_time every : ℕ) →
+OffersComeInTurns = (until : ℕ) (seed : Option ℕ) (senders : List TalkerStream) (sender : TalkerStream) (t : TrafficText) (cycle_time every sync : ℕ) →
     AreNamedApart senders → Contains senders sender → sender.traffic ≡ Some t → 0 < cycle_time → 0 < every →
-    t.interval % (every * cycle_time) ≡ 0 → t.offset % cycle_time + t.jitter < cycle_time →
+    t.interval % (every * cycle_time) ≡ 0 → sync ≤ t.offset % cycle_time → t.offset % cycle_time + t.jitter + sync < cycle_time →
     (x : Offer) → Contains (offers_named sender.name (offers_before until seed senders)) x →
-    cycle_at cycle_time x.at.0 % every ≡ t.offset / cycle_time % every
+    (at : ℕ) → x.at.0 ≤ at + sync → at ≤ x.at.0 + sync → cycle_at cycle_time at % every ≡ t.offset / cycle_time % every

@@ -2,13 +2,14 @@
 //! takes on a link.
 //!
 //! - [`Nanos`], [`Octets`], [`Rate`] and [`Cycle`] are plain quantities, each with its unit.
-//! - [`octet_time`], [`wire`], [`end_of`] and [`idle_from`] time a frame on an IEEE 802.3 link.
-//! - [`cost`], [`budget`] and [`cycle_of`] are the profile's arithmetic of reservations and cycles.
+//! - [`octet_ticks`], [`time_of`], [`wire`], [`slot`], [`end_of`] and [`idle_from`] time a frame on an IEEE 802.3 link.
+//! - [`cost`], [`span`], [`budget`] and [`cycle_of`] are the profile's arithmetic of reservations and cycles.
 //! - [`Name`] is the name of a bridge, a station or a stream.
 //!
 //! ```text
 //! end_of(Nanos(10), Octets(64), Rate::Mb1000)    is Nanos(586): (64 + 8) octets of 8 ns after 10
 //! idle_from(Nanos(10), Octets(64), Rate::Mb1000) is Nanos(682): the gap of 12 octets is over too
+//! idle_from(Nanos(10), Octets(64), Rate::Mb10000) is Nanos(78): 84 octets of 0.8 ns are 67.2 ns, and the port starts at whole ones
 //! ```
 #![tactic(auto)]
 
@@ -17,9 +18,11 @@ mod reservations;
 mod timing;
 
 pub use names::Name;
-pub use reservations::{Cycle, budget, cost, cycle_of};
+pub use reservations::{Cycle, budget, budget_octets, cost, cycle_of, span};
 use std::alloc::AllocError;
-pub use timing::{Nanos, Octets, Rate, end_of, idle_from, octet_time, wire};
+pub use timing::{
+    Nanos, Octets, Rate, end_of, idle_from, octet_ticks, slot, time_in_ticks, time_of, wire,
+};
 
 /// The one answer for want of memory, throughout: a growth was refused. What a call changed before that is put
 /// back, unless the call says otherwise.

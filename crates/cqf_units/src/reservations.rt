@@ -1,8 +1,8 @@
 //! Cycles, and what a reservation takes of a link (profile).
-ghost use Rattle.std.specs.Prelude.{◌≡◌, ◌/◌, ◌^◌, ◌<◌, ◌≤◌};
-ghost use Rattle.cqf_units.specs.Timing.{nanos_of_octet, cost_of, budget_of, cycle_at};
+ghost use Rattle.std.specs.Prelude.{◌≡◌, ◌-◌, ◌*◌, ◌/◌, ◌^◌, ◌<◌, ◌≤◌};
+ghost use Rattle.cqf_units.specs.Timing.{ticks_of_octet, shortest_of, span_of, cost_of, budget_of, cycle_at};
 
-use crate::{Nanos, Octets, Rate, octet_time};
+use crate::{Nanos, Octets, Rate, octet_ticks};
 
 /// The number of a cycle, from 0.
 #[derive(Clone, Copy, Debug, PartialEq, Eq, PartialOrd, Ord, Hash)]
@@ -18,19 +18,53 @@ pub fn cost(reserved: Octets) -> Octets
     Octets(reserved.0 + 20 * (reserved.0 / 64))
 }
 
-/// What reservations may cost on a link in a cycle, in octets: those that fit the cycle time without the guard time
-/// (profile). The guard time is no longer than the cycle time, and the budget is below 2^32.
-pub fn budget(cycle_time: Nanos, guard: Nanos, rate: Rate) -> Octets
+/// The most ticks that a frame of the shortest size takes, of 84 octets of the wire: no frame takes more for its octets (profile).
+fn shortest(rate: Rate) -> u64
+    ensures value { result ≡ shortest_of (ticks_of_octet rate) }
+    ensures range { result ≤ 1680024 }
+    ensures some { 192 ≤ result }
+{
+    let ticks = octet_ticks(rate);
+    let rounding = if ticks % 25 == 0 {
+        0
+    } else if ticks % 5 == 0 {
+        20
+    } else {
+        24
+    };
+    84 * ticks + rounding
+}
+
+/// The nanoseconds in which frames are sent that cost so many octets, whatever their sizes (profile).
+pub fn span(cost: u64, rate: Rate) -> u64
+    requires { cost < 2 ^ 50 }
+    ensures value { result ≡ span_of cost (ticks_of_octet rate) }
+    ensures range { result ≤ 801 * cost }
+{
+    let ticks = u128::from(cost) * u128::from(shortest(rate));
+    (ticks / 2100) as u64
+}
+
+/// What reservations may cost on a link in a cycle, as [`budget`] has it, also where it is 2^32 or more.
+pub fn budget_octets(cycle_time: Nanos, guard: Nanos, rate: Rate) -> u64
     requires shorter { guard.0 ≤ cycle_time.0 }
-    requires fits { budget_of cycle_time.0 guard.0 (nanos_of_octet rate) < 2 ^ 32 }
-    ensures { result.0 ≡ budget_of cycle_time.0 guard.0 (nanos_of_octet rate) }
+    requires short { cycle_time.0 < 2 ^ 48 }
+    ensures value { result ≡ budget_of cycle_time.0 guard.0 (ticks_of_octet rate) }
+    ensures range { result ≤ 11 * (cycle_time.0 - guard.0) }
 {
     let open = cycle_time.0 - guard.0;
-    let octets = match rate {
-        Rate::Mb10 => open / 800,
-        Rate::Mb100 => open / 80,
-        Rate::Mb1000 => open / 8,
-    };
+    let shortest = shortest(rate);
+    open * 2100 / shortest
+}
+
+/// What reservations may cost on a link in a cycle, in octets: frames that cost so much are sent in the cycle time without the guard
+/// time (profile). The guard time is no longer than the cycle time, which is below 2^28 ns.
+pub fn budget(cycle_time: Nanos, guard: Nanos, rate: Rate) -> Octets
+    requires shorter { guard.0 ≤ cycle_time.0 }
+    requires short { cycle_time.0 < 2 ^ 28 }
+    ensures { result.0 ≡ budget_of cycle_time.0 guard.0 (ticks_of_octet rate) }
+{
+    let octets = budget_octets(cycle_time, guard, rate);
     Octets(octets as u32)
 }
 

@@ -1,6 +1,6 @@
 //! Frames on a link (IEEE Std 802.3).
-ghost use Rattle.std.specs.Prelude.{◌≡◌, ◌+◌, ◌*◌, ◌^◌, ◌<◌};
-ghost use Rattle.cqf_units.specs.Timing.{nanos_of_octet, wire_of, ending_of, idle_after};
+ghost use Rattle.std.specs.Prelude.{◌≡◌, ◌+◌, ◌*◌, ◌^◌, ◌<◌, ◌≤◌};
+ghost use Rattle.cqf_units.specs.Timing.{ticks_of_octet, time_of, wire_of, slot_of, ending_of, idle_after};
 
 /// An instant, or a length of time, in nanoseconds.
 #[derive(Clone, Copy, Debug, PartialEq, Eq, PartialOrd, Ord, Hash)]
@@ -10,7 +10,7 @@ pub struct Nanos(pub u64);
 #[derive(Clone, Copy, Debug, PartialEq, Eq, PartialOrd, Ord, Hash)]
 pub struct Octets(pub u32);
 
-/// The rate of a link: 10, 100 or 1,000 Mb/s.
+/// The rate of a link, from 10 Mb/s to 100 Gb/s.
 #[derive(Clone, Copy, Debug, PartialEq, Eq, Hash)]
 pub enum Rate {
     /// 10 Mb/s: an octet takes 800 ns.
@@ -19,18 +19,55 @@ pub enum Rate {
     Mb100,
     /// 1,000 Mb/s: an octet takes 8 ns.
     Mb1000,
+    /// 2,500 Mb/s: an octet takes 3.2 ns.
+    Mb2500,
+    /// 5,000 Mb/s: an octet takes 1.6 ns.
+    Mb5000,
+    /// 10,000 Mb/s: an octet takes 0.8 ns.
+    Mb10000,
+    /// 25,000 Mb/s: an octet takes 0.32 ns.
+    Mb25000,
+    /// 40,000 Mb/s: an octet takes 0.2 ns.
+    Mb40000,
+    /// 100,000 Mb/s: an octet takes 0.08 ns.
+    Mb100000,
 }
 
-/// How long one octet takes at the rate, in nanoseconds: 800, 80 or 8 (IEEE 802.3).
-pub fn octet_time(rate: Rate) -> u64
-    ensures value { result ≡ nanos_of_octet rate }
-    ensures range { result < 801 }
+/// How long one octet takes at the rate, in ticks of 40 picoseconds, of which a nanosecond has 25 (IEEE 802.3).
+pub fn octet_ticks(rate: Rate) -> u64
+    ensures value { result ≡ ticks_of_octet rate }
+    ensures range { result ≤ 20000 }
+    ensures some { 2 ≤ result }
 {
     match rate {
-        Rate::Mb10 => 800,
-        Rate::Mb100 => 80,
-        Rate::Mb1000 => 8,
+        Rate::Mb10 => 20_000,
+        Rate::Mb100 => 2000,
+        Rate::Mb1000 => 200,
+        Rate::Mb2500 => 80,
+        Rate::Mb5000 => 40,
+        Rate::Mb10000 => 20,
+        Rate::Mb25000 => 8,
+        Rate::Mb40000 => 5,
+        Rate::Mb100000 => 2,
     }
+}
+
+/// How long so many octets take at the rate, in nanoseconds: one that has begun counts as a whole one (profile).
+pub fn time_of(octets: u64, rate: Rate) -> u64
+    requires { octets ≤ 2 ^ 33 }
+    ensures value { result ≡ time_of octets (ticks_of_octet rate) }
+    ensures range { result ≤ 800 * octets }
+    ensures least { 2 * octets ≤ 25 * result }
+{
+    (octets * octet_ticks(rate)).div_ceil(25)
+}
+
+/// The same where an octet takes so many ticks. The caller keeps the ticks of all octets below 2^63.
+pub fn time_in_ticks(octets: u64, octet_ticks: u64) -> u64
+    requires { octets * octet_ticks < 2 ^ 63 }
+    ensures { result ≡ time_of octets octet_ticks }
+{
+    (octets * octet_ticks).div_ceil(25)
 }
 
 /// What a frame takes of the wire, in octets: preamble and start delimiter take 8, the least gap 12 (IEEE 802.3).
@@ -42,22 +79,28 @@ pub fn wire(frame: Octets) -> Octets
     Octets(frame.0 + 20)
 }
 
+/// What it takes of the wire in nanoseconds: its slot.
+pub fn slot(frame: Octets, rate: Rate) -> u64
+    ensures value { result ≡ slot_of frame.0 (ticks_of_octet rate) }
+    ensures range { result ≤ 800 * (frame.0 + 20) }
+{
+    time_of(u64::from(frame.0) + 20, rate)
+}
+
 /// The instant at which a frame that starts at `start` is over: preamble, start delimiter and frame have been sent
 /// (IEEE 802.3). The caller keeps it below 2^64 ns.
 pub fn end_of(start: Nanos, frame: Octets, rate: Rate) -> Nanos
-    requires { ending_of start.0 frame.0 (nanos_of_octet rate) < 2 ^ 64 }
-    ensures { result.0 ≡ ending_of start.0 frame.0 (nanos_of_octet rate) }
+    requires { ending_of start.0 frame.0 (ticks_of_octet rate) < 2 ^ 64 }
+    ensures { result.0 ≡ ending_of start.0 frame.0 (ticks_of_octet rate) }
 {
-    let octets = u64::from(frame.0) + 8;
-    Nanos(start.0 + octets * octet_time(rate))
+    Nanos(start.0 + time_of(u64::from(frame.0) + 8, rate))
 }
 
 /// The instant from which the port may start again after a frame that starts at `start`: the least gap behind the
 /// frame is over too (IEEE 802.3). The caller keeps it below 2^64 ns.
 pub fn idle_from(start: Nanos, frame: Octets, rate: Rate) -> Nanos
-    requires { idle_after start.0 frame.0 (nanos_of_octet rate) < 2 ^ 64 }
-    ensures { result.0 ≡ idle_after start.0 frame.0 (nanos_of_octet rate) }
+    requires { idle_after start.0 frame.0 (ticks_of_octet rate) < 2 ^ 64 }
+    ensures { result.0 ≡ idle_after start.0 frame.0 (ticks_of_octet rate) }
 {
-    let octets = u64::from(frame.0) + 20;
-    Nanos(start.0 + octets * octet_time(rate))
+    Nanos(start.0 + slot(frame, rate))
 }

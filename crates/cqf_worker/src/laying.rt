@@ -1,4 +1,5 @@
 //! Laying the pipes of a run.
+ghost use Rattle.std.specs.Arc.{arc_value};
 ghost use Rattle.std.specs.Prelude.{◌≡◌, ◌<◌, ◌^◌, [], All, IfOk, OnOk, length, map};
 ghost use Rattle.cqf_worker_loops.specs.Workers.{HasItsOffers, MayWork};
 ghost use Rattle.cqf_model.specs.Run.{AreOffers};
@@ -14,6 +15,7 @@ use cqf_topology::Domain;
 use cqf_units::Memory;
 use cqf_worker_loops::{Bell, Carried, LinkEnd, PipeIn, PipeOut, Worker, pipe_between, pipe_to};
 use std::alloc::Global;
+use std::sync::Arc;
 
 /// What the threads of a run begin with: a worker for each bridge, by number, and the ends at which their tables are put, likewise.
 #[derive(Drop)]
@@ -39,14 +41,14 @@ fn agenda_of(
 /// A bridge's worker with no ports, and the end at which its tables are put.
 fn ready_worker(
     alloc: Global,
-    domain: &Domain,
+    domain: &Arc<Domain>,
     offers: &[Offer],
     number: u16,
     cycles: u32,
 ) -> Result<(Worker, PipeIn<Carried<Table>>), Memory>
-    requires bridge { number < length domain.now.bridges }
+    requires bridge { number < length (arc_value domain.now).bridges }
     requires few_offers { length offers.now < 2 ^ 32 }
-    ensures worker { IfOk result (λ made. IsBare (traffic_of domain.now offers.now) number made.0) }
+    ensures worker { IfOk result (λ made. IsBare (traffic_of (arc_value domain.now) offers.now) number made.0) }
     ensures cycles { IfOk result (λ made. made.0.relay.cycles ≡ cycles) }
     ensures pipe { IfOk result (λ made. made.1.pipe ≡ tables_pipe made.0) }
     ensures nothing_put { IfOk result (λ made. made.1.items ≡ []) }
@@ -84,10 +86,11 @@ fn ready_workers(
     ensures pipes { IfOk result (λ laid. map pipe_of_tables laid.tables.items ≡ map tables_pipe laid.workers.items) }
     ensures nothing_put { IfOk result (λ laid. All (λ end. end.items ≡ []) laid.tables.items) }
 {
+    let shared = domain.try_share(alloc)?;
     let mut workers = Vec::new(alloc);
     let mut tables = Vec::new(alloc);
     for number in 0..domain.bridges() {
-        let (worker, putting) = ready_worker(alloc, domain, offers, number, cycles)?;
+        let (worker, putting) = ready_worker(alloc, &shared, offers, number, cycles)?;
         workers.push(worker)?;
         tables.push(putting)?;
     }

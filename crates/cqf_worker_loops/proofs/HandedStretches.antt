@@ -2,6 +2,7 @@
 use Rattle.std.proofs.Common.{◌≡◌, ◌∙◌, ℕ, ◌+◌, ◌<◌, ◌≤◌, Bool, true, false, List, [], ◌∷◌, ◌++◌, Some, All, Contains, Result, Ok, Err, IfErr}
 use Rattle.std.proofs.Common.{length, length-append, map, set, set-set, get_or, refl, sym, ap, subst, arith, inl, inr, append-nil, option_map}
 use Rattle.std.specs.Prelude.{◌⊎◌, filter, if◌then◌else◌, nat_lt, slice_get, take, OnErr, OnOk}
+use Rattle.std.specs.Arc.{arc_value}
 use Rattle.std.proofs.lemmas.Bool.{cases_eq, cases_lt, cond-false, cond-true, le-ltb, lt-ltb}
 use Rattle.std.proofs.lemmas.List.{get_or_append_left, set-get_or, take_more}
 use Rattle.std.proofs.lemmas.List.Elements.{All-contains, All-set, filter-append}
@@ -232,7 +233,7 @@ module _ (t : Offering) (number place k : ℕ) (before after : Worker) (port : S
   put_under_way = record {
     good_offers = way.good_offers;
     is_agenda = subst (HasItsOffers t number) (sym agenda) way.is_agenda;
-    of_domain = hands.stays.domain ∙ way.of_domain;
+    of_domain = ap arc_value hands.stays.domain ∙ way.of_domain;
     number_is = hands.stays.number ∙ way.number_is;
     few = omega (arith, hands.stays.cycles, way.few);
     tables = subst AreItems (sym tables) way.tables;

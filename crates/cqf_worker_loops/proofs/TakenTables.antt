@@ -2,6 +2,7 @@
 use Rattle.std.proofs.Common.{◌≡◌, ◌≢◌, ◌∙◌, ℕ, suc, ◌+◌, ◌*◌, ◌<◌, ◌≤◌, Bool, true, false, List, [], ◌∷◌, ◌++◌, All, AllPairs, Contains}
 use Rattle.std.proofs.Common.{length, length-append, map, get_or, refl, sym, ap, subst, arith, inl, inr, add-one, append-nil, eq-eqb, ne_eqb}
 use Rattle.std.specs.Prelude.{◌==◌, ◌&&◌, filter, if◌then◌else◌, slice_index_or}
+use Rattle.std.specs.Arc.{arc_value}
 use Rattle.std.specs.List.{list_any}
 use Rattle.std.specs.List.Sorted.{IsNonDecreasingBy, IsPermutation}
 use Rattle.std.proofs.Math.Seq.{get_or-append_seam}
@@ -258,17 +259,17 @@ entered t number table older before after offers way early was takes listed agen
 
 -- the offers that are listed for it are of its cycle
 pub offers_entered : (w : Worker) (table : CycleTable) (offers : List Offered) (cycle : ℕ) → HasTable table w → cycle ≡ w.relay.tables →
-    offers ≡ offers_listed_at w.agenda cycle → AreOfCycle w.relay.domain w.relay.tables offers
+    offers ≡ offers_listed_at w.agenda cycle → AreOfCycle (arc_value w.relay.domain) w.relay.tables offers
 offers_entered w table offers cycle has at listed =
     let t = has.was.traffic in
     let of_cycle : AreOfCycle t.domain has.before.relay.tables (offers_listed_at has.before.agenda has.before.relay.tables) =
     offers_of_cycle t has.was.number has.before.relay.tables has.before.agenda has.was.is.is_agenda in
-    let old : AreOfCycle has.before.relay.domain has.before.relay.tables (offers_listed_at has.before.agenda has.before.relay.tables) =
+    let old : AreOfCycle (arc_value has.before.relay.domain) has.before.relay.tables (offers_listed_at has.before.agenda has.before.relay.tables) =
     subst (λ (d : Domain). AreOfCycle d has.before.relay.tables (offers_listed_at has.before.agenda has.before.relay.tables))
     (sym has.was.is.of_domain) of_cycle in
-    let now : AreOfCycle w.relay.domain w.relay.tables (offers_listed_at w.agenda w.relay.tables) =
-    subst (λ (it : Worker). AreOfCycle it.relay.domain it.relay.tables (offers_listed_at it.agenda it.relay.tables)) (sym has.is) old in
-    subst (AreOfCycle w.relay.domain w.relay.tables) (sym (listed ∙ ap (offers_listed_at w.agenda) at)) now
+    let now : AreOfCycle (arc_value w.relay.domain) w.relay.tables (offers_listed_at w.agenda w.relay.tables) =
+    subst (λ (it : Worker). AreOfCycle (arc_value it.relay.domain) it.relay.tables (offers_listed_at it.agenda it.relay.tables)) (sym has.is) old in
+    subst (AreOfCycle (arc_value w.relay.domain) w.relay.tables) (sym (listed ∙ ap (offers_listed_at w.agenda) at)) now
 
 -- a worker whose bridge takes the table of its next cycle has entered it
 pub enters_table : (table : CycleTable) (before after : Worker) (offers : List Offered) → TakesTable table.rows offers before.relay after.relay →

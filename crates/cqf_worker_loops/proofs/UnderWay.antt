@@ -2,6 +2,7 @@
 use Rattle.std.proofs.Common.{◌≡◌, ◌∙◌, ℕ, ◌<◌, ◌≤◌, true, List, [], All, Contains}
 use Rattle.std.proofs.Common.{length, map, sym, ap, subst, arith, inl, inr}
 use Rattle.std.specs.Prelude.{filter, if◌then◌else◌, nat_lt}
+use Rattle.std.specs.Arc.{arc_value}
 use Rattle.std.proofs.lemmas.Bool.{cases_lt, cond-false, le-ltb}
 use Rattle.std.proofs.lemmas.List.Elements.{All-contains}
 use Rattle.cqf_lists.proofs.Members.{all_from_members, contains_at, place_of_member}
@@ -118,7 +119,7 @@ pub takes_under_way : (t : Offering) (number : ℕ) (before after : Worker) → 
 takes_under_way t number before after only way come = record {
   good_offers = way.good_offers;
   is_agenda = subst (HasItsOffers t number) (sym only.agenda) way.is_agenda;
-  of_domain = only.stays.domain ∙ way.of_domain;
+  of_domain = ap arc_value only.stays.domain ∙ way.of_domain;
   number_is = only.stays.number ∙ way.number_is;
   few = omega (arith, only.stays.cycles, way.few);
   tables = only.tables way.tables;

@@ -1,5 +1,6 @@
 -- How far a bridge on its thread is (profile).
 use Rattle.std.specs.Prelude.{ℕ, ◌≡◌, ◌+◌, ◌≤◌, ◌<◌, [], true, if◌then◌else◌, nat_lt, All, Contains, Some, filter, length, map, slice_get}
+use Rattle.std.specs.Arc.{arc_value}
 use Rattle.cqf_model.specs.Limits.{most_cycles}
 use Rattle.cqf_model.specs.Run.{AreOffers}
 use Rattle.cqf_admission.specs.Tables.{CycleTable}
@@ -35,7 +36,7 @@ pub record HasComeSoFar (t : Offering) (number : ℕ) (w : Worker) : Type 0 wher
 pub record IsUnderWay (t : Offering) (number : ℕ) (w : Worker) : Type 0 where
   pub good_offers : AreOffers t.domain t.offers
   pub is_agenda : HasItsOffers t number w.agenda
-  pub of_domain : w.relay.domain ≡ t.domain
+  pub of_domain : arc_value w.relay.domain ≡ t.domain
   pub number_is : w.relay.number ≡ number
   pub few : w.relay.cycles ≤ most_cycles
   pub tables : AreItems w.tables.items

@@ -2,15 +2,20 @@
 use Rattle.std.specs.Prelude.{ℕ, ◌≡◌, List, [], Ok, length, Contains}
 use Rattle.cqf_model.specs.declared.frames.Background.{Background}
 use Rattle.cqf_model.specs.declared.frames.Offer.{Offer}
+use Rattle.cqf_model.specs.declared.frames.Sent.{Sent}
 use Rattle.cqf_model.specs.declared.frames.Started.{Started}
 use Rattle.cqf_model.specs.Book.{Contents}
-use Rattle.cqf_model.specs.Domain.{Domain, IsAccepted}
+use Rattle.cqf_model.specs.Domain.{Domain, IsAccepted, cycle_of}
 use Rattle.cqf_model.specs.History.{Asked, IsLegalHistory, Recorded, held_in, most_beside, tables_of}
 use Rattle.cqf_model.specs.HistoryBook.{IsBookOfHistory, run_of_history}
+use Rattle.cqf_model.specs.Loose.{slack_of}
+use Rattle.cqf_model.specs.Network.{Network}
 use Rattle.cqf_model.specs.Run.{AreBackground, AreOffers}
 use Rattle.cqf_model.specs.Shift.{InShift}
+use Rattle.cqf_model.specs.Traffic.{Carried, whole_at}
 use Rattle.cqf_program_plans.specs.Compile.Output.{admitted_from}
 use Rattle.cqf_laws_timing.specs.Latency.{IsTimely, least_of, most_of, whole_of}
+use Rattle.cqf_laws_timing.specs.LooseStreams.{IsHeardOf, IsLooseHistory}
 use Rattle.cqf_laws_timing.specs.Streams.{AdmitsOnly}
 use Rattle.cqf_laws_timing.specs.Verdicts.{IsAsSaid, sure_of}
 
@@ -29,3 +34,13 @@ ToldLatenciesHold =
     AreOffers d offers → AreBackground d background → IsBookOfHistory d entries offers background cycles book → (s : Started) → Contains book.starts s →
     (shift : InShift (run_of_history d entries offers background cycles) (length (tables_of d entries cycles)) s.frame s.link s.cycle.0) →
     IsAsTold d s.link shift.depth (most_beside (held_in d plan 0) shift.row.tree.items shift.row.pace s.link) shift.x.offer.at.0 (whole_of d s)
+
+-- so is each frame in every loose network of such a history, with the slack that the domain states: from its offer by its edge bridge's
+-- clock to its being whole by the clock at the link's end
+abbrev pub ToldLatenciesHoldLoosely : Type 0
+ToldLatenciesHoldLoosely =
+    (d : Domain) (streams : List Asked) (plan entries : List Recorded) (offers : List Offer) (background : List Background) (cycles : ℕ) (net : Network)
+    (heard : Carried) → admitted_from d [] 1 streams ≡ Ok plan → AdmitsOnly streams entries →
+    IsLooseHistory d entries offers background cycles (slack_of d) net heard → (link : ℕ) (sent h : Sent) → IsHeardOf net heard link sent h →
+    (shift : InShift (run_of_history d entries offers background cycles) (length (tables_of d entries cycles)) sent.frame link (cycle_of d sent.start.0)) →
+    IsAsTold d link shift.depth (most_beside (held_in d plan 0) shift.row.tree.items shift.row.pace link) shift.x.offer.at.0 (whole_at d link h)

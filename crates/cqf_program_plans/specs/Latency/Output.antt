@@ -35,9 +35,9 @@ pub record AreCostsOf (links : ℕ) (rows : List Row) (costs : Turned) : Type 0 
   pub as_many : costs.links ≡ links
   pub each : (l cycle : ℕ) → l < links → sum_on costs l cycle ≡ link_cost rows l cycle
 
--- they are bounded, as the budgets are: by as many nanoseconds as a cycle has at most
+-- they are bounded, as the budgets are: by 11 octets for each nanosecond that a cycle has at most
 abbrev pub CostLittle : List Row → Type 0
-CostLittle rows = (l cycle : ℕ) → link_cost rows l cycle ≤ 10000000
+CostLittle rows = (l cycle : ℕ) → link_cost rows l cycle ≤ 110000000
 
 -- and of each link of a domain along which they go, where they repeat after 80 cycles
 pub record AreCosts (d : Domain) (rows : List Row) (costs : Turned) : Type 0 where

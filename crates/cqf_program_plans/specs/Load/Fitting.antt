@@ -2,7 +2,7 @@
 use Rattle.std.specs.Prelude.{ℕ, ◌+◌, ◌-◌, ◌*◌, ◌/◌, List, count_by, min, slice_get, suc, zero}
 use Rattle.std.specs.Option.{option_map_or}
 use Rattle.cqf_units.specs.declared.timing.Rate.{Rate}
-use Rattle.cqf_units.specs.declared.timing.Rate.TheVariants.{Mb10, Mb100, Mb1000}
+use Rattle.cqf_units.specs.declared.timing.Rate.TheVariants.{Mb10, Mb100, Mb1000, Mb2500, Mb5000, Mb10000, Mb25000, Mb40000, Mb100000}
 use Rattle.cqf_model.specs.declared.topology.Link.{Link}
 use Rattle.cqf_model.specs.declared.topology.Row.{Row}
 use Rattle.cqf_model.specs.Domain.{Domain}
@@ -15,6 +15,12 @@ abbrev pub megabits_of : Rate → ℕ
 megabits_of Mb10 = 10
 megabits_of Mb100 = 100
 megabits_of Mb1000 = 1000
+megabits_of Mb2500 = 2500
+megabits_of Mb5000 = 5000
+megabits_of Mb10000 = 10000
+megabits_of Mb25000 = 25000
+megabits_of Mb40000 = 40000
+megabits_of Mb100000 = 100000
 
 -- a link's rate
 abbrev pub rate_on : Domain → ℕ → ℕ

@@ -34,7 +34,7 @@ pub record IsListing (names : List (List ℕ)) (rows : List Row) (held : Turned)
   pub costs : held.links ≡ most_links
   pub counts : length crossing ≡ most_links
   pub cost : (l cycle : ℕ) → l < most_links → sum_on held l cycle ≡ link_cost rows l cycle
-  pub bounded : (l cycle : ℕ) → l < most_links → sum_on held l cycle ≤ length rows * 100000
+  pub bounded : (l cycle : ℕ) → l < most_links → sum_on held l cycle ≤ length rows * 2000000
   pub count : (l : ℕ) → l < most_links → slice_index_or crossing l 0 ≡ streams_on rows l
   pub counted : (l : ℕ) → l < most_links → slice_index_or crossing l 0 ≤ length rows
 

@@ -1,6 +1,6 @@
 -- What the command `port` gives for its input (profile): the starts before an instant, or the line of its first fault.
 use Rattle.std.specs.Prelude.{ℕ, ◌≡◌, ◌<◌, ◌≤◌, ◌^◌, List, map, Result, Ok, All, AllPairs, codes}
-use Rattle.cqf_units.specs.Timing.{nanos_of_octet}
+use Rattle.cqf_units.specs.Timing.{ticks_of_octet}
 use Rattle.cqf_units.specs.declared.timing.Rate.{Rate}
 use Rattle.cqf_model.specs.GateList.{Entry}
 use Rattle.cqf_model.specs.Port.{PortRules, Transmission, AreLegal}
@@ -45,7 +45,7 @@ pub record IsStartsText (rules : PortRules) (arrivals : List Arrival) (until : �
   pub starts : List Transmission
   pub legal : AreLegal rules arrivals until starts
   pub only : (others : List Transmission) → AreLegal rules arrivals until others → others ≡ starts
-  pub written : text ≡ text_of_starts (nanos_of_octet rate) (map (start_of arrivals) starts)
+  pub written : text ≡ text_of_starts (ticks_of_octet rate) (map (start_of arrivals) starts)
 
 -- the output is the text of the only legal starts before the instant, for the input's gate list and arrivals
 pub record IsPortOutput (until : ℕ) (rate : Rate) (input output : List ℕ) : Type 0 where

@@ -16,7 +16,7 @@ ghost use Rattle.cqf_press.specs.Stops.{EndsWith, IsRefused};
 use crate::compile::outputs::ConfigOutput;
 use crate::reserving::requests_in;
 use cqf_admission::{Ledger, Receipt, Refused, count_places, judge_paced};
-use cqf_compile::{compile, port_text};
+use cqf_compile::compile;
 use cqf_laws_history::state_follows_history;
 use cqf_model::{Limits, Row};
 use cqf_press::{REFUSED, Sheet, Stop};
@@ -220,15 +220,9 @@ fn config_ready(alloc: Global, domain: &Domain, rows: Vec<Row>) -> Result<Config
     requires paced { AreOfGoodPaces rows.items }
     ensures { IfOk result (λ output. output ≡ record { domain = domain.now; rows = rows.items }) }
 {
-    let port_text = port_text(alloc, domain)?;
     let plan = compile(alloc, domain)?;
     let sheet = Sheet::new(alloc)?;
-    Ok(ConfigOutput {
-        plan,
-        rows,
-        port_text,
-        sheet,
-    })
+    Ok(ConfigOutput { plan, rows, sheet })
 }
 
 /// The configuration of a domain with these streams, ready to be told.

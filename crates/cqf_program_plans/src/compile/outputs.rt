@@ -7,13 +7,11 @@ use cqf_model::Row;
 use cqf_press::{Press, Sheet, Sink, Told};
 use std::marker::Model;
 
-/// What the output of `compile` is told from: the plan of a domain, the rows of its streams by number, the text of the gate list that each port has, and
-/// a sheet.
+/// What the output of `compile` is told from: the plan of a domain, the rows of its streams by number, and a sheet.
 #[derive(Drop)]
 pub struct ConfigOutput {
     pub(crate) plan: Plan,
     pub(crate) rows: Vec<Row>,
-    pub(crate) port_text: Vec<u8>,
     pub(crate) sheet: Sheet,
 }
 
@@ -25,7 +23,7 @@ impl Model for ConfigOutput {
 
     ghost view = { λ o. record { domain = o.plan; rows = o.rows.items } };
 
-    ghost invariant = { λ o. IsReadyConfig o.plan o.rows.items o.port_text.items };
+    ghost invariant = { λ o. IsReadyConfig o.plan o.rows.items };
 }
 
 impl ConfigOutput {
@@ -33,14 +31,9 @@ impl ConfigOutput {
     pub fn tell<W: Sink>(self, told: &mut Told<W>)
         ensures { HasTold (writing W.contents told.old told.new) (text_of_config self) }
     {
-        let ConfigOutput {
-            plan,
-            rows,
-            port_text,
-            sheet,
-        } = self;
+        let ConfigOutput { plan, rows, sheet } = self;
         let mut press = Press::new(told, sheet);
-        put_config(&mut press, &plan, rows.as_slice(), port_text.as_slice());
+        put_config(&mut press, &plan, rows.as_slice());
         let _told = press.close();
     }
 }

@@ -63,7 +63,7 @@ pub fn link_costs(alloc: Global, domain: &Domain, rows: &[Row]) -> Result<Vec<u3
     let mut costs = Vec::new(alloc);
     for link in 0..domain.links() {
         let most = sums.most_of(link);
-        prove!(most <= 10_000_000);
+        prove!(most <= 110_000_000);
         costs.push(most as u32)?;
     }
     Ok(costs)
@@ -114,7 +114,7 @@ impl<'r> Costs<'r> {
         ensures { result ≡ most_beside self.now.rows row.now.tree.items row.now.pace hop.now.link }
     {
         let most = self.costs.most_at(hop, row.pace);
-        prove!(most <= 10_000_000);
+        prove!(most <= 110_000_000);
         most as u32
     }
 }

@@ -13,28 +13,32 @@ use crate::latency::costs::Costs;
 use crate::latency::latencies::Latency;
 use cqf_model::{Hop, Node, Row};
 use cqf_topology::Domain;
-use cqf_units::{Memory, Name, octet_time};
+use cqf_units::{Memory, Name, octet_ticks, span, time_of};
 use std::alloc::Global;
 
-/// The least that a frame takes to the end of a link of this depth.
+/// The least that a frame takes to the end of a link of this depth, however the clocks differ and the link delays.
 fn least_to(domain: &Domain, link: u16, depth: u8) -> u64
     requires { link < length domain.now.links }
     ensures { result ≡ least_of domain.now link depth }
 {
     let (cycle_time, ends) = (domain.cycle_time().0, domain.link(link));
     let waits = u64::from(depth.saturating_sub(1)) * cycle_time;
-    waits + 1 + 72 * octet_time(ends.rate) + u64::from(ends.delay)
+    let whole = waits + 1 + time_of(72, ends.rate) + u64::from(ends.least);
+    whole.saturating_sub(domain.sync().0)
 }
 
-/// The most that a frame takes to the end of a link of this depth, in nanoseconds, of which the streams cost so many octets (profile).
+/// The most that a frame takes to the end of a link of this depth, in nanoseconds, of which the streams cost so many octets, however the
+/// clocks differ and the link delays (profile).
 pub fn most_to(domain: &Domain, link: u16, depth: u8, cost: u64) -> u64
     requires link { link < length domain.now.links }
-    requires cost { cost ≤ 2 ^ 32 * 100000 }
+    requires cost { cost ≤ 2 ^ 29 * 2000000 }
     ensures { result ≡ most_of domain.now link depth cost }
 {
     let (cycle_time, ends) = (domain.cycle_time().0, domain.link(link));
     let waits = u64::from(depth) * cycle_time;
-    waits + octet_time(ends.rate) * cost.saturating_sub(12) + u64::from(ends.delay)
+    let gap = 12 * octet_ticks(ends.rate) / 25;
+    let busy = span(cost, ends.rate).saturating_sub(gap);
+    waits + busy + u64::from(ends.delay) + domain.sync().0
 }
 
 /// How far apart the frames of one cycle can be whole at the end of a link of which the streams cost so much.
@@ -42,8 +46,10 @@ fn window_at(domain: &Domain, link: u16, cost: u32) -> u64
     requires { link < length domain.now.links }
     ensures { result ≡ window_of domain.now link cost }
 {
-    let octets = u64::from(cost.saturating_sub(84));
-    octet_time(domain.link(link).rate) * octets
+    let (ends, sync) = (domain.link(link), domain.sync().0);
+    let (gap, shortest) = (12 * octet_ticks(ends.rate) / 25, time_of(72, ends.rate));
+    let busy = span(u64::from(cost), ends.rate).saturating_sub(gap + shortest);
+    busy + u64::from(ends.delay).saturating_sub(u64::from(ends.least)) + 2 * sync
 }
 
 /// The name of the station that a link of the domain ends in, where a listener is; none where it ends in a bridge.

@@ -4,7 +4,7 @@ ghost use Rattle.cqf_program_plans.specs.Load.Laws.{AdmittedAreListed, FitsIsGre
 use cqf_laws_history::state_follows_history;
 use cqf_laws_timing::lists_bound_costs;
 
-/// The greatest reservation that still fits is just that: a reservation, of 64 to 60,000 octets, costs no more than what is
+/// The greatest reservation that still fits is just that: a reservation, of 64 to 1,000,000 octets, costs no more than what is
 /// left of a link where it is no greater. So beside any streams one more, that is refused for no other reason, is accepted just
 /// where it is no greater than what fits each link of its tree (profile).
 pub fn greatest_fits()

@@ -87,11 +87,11 @@ impl LoadListing {
         self.names.contains(name)
     }
 
-    /// What the streams cost of a link at most in a cycle, in octets: at most 1,638,400,000.
+    /// What the streams cost of a link at most in a cycle, in octets: at most 32,768,000,000.
     pub(crate) fn cost_on(&self, link: u16) -> u64
         requires { link < most_links }
         ensures cost { result ≡ most_cost self.now link }
-        ensures bounded { result ≤ 1638400000 }
+        ensures bounded { result ≤ 32768000000 }
     {
         self.held.most_of(link)
     }

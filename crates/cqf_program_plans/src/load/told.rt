@@ -12,7 +12,7 @@ use crate::load::outputs::LoadOutput;
 use cqf_model::MOST_OCTETS;
 use cqf_press::{Press, Sink, Told};
 use cqf_topology::{Domain, put_link};
-use cqf_units::{Rate, budget};
+use cqf_units::Rate;
 
 /// A rate in Mb/s.
 fn megabits_of(rate: Rate) -> u32
@@ -22,6 +22,12 @@ fn megabits_of(rate: Rate) -> u32
         Rate::Mb10 => 10,
         Rate::Mb100 => 100,
         Rate::Mb1000 => 1000,
+        Rate::Mb2500 => 2500,
+        Rate::Mb5000 => 5000,
+        Rate::Mb10000 => 10_000,
+        Rate::Mb25000 => 25_000,
+        Rate::Mb40000 => 40_000,
+        Rate::Mb100000 => 100_000,
     }
 }
 
@@ -40,8 +46,9 @@ fn budget_on(domain: &Domain, link: u16) -> u64
     ensures range { result < 2 ^ 32 }
     ensures low { link < 4096 }
 {
-    let rate = domain.link(link).rate;
-    u64::from(budget(domain.cycle_time(), domain.guard(), rate).0)
+    // the domain is accepted: it has no more links than are represented
+    domain.know();
+    u64::from(cqf_admission::budget_on(domain, link).0)
 }
 
 /// The greatest reservation, in octets a cycle, that costs no more than what is left, below 2^32; 0 where there is none.
@@ -80,7 +87,7 @@ fn put_percentage<W: Sink>(press: &mut Press<'_, W>, thousandths: u64)
 
 /// Puts the share of a budget that is held: nothing where there is no budget.
 fn put_used<W: Sink>(press: &mut Press<'_, W>, budget: u64, held: u64)
-    requires { held < 2 ^ 32 }
+    requires { held < 2 ^ 36 }
     ensures { Puts W.contents press.old press.new (used_text budget held) }
 {
     if budget != 0 {

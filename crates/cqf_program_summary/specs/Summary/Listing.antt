@@ -21,9 +21,9 @@ cost_beside costs None l = 0
 cost_beside costs (Some row) l =
     fold max 0 (each_below (λ cycle. if uses row.tree.items row.pace l cycle then sum_on costs l cycle ∷ [] else []) most_every)
 
--- they are bounded, as those of fewer than 2^32 streams are
+-- they are bounded, as those of fewer than 2^29 streams are
 abbrev pub AreBounded : Turned → Type 0
-AreBounded costs = (l cycle : ℕ) → l < most_links → sum_on costs l cycle ≤ 2 ^ 32 * 100000
+AreBounded costs = (l cycle : ℕ) → l < most_links → sum_on costs l cycle ≤ 2 ^ 29 * 2000000
 
 -- a stream that has a row costs that, and another nothing
 abbrev pub CostsWith : Turned → Option Row → Turned → Type 0
@@ -64,7 +64,7 @@ cost_of_good d told l cycle = cost_of_all d (filter (is_good d) told) l cycle
 pub record IsListing (d : Domain) (streams : List Asked) (listing : SummaryListing) : Type 0 where
   pub names : listing.names.keys ≡ map (λ (asked : Asked). asked.name) (told_streams streams)
   pub are : listing.streams.items ≡ map (listed_of d) (told_streams streams)
-  pub few : length (told_streams streams) ≤ 2 ^ 32
+  pub few : length (told_streams streams) ≤ 2 ^ 29
   pub all : listing.costs.links ≡ most_links
   pub costs : (l cycle : ℕ) → l < most_links → sum_on listing.costs l cycle ≡ cost_of_good d (told_streams streams) l cycle
-  pub bounded : (l cycle : ℕ) → l < most_links → sum_on listing.costs l cycle ≤ length (told_streams streams) * 100000
+  pub bounded : (l cycle : ℕ) → l < most_links → sum_on listing.costs l cycle ≤ length (told_streams streams) * 2000000

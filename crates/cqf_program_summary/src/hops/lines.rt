@@ -21,7 +21,7 @@ use cqf_model::{Dropped, Offer, Started};
 use cqf_press::{Press, Sink};
 use cqf_report::reason_name;
 use cqf_topology::{Domain, put_bridge, put_link};
-use cqf_units::octet_time;
+use cqf_units::{octet_ticks, time_in_ticks};
 
 /// A link's octet time. A link that the domain lacks has none.
 fn octet_time_of(domain: &Domain, link: u16) -> u64
@@ -30,7 +30,7 @@ fn octet_time_of(domain: &Domain, link: u16) -> u64
     if link >= domain.links() {
         return 0;
     }
-    octet_time(domain.link(link).rate)
+    octet_ticks(domain.link(link).rate)
 }
 
 /// A link's delay. A link that the domain lacks has none.
@@ -49,7 +49,7 @@ fn end_of(domain: &Domain, started: &Started) -> u64
     ensures { result ≡ end_of_start domain.now started.now }
 {
     let octets = u64::from(started.octets) + 8;
-    started.start.0 + octets * octet_time_of(domain, started.link)
+    started.start.0 + time_in_ticks(octets, octet_time_of(domain, started.link))
 }
 
 /// The instant at which it is whole at the link's end.

@@ -80,7 +80,7 @@ fn cost_to(costs: &CycleSums, row: &Row, hop: &Hop) -> u64
     requires summable { IsSummable most_links row.now }
     requires of_tree { Contains row.now.tree.items hop.now }
     ensures cost { result ≡ cost_beside costs.now (Some row.now) hop.now.link }
-    ensures bounded { result ≤ 2 ^ 32 * 100000 }
+    ensures bounded { result ≤ 2 ^ 29 * 2000000 }
 {
     costs.most_at(hop, row.pace)
 }

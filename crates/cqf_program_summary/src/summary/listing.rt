@@ -18,6 +18,9 @@ use cqf_topology::{Domain, NameList, PacedRequest};
 use cqf_units::{Cycle, Memory, Name};
 use std::alloc::{AllocError, Global};
 
+/// Up to how many streams are listed: no memory has room for so many.
+const MOST_LISTED: usize = 1 << 29;
+
 /// A stream of which is told.
 #[derive(Drop)]
 pub(crate) struct ListedStream {
@@ -117,7 +120,7 @@ impl SummaryListing {
         })
     }
 
-    /// The listing with the stream of a request behind those before it, where it is told of. No memory has room for 2^32 of them.
+    /// The listing with the stream of a request behind those before it, where it is told of. No memory has room for as many as [`MOST_LISTED`].
     fn with(
         self,
         alloc: Global,
@@ -134,7 +137,7 @@ impl SummaryListing {
         if self.names.contains(&name) {
             return Ok(self);
         }
-        if self.names.len() >= u32::MAX as usize {
+        if self.names.len() >= MOST_LISTED {
             return Err(AllocError);
         }
         let row = row_of_request(alloc, domain, request)?;

@@ -7,8 +7,8 @@ use Rattle.cqf_admission.specs.Orders.{StandsIn, ordered_in}
 use Rattle.cqf_admission.specs.Script.{AreFew, Called, called_of, script_of}
 use Rattle.cqf_admission.proofs.calls.read_paced_script.Goals as goal
 
-pub calls_of-requires : goal.calls_of-requires
-calls_of-requires c =
+pub calls_by-requires : goal.calls_by-requires
+calls_by-requires c =
     subst (λ (orders : List Ordered). All (λ (order : Ordered). StandsIn (map asked_paced c.args.requests.now) c.args.text.now order.what) orders)
     (sym c.as_slice.ensures.value)
     (subst (λ (requests : List PacedRequest). All (λ (order : Ordered). StandsIn (map asked_paced requests) c.args.text.now order.what) c.in_ok-orders.orders.items)

@@ -1,7 +1,4 @@
-use Rattle.std.proofs.Common.{◌≡◌, ◌≤◌, ◌∙◌, ℕ, subst, sym}
-use Rattle.std.specs.Option.{option_map_or}
-use Rattle.cqf_units.specs.Timing.{budget_of, nanos_of_octet}
-use Rattle.cqf_model.specs.declared.topology.Link.{Link}
+use Rattle.std.proofs.Common.{◌≤◌, ℕ, subst, sym}
 use Rattle.cqf_model.specs.Domain.{budget}
 use Rattle.cqf_admission.specs.Holdings.{held_most_at}
 use Rattle.cqf_admission.proofs.Left.{fits_in, none_over, turns_within}
@@ -12,10 +9,8 @@ prove-unreachable-requires c =
     let d = c.args.domain.now in
     let rows = c.args.holdings.now.rows in
     let hop = c.args.hop.now in
-    let most : c.budget-most.result.0 ≡ budget d hop.link =
-    c.budget-most.ensures
-    ∙ (λ k. budget_of (c.cycle_time.ensures.value k) (c.guard.ensures k) (option_map_or (λ (link : Link). nanos_of_octet link.rate) (sym c.link-rate.ensures k) 0)) in
     let fits =
-    fits_in c.most_at-taken.result c.budget-most.result.0 (held_most_at rows hop.link c.args.pace hop.depth) (budget d hop.link) c.most_at-taken.ensures most
+    fits_in c.most_at-taken.result c.budget_on-most.result.0 (held_most_at rows hop.link c.args.pace hop.depth) (budget d hop.link) c.most_at-taken.ensures
+    c.budget_on-most.ensures
     (turns_within rows hop.link (budget d hop.link) (λ cycle. c.requires.within hop.link cycle c.requires.inside) c.args.pace hop.depth) in
     none_over c.most_at-taken.result c.from.result (subst (λ (n : ℕ). c.most_at-taken.result ≤ n) (sym c.from.ensures) fits) c.if-prove.true

@@ -1,8 +1,7 @@
 use Rattle.std.proofs.Common.{◌∙◌, List, ap, rules}
 use Rattle.std.specs.List.{flat_map}
 use Rattle.cqf_model.specs.declared.topology.Row.{Row}
-use Rattle.cqf_model.specs.Domain.{Domain}
-use Rattle.cqf_compile.specs.ConfigText.{config_text, text_of_link, text_of_row}
+use Rattle.cqf_compile.specs.ConfigText.{config_text, text_of_row, texts_of_links}
 use Rattle.cqf_press.proofs.PressLemmas.{Puts-as, Puts-then, text-pressed}
 use Rattle.cqf_compile.proofs.config.write_config.Goals as goal
 
@@ -15,11 +14,10 @@ put_shared-requires-clause-paced c = rw c.rows.ensures.rows c.requires.paced
 pub returns : goal.returns
 returns c =
     let plan = c.args.plan.now in
-    let links = Puts-as _ (flat_map (text_of_link plan) plan.links)
-    (ap (λ (d : Domain). flat_map (text_of_link d) d.links) c.domain-domain.ensures.value) c.put_ports.ensures in
+    let links = Puts-as _ (texts_of_links plan) (ap texts_of_links c.domain.ensures.value) c.put_ports.ensures in
     let rows = Puts-as _ (flat_map (text_of_row plan) c.args.table.now.rows)
     (ap (λ (rows : List Row). flat_map (text_of_row plan) rows) c.rows.ensures.rows) c.put_shared.ensures in
-    let puts = Puts-then (flat_map (text_of_link plan) plan.links) (flat_map (text_of_row plan) c.args.table.now.rows) links rows in
+    let puts = Puts-then (texts_of_links plan) (flat_map (text_of_row plan) c.args.table.now.rows) links rows in
     let names = c.close-told.ensures.same ∙ puts.same ∙ c.new-press.ensures.same in
     text-pressed c.close-told.result.now (config_text plan c.args.table.now.rows) c.told_text.result
     (ap (λ list. list.items) c.new-told.ensures.writer ∙ c.new.ensures.items)

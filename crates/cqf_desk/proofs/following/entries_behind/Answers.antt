@@ -2,9 +2,9 @@ use Rattle.std.proofs.Common.{length, sym, true≢false, ◌∙◌}
 use Rattle.cqf_desk.proofs.Against.{goes_behind, is_front, is_shorter}
 use Rattle.cqf_desk.proofs.following.entries_behind.Goals as goal
 
-pub returns-then-not-is_same_domain : goal.returns-then-not-is_same_domain
-returns-then-not-is_same_domain c = λ has.
-    true≢false (sym (c.is_same_domain.ensures.1 (c.domain.ensures ∙ has.domain ∙ sym c.domain-2.ensures)) ∙ c.if-not-is_same_domain.true)
+pub returns-then-not-is_same : goal.returns-then-not-is_same
+returns-then-not-is_same c = λ has.
+    true≢false (sym (c.is_same.ensures.1 (c.domain.ensures ∙ has.domain ∙ sym c.domain-2.ensures)) ∙ c.if-not-is_same.true)
 
 pub returns-then-history-start : goal.returns-then-history-start
 returns-then-history-start c =
@@ -21,4 +21,4 @@ returns c =
     goes_behind c.args.opening.now c.args.held.now c.history-start.result.now c.history-history.result.now c.split_at.result.0.now c.split_at.result.1.now
     (length c.history-start.result.now) c.history-start.ensures.entries c.history-history.ensures.entries c.split_at.ensures.front c.split_at.ensures.back
     (c.are_same_entries.ensures.0 c.if-not-are_same_entries.false)
-    (sym c.domain.ensures ∙ c.is_same_domain.ensures.0 c.if-not-is_same_domain.false ∙ c.domain-2.ensures)
+    (sym c.domain.ensures ∙ c.is_same.ensures.0 c.if-not-is_same.false ∙ c.domain-2.ensures)

@@ -1,11 +1,11 @@
 -- These are the frames of the links so far, and few each.
 use Rattle.std.proofs.Common.{◌≡◌, ◌*◌, ◌^◌, ◌≤◌}
 use Rattle.cqf_instants.specs.Lanes.{sum_below}
-use Rattle.cqf_instants.specs.Telling.{frames_at}
+use Rattle.cqf_instants.specs.Telling.{room_at}
 use Rattle.cqf_instants.proofs.rooms.frames_in_all.Given as goal
 
 abbrev pub invariant-loop-place : goal.invariant-loop-place
 invariant-loop-place l = record {
-  sum : l.frames ≡ sum_below (frames_at l.links l.cycle_time l.guard) l.place;
+  sum : l.frames ≡ sum_below (room_at l.links l.cycle_time l.guard l.offers) l.place;
   few : l.frames ≤ l.place * 2 ^ 32;
 }

@@ -1,5 +1,5 @@
 use Rattle.std.proofs.Common.{◌+◌, refl, sym, subst}
-use Rattle.cqf_units.specs.Timing.{nanos_of_octet}
+use Rattle.cqf_units.specs.Timing.{ticks_of_octet}
 use Rattle.cqf_port.specs.Asked.{AreAsked}
 use Rattle.cqf_port.specs.declared.choice.Asked.{Asked}
 use Rattle.cqf_port.proofs.Chosen.{none_asked, asked_none, asked_some}
@@ -13,7 +13,7 @@ loop-class-init c = none_asked _ _ _ _ _ _ _ refl refl
 -- one more class asks, or doesn't
 pub loop-class-preserved : goal.loop-class-preserved
 loop-class-preserved c =
-    let octet_time = nanos_of_octet c.args.rate in
+    let octet_time = ticks_of_octet c.args.rate in
     let asked = c.loop-class.asked in
     elim c.match-asked_of.branch [
       | in-Some w ↦ subst (λ (after : Asked). AreAsked octet_time c.args.arrivals.now c.args.heads.now c.args.t.0 c.args.left.now

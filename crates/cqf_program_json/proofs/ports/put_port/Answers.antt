@@ -5,6 +5,6 @@ use Rattle.cqf_program_json.proofs.ports.put_port.Goals as goal
 
 pub returns : goal.returns
 returns g c = Puts-then _ _ c.put_port_head.ensures
-    (Puts-then _ _ (Puts-as _ _ (ap port_list_text (c.entries.ensures.value ∙ c.requires)) c.put_port_list.ensures)
+    (Puts-then _ _ (Puts-as _ _ (ap port_list_text (c.entries.ensures.value ∙ c.port_list_of-list.ensures)) c.put_port_list.ensures)
     (Puts-then _ _ c.put.ensures
-    (Puts-as _ _ (ap port_round c.requires) c.put_port_round.ensures)))
+    (Puts-as _ _ (ap port_round c.port_list_of-list.ensures) c.put_port_round.ensures)))

@@ -3,11 +3,11 @@ use Rattle.std.proofs.lemmas.Grind.{common_steps}
 use Rattle.cqf_port.specs.PortState.{start_of}
 use Rattle.cqf_press.proofs.PressLemmas.{Puts-as, Puts-then}
 use Rattle.cqf_report.specs.Starts.{lines_of_port}
-use Rattle.cqf_units.specs.Timing.{nanos_of_octet}
+use Rattle.cqf_units.specs.Timing.{ticks_of_octet}
 use Rattle.cqf_program_scenario.proofs.ports.put_each.Goals as goal
 
 pub loop-start-preserved : goal.loop-start-preserved
 loop-start-preserved g c =
     let puts = Puts-then _ _ c.loop-start.invariant c.put_start_at.ensures in
-    Puts-as _ (lines_of_port (nanos_of_octet c.args.rate) (map (start_of c.args.arrivals.now) (take (c.loop-start.start-index + 1) c.args.starts.now)))
+    Puts-as _ (lines_of_port (ticks_of_octet c.args.rate) (map (start_of c.args.arrivals.now) (take (c.loop-start.start-index + 1) c.args.starts.now)))
     (grind (arith, common_steps)) puts

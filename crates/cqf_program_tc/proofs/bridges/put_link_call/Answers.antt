@@ -4,4 +4,5 @@ use Rattle.cqf_program_tc.proofs.bridges.put_link_call.Goals as goal
 pub returns : goal.returns
 returns g c = Puts-then _ _ c.put.ensures
     (Puts-then _ _ c.put_link_variable.ensures
-    (c.put-2.ensures))
+    (Puts-then _ _ c.put-2.ensures
+    c.put_own_list.ensures))

@@ -1,5 +1,5 @@
 -- A request is judged by itself, and asked for.
-use Rattle.std.proofs.Common.{ap, arith, subst}
+use Rattle.std.proofs.Common.{◌∙◌, ap, arith, subst}
 use Rattle.std.specs.Arc.{arc_value}
 use Rattle.cqf_model.specs.History.{Act, Admits}
 use Rattle.cqf_topology.specs.declared.paced.PacedRequest.{PacedRequest}
@@ -18,15 +18,15 @@ admit_judged-requires-clause-room c =
 
 pub admit_judged-requires-clause-judged : goal.admit_judged-requires-clause-judged
 admit_judged-requires-clause-judged c =
-    let judges : Judges c.self.inside.domain (asked_paced (arc_value c.args.request.now)) c.judge_paced-judged.result = subst
-    (λ (request : PacedRequest). Judges c.self.inside.domain (asked_paced request) c.judge_paced-judged.result) c.deref-2.ensures
-    c.judge_paced-judged.ensures in
-    subst (λ (a : Administration). IsJudgedCall a.domain (AdmitPaced c.in_ok-asked.asked) c.deref-3.result.now.octets c.judge_paced-judged.result)
+    let judges : Judges c.self.inside.domain (asked_paced (arc_value c.args.request.now)) c.judge-judged.result = subst
+    (λ (request : PacedRequest). Judges c.self.inside.domain (asked_paced request) c.judge-judged.result) c.deref-2.ensures
+    c.judge-judged.ensures in
+    subst (λ (a : Administration). IsJudgedCall a.domain (AdmitPaced c.in_ok-asked.asked) c.request-wanted.result.now.octets c.judge-judged.result)
     c.self.view_is (
     record {
       asked = asked_paced (arc_value c.args.request.now);
       act = ap (λ request. Admits (asked_paced request)) c.in_ok-asked.ensures;
-      octets_asked = ap (λ (request : PacedRequest). request.octets) c.deref-3.ensures;
+      octets_asked = ap (λ (request : PacedRequest). request.octets) (c.request-wanted.ensures ∙ c.deref.ensures);
       judges = judges;
     }
     )

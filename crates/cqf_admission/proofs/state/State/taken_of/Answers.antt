@@ -1,7 +1,4 @@
-use Rattle.std.proofs.Common.{◌≡◌, ◌≤◌, ◌∙◌, ℕ, List, ap, subst, sym}
-use Rattle.std.specs.Option.{option_map_or}
-use Rattle.cqf_units.specs.Timing.{budget_of, nanos_of_octet}
-use Rattle.cqf_model.specs.declared.topology.Link.{Link}
+use Rattle.std.proofs.Common.{◌≤◌, ◌∙◌, ℕ, List, ap, subst, sym}
 use Rattle.cqf_model.specs.Domain.{budget}
 use Rattle.cqf_admission.specs.Holdings.{Standing, held_most}
 use Rattle.cqf_admission.specs.State.{Figures, SomeHistory}
@@ -16,10 +13,8 @@ prove-unreachable-requires c =
     let d = c.args.domain.now in
     let before : Figures = record { stands = i.holdings.rows; room = i.holdings.room; links = i.holdings.links; slots = i.slots; sealed = i.sealed } in
     let h = subst (SomeHistory d) (sym c.self.view_is) c.requires.history in
-    let most : c.budget-most.result.0 ≡ budget d c.args.link =
-    c.budget-most.ensures
-    ∙ (λ k. budget_of (c.cycle_time.ensures.value k) (c.guard.ensures k) (option_map_or (λ (link : Link). nanos_of_octet link.rate) (sym c.link-rate.ensures k) 0)) in
-    let fits = fits_in c.most_of-taken.result c.budget-most.result.0 (held_most i.holdings.rows c.args.link) (budget d c.args.link) c.most_of-taken.ensures most
+    let fits = fits_in c.most_of-taken.result c.budget_on-most.result.0 (held_most i.holdings.rows c.args.link) (budget d c.args.link) c.most_of-taken.ensures
+    c.budget_on-most.ensures
     (all_within i.holdings.rows c.args.link (budget d c.args.link) (within d h.entries before h.is c.state_follows_history.ensures.held c.args.link)) in
     none_over c.most_of-taken.result c.from.result (subst (λ (n : ℕ). c.most_of-taken.result ≤ n) (sym c.from.ensures) fits) c.if-prove.true
 

@@ -19,7 +19,7 @@ pub add_cost-requires-clause-room : goal.add_cost-requires-clause-room
 add_cost-requires-clause-room c =
     let d = c.args.domain.now in
     let rows = c.args.rows.now in
-    costs_room _ rows c.loop-row.row-index c.row-item.result c.loop-row-test.true c.row-item.is c.loop-row.costs c.loop-row.invariant 10000000 (omega arith)
+    costs_room _ rows c.loop-row.row-index c.row-item.result c.loop-row-test.true c.row-item.is c.loop-row.costs c.loop-row.invariant 110000000 (omega arith)
     (held_little d rows c.requires.held.0 0 c.know.ensures.accepted c.requires.held.1)
 
 pub loop-row-init : goal.loop-row-init

@@ -12,7 +12,7 @@ prove-unreachable-requires c =
     let rows = c.args.rows.now in
     let link = c.loop-link.link in
     let low : link < length d.links = omega (arith, c.loop-link-test.true, c.links-link-end.ensures) in
-    none_more c.most_of-most.result 10000000 (most_cost rows link)
+    none_more c.most_of-most.result 110000000 (most_cost rows link)
     (c.most_of-most.ensures ∙ most_of_costs c.in_ok-sums.sums link (link_cost rows link) (λ cycle below. c.in_ok-sums.ensures.each link cycle low))
     (most_little rows link (held_little d rows c.requires.held.0 0 c.know.ensures.accepted c.requires.held.1)) c.if-prove.true
 

@@ -16,6 +16,6 @@ pub returns-clause-bounded : goal.returns-clause-bounded
 returns-clause-bounded c =
     let row = c.args.row.now in
     let hop = c.args.hop.now in
-    subst (λ (n : ℕ). n ≤ 2 ^ 32 * 100000)
+    subst (λ (n : ℕ). n ≤ 2 ^ 29 * 2000000)
     (sym (c.most_at.ensures ∙ most_told c.args.costs.now row hop c.requires.summable c.requires.of_tree))
     (most_bounded c.args.costs.now row hop.link c.requires.bounded (hop_low row hop c.requires.summable c.requires.of_tree))

@@ -8,7 +8,8 @@ use Rattle.cqf_press.proofs.PressLemmas.{HasTold-pressed, Puts-as}
 use Rattle.cqf_program_tc.specs.Output.{text_of_tc}
 use Rattle.cqf_program_tc.specs.Rows.{places_in}
 use Rattle.cqf_program_tc.specs.Text.{tc_text}
-use Rattle.cqf_program_tc.proofs.Ready.{ready_as, words_as}
+use Rattle.cqf_program_tc.specs.Words.{gate_words}
+use Rattle.cqf_program_tc.proofs.Ready.{ready_as}
 use Rattle.cqf_program_tc.proofs.outputs.TcOutput.tell.Goals as goal
 
 pub put_script-requires-clause-ready : goal.put_script-requires-clause-ready
@@ -22,9 +23,7 @@ put_script-requires-clause-ready g c =
 
 pub put_script-requires-clause-words : goal.put_script-requires-clause-words
 put_script-requires-clause-words g c =
-    words_as c.self.inside.plan.domain c.as_plan.result.domain.now c.self.inside.port_words.items c.as_slice-2.result.now
-    c.self.inside.gate_words.items c.as_slice-3.result.now c.as_plan.ensures.domain c.as_slice-2.ensures.value c.as_slice-3.ensures.value
-    c.self.invariant.words
+    c.as_slice-2.ensures.value ∙ c.self.invariant.words ∙ sym (ap (λ (d : Domain). gate_words d.cycle_time) c.as_plan.ensures.domain)
 
 pub returns : goal.returns
 returns g c =

@@ -10,5 +10,5 @@ of_parts-requires c =
     let sketch = c.self.inside in
     let own = c.self.invariant.domains cycle (subst (λ sketch. IsOpenCycle sketch cycle) (sym c.self.view_is) c.requires) in
     subst IsDomain
-    (sym (same-domain sketch.limits cycle sketch.guard _ _ _ _ _ _ c.in_ok-bridges.ensures c.in_ok-stations.ensures c.in_ok-links.ensures))
+    (sym (same-domain sketch.limits cycle sketch.guard sketch.sync _ _ _ _ _ _ c.in_ok-bridges.ensures c.in_ok-stations.ensures c.in_ok-links.ensures))
     own

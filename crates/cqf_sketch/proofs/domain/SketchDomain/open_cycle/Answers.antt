@@ -1,13 +1,15 @@
 use Rattle.std.proofs.Common.{◌∙◌, ap, nat_lt, rules, subst, sym}
 use Rattle.std.specs.Prelude.{find}
-use Rattle.cqf_sketch.specs.SketchDomain.{IsOpenCycle, IsSketch}
+use Rattle.cqf_sketch.specs.SketchDomain.{IsOpenCycle, IsSketch, longest_of}
 use Rattle.cqf_sketch.proofs.OpenLemmas.{one_above, open_is_open}
 use Rattle.cqf_sketch.proofs.domain.SketchDomain.open_cycle.Goals as goal
 
 pub unreachable-requires : goal.unreachable-requires
 unreachable-requires c =
     let guard = c.self.inside.guard in
-    one_above _ c.self.invariant (sym (ap (find (nat_lt guard)) c.as_slice.ensures.value) ∙ sym c.first_above.ensures ∙ c.in-None.is)
+    one_above _ c.self.invariant
+    ((λ i. find (nat_lt (longest_of guard (sym c.as_slice-links.ensures i))) (sym c.as_slice-candidates.ensures.value i))
+    ∙ ap (λ n. find (nat_lt n) c.as_slice-candidates.result.now) (sym c.longest_of-longest.ensures) ∙ sym c.first_above.ensures ∙ c.in-None.is)
 
 pub returns-clause-first : goal.returns-clause-first
 returns-clause-first c = search rules

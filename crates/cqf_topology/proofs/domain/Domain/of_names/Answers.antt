@@ -1,9 +1,7 @@
-use Rattle.std.proofs.Common.{◌≡◌, ◌<◌, ◌≤◌, ◌∙◌, List, length, sym, subst, ap, arith}
+use Rattle.std.proofs.Common.{◌≡◌, ◌∙◌, sym, subst}
 use Rattle.cqf_model.specs.Domain.{Domain}
-use Rattle.cqf_model.specs.Limits.{bridges_within, links_within, stations_within}
-use Rattle.cqf_model.specs.declared.topology.Link.{Link}
 use Rattle.cqf_topology.specs.declared.faults.DomainFault.TheVariants.{Memory}
-use Rattle.cqf_topology.specs.DomainText.{IsDomain, first_long_delay, first_long_gap, with_these}
+use Rattle.cqf_topology.specs.DomainText.{IsDomain, domain_with, with_these}
 use Rattle.cqf_topology.proofs.Accepted.{checked-accepted, checked-numbered}
 use Rattle.cqf_topology.proofs.Passed.{passes}
 use Rattle.cqf_topology.proofs.Refusals.{Gives-residual}
@@ -29,20 +27,17 @@ invariant_of-result c =
     let links = c.in_ok-listed.listed.items in
     let bridges = c.args.bridges.keys in
     let stations = c.args.stations.keys in
-    let guard = c.guard.result in
     let n = c.in_ok-listed.ensures.numbered in
     let p = passes t links (with_these t links) (sym (checked-numbered t bridges stations links n) ∙ c.in_ok-listed.ensures.given) in
-    let same_limits : t.limits ≡ c.limits.result = sym c.limits.ensures in
-    let same_guard : guard ≡ t.guard = c.guard.ensures in
-    let same_cycle : c.cycle_time.result ≡ t.cycle_time = c.cycle_time.ensures in
-    let short : guard < c.cycle_time.result = omega (arith, p.short, same_guard, same_cycle) in
-    let of_links : List Link → Domain = λ (ls : List Link).
-    record { limits = c.limits.result; cycle_time = c.cycle_time.result; guard = guard; bridges = bridges; stations = stations; links = ls } in
-    subst (λ (ls : List Link). IsDomain (of_links ls)) (sym c.in_ok-links.ensures)
-    (checked-accepted t (of_links links)
-    n same_cycle same_guard (no-link-twice links p.no_twice) short
-    (ap (λ g. first_long_delay g links) same_guard ∙ p.no_delay)
-    (ap (λ g. first_long_gap g links) same_guard ∙ p.no_gap)
-    (subst (λ l. length bridges ≤ bridges_within l) same_limits (omega (arith, p.few_bridges, ap length n.bridges_are)))
-    (subst (λ l. length stations ≤ stations_within l) same_limits (omega (arith, p.few_stations, ap length n.stations_are)))
-    (subst (λ l. length links ≤ links_within l) same_limits p.few_links))
+    let made : Domain =
+    domain_with c.limits.result c.cycle_time.result c.guard.result c.sync.result bridges stations c.in_ok-links.links.items in
+    let same : with_these t links ≡ made = λ i. record {
+      limits = sym c.limits.ensures i;
+      cycle_time = sym c.cycle_time.ensures i;
+      guard = sym c.guard.ensures i;
+      sync = sym c.sync.ensures i;
+      bridges = sym n.bridges_are i;
+      stations = sym n.stations_are i;
+      links = sym c.in_ok-links.ensures i;
+    } in
+    subst IsDomain same (checked-accepted t bridges stations links n (no-link-twice links p.no_twice) p)

@@ -31,7 +31,7 @@ prove-unreachable-requires c =
     let hop = c.args.hop.now in
     let rows = c.self.inside.rows.now in
     let d = c.self.inside.domain.now in
-    none_more c.most_at-most.result 10000000 (most_beside rows row.tree.items row.pace hop.link)
+    none_more c.most_at-most.result 110000000 (most_beside rows row.tree.items row.pace hop.link)
     (c.most_at-most.ensures
     ∙ told d c.args.self.now.domain rows c.self.inside.costs row hop c.self.invariant c.requires.of_tree c.requires.countable
     (ap (λ (t : DomainTable). length t.domain.links) c.self.view_is))

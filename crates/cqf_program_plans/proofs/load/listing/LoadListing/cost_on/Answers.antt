@@ -14,7 +14,7 @@ returns-clause-cost c =
 pub returns-clause-bounded : goal.returns-clause-bounded
 returns-clause-bounded c =
     let kept = c.self.inside in
-    subst (λ (n : ℕ). n ≤ 1638400000)
+    subst (λ (n : ℕ). n ≤ 32768000000)
     (sym (c.most_of.ensures
     ∙ most_listed kept.names.keys kept.rows.items kept.held kept.crossing.items c.args.link c.self.invariant c.requires))
     (most_bounded kept.names.keys kept.rows.items kept.held kept.crossing.items c.args.link c.self.invariant c.requires)

@@ -5,13 +5,13 @@ use Rattle.cqf_port.specs.PortState.{start_of}
 use Rattle.cqf_press.specs.Edge.{HasTold, writing}
 use Rattle.cqf_press.proofs.PressLemmas.{HasTold-pressed, Puts-as}
 use Rattle.cqf_report.specs.Starts.{text_of_starts}
-use Rattle.cqf_units.specs.Timing.{nanos_of_octet}
+use Rattle.cqf_units.specs.Timing.{ticks_of_octet}
 use Rattle.cqf_program_plans.specs.Port.Told.{text_of_port}
 use Rattle.cqf_program_plans.proofs.port.outputs.PortOutput.tell.Goals as goal
 
 pub returns : goal.returns
 returns g c =
-    let text = λ (arrivals : List Arrival) (starts : List Transmission). text_of_starts (nanos_of_octet c.self.inside.rate) (map (start_of arrivals) starts) in
+    let text = λ (arrivals : List Arrival) (starts : List Transmission). text_of_starts (ticks_of_octet c.self.inside.rate) (map (start_of arrivals) starts) in
     let put = Puts-as (text c.arrivals.result.now c.starts.result.now) (text_of_port c.args.self)
     (ap (λ (arrivals : List Arrival). text arrivals c.starts.result.now) c.arrivals.ensures ∙ ap (text c.self.inside.port.arrivals) c.starts.ensures
     ∙ ap text_of_port c.self.view_is)

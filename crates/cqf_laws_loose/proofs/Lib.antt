@@ -1,0 +1,6 @@
+pub mod Loose
+pub mod Background
+pub mod Exact
+pub mod Timely
+pub mod Exists
+pub mod Unique

@@ -1,0 +1,2 @@
+pub mod LooseRuns
+pub mod LooseLaws

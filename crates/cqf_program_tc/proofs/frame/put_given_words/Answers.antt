@@ -1,0 +1,5 @@
+use Rattle.cqf_press.proofs.PressLemmas.{Puts-then}
+use Rattle.cqf_program_tc.proofs.frame.put_given_words.Goals as goal
+
+pub returns : goal.returns
+returns g c = Puts-then _ _ c.put.ensures (Puts-then _ _ c.put_common_words.ensures c.put-2.ensures)
