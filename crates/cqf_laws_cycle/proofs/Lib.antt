@@ -1,5 +1,6 @@
 pub mod GateLists
 pub mod OnePorts
+pub mod LatePorts
 pub mod Besides
 pub mod SentAlone
 pub mod PageParts

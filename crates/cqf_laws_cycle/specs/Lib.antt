@@ -1,6 +1,7 @@
 pub mod Beside
 pub mod Compiled
 pub mod OnePort
+pub mod LatePort
 pub mod PageLaws
 pub mod BridgeCycle
 pub mod PortCycle

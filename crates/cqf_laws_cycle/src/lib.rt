@@ -53,7 +53,7 @@ pub use compiled::{
     classes_alternate, gate_counts_cycles, gate_gives_class, port_list_is_open, port_list_sends,
 };
 pub use pages::{book_is_its_pages, page_is_of_its_bridge};
-pub use port::{background_keeps_behind, port_is_one_cycle_late};
+pub use port::{background_keeps_behind, late_port_is_one_cycle_late, port_is_one_cycle_late};
 pub use ports::{
     closed_arrivals_change_nothing, port_goes_on, port_sends_what_came_before, queued_frames_wait,
 };

@@ -1,4 +1,5 @@
 //! One port whose streams' frames come in cycles, beside any background frames.
+ghost use Rattle.cqf_laws_cycle.specs.LatePort.{LatePortIsOneCycleLate};
 ghost use Rattle.cqf_laws_cycle.specs.OnePort.{BackgroundKeepsBehind, PortIsOneCycleLate};
 
 /// A port under the compiled gate list is one cycle late: where what comes of streams in each cycle is within the link's
@@ -12,4 +13,10 @@ pub fn port_is_one_cycle_late()
 /// (profile).
 pub fn background_keeps_behind()
     ensures { BackgroundKeepsBehind }
+{}
+
+/// A port whose starts lag is one cycle late too, each frame's start by another time up to a bound: where what comes of streams in each
+/// cycle is within the budget with its lags, and the bound has its place in the guard time beside the gap (profile).
+pub fn late_port_is_one_cycle_late()
+    ensures { LatePortIsOneCycleLate }
 {}

@@ -4,3 +4,4 @@ pub mod Exact
 pub mod Timely
 pub mod Exists
 pub mod Unique
+pub mod Lagging

@@ -1,2 +1,3 @@
 pub mod LooseRuns
 pub mod LooseLaws
+pub mod LagLaws

@@ -1,6 +1,7 @@
 //! Laws of networks whose bridges' clocks differ, and whose links delay by more and less: the gates mean the shift there too.
 #![tactic(auto)]
 
+ghost use Rattle.cqf_laws_loose.specs.LagLaws.{LaggingIsLoose};
 ghost use Rattle.cqf_laws_loose.specs.LooseLaws.{AcceptedHasItsSlack, ExactHasItsSlack, ExactIsLoose, LooseFramesAreTimely, LooseGatesMeanTheShift};
 ghost use Rattle.cqf_laws_loose.specs.LooseLaws.{LooseHistoryMeansTheShift, LooseLatencyIsWithin};
 ghost use Rattle.cqf_laws_loose.specs.LooseLaws.{LooseNetworkIsUnique};
@@ -90,3 +91,9 @@ pub fn loose_network_is_unique()
     cqf_laws_cycle::gate_counts_cycles();
     cqf_laws_cycle::port_list_is_open();
 }
+
+/// A network whose ports start each frame at most so much later than exact ports do, each frame by another time, is a loose one, where the
+/// greatest delays have room for that (profile).
+pub fn lagging_network_is_loose()
+    ensures { LaggingIsLoose }
+{}
