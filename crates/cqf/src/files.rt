@@ -1,6 +1,6 @@
 //! The files that the words name.
 
-ghost use Rattle.std.specs.Prelude.{◌≤◌, ◌<◌, ◌^◌, OnOk, length};
+ghost use Rattle.std.specs.Prelude.{◌≤◌, ◌<◌, ◌^◌, IfOk, OnOk, length};
 
 use crate::terminal::hint;
 use cqf_model::Limits;
@@ -93,10 +93,11 @@ fn read_standard(
     texts.read(alloc, most, &mut input)
 }
 
-/// Reads the files, in their order. `Err` with status 1 where all their texts come to more than so many bytes, and with status 4 at the
-/// first file that can't be read.
+/// Reads the files, in their order: at most so many bytes, of all of them together. `Err` with status 1 if they have more, and with status 4
+/// at the first file that can't be read.
 fn read_files(rt: &HostRuntime, alloc: Global, most: usize, names: &[&str]) -> Result<Texts, Stop>
     requires { most < 2 ^ 63 }
+    ensures { IfOk result (λ texts. length texts.bytes ≤ most) }
 {
     let mut texts = Texts::new(alloc);
     for name in names {
