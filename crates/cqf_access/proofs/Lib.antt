@@ -1,0 +1,7 @@
+pub mod Windows
+pub mod Busy
+pub mod Queueing
+pub mod Spread
+pub mod Edge
+pub mod Least
+pub mod Steps

@@ -1,0 +1,4 @@
+pub mod Access
+pub mod Arriving
+pub mod Bounding
+pub mod InStep
