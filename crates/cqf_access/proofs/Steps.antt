@@ -5,7 +5,7 @@ use Rattle.cqf_lists.proofs.Members.{contains_at, place_of_member}
 use Rattle.cqf_units.proofs.Cycles.{cycle_is}
 use Rattle.cqf_laws_timing.specs.Traffic.{Traffic}
 use Rattle.cqf_access.specs.Access.{AccessLinkBoundsQueueing}
-use Rattle.cqf_access.specs.Arriving.{IsOnGrid, at_edge, edge_offset}
+use Rattle.cqf_access.specs.Arriving.{at_edge, edge_offset}
 use Rattle.cqf_access.specs.InStep.{AreWithin, EdgeComesInTurns, EdgeKeepsStep, KeepsStep}
 use Rattle.cqf_access.proofs.Edge.{shifted}
 
