@@ -8,10 +8,10 @@ use Rattle.cqf_lists.proofs.Members.{all_from_members, contains_at, contains_map
 use Rattle.cqf_units.proofs.Cycles.{cycle_from, cycles_ordered}
 use Rattle.cqf_units.proofs.Times.{time_grows}
 use Rattle.cqf_model.specs.declared.frames.Offer.{Offer}
-use Rattle.cqf_laws_timing.specs.Traffic.{Conforms}
+use Rattle.cqf_laws_timing.specs.Traffic.{Conforms, Traffic}
 use Rattle.cqf_access.specs.Access.{AccessLink, AccessLinkBoundsQueueing, AccessStream, Crossing, IsBound, IsSent, Other, handed, promises_of}
-use Rattle.cqf_access.specs.Arriving.{AreArrivals, Delays, EdgeConforms, FramesAreWholeWithin, GridIsShifted, GridsAreKept, GridsConform}
-use Rattle.cqf_access.specs.Arriving.{IsWholeAt, IsWholeWithin, at_edge, edge_offset, longest_wait, spread_of, way_of}
+use Rattle.cqf_access.specs.Arriving.{AreArrivals, Delays, EdgeConforms, EdgeConformsByClocks, FramesAreWholeWithin, GridIsShifted, GridsAreKept, GridsConform}
+use Rattle.cqf_access.specs.Arriving.{IsWholeAt, IsWholeWithin, at_edge, by_clock, edge_offset, longest_wait, spread_of, way_of}
 use Rattle.cqf_access.proofs.Spread.{apart_by, ends}
 
 pub frames_are_whole_within : AccessLinkBoundsQueueing → FramesAreWholeWithin
@@ -47,8 +47,8 @@ module _ (waits : AccessLinkBoundsQueueing) (link : AccessLink) (streams : List 
   no_larger x k = All-contains (λ (y : Offer). y.octets ≤ s.promise.size) (handed s) x.frame (sent.kept s c).sizes
       (contains_map (λ (y : Crossing). y.frame) s.crossings x k)
 
-  module _ (least : (x : Crossing) → Contains s.crossings x → shortest ≤ x.frame.octets) (arrived : List Offer)
-      (are : AreArrivals link delays s.crossings arrived) where
+  module _ (least : (x : Crossing) → Contains s.crossings x → shortest ≤ x.frame.octets) (sync : ℕ) (arrived : List Offer)
+      (are : AreArrivals link delays sync s.crossings arrived) where
     sizes : All (λ (a : Offer). a.octets ≤ s.promise.size) arrived
     sizes = all_from_members (λ (a : Offer). a.octets ≤ s.promise.size) arrived (λ a k.
         let p = place_of_member arrived a k in
@@ -80,7 +80,7 @@ module _ (waits : AccessLinkBoundsQueueing) (link : AccessLink) (streams : List 
         put_together wx wy rx ry ox oy wait more jitter few all a b d e f = omega (arith, a, b, d, e, f)
 
     spaced : (i k : ℕ) (a b : Offer) → i ≤ k → slice_get arrived i ≡ Some a → slice_get arrived k ≡ Some b →
-        a.at.0 + (k - i) / s.promise.frames * s.promise.interval ≤ b.at.0 + (at_edge link delays time shortest s.promise).jitter
+        a.at.0 + (k - i) / s.promise.frames * s.promise.interval ≤ b.at.0 + (by_clock sync (at_edge link delays time shortest s.promise)).jitter
     spaced i k a b order e f =
         let inside : k < length arrived = slice_get_within arrived k b f in
         let upto : i + (k - i) ≡ k = omega (arith, order) in
@@ -90,17 +90,26 @@ module _ (waits : AccessLinkBoundsQueueing) (link : AccessLink) (streams : List 
         let v = at_place arrived r.high a (omega (arith, r.high_upto, upto, inside)) in
         let x = are.each r.low u.0 u.1 in
         let y = are.each r.high v.0 v.1 in
-        let both = two x.crossing y.crossing u.0.at.0 v.0.at.0 (are.place r.low) (are.place r.high) (k - i) x.whole y.whole x.there y.there far in
+        let both = two x.crossing y.crossing x.at y.at (are.place r.low) (are.place r.high) (k - i) x.whole y.whole x.there y.there far in
         let first = are.ordered i r.low a u.0 r.low_from e u.1 in
         let last = are.ordered r.high k v.0 b (omega (arith, r.high_upto, upto)) v.1 f in
-        omega (arith, both, first, last)
+        omega (arith, both, first, last, x.clocks.no_sooner, y.clocks.no_later)
 
-    conforms : Conforms (at_edge link delays time shortest s.promise) arrived
+    conforms : Conforms (by_clock sync (at_edge link delays time shortest s.promise)) arrived
     conforms = record { sizes = sizes; spaced = spaced }
+
+pub edge_conforms_by_clocks : AccessLinkBoundsQueueing → EdgeConformsByClocks
+edge_conforms_by_clocks waits link streams others delays time shortest sync s arrived sent bound c least are =
+    conforms waits link streams others delays time shortest s sent bound c least sync arrived are
+
+-- a clock that is no other changes no word
+one_clock : (t : Traffic) (arrived : List Offer) → Conforms (by_clock 0 t) arrived → Conforms t arrived
+one_clock t arrived c = record { sizes = c.sizes; spaced = λ i k a b order e f. omega (arith, c.spaced i k a b order e f) }
 
 pub edge_conforms : AccessLinkBoundsQueueing → EdgeConforms
 edge_conforms waits link streams others delays time shortest s arrived sent bound c least are =
-    conforms waits link streams others delays time shortest s sent bound c least arrived are
+    one_clock (at_edge link delays time shortest s.promise) arrived
+    (edge_conforms_by_clocks waits link streams others delays time shortest 0 s arrived sent bound c least are)
 
 -- a frame that is handed over in a block's interval is whole in the same on the grid of the edge bridge
 pub shifted : AccessLinkBoundsQueueing → (link : AccessLink) (streams : List AccessStream) (others : List Other) (delays : Delays)

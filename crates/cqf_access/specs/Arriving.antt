@@ -48,25 +48,50 @@ at_edge link delays time shortest t = record {
   jitter = t.jitter + (longest_wait link time t + spread_of link delays shortest t.size);
 }
 
--- some of the frames, each once, in the order in which they are whole: what the edge bridge has of the stream
-pub record Arrives (link : AccessLink) (delays : Delays) (crossings : List Crossing) (place : ℕ) (a : Offer) : Type 0 where
+-- an instant by two clocks, which are so far apart at most
+pub record AreWithin (sync one other : ℕ) : Type 0 where
+  pub no_later : one ≤ other + sync
+  pub no_sooner : other ≤ one + sync
+
+-- the same word by another clock: each frame may be early and late by as much as the clocks are apart
+abbrev pub by_clock : ℕ → Traffic → Traffic
+by_clock sync t = record {
+  interval = t.interval;
+  frames = t.frames;
+  size = t.size;
+  jitter = t.jitter + 2 * sync;
+}
+
+-- some of the frames, each once, in the order in which they are whole by the edge bridge's clock: what that has of the stream. The link's
+-- clock is so far apart from it at most
+pub record Arrives (link : AccessLink) (delays : Delays) (sync : ℕ) (crossings : List Crossing) (place : ℕ) (a : Offer) : Type 0 where
   pub crossing : Crossing
   pub there : slice_get crossings place ≡ Some crossing
-  pub whole : IsWholeAt link delays crossing a.at.0
+  pub at : ℕ
+  pub whole : IsWholeAt link delays crossing at
+  pub clocks : AreWithin sync at a.at.0
   pub octets : a.octets ≡ crossing.frame.octets
 
-pub record AreArrivals (link : AccessLink) (delays : Delays) (crossings : List Crossing) (arrived : List Offer) : Type 0 where
+pub record AreArrivals (link : AccessLink) (delays : Delays) (sync : ℕ) (crossings : List Crossing) (arrived : List Offer) : Type 0 where
   pub place : ℕ → ℕ
-  pub each : (k : ℕ) (a : Offer) → slice_get arrived k ≡ Some a → Arrives link delays crossings (place k) a
+  pub each : (k : ℕ) (a : Offer) → slice_get arrived k ≡ Some a → Arrives link delays sync crossings (place k) a
   pub once : (i k : ℕ) → i < k → k < length arrived → place i ≡ place k → ⊥
   pub ordered : (i k : ℕ) (a b : Offer) → i ≤ k → slice_get arrived i ≡ Some a → slice_get arrived k ≡ Some b → a.at.0 ≤ b.at.0
 
--- so its talker keeps that word there, in whatever order the link sends, and whichever delays the frames have
+-- so its talker keeps that word there, in whatever order the link sends, and whichever delays the frames have: where clocks differ, by the
+-- edge bridge's; and where they don't, just that one
+abbrev pub EdgeConformsByClocks : Type 0
+EdgeConformsByClocks =
+    (link : AccessLink) (streams : List AccessStream) (others : List Other) (delays : Delays) (time shortest sync : ℕ) (s : AccessStream)
+    (arrived : List Offer) → IsSent link streams others → IsBound link (promises_of streams) time → Contains streams s →
+    ((x : Crossing) → Contains s.crossings x → shortest ≤ x.frame.octets) → AreArrivals link delays sync s.crossings arrived →
+    Conforms (by_clock sync (at_edge link delays time shortest s.promise)) arrived
+
 abbrev pub EdgeConforms : Type 0
 EdgeConforms =
     (link : AccessLink) (streams : List AccessStream) (others : List Other) (delays : Delays) (time shortest : ℕ) (s : AccessStream) (arrived : List Offer) →
     IsSent link streams others → IsBound link (promises_of streams) time → Contains streams s →
-    ((x : Crossing) → Contains s.crossings x → shortest ≤ x.frame.octets) → AreArrivals link delays s.crossings arrived →
+    ((x : Crossing) → Contains s.crossings x → shortest ≤ x.frame.octets) → AreArrivals link delays 0 s.crossings arrived →
     Conforms (at_edge link delays time shortest s.promise) arrived
 
 -- an instant stands on a grid, or is late on it: the grid has so long intervals, and begins at an offset
