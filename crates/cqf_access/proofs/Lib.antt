@@ -5,3 +5,4 @@ pub mod Spread
 pub mod Edge
 pub mod Least
 pub mod Steps
+pub mod AtOnce
