@@ -34,12 +34,12 @@ FramesAreWholeWithin =
     IsSent link streams others → IsBound link (promises_of streams) time → Contains streams s → Contains s.crossings x → IsWholeAt link delays x at →
     IsWholeWithin link delays time s.promise x at
 
--- how much longer the longest way of a largest frame is than the shortest way of a shortest one
+-- by how much the longest way of a largest frame is longer than the shortest way of a shortest one
 abbrev pub spread_of : AccessLink → Delays → ℕ → ℕ → ℕ
 spread_of link delays shortest size = way_of link delays.most size - way_of link delays.least shortest
 
 -- what the stream's word is at the edge bridge, where none of its frames is shorter than so many octets: the same, but that a frame may be
--- later by the longest wait, and by what its way may be longer than another's
+-- later by the longest wait, and by what its way may be longer than another frame's
 abbrev pub at_edge : AccessLink → Delays → ℕ → ℕ → Traffic → Traffic
 at_edge link delays time shortest t = record {
   interval = t.interval;
@@ -62,8 +62,8 @@ by_clock sync t = record {
   jitter = t.jitter + 2 * sync;
 }
 
--- some of the frames, each once, in the order in which they are whole by the edge bridge's clock: what that has of the stream. The link's
--- clock is so far apart from it at most
+-- what the edge bridge has of a stream: some of the frames, each once, in the order in which they are whole by its clock. That and the
+-- talker's are so far apart at most
 pub record Arrives (link : AccessLink) (delays : Delays) (sync : ℕ) (crossings : List Crossing) (place : ℕ) (a : Offer) : Type 0 where
   pub crossing : Crossing
   pub there : slice_get crossings place ≡ Some crossing
@@ -78,8 +78,8 @@ pub record AreArrivals (link : AccessLink) (delays : Delays) (sync : ℕ) (cross
   pub once : (i k : ℕ) → i < k → k < length arrived → place i ≡ place k → ⊥
   pub ordered : (i k : ℕ) (a b : Offer) → i ≤ k → slice_get arrived i ≡ Some a → slice_get arrived k ≡ Some b → a.at.0 ≤ b.at.0
 
--- so its talker keeps that word there, in whatever order the link sends, and whichever delays the frames have: where clocks differ, by the
--- edge bridge's; and where they don't, just that one
+-- so its talker keeps a word there, in whatever order the link sends, and whichever delays the frames have: that one by another clock, and
+-- that one itself where no clocks are apart
 abbrev pub EdgeConformsByClocks : Type 0
 EdgeConformsByClocks =
     (link : AccessLink) (streams : List AccessStream) (others : List Other) (delays : Delays) (time shortest sync : ℕ) (s : AccessStream)

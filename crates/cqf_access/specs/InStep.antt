@@ -6,8 +6,8 @@ use Rattle.cqf_laws_timing.specs.Traffic.{Traffic}
 use Rattle.cqf_access.specs.Access.{AccessLink, AccessStream, Crossing, IsBound, IsSent, Other, promises_of}
 use Rattle.cqf_access.specs.Arriving.{AreArrivals, AreWithin, Delays, IsOnGrid, IsWholeAt, at_edge, edge_offset}
 
--- intervals are whole cycles, and a frame that is as late as may be comes in the cycle in which it stands on the grid, even by a clock that is
--- so far apart: by none it comes before that cycle begins, or when it is over
+-- intervals are whole cycles, and a frame that is as late as may be comes in the cycle in which it stands on the grid, also by a clock that is
+-- so far apart: by none does it come before that cycle begins, or when it is over
 pub record KeepsStep (cycle_time sync offset : ℕ) (t : Traffic) : Type 0 where
   pub some : 0 < cycle_time
   pub whole : t.interval % cycle_time ≡ 0
@@ -28,8 +28,8 @@ EdgeKeepsStep =
 abbrev pub AreOnGrid : ℕ → AccessStream → Type 0
 AreOnGrid offset s = (x : Crossing) → Contains s.crossings x → IsOnGrid offset s.promise.interval s.promise.jitter x.frame.at.0
 
--- and where each interval is some times so many cycles long, all that comes of the stream comes, by the edge bridge's clock, in one of so
--- many, those as far from one another as from that in which its grid there begins
+-- and where each interval is some times so many cycles long, all that comes of the stream comes in one of so many, by the edge bridge's
+-- clock: in those that are some times so many away from the cycle in which its grid there begins
 abbrev pub EdgeComesInTurns : Type 0
 EdgeComesInTurns =
     (link : AccessLink) (streams : List AccessStream) (others : List Other) (delays : Delays) (time shortest offset cycle_time every sync : ℕ)
