@@ -7,7 +7,7 @@ use Rattle.cqf_laws_timing.specs.Traffic.{Traffic}
 use Rattle.cqf_access.specs.Access.{AccessLinkBoundsQueueing}
 use Rattle.cqf_access.specs.Arriving.{AreWithin, at_edge, edge_offset}
 use Rattle.cqf_access.specs.InStep.{EdgeComesInTurns, EdgeKeepsStep, KeepsStep}
-use Rattle.cqf_access.proofs.Edge.{shifted}
+use Rattle.cqf_access.proofs.Arrivals.{shifted}
 
 -- an instant of a block's interval lies in a cycle, by each clock
 pub cycle_of_block : (cycle_time sync offset block reading at : ℕ) (t : Traffic) → KeepsStep cycle_time sync offset t →

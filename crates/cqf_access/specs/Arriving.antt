@@ -3,17 +3,13 @@ use Rattle.std.specs.Prelude.{ℕ, ◌≡◌, ◌+◌, ◌-◌, ◌*◌, ◌/◌
 use Rattle.cqf_units.specs.Timing.{ending_of}
 use Rattle.cqf_model.specs.declared.frames.Offer.{Offer}
 use Rattle.cqf_laws_timing.specs.Traffic.{Conforms, IsTraffic, Traffic}
+use Rattle.cqf_access.specs.declared.edge.Delays.{Delays}
 use Rattle.cqf_access.specs.Access.{AccessLink, AccessStream, Crossing, IsBound, IsSent, Other, promises_of, taken_of}
-
--- how long the link's delay is, at least and at most: it may be another one for each frame
-pub record Delays : Type 0 where
-  pub least : ℕ
-  pub most : ℕ
 
 -- a frame is whole at the link's end as long after its last octet as the link's delay is
 pub record IsWholeAt (link : AccessLink) (delays : Delays) (x : Crossing) (at : ℕ) : Type 0 where
-  pub least : ending_of x.start x.frame.octets link.octet_time + delays.least ≤ at
-  pub most : at ≤ ending_of x.start x.frame.octets link.octet_time + delays.most
+  pub least : ending_of x.start x.frame.octets link.octet_time + delays.least.0 ≤ at
+  pub most : at ≤ ending_of x.start x.frame.octets link.octet_time + delays.most.0
 
 -- how long a frame of so many octets is on its way with so long a delay, where it needn't wait
 abbrev pub way_of : AccessLink → ℕ → ℕ → ℕ
@@ -25,8 +21,8 @@ longest_wait link time t = time - taken_of link t.size
 
 -- a frame is whole no earlier than its shortest way, and no later than its longest one and the longest wait, after the hand-over
 pub record IsWholeWithin (link : AccessLink) (delays : Delays) (time : ℕ) (t : Traffic) (x : Crossing) (at : ℕ) : Type 0 where
-  pub least : x.frame.at.0 + way_of link delays.least x.frame.octets ≤ at
-  pub most : at ≤ x.frame.at.0 + way_of link delays.most x.frame.octets + longest_wait link time t
+  pub least : x.frame.at.0 + way_of link delays.least.0 x.frame.octets ≤ at
+  pub most : at ≤ x.frame.at.0 + way_of link delays.most.0 x.frame.octets + longest_wait link time t
 
 abbrev pub FramesAreWholeWithin : Type 0
 FramesAreWholeWithin =
@@ -36,7 +32,7 @@ FramesAreWholeWithin =
 
 -- by how much the longest way of a largest frame is longer than the shortest way of a shortest one
 abbrev pub spread_of : AccessLink → Delays → ℕ → ℕ → ℕ
-spread_of link delays shortest size = way_of link delays.most size - way_of link delays.least shortest
+spread_of link delays shortest size = way_of link delays.most.0 size - way_of link delays.least.0 shortest
 
 -- what the stream's word is at the edge bridge, where none of its frames is shorter than so many octets: the same, but that a frame may be
 -- later by the longest wait, and by what its way may be longer than another frame's
@@ -102,7 +98,7 @@ pub record IsOnGrid (offset interval jitter at : ℕ) : Type 0 where
 
 -- the grid at the edge bridge of a stream that is handed over on a grid begins later by the shortest way of a shortest frame
 abbrev pub edge_offset : AccessLink → Delays → ℕ → ℕ → ℕ
-edge_offset link delays shortest offset = offset + way_of link delays.least shortest
+edge_offset link delays shortest offset = offset + way_of link delays.least.0 shortest
 
 -- there each frame is whole on it, in its own interval
 abbrev pub GridIsShifted : Type 0

@@ -3,8 +3,9 @@ use Rattle.std.specs.Prelude.{ℕ, ◌≡◌, ◌+◌, ◌*◌, ◌%◌, ◌<◌
 use Rattle.cqf_units.specs.Timing.{cycle_at}
 use Rattle.cqf_model.specs.declared.frames.Offer.{Offer}
 use Rattle.cqf_laws_timing.specs.Traffic.{Traffic}
+use Rattle.cqf_access.specs.declared.edge.Delays.{Delays}
 use Rattle.cqf_access.specs.Access.{AccessLink, AccessStream, Crossing, IsBound, IsSent, Other, promises_of}
-use Rattle.cqf_access.specs.Arriving.{AreArrivals, AreWithin, Delays, IsOnGrid, IsWholeAt, at_edge, edge_offset}
+use Rattle.cqf_access.specs.Arriving.{AreArrivals, AreWithin, IsOnGrid, IsWholeAt, at_edge, edge_offset}
 
 -- intervals are whole cycles, and a frame that is as late as may be comes in the cycle in which it stands on the grid, also by a clock that is
 -- so far apart: by none does it come before that cycle begins, or when it is over

@@ -1,4 +1,4 @@
-use Rattle.cqf_access.proofs.Edge.{edge_conforms, edge_conforms_by_clocks, grid_is_shifted}
+use Rattle.cqf_access.proofs.Arrivals.{edge_conforms, edge_conforms_by_clocks, grid_is_shifted}
 use Rattle.cqf_access.proofs.laws.edge_conforms.Goals as goal
 
 pub returns-clause-conforms : goal.returns-clause-conforms

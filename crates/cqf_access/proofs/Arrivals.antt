@@ -9,8 +9,9 @@ use Rattle.cqf_units.proofs.Cycles.{cycle_from, cycles_ordered}
 use Rattle.cqf_units.proofs.Times.{time_grows}
 use Rattle.cqf_model.specs.declared.frames.Offer.{Offer}
 use Rattle.cqf_laws_timing.specs.Traffic.{Conforms, Traffic}
+use Rattle.cqf_access.specs.declared.edge.Delays.{Delays}
 use Rattle.cqf_access.specs.Access.{AccessLink, AccessLinkBoundsQueueing, AccessStream, Crossing, IsBound, IsSent, Other, handed, promises_of}
-use Rattle.cqf_access.specs.Arriving.{AreArrivals, Delays, EdgeConforms, EdgeConformsByClocks, FramesAreWholeWithin, GridIsShifted, GridsAreKept, GridsConform}
+use Rattle.cqf_access.specs.Arriving.{AreArrivals, EdgeConforms, EdgeConformsByClocks, FramesAreWholeWithin, GridIsShifted, GridsAreKept, GridsConform}
 use Rattle.cqf_access.specs.Arriving.{IsWholeAt, IsWholeWithin, at_edge, by_clock, edge_offset, longest_wait, spread_of, way_of}
 use Rattle.cqf_access.proofs.Spread.{apart_by, ends}
 
@@ -26,10 +27,10 @@ longer_way link delay p q more = omega (arith, time_grows (p + 8) (q + 8) link.o
 
 -- the longest way of one is as much longer than the shortest of another as the spread says, where none is larger or shorter than may be
 spread_way : (link : AccessLink) (delays : Delays) (shortest size p q : ℕ) → p ≤ size → shortest ≤ q →
-    way_of link delays.most p ≤ way_of link delays.least q + spread_of link delays shortest size
+    way_of link delays.most.0 p ≤ way_of link delays.least.0 q + spread_of link delays shortest size
 spread_way link delays shortest size p q small large =
-    numbers (way_of link delays.most p) (way_of link delays.most size) (way_of link delays.least q) (way_of link delays.least shortest)
-    (longer_way link delays.most p size small) (longer_way link delays.least shortest q large)
+    numbers (way_of link delays.most.0 p) (way_of link delays.most.0 size) (way_of link delays.least.0 q) (way_of link delays.least.0 shortest)
+    (longer_way link delays.most.0 p size small) (longer_way link delays.least.0 shortest q large)
   where
     numbers : (first most second least : ℕ) → first ≤ most → least ≤ second → first ≤ second + (most - least)
     numbers first most second least a b = omega (arith, a, b)
@@ -71,7 +72,7 @@ module _ (waits : AccessLinkBoundsQueueing) (link : AccessLink) (streams : List 
         cycles_ordered s.promise.frames gap (k - i) (sent.promised s c).some_frames (omega (arith, far)) in
         let blocks = mul-le-mul_right s.promise.interval more in
         let way = spread_way link delays shortest s.promise.size x.frame.octets y.frame.octets (no_larger x kx) (least y ky) in
-        put_together first last x.frame.at.0 y.frame.at.0 (way_of link delays.most x.frame.octets) (way_of link delays.least y.frame.octets)
+        put_together first last x.frame.at.0 y.frame.at.0 (way_of link delays.most.0 x.frame.octets) (way_of link delays.least.0 y.frame.octets)
         (longest_wait link time s.promise) (spread_of link delays shortest s.promise.size) s.promise.jitter (gap / s.promise.frames * s.promise.interval)
         ((k - i) / s.promise.frames * s.promise.interval) (within x first kx one).most (within y last ky other).least way spaced blocks
       where
@@ -122,7 +123,7 @@ shifted waits link streams others delays time shortest offset block s x at sent 
     let within = frames_are_whole_within waits link streams others delays time s x at sent bound c k whole in
     let size = no_larger waits link streams others delays time shortest s sent bound c x k in
     let up = spread_way link delays shortest s.promise.size x.frame.octets shortest size (omega arith) in
-    let down = longer_way link delays.least shortest x.frame.octets least in
+    let down = longer_way link delays.least.0 shortest x.frame.octets least in
     (omega (arith, within.least, down, from), omega (arith, within.most, up, upto))
 
 pub grid_is_shifted : AccessLinkBoundsQueueing → GridIsShifted
