@@ -12,7 +12,7 @@ struct Case {
     rate: Rate,
     other: Option<u32>,
     promises: &'static [Promise],
-    most: u64,
+    most: u32,
     bound: Option<u64>,
 }
 
@@ -39,7 +39,12 @@ fn is_found(alloc: Global, case: &Case) -> bool {
         }
     }
     let other = case.other.map(Octets);
-    let found = access_bound(case.rate, other, promises.as_slice(), Nanos(case.most));
+    let found = access_bound(
+        case.rate,
+        other,
+        promises.as_slice(),
+        Nanos(u64::from(case.most)),
+    );
     found == case.bound.map(Nanos)
 }
 
