@@ -1,0 +1,141 @@
+-- Numbers that are all different lie apart.
+use Rattle.std.proofs.Common.{◌≡◌, ℕ, zero, suc, ◌+◌, ◌-◌, ◌<◌, ◌≤◌, ◌∷◌, [], Bool, true, inl, inr, refl, sym, ap, ◌∙◌, arith, AllPairs, Contains}
+use Rattle.std.proofs.Common.{sum_by, ◌==◌, eq-eqb, eqb-true, if◌then◌else◌}
+use Rattle.std.proofs.lemmas.Bool.{cases_lt, cond-true}
+use Rattle.cqf_lists.proofs.EachBelow.{contains_below, contains_from_below}
+use Rattle.cqf_lists.proofs.Members.{contains_here, contains_one}
+use Rattle.cqf_lists.proofs.Pairs.{pairs_below, pairs_one}
+use Rattle.cqf_lists.proofs.Sums.{sum_below, sum_matched, sum_member}
+use Rattle.cqf_access.proofs.Windows.{ups}
+
+-- the sum of as many ones
+ones : (n : ℕ) → sum_by (λ (k : ℕ). 1) (ups n) ≡ n
+ones zero = refl
+ones (suc n) =
+    let more : sum_by (λ (k : ℕ). 1) (ups (suc n)) ≡ sum_by (λ (k : ℕ). 1) (ups n) + sum_by (λ (k : ℕ). 1) (n ∷ []) =
+    sum_below (λ (k : ℕ). 1) (λ k. k ∷ []) n in
+    let one : sum_by (λ (k : ℕ). 1) (n ∷ []) ≡ 1 = refl in
+    omega (arith, more, one, ones n)
+
+-- a number stands at a place
+abbrev stands : (ℕ → ℕ) → ℕ → ℕ → Bool
+stands p k v = p k == v
+
+-- more numbers than there is room for aren't all different
+pub crowded : (p : ℕ → ℕ) (m : ℕ) → ((k : ℕ) → k < suc m → p k < m) → ((j k : ℕ) → j < k → k < suc m → p j ≡ p k → ⊥) → ⊥
+crowded p m small apart = omega (arith, matched, ones m, ones (suc m))
+  where
+    apart_at : (v : ℕ) → AllPairs (λ j k. stands p j v ≡ true → stands p k v ≡ true → ⊥) (ups (suc m))
+    apart_at v = pairs_below (λ j k. stands p j v ≡ true → stands p k v ≡ true → ⊥) (λ k. k ∷ []) (suc m)
+        (λ k l. pairs_one (λ j k. stands p j v ≡ true → stands p k v ≡ true → ⊥) k)
+        (λ j k x y l less c e t u.
+        apart j k l less (ap p (contains_one j x c) ∙ eqb-true (p x) v t ∙ sym (eqb-true (p y) v u) ∙ sym (ap p (contains_one k y e))))
+
+    has : (k : ℕ) → Contains (ups (suc m)) k → 1 ≤ sum_by (λ v. if stands p k v then 1 else 0) (ups m)
+    has k c =
+        let w = contains_from_below (λ (j : ℕ). j ∷ []) (suc m) k c in
+        let e : w.0 ≡ k = contains_one w.0 k w.2 in
+        let less : p k < m = small k (omega (arith, w.1, e)) in
+        let there = contains_below (λ (j : ℕ). j ∷ []) m (p k) (p k) less (contains_here (p k) []) in
+        let counts = sum_member (λ v. if stands p k v then 1 else 0) (ups m) (p k) there in
+        let one = cond-true {A = ℕ} (p k == p k) 1 0 (eq-eqb (p k) (p k) refl) in
+        omega (arith, counts, one)
+
+    matched : sum_by (λ (k : ℕ). 1) (ups (suc m)) ≤ sum_by (λ (k : ℕ). 1) (ups m)
+    matched = sum_matched (λ (k : ℕ). 1) (λ (v : ℕ). 1) (stands p) (ups (suc m)) (ups m) has apart_at
+
+-- the place of a least and of a greatest of some numbers in a row
+pub record Ends (p : ℕ → ℕ) (first count : ℕ) : Type 0 where
+  pub low : ℕ
+  pub high : ℕ
+  pub low_from : first ≤ low
+  pub low_upto : low ≤ first + count
+  pub high_from : first ≤ high
+  pub high_upto : high ≤ first + count
+  pub least : (k : ℕ) → k ≤ count → p low ≤ p (first + k)
+  pub most : (k : ℕ) → k ≤ count → p (first + k) ≤ p high
+
+pub ends : (p : ℕ → ℕ) (first count : ℕ) → Ends p first count
+ends p first zero = record {
+  low = first;
+  high = first;
+  low_from = omega arith;
+  low_upto = omega arith;
+  high_from = omega arith;
+  high_upto = omega arith;
+  least = λ k l. let e : first ≡ first + k = omega (arith, l) in omega (arith, ap p e);
+  most = λ k l. let e : first ≡ first + k = omega (arith, l) in omega (arith, ap p e);
+}
+ends p first (suc n) =
+    let r = ends p first n in
+    let at = first + suc n in
+    let low = lower r in
+    let high = higher r in
+    record {
+      low = low.0;
+      high = high.0;
+      low_from = low.1;
+      low_upto = low.2;
+      high_from = high.1;
+      high_upto = high.2;
+      least = low.3;
+      most = high.3;
+    }
+  where
+    at_last : (k : ℕ) → k ≤ suc n → n < k → first + k ≡ first + suc n
+    at_last k l m = omega (arith, l, m)
+
+    lower : Ends p first n → (u : ℕ) × (first ≤ u) × (u ≤ first + suc n) × ((k : ℕ) → k ≤ suc n → p u ≤ p (first + k))
+    lower r = elim (cases_lt (p (first + suc n)) (p r.low)) [
+      | inl less ↦ (
+        first + suc n,
+        omega arith,
+        omega arith,
+        λ k l. elim (cases_lt n k) [
+          | inl m ↦ omega (arith, ap p (at_last k l m))
+          | inr m ↦ omega (arith, less, r.least k m)
+        ],
+      )
+      | inr more ↦ (
+        r.low,
+        r.low_from,
+        omega (arith, r.low_upto),
+        λ k l. elim (cases_lt n k) [
+          | inl m ↦ omega (arith, ap p (at_last k l m), more)
+          | inr m ↦ r.least k m
+        ],
+      )
+    ]
+
+    higher : Ends p first n → (u : ℕ) × (first ≤ u) × (u ≤ first + suc n) × ((k : ℕ) → k ≤ suc n → p (first + k) ≤ p u)
+    higher r = elim (cases_lt (p r.high) (p (first + suc n))) [
+      | inl less ↦ (
+        first + suc n,
+        omega arith,
+        omega arith,
+        λ k l. elim (cases_lt n k) [
+          | inl m ↦ omega (arith, ap p (at_last k l m))
+          | inr m ↦ omega (arith, less, r.most k m)
+        ],
+      )
+      | inr more ↦ (
+        r.high,
+        r.high_from,
+        omega (arith, r.high_upto),
+        λ k l. elim (cases_lt n k) [
+          | inl m ↦ omega (arith, ap p (at_last k l m), more)
+          | inr m ↦ r.most k m
+        ],
+      )
+    ]
+
+-- of different ones the greatest is as far from the least as there are others
+pub apart_by : (p : ℕ → ℕ) (first count : ℕ) (r : Ends p first count) → ((j k : ℕ) → first ≤ j → j < k → k ≤ first + count → p j ≡ p k → ⊥) →
+    p r.low + count ≤ p r.high
+apart_by p first count r apart = elim (cases_lt (p r.high) (p r.low + count)) [
+  | inl near ↦ absurd (crowded (λ k. p (first + k) - p r.low) count
+      (λ k l. omega (arith, near, r.most k (omega (arith, l)), r.least k (omega (arith, l))))
+      (λ j k l m e. apart (first + j) (first + k) (omega arith) (omega (arith, l)) (omega (arith, m))
+      (omega (arith, e, r.least j (omega (arith, l, m)), r.least k (omega (arith, m))))))
+  | inr far ↦ far
+]

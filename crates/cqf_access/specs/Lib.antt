@@ -1,0 +1,5 @@
+pub mod Access
+pub mod Arriving
+pub mod Bounding
+pub mod InStep
+pub mod Reached

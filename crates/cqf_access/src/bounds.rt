@@ -1,0 +1,70 @@
+//! The least bound of an access link's waits.
+ghost use Rattle.std.specs.Prelude.{◌≡◌, ◌+◌, ◌*◌, ◌<◌, ◌≤◌, ◌^◌, min, All};
+ghost use Rattle.cqf_traffic.specs.TrafficText.{IsTrafficText, promise_of};
+ghost use Rattle.cqf_access.specs.Access.{demand, taken_within};
+ghost use Rattle.cqf_access.specs.Bounding.{IsAccessBound, all_promises, link_of};
+
+use cqf_traffic::Traffic;
+use cqf_units::{Nanos, Octets, Rate, slot};
+
+/// What a talker hands over of a stream within so long takes of a link, at most, in nanoseconds.
+fn taken_within(rate: Rate, promise: Traffic, time: Nanos) -> u128
+    requires short { time.0 ≤ 2 ^ 32 }
+    ensures value { result ≡ taken_within (link_of rate None) time.0 (promise_of promise) }
+    ensures bounded { result < 2 ^ 126 }
+    ensures range { IsTrafficText promise }
+{
+    let interval = promise.interval().0;
+    let reach = time.0 + promise.jitter().0 + interval - 1;
+    let frames = u128::from(reach / interval) * u128::from(promise.frames());
+    frames * u128::from(slot(promise.size(), rate))
+}
+
+/// What all of a station's talkers hand over within so long takes of its access link, with one frame of no stream, at most; or one more
+/// than so much, where it is more.
+fn taken_by_all(
+    rate: Rate,
+    other: Option<Octets>,
+    promises: &[Traffic],
+    time: Nanos,
+    most: Nanos,
+) -> Nanos
+    requires short { time.0 ≤ 2 ^ 32 }
+    requires few { most.0 ≤ 2 ^ 32 }
+    ensures value { result.0 ≡ min (demand (link_of rate other) (all_promises promises.now) time.0) (most.0 + 1) }
+    ensures range { All IsTrafficText promises.now }
+{
+    let mut sum = match other {
+        Some(octets) => slot(octets, rate).min(most.0 + 1),
+        None => 0,
+    };
+    for promise in promises {
+        let more = u128::from(sum) + taken_within(rate, *promise, time);
+        sum = more.min(u128::from(most.0) + 1) as u64;
+    }
+    Nanos(sum)
+}
+
+/// How long a frame waits at most on the access link of a station whose streams are of these promises, and which may send one frame of
+/// no stream, together with what a largest frame of its stream takes: the least bound that there is, where it is no more than so long,
+/// up to 2^32 ns. From 1 ns on the time is what is handed over within the time before takes, until it grows no more; so each is no
+/// greater than any bound, and since each is longer than the one before, it ends.
+pub fn access_bound(
+    rate: Rate,
+    other: Option<Octets>,
+    promises: &[Traffic],
+    most: Nanos,
+) -> Option<Nanos>
+    requires few { most.0 ≤ 2 ^ 32 }
+    ensures { IsAccessBound (link_of rate other) (all_promises promises.now) most.0 result }
+{
+    let mut time = 1;
+    while time <= most.0 {
+        let taken = taken_by_all(rate, other, promises, Nanos(time), most).0;
+        if taken <= time {
+            return Some(Nanos(time));
+        }
+        time = taken;
+    }
+    None
+}
