@@ -3,7 +3,7 @@ pub mod SettledLemmas
 pub mod RouteLemmas
 pub mod Stepping
 pub mod Emptiest
-pub mod Fullest
+pub mod Loads
 pub mod AskLemmas
 pub mod PlaceLemmas
 pub mod WayNames
