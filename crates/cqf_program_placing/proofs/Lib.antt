@@ -4,6 +4,7 @@ pub mod RouteLemmas
 pub mod Stepping
 pub mod Emptiest
 pub mod Loads
+pub mod HopLemmas
 pub mod AskLemmas
 pub mod PlaceLemmas
 pub mod WayNames

@@ -108,12 +108,12 @@ no_less_later false false rest f t = t
 -- loads that are less than others are less than those that aren't less than these
 pub less_all : (xs ys zs : List BudgetShare) → AreHeld xs → AreHeld ys → AreHeld zs → are_less xs ys ≡ true → are_less zs ys ≡ false →
     are_less xs zs ≡ true
-less_all xs [] zs a b c less no = absurd cc
-less_all [] (y ∷ ys) [] a b c less no = absurd cc
-less_all [] (y ∷ ys) (z ∷ zs) a b c less no = refl
-less_all (x ∷ xs) (y ∷ ys) [] a b c less no = absurd cc
-less_all (x ∷ xs) (y ∷ ys) (z ∷ zs) a b c less no =
-    let (no_first, no_rest) = no_less_parts (is_less_full z y) (is_less_full y z) (are_less zs ys) no in
+less_all xs [] zs a b c less isnt = absurd cc
+less_all [] (y ∷ ys) [] a b c less isnt = absurd cc
+less_all [] (y ∷ ys) (z ∷ zs) a b c less isnt = refl
+less_all (x ∷ xs) (y ∷ ys) [] a b c less isnt = absurd cc
+less_all (x ∷ xs) (y ∷ ys) (z ∷ zs) a b c less isnt =
+    let (no_first, no_rest) = no_less_parts (is_less_full z y) (is_less_full y z) (are_less zs ys) isnt in
     let up : IsNoFuller y z = no_less_by y z no_first in
     elim (less_parts (is_less_full x y) (is_less_full y x) (are_less xs ys) less) [
       | inl at_once ↦
@@ -144,7 +144,7 @@ never_both (x ∷ xs) (y ∷ ys) less = elim (less_parts (is_less_full x y) (is_
 ]
 
 pub not_itself : (xs : List BudgetShare) → are_less xs xs ≡ false
-not_itself xs = elim (cases_Bool (are_less xs xs)) [ inl less ↦ never_both xs xs less | inr no ↦ no ]
+not_itself xs = elim (cases_Bool (are_less xs xs)) [ inl less ↦ never_both xs xs less | inr isnt ↦ isnt ]
 
 -- ---- the loads of a tree
 
@@ -217,13 +217,14 @@ module _ (shares : Hop → BudgetShare) (held : (hop : Hop) → 1 ≤ (shares ho
       by true t = fullest_more tree hop most first (less_by most (shares hop) t)
       by false f = fullest_same tree hop most first (no_less_by (shares hop) most f)
 
+  held_by : (b : Bool) (share first : BudgetShare) (loads put : List BudgetShare) → 1 ≤ share.held → AreHeld (first ∷ loads) → AreHeld put →
+      AreHeld (if b then share ∷ (first ∷ loads) else first ∷ put)
+  held_by true share first loads put some all also = (some, all)
+  held_by false share first loads put some all also = (all.0, also)
+
   held_more : (share : BudgetShare) (loads : List BudgetShare) → 1 ≤ share.held → AreHeld loads → AreHeld (put_down share loads)
   held_more share [] some all = (some, tt)
-  held_more share (first ∷ loads) some all = by (is_less_full first share)
-    where
-      by : (b : Bool) → AreHeld (if b then share ∷ (first ∷ loads) else first ∷ put_down share loads)
-      by true = (some, all)
-      by false = (all.0, held_more share loads some all.1)
+  held_more share (first ∷ loads) some all = held_by (is_less_full first share) share first loads (put_down share loads) some all (held_more share loads some all.1)
 
   -- so of all hops
   first_behind : (front tree : List Hop) (loads : List BudgetShare) → StandsFirst shares front loads →
@@ -248,8 +249,8 @@ module _ (shares : Hop → BudgetShare) (held : (hop : Hop) → 1 ≤ (shares ho
 pub some_as_full : (shares others : Hop → BudgetShare) (tree : List Hop) → ((hop : Hop) → 1 ≤ (shares hop).held) → ((hop : Hop) → 1 ≤ (others hop).held) →
     are_less (loads_down others tree) (loads_down shares tree) ≡ false → (hop : Hop) → Contains tree hop →
     (there : Hop) × Contains tree there × IsNoFuller (shares hop) (others there)
-some_as_full shares others tree held also no hop c =
-    by (loads_down others tree) (loads_down shares tree) (stands_first others also tree) (stands_first shares held tree) no
+some_as_full shares others tree held also isnt hop c =
+    by (loads_down others tree) (loads_down shares tree) (stands_first others also tree) (stands_first shares held tree) isnt
   where
     by : (theirs ours : List BudgetShare) → StandsFirst others tree theirs → StandsFirst shares tree ours → are_less theirs ours ≡ false →
         (there : Hop) × Contains tree there × IsNoFuller (shares hop) (others there)
@@ -273,11 +274,11 @@ module _ (share : BudgetShare) (loads : List BudgetShare) where
   -- one more is no less
   pub no_less_next : (place : ℕ) (none : BudgetShare) → place < length loads → AreNoLess place → is_less_full (get_or loads place none) share ≡ false →
       AreNoLess (place + 1)
-  no_less_next place none inside so_far no =
+  no_less_next place none inside so_far isnt =
       let first : BudgetShare = get_or loads place none in
       let rest : List BudgetShare = drop (place + 1) loads in
       let behind : put_down share (first ∷ rest) ≡ first ∷ put_down share rest =
-      cond-false (is_less_full first share) (share ∷ (first ∷ rest)) (first ∷ put_down share rest) no in
+      cond-false (is_less_full first share) (share ∷ (first ∷ rest)) (first ∷ put_down share rest) isnt in
       so_far ∙ ap (λ (xs : List BudgetShare). take place loads ++ put_down share xs) (drop_more loads place none inside)
       ∙ ap (λ (xs : List BudgetShare). take place loads ++ xs) behind
       ∙ sym (append_assoc (take place loads) (first ∷ []) (put_down share rest))
@@ -345,14 +346,14 @@ module _ (loads others : List BudgetShare) where
       less_there less = sym (opened ∙ less_at_once (is_less_full x y) (is_less_full y x) (are_less (drop (place + 1) loads) (drop (place + 1) others)) less)
 
       pub more_there : is_less_full x y ≡ false → is_less_full y x ≡ true → false ≡ are_less loads others
-      more_there no more =
-          sym (opened ∙ more_at_once (is_less_full x y) (is_less_full y x) (are_less (drop (place + 1) loads) (drop (place + 1) others)) no more)
+      more_there isnt more =
+          sym (opened ∙ more_at_once (is_less_full x y) (is_less_full y x) (are_less (drop (place + 1) loads) (drop (place + 1) others)) isnt more)
 
       -- and else those behind
       pub alike_there : is_less_full x y ≡ false → is_less_full y x ≡ false → AreAlikeSoFar (place + 1)
-      alike_there no also = record {
+      alike_there isnt also = record {
         few = omega (arith, within);
-        rest = opened ∙ (λ i. no i || (not (also i) && are_less (drop (place + 1) loads) (drop (place + 1) others)));
+        rest = opened ∙ (λ i. isnt i || (not (also i) && are_less (drop (place + 1) loads) (drop (place + 1) others)));
       }
 
   pub none_less : (place : ℕ) → length others ≤ place → AreAlikeSoFar place → false ≡ are_less loads others
@@ -403,12 +404,12 @@ module _ (loads : ℕ → List BudgetShare) (held : (phase : ℕ) → AreHeld (l
   -- and one without
   pub least_same : (count first next : ℕ) (least new after : List BudgetShare) → IsLeastSoFar loads count first least → new ≡ loads count →
       are_less new least ≡ false → next ≡ first → after ≡ least → IsLeastSoFar loads (count + 1) next after
-  least_same count first next least new after so_far is no next_is after_is =
+  least_same count first next least new after so_far is isnt next_is after_is =
       subst (λ n. IsLeastSoFar loads (count + 1) n after) (sym next_is) (record {
         within = omega (arith, so_far.within);
         is = after_is ∙ so_far.is;
         no_less = λ other low. elim (cases_last other count low) [
-          | inl last ↦ subst (λ k. are_less (loads k) (loads first) ≡ false) (sym last) ((λ i. are_less (sym is i) (sym so_far.is i)) ∙ no)
+          | inl last ↦ subst (λ k. are_less (loads k) (loads first) ≡ false) (sym last) ((λ i. are_less (sym is i) (sym so_far.is i)) ∙ isnt)
           | inr before ↦ so_far.no_less other before
         ];
         less = so_far.less;

@@ -69,7 +69,13 @@ impl<'a> PacedRoom<'a> {
             (λ bridge. LeadsBehind d.links room hops.now before link bridge) }
     {
         let it = self.links[usize::from(link)];
-        if hop_of(hops, it.from) != Some(before) || self.left_behind(before, link) < self.cost {
+        let Some(hop) = hop_of(hops, it.from) else {
+            return None;
+        };
+        if hop != before {
+            return None;
+        }
+        if self.left_behind(before, link) < self.cost {
             return None;
         }
         match it.to {
