@@ -8,6 +8,7 @@ pub mod HopLemmas
 pub mod AskLemmas
 pub mod PlaceLemmas
 pub mod WayNames
+pub mod HopWays
 pub mod FirstBranches
 pub mod ReadyStreams
 pub mod StreamsRead
