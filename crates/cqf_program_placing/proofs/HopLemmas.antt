@@ -1,14 +1,33 @@
 -- Behind how many links frames leave bridges, found link by link.
 use Rattle.std.proofs.Common.{◌≡◌, ◌≢◌, ◌∙◌, ◌+◌, ◌<◌, ◌≤◌, ◌⊎◌, ℕ, suc, Bool, true, false, List, Option, Some, None, length, ap, arith, inl, inr, refl, subst, sym}
-use Rattle.std.specs.Prelude.{nat_le, nat_lt, replicate, set, slice_get}
-use Rattle.std.proofs.lemmas.Bool.{cases_eq, cases_lt, le-leb, lt-leb}
-use Rattle.std.proofs.lemmas.List.{get_or-replicate, get_or-set_other, get_or-set_same, get_or_past, length-replicate, length-set}
+use Rattle.std.specs.Prelude.{is_none, replicate, set, slice_get}
+use Rattle.std.proofs.lemmas.Bool.{cases_eq, cases_lt}
+use Rattle.std.proofs.lemmas.List.{get_or-replicate, get_or-set_other, get_or-set_same, get_or_past, length-replicate}
 use Rattle.std.proofs.lemmas.Option.{same_Some, slice_get_within}
 use Rattle.cqf_model.specs.declared.topology.Link.{Link}
 use Rattle.cqf_model.specs.declared.topology.Node.{Node}
 use Rattle.cqf_model.specs.declared.topology.Node.TheVariants.{Bridge, Station}
+use Rattle.cqf_model.specs.Domain.{Domain, IsAccepted, IsNode}
+use Rattle.cqf_model.proofs.Represented.{few_bridges}
 use Rattle.cqf_sketch.specs.Ways.{most_links}
-use Rattle.cqf_program_placing.specs.Hops.{AreHops, AreReachedBy, AreShallow, IsReachedBy, LeadsBehind, hop_of}
+use Rattle.cqf_program_placing.specs.Hops.{AreHops, AreReachedBy, IsReachedBy, LeadsBehind, hop_of}
+use Rattle.cqf_program_placing.proofs.RouteLemmas.{to_node}
+
+-- whether frames leave a bridge
+pub none_there : (o : Option ℕ) → is_none o ≡ true → o ≡ None
+none_there None e = refl
+none_there (Some j) e = absurd cc
+
+pub some_there : (o : Option ℕ) → is_none o ≡ false → (j : ℕ) × (o ≡ Some j)
+some_there None e = absurd cc
+some_there (Some j) e = (j, refl)
+
+-- a link that leads to a bridge leads to one that is represented
+pub ends_inside : (d : Domain) (room : ℕ → ℕ → Bool) (hops : List (Option ℕ)) (k l bridge : ℕ) → IsAccepted d →
+    LeadsBehind d.links room hops k l bridge → bridge < 1024
+ends_inside d room hops k l bridge accepted leads =
+    let inside : bridge < length d.bridges = subst (IsNode d) leads.ends (to_node d l leads.link accepted leads.stands) in
+    omega (arith, inside, few_bridges d accepted)
 
 -- ---- one link
 
@@ -133,7 +152,6 @@ module _ (links : List Link) (room : ℕ → ℕ → Bool) (k : ℕ) (before : L
 
 -- by the first so many rounds
 pub record AreHopsSoFar (links : List Link) (room : ℕ → ℕ → Bool) (bridge rounds : ℕ) (hops : List (Option ℕ)) : Type 0 where
-  pub many : length hops ≡ 1024
   pub begins : hop_of hops bridge ≡ Some 0
   pub alone : (other : ℕ) → hop_of hops other ≡ Some 0 → other ≡ bridge
   pub comes : (k other : ℕ) → hop_of hops other ≡ Some (k + 1) → (l : ℕ) × LeadsBehind links room hops k l other
@@ -144,7 +162,6 @@ module _ (links : List Link) (room : ℕ → ℕ → Bool) (bridge : ℕ) where
   -- the first
   pub first_alone : (hops : List (Option ℕ)) → bridge < 1024 → hops ≡ set (replicate 1024 None) bridge (Some 0) → AreHopsSoFar links room bridge 0 hops
   first_alone hops inside is = record {
-    many = ap (λ (hs : List (Option ℕ)). length hs) is ∙ many;
     begins = here;
     alone = λ other at. (only other 0 at).0;
     comes = λ k other at. absurd (let none = (only other (k + 1) at).1 in omega (arith, none));
@@ -154,11 +171,14 @@ module _ (links : List Link) (room : ℕ → ℕ → Bool) (bridge : ℕ) where
     empty : List (Option ℕ)
     empty = replicate 1024 None
 
-    many : length (set empty bridge (Some 0)) ≡ 1024
-    many = length-set empty bridge (Some 0) ∙ length-replicate 1024 None
+    nowhere : Option ℕ
+    nowhere = None
+
+    many : length empty ≡ 1024
+    many = length-replicate 1024 nowhere
 
     room_there : bridge < length empty
-    room_there = omega (arith, inside, length-replicate {X = Option ℕ} 1024 None)
+    room_there = omega (arith, inside, many)
 
     here : hop_of hops bridge ≡ Some 0
     here = ap (λ (hs : List (Option ℕ)). hop_of hs bridge) is ∙ get_or-set_same empty bridge (Some 0) None room_there
@@ -166,7 +186,7 @@ module _ (links : List Link) (room : ℕ → ℕ → Bool) (bridge : ℕ) where
     nothing : (other : ℕ) → hop_of empty other ≡ None
     nothing other = elim (cases_lt other 1024) [
       | inl low ↦ get_or-replicate 1024 other None None low
-      | inr past ↦ get_or_past empty other None (omega (arith, past, length-replicate {X = Option ℕ} 1024 None))
+      | inr past ↦ get_or_past empty other None (omega (arith, past, many))
     ]
 
     only : (other j : ℕ) → hop_of hops other ≡ Some j → (other ≡ bridge) × (j ≡ 0)
@@ -179,10 +199,9 @@ module _ (links : List Link) (room : ℕ → ℕ → Bool) (bridge : ℕ) where
     ]
 
   -- a round more
-  pub one_round : (k count : ℕ) (before after : List (Option ℕ)) → count ≡ length links → length after ≡ length before → AreHopsSoFar links room bridge k before →
+  pub one_round : (k count : ℕ) (before after : List (Option ℕ)) → count ≡ length links → AreHopsSoFar links room bridge k before →
       AreReachedBy links room k count before after → AreHopsSoFar links room bridge (k + 1) after
-  one_round k count before after all many so_far by = record {
-    many = many ∙ so_far.many;
+  one_round k count before after all so_far by = record {
     begins = by.kept 0 bridge so_far.begins;
     alone = λ other at. elim (by.others 0 other at) [ inl was ↦ so_far.alone other was | inr new ↦ absurd (omega (arith, new.0)) ];
     comes = λ i other at. elim (by.others (i + 1) other at) [

@@ -2,11 +2,11 @@
 ghost use Rattle.std.specs.Prelude.{◌≡◌, ◌<◌, ◌+◌, ℕ, IfOk, MatchOption, None, length, slice_index_or};
 ghost use Rattle.cqf_admission.specs.Turns.{IsGoodPace};
 ghost use Rattle.cqf_model.specs.History.{held_in, seals};
-ghost use Rattle.cqf_sketch.specs.Ways.{AreLinks, most_links};
+ghost use Rattle.cqf_sketch.specs.Ways.{most_links};
 ghost use Rattle.cqf_program_placing.specs.Hops.{AreHops, AreLeftBehind, AreReachedBy, AreShallow, IsReachedBy, LeadsBehind, has_room_behind, hop_of, left_behind, left_where, lefts_where};
 
 use cqf_admission::Admission;
-use cqf_model::{Hop, Link, MOST_BRIDGES, Node, Pace};
+use cqf_model::{Hop, MOST_BRIDGES, Node, Pace};
 use cqf_topology::Domain;
 use cqf_units::Memory;
 use std::alloc::Global;
@@ -17,11 +17,10 @@ type Hops = [Option<u8>; MOST_BRIDGES];
 /// The last hop of a way: so many links stand before it at most.
 const LAST_HOP: u8 = 15;
 
-/// A stream whose cycles are given, beside those that are placed on a domain, which has these links.
+/// A stream whose cycles are given, beside those that are placed on a domain.
 #[derive(Clone, Copy)]
 pub(crate) struct PacedRoom<'a> {
     pub domain: &'a Domain,
-    pub links: &'a [Link],
     pub admission: &'a Admission,
     pub pace: Pace,
     /// In octets a cycle, of each link.
@@ -59,7 +58,6 @@ impl<'a> PacedRoom<'a> {
     /// The bridge to which a link leads from one that frames leave behind so many others, where it has room there.
     fn led(self, before: u8, link: u16, hops: &Hops) -> Option<u16>
         requires domain { self.admission.now.domain ≡ self.domain.now }
-        requires links { self.links.now ≡ self.domain.now.links }
         requires inside { link < length self.domain.now.links }
         requires good { IsGoodPace self.pace }
         requires few { before < most_links }
@@ -68,7 +66,7 @@ impl<'a> PacedRoom<'a> {
             MatchOption result ((bridge : ℕ) → ¬ LeadsBehind d.links room hops.now before link bridge)
             (λ bridge. LeadsBehind d.links room hops.now before link bridge) }
     {
-        let it = self.links[usize::from(link)];
+        let it = self.domain.link(link);
         let Some(hop) = hop_of(hops, it.from) else {
             return None;
         };
@@ -88,14 +86,13 @@ impl<'a> PacedRoom<'a> {
     /// fewer.
     fn reach(self, before: u8, link: u16, hops: &mut Hops)
         requires domain { self.admission.now.domain ≡ self.domain.now }
-        requires links { self.links.now ≡ self.domain.now.links }
-        requires known { AreLinks self.domain.now.links }
         requires inside { link < length self.domain.now.links }
         requires good { IsGoodPace self.pace }
         requires few { before < most_links }
         ensures { let d = self.entry.domain.now in let entries = self.entry.admission.now.entries in
             IsReachedBy d.links (has_room_behind d (held_in d entries (seals entries)) self.entry.pace self.entry.cost) before link hops.old hops.new }
     {
+        self.domain.know();
         let Some(bridge) = self.led(before, link, hops) else {
             return;
         };
@@ -107,8 +104,6 @@ impl<'a> PacedRoom<'a> {
     /// So by each link.
     fn reach_all(self, before: u8, hops: &mut Hops)
         requires domain { self.admission.now.domain ≡ self.domain.now }
-        requires links { self.links.now ≡ self.domain.now.links }
-        requires known { AreLinks self.domain.now.links }
         requires good { IsGoodPace self.pace }
         requires few { before < most_links }
         ensures { let d = self.entry.domain.now in let entries = self.entry.admission.now.entries in
@@ -123,13 +118,12 @@ impl<'a> PacedRoom<'a> {
     /// it.
     fn hops_from(self, bridge: u16) -> Hops
         requires domain { self.admission.now.domain ≡ self.domain.now }
-        requires links { self.links.now ≡ self.domain.now.links }
-        requires known { AreLinks self.domain.now.links }
         requires good { IsGoodPace self.pace }
         requires inside { bridge < length self.domain.now.bridges }
         ensures { let d = self.entry.domain.now in let entries = self.entry.admission.now.entries in
             AreHops d.links (has_room_behind d (held_in d entries (seals entries)) self.entry.pace self.entry.cost) bridge result }
     {
+        self.domain.know();
         let mut hops = [None; MOST_BRIDGES];
         hops[usize::from(bridge)] = Some(0);
         for before in 0..LAST_HOP {
@@ -141,14 +135,14 @@ impl<'a> PacedRoom<'a> {
     /// What a link has left where frames go by it.
     fn left_where(self, link: u16, hops: &Hops) -> u32
         requires domain { self.admission.now.domain ≡ self.domain.now }
-        requires links { self.links.now ≡ self.domain.now.links }
         requires inside { link < length self.domain.now.links }
         requires good { IsGoodPace self.pace }
         requires shallow { AreShallow hops.now }
         ensures { let d = self.entry.domain.now in let entries = self.entry.admission.now.entries in
             result ≡ left_where d (held_in d entries (seals entries)) self.entry.pace hops.now link }
     {
-        match hop_of(hops, self.links[usize::from(link)].from) {
+        let it = self.domain.link(link);
+        match hop_of(hops, it.from) {
             Some(before) => self.left_behind(before, link),
             None => 0,
         }
@@ -160,13 +154,11 @@ impl<'a> PacedRoom<'a> {
     /// Where a growth is refused.
     pub(crate) fn lefts(self, alloc: Global, bridge: u16) -> Result<Vec<u32>, Memory>
         requires domain { self.admission.now.domain ≡ self.domain.now }
-        requires links { self.links.now ≡ self.domain.now.links }
         requires good { IsGoodPace self.pace }
         requires inside { bridge < length self.domain.now.bridges }
         ensures { let d = self.entry.domain.now in let entries = self.entry.admission.now.entries in
             IfOk result (λ left. AreLeftBehind d (held_in d entries (seals entries)) self.entry.pace self.entry.cost bridge left.items) }
     {
-        self.domain.know();
         let hops = self.hops_from(bridge);
         let mut left = Vec::new(alloc);
         for link in 0..self.domain.links() {

@@ -81,7 +81,6 @@ fn given_branches(
 {
     let paced = PacedRoom {
         domain,
-        links,
         admission,
         pace,
         cost,
