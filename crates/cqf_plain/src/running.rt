@@ -80,7 +80,7 @@ fn run_numbered(
 /// gate lists allow for what is offered and the background frames (IEEE 802.1Q, Annex T and 8.6.8; tables, offers and books:
 /// profile).
 ///
-/// `cycles` is at most 100,000; there are at most 1,000,000 offers, each at a bridge of the domain, and 1,000,000 background
+/// `cycles` is at most 100,000; there are at most 16,777,215 offers, each at a bridge of the domain, and 16,777,215 background
 /// frames, each on a link of it. `WrongTables` where there isn't one table for each cycle, numbered from 0; `Inside` with the first
 /// frame that the network loses inside, by cycle, then bridge, then the order in which the bridge takes frames, which never comes
 /// with the tables of one history; `Memory` where a growth is refused, which may be before a frame that is lost is met. With the

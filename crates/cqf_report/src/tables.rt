@@ -22,7 +22,7 @@ use thiserror::Error;
 pub enum TableFault {
     /// The first record is not the header, or there is no record.
     BadHeader,
-    /// There are more than 1,000,000 rows.
+    /// There are more rows than the limits allow, which are 1,000,000 unless they are set otherwise.
     TooMany,
     /// A field of this row is not as it has to be, or it has another number of fields.
     BadRow(u32),

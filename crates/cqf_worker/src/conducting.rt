@@ -222,12 +222,12 @@ fn back(
 /// demand for that history, whatever turns the threads took (IEEE 802.1Q, Annex T; history and book: profile). The tapes tell it with
 /// nothing to be sorted.
 ///
-/// The admission is for that domain and has no Seal yet. `cycles` is at most 100,000; there are at most 1,000,000 offers, each at a
-/// bridge of the domain, and 1,000,000 background frames, each on a link of it. Before each command and before each step of a bridge
+/// The admission is for that domain and has no Seal yet. `cycles` is at most 100,000; there are at most 16,777,215 offers, each at a
+/// bridge of the domain, and 16,777,215 background frames, each on a link of it. Before each command and before each step of a bridge
 /// the pace is asked, while no lock is held. It waits until all threads have ended.
 ///
 /// Refused with the first fault in the order that [`ConductFault`] tells; then the history and the tapes are gone. `Bridge` and
-/// `BookDisagrees` never come, and `ChannelLost` never as pipes are closed.
+/// `BookDisagrees` never come, and `ChannelLost` never comes of a run over no cycles.
 pub fn conduct_tapes<R: Threads + Wait + Sync, P: Pace>(
     rt: &R,
     alloc: Global,
