@@ -1,6 +1,6 @@
 -- Behind how many links frames leave bridges, found link by link.
 use Rattle.std.proofs.Common.{◌≡◌, ◌≢◌, ◌∙◌, ◌+◌, ◌<◌, ◌≤◌, ◌⊎◌, ℕ, suc, Bool, true, false, List, Option, Some, None, length, ap, arith, inl, inr, refl, subst, sym}
-use Rattle.std.specs.Prelude.{is_none, replicate, set, slice_get}
+use Rattle.std.specs.Prelude.{is_some, replicate, set, slice_get}
 use Rattle.std.proofs.lemmas.Bool.{cases_eq, cases_lt}
 use Rattle.std.proofs.lemmas.List.{get_or-replicate, get_or-set_other, get_or-set_same, get_or_past, length-replicate}
 use Rattle.std.proofs.lemmas.Option.{same_Some, slice_get_within}
@@ -14,11 +14,11 @@ use Rattle.cqf_program_placing.specs.Hops.{AreHops, AreReachedBy, IsReachedBy, L
 use Rattle.cqf_program_placing.proofs.RouteLemmas.{to_node}
 
 -- whether frames leave a bridge
-pub none_there : (o : Option ℕ) → is_none o ≡ true → o ≡ None
+pub none_there : (o : Option ℕ) → is_some o ≡ false → o ≡ None
 none_there None e = refl
 none_there (Some j) e = absurd cc
 
-pub some_there : (o : Option ℕ) → is_none o ≡ false → (j : ℕ) × (o ≡ Some j)
+pub some_there : (o : Option ℕ) → is_some o ≡ true → (j : ℕ) × (o ≡ Some j)
 some_there None e = absurd cc
 some_there (Some j) e = (j, refl)
 
@@ -160,8 +160,9 @@ pub record AreHopsSoFar (links : List Link) (room : ℕ → ℕ → Bool) (bridg
 
 module _ (links : List Link) (room : ℕ → ℕ → Bool) (bridge : ℕ) where
   -- the first
-  pub first_alone : (hops : List (Option ℕ)) → bridge < 1024 → hops ≡ set (replicate 1024 None) bridge (Some 0) → AreHopsSoFar links room bridge 0 hops
-  first_alone hops inside is = record {
+  pub first_alone : (count : ℕ) (hops : List (Option ℕ)) → bridge < count → hops ≡ set (replicate count None) bridge (Some 0) →
+      AreHopsSoFar links room bridge 0 hops
+  first_alone count hops inside is = record {
     begins = here;
     alone = λ other at. (only other 0 at).0;
     comes = λ k other at. absurd (let none = (only other (k + 1) at).1 in omega (arith, none));
@@ -169,13 +170,13 @@ module _ (links : List Link) (room : ℕ → ℕ → Bool) (bridge : ℕ) where
     few = λ j other at. let none = (only other j at).1 in omega (arith, none);
   } where
     empty : List (Option ℕ)
-    empty = replicate 1024 None
+    empty = replicate count None
 
     nowhere : Option ℕ
     nowhere = None
 
-    many : length empty ≡ 1024
-    many = length-replicate 1024 nowhere
+    many : length empty ≡ count
+    many = length-replicate count nowhere
 
     room_there : bridge < length empty
     room_there = omega (arith, inside, many)
@@ -184,8 +185,8 @@ module _ (links : List Link) (room : ℕ → ℕ → Bool) (bridge : ℕ) where
     here = ap (λ (hs : List (Option ℕ)). hop_of hs bridge) is ∙ get_or-set_same empty bridge (Some 0) None room_there
 
     nothing : (other : ℕ) → hop_of empty other ≡ None
-    nothing other = elim (cases_lt other 1024) [
-      | inl low ↦ get_or-replicate 1024 other None None low
+    nothing other = elim (cases_lt other count) [
+      | inl low ↦ get_or-replicate count other None None low
       | inr past ↦ get_or_past empty other None (omega (arith, past, many))
     ]
 

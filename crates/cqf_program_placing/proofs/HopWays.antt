@@ -17,10 +17,18 @@ use Rattle.cqf_model.proofs.Links.{same_node_itself}
 use Rattle.cqf_sketch.specs.Steps.{led_along}
 use Rattle.cqf_sketch.specs.Ways.{IsFirstWay, IsWay, has_room, led_by, led_to}
 use Rattle.cqf_sketch.proofs.PartLemmas.{first_begins, leads_on}
-use Rattle.cqf_sketch.proofs.StepLemmas.{along-append, along-one, along-push}
+use Rattle.cqf_sketch.proofs.StepLemmas.{along-append, along-push}
 use Rattle.cqf_program_placing.specs.Hops.{AreHops, LeadsBehind, has_room_behind, hop_of, left_behind, left_where, lefts_where}
 use Rattle.cqf_program_placing.proofs.RouteLemmas.{bridge_of_link}
 use Rattle.cqf_program_placing.proofs.WayNames.{first_step, leads_by}
+
+-- one link leads where it does
+one_along : (links : List Link) (node : Node) (l : ℕ) → led_along (led_to links) node (l ∷ []) ≡ led_to links node l
+one_along links node l = by (led_to links node l)
+  where
+    by : (o : Option Node) → option_and_then (λ end. Some end) o ≡ o
+    by None = refl
+    by (Some end) = refl
 
 -- a way with a last link
 record Pushed (way : List ℕ) : Type 0 where
@@ -129,7 +137,7 @@ module _ (d : Domain) (rows : List Row) (pace : Pace) (cost bridge : ℕ) (hops 
       option_and_then_some (λ end. led_along (led_to d.links) end (p.last ∷ [])) (led_along (led_to d.links) (Bridge bridge) p.front) (Bridge other)
       (sym (along-append (led_to d.links) (Bridge bridge) p.front (p.last ∷ [])) ∙ whole.is_way.leads)
       (λ mid to_mid to_end.
-      let on = leads_by d mid (Bridge other) p.last (sym (along-one (led_to d.links) mid p.last) ∙ to_end) in
+      let on = leads_by d mid (Bridge other) p.last (sym (one_along d.links mid p.last) ∙ to_end) in
       let begins : IsFirstWay d.links room (Bridge bridge) mid p.front =
       first_begins d.links room (Bridge bridge) mid (Bridge other) p.front (p.last ∷ []) whole to_mid in
       let before : hop_of hops on.link.from ≡ Some n = hop_by_way n on.link.from p.front long (omega (arith, low))

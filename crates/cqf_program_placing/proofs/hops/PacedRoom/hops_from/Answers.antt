@@ -16,7 +16,7 @@ loop-before-init c =
     let room : ℕ → ℕ → Bool = has_room_behind d rows c.args.self.pace c.args.self.cost in
     let low : c.args.bridge < 1024 = omega (arith, c.requires.inside, few_bridges d c.know.ensures.accepted) in
     let empty : List (Option ℕ) = replicate 1024 None in
-    first_alone d.links room c.args.bridge (slice_set empty c.from.result (Some 0)) low (ap (λ (n : ℕ). slice_set empty n (Some 0)) c.from.ensures)
+    first_alone d.links room c.args.bridge 1024 (slice_set empty c.from.result (Some 0)) low (ap (λ (n : ℕ). slice_set empty n (Some 0)) c.from.ensures)
 
 -- a round more
 pub loop-before-preserved : goal.loop-before-preserved
