@@ -1,15 +1,14 @@
 //! Settled streams, placed on a cycle time one after the other.
-ghost use Rattle.std.specs.Prelude.{ℕ, ◌≡◌, ◌<◌, ◌≤◌, All, Err, IfErr, IfOk, List, Ok, length, map};
+ghost use Rattle.std.specs.Prelude.{ℕ, ◌≡◌, ◌<◌, ◌≤◌, All, Err, IfErr, IfOk, Ok, length, map};
 ghost use Rattle.cqf_admission.specs.Admission.{calls};
 ghost use Rattle.cqf_admission.specs.Tables.{AreAlongLinks};
-ghost use Rattle.cqf_admission.specs.Turns.{AreOfGoodPaces, IsGoodPace};
+ghost use Rattle.cqf_admission.specs.Turns.{AreOfGoodPaces};
 ghost use Rattle.cqf_admission.specs.Branches.{branches_of};
 ghost use Rattle.cqf_laws_history.specs.StateLaws.{AreHeld};
 ghost use Rattle.cqf_model.specs.History.{held_in, seals};
 ghost use Rattle.cqf_model.specs.Limits.{most_calls, most_reserved, most_streams};
 ghost use Rattle.cqf_sketch.specs.SketchDomain.{IsOpenCycle, domain_at};
 ghost use Rattle.cqf_program_placing.specs.Known.{AreKnown};
-ghost use Rattle.cqf_program_placing.specs.Hops.{AreLeftBehind};
 ghost use Rattle.cqf_program_placing.specs.Placing.{AreFound, ArePlaced, IsAskedFor, IsPlacing, IsRouted, IsRoutedAndAnswered, outcome_value};
 ghost use Rattle.cqf_program_placing.specs.Routes.{AreReached, IsFullFor, IsUnrouted};
 ghost use Rattle.cqf_program_placing.specs.Settled.{Between, IsOnWay, IsPlaceable, open_domain, settled_value, way_value};
@@ -27,7 +26,7 @@ use crate::turns::{Turns, turns_on};
 use crate::{PlacingOutcome, Settled, StreamWay};
 use cqf_admission::{Admission, SealFault, Table};
 use cqf_laws_history::state_follows_history;
-use cqf_model::{Link, Pace, Row};
+use cqf_model::{Link, Row};
 use cqf_sketch::{Room, SketchDomain};
 use cqf_topology::{Domain, PacedRequest};
 use cqf_units::{Memory, Name, Octets, cost};
@@ -66,23 +65,24 @@ fn given_branches(
     admission: &Admission,
     bridge: u16,
     stations: &[u16],
-    pace: Pace,
+    every: u8,
+    phase: u8,
     cost: u32,
 ) -> Result<Vec<Vec<String>>, Unrouted>
     requires domain { admission.now.domain ≡ domain.now }
     requires links { links.now ≡ domain.now.links }
     requires inside { bridge < length domain.now.bridges }
     requires reached { AreReached domain.now bridge stations.now }
-    requires good { IsGoodPace pace }
-    ensures ok { let d = domain.now in let entries = admission.now.entries in IfOk result (λ paths. (left : List ℕ)
-        × AreLeftBehind d (held_in d entries (seals entries)) pace cost bridge left × AreFound d left cost bridge stations.now (branches_of paths.items)) }
-    ensures err { let d = domain.now in let entries = admission.now.entries in IfErr result (λ fault. (left : List ℕ)
-        × AreLeftBehind d (held_in d entries (seals entries)) pace cost bridge left × IsFullFor d left cost bridge stations.now fault) }
+    requires good { AreGoodTurns (Turns.Given every phase) }
+    ensures ok { let entries = admission.now.entries in IfOk result (λ paths. IsRouted domain.now (held_in domain.now entries (seals entries))
+        (Turns.Given every phase) cost (Between bridge stations.now) (Ok (branches_of paths.items))) }
+    ensures err { let entries = admission.now.entries in IfErr result (IsUnrouted domain.now (held_in domain.now entries (seals entries))
+        (Turns.Given every phase) cost (Between bridge stations.now)) }
 {
     let paced = PacedRoom {
         domain,
         admission,
-        pace,
+        pace: pace_by(every, phase),
         cost,
     };
     let left = paced.lefts(alloc, bridge)?;
@@ -158,12 +158,9 @@ fn found_branches(
         (IsUnrouted domain.now (held_in domain.now entries (seals entries)) turns cost (Between bridge stations.now)) }
 {
     match turns {
-        Turns::Given { every, phase } => {
-            let pace = pace_by(every, phase);
-            given_branches(
-                alloc, domain, links, admission, bridge, stations, pace, cost,
-            )
-        }
+        Turns::Given { every, phase } => given_branches(
+            alloc, domain, links, admission, bridge, stations, every, phase, cost,
+        ),
         Turns::Chosen { every } => chosen_branches(
             alloc, domain, links, admission, rooms, bridge, stations, every, cost,
         ),
