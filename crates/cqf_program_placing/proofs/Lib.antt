@@ -1,7 +1,6 @@
 pub mod LedLemmas
 pub mod SettledLemmas
 pub mod RouteLemmas
-pub mod Routed
 pub mod Stepping
 pub mod Emptiest
 pub mod Loads
