@@ -8,7 +8,7 @@ ghost use Rattle.cqf_addressing.specs.Links.{far_interface, interfaces_from, int
 
 use crate::values::interface_at;
 use crate::{AddressKey, AddressingFault, InterfaceName};
-use cqf_topology::{Key, TomlFault, are_all_tables, array_at, read_document};
+use cqf_topology::{Key, TomlFault, are_all_tables, array_at, read_document, value_at};
 use std::alloc::Global;
 use toml::{Table, Value};
 
@@ -30,26 +30,100 @@ fn read_link(table: &Table) -> Result<LinkInterfaces, AddressingFault>
     Ok(LinkInterfaces { near, far })
 }
 
-/// The interfaces of a link, as an element of the array of links.
-fn link_in(value: &Value) -> Result<LinkInterfaces, AddressingFault>
-    ensures { result ≡ and_then (ok_or (as_table (view value.now)) (AddressingFault.Text (TomlFault.BadValue Key.Links))) link_from }
+/// The interfaces of the same link back.
+fn read_back(table: &Table) -> Result<LinkInterfaces, AddressingFault>
+    ensures { result ≡ back_from (table_view table.now) }
+{
+    let LinkInterfaces { near, far } = read_link(table)?;
+    Ok(LinkInterfaces {
+        near: far,
+        far: near,
+    })
+}
+
+/// Whether what stands at a key of a link's table is the name of a station.
+fn is_station(stations: &[Value], table: &Table, key: Key) -> bool
+    ensures { result ≡ is_station (items_view stations.now) key (table_view table.now) }
+{
+    let Some(name) = value_at(table, key).and_then(Value::as_str) else {
+        return false;
+    };
+    for station in stations {
+        if station.as_str() == Some(name) {
+            return true;
+        }
+    }
+    false
+}
+
+/// Whether a link's table means a way back too.
+fn is_duplex(table: &Table) -> bool
+    ensures { result ≡ is_duplex (table_view table.now) }
+{
+    match table.get("duplex").and_then(Value::as_bool) {
+        Some(duplex) => duplex,
+        None => false,
+    }
+}
+
+/// Puts the interfaces of a link behind others, in each direction that begins at no station.
+fn put_link(
+    links: &mut Vec<LinkInterfaces>,
+    stations: &[Value],
+    table: &Table,
+) -> Result<(), AddressingFault>
+    ensures { Gives (AddressingFault.Text TomlFault.Memory) (λ _. links.new.items) result
+        (with_front links.old.items (directions_from (items_view stations.now) (table_view table.now))) }
+{
+    let there = read_link(table)?;
+    if !is_station(stations, table, Key::From) {
+        links.push(there)?;
+    }
+    if is_duplex(table) && !is_station(stations, table, Key::To) {
+        links.push(read_back(table)?)?;
+    }
+    Ok(())
+}
+
+/// Puts those of an element of the array of links.
+fn put_element(
+    links: &mut Vec<LinkInterfaces>,
+    stations: &[Value],
+    value: &Value,
+) -> Result<(), AddressingFault>
+    ensures { Gives (AddressingFault.Text TomlFault.Memory) (λ _. links.new.items) result
+        (with_front links.old.items (element_from (items_view stations.now) (view value.now))) }
 {
     match value.as_table() {
-        Some(table) => read_link(table),
+        Some(table) => put_link(links, stations, table),
         None => Err(AddressingFault::Text(TomlFault::BadValue(Key::Links))),
     }
 }
 
 /// The elements of the array of links.
-fn all_links_in(alloc: Global, values: &[Value]) -> Result<Vec<LinkInterfaces>, AddressingFault>
-    ensures { Gives (AddressingFault.Text TomlFault.Memory) (λ list. list.items) result (interfaces_from (items_view values.now)) }
+fn all_links_in(
+    alloc: Global,
+    stations: &[Value],
+    values: &[Value],
+) -> Result<Vec<LinkInterfaces>, AddressingFault>
+    ensures { Gives (AddressingFault.Text TomlFault.Memory) (λ list. list.items) result
+        (interfaces_from (items_view stations.now) (items_view values.now)) }
 {
     let mut links = Vec::new(alloc);
     for value in values {
-        let link = link_in(value)?;
-        links.push(link)?;
+        put_element(&mut links, stations, value)?;
     }
     Ok(links)
+}
+
+/// The stations of a document, none where no array stands there.
+fn stations_of(table: &Table) -> &[Value]
+    ensures { items_view result.now ≡ stations_in (table_view table.now) }
+{
+    match value_at(table, Key::Stations).and_then(Value::as_array) {
+        Some(values) => values.as_slice(),
+        None => &[],
+    }
 }
 
 /// The interfaces of the links of a document.
@@ -60,13 +134,14 @@ fn interfaces_of_table(alloc: Global, table: &Table) -> Result<Vec<LinkInterface
     if !are_all_tables(values) {
         return Err(AddressingFault::Text(TomlFault::BadValue(Key::Links)));
     }
-    all_links_in(alloc, values)
+    all_links_in(alloc, stations_of(table), values)
 }
 
-/// The interfaces of the links of a text, one element a link in its order.
+/// The interfaces of the links of a text that begin at a bridge, by number: a link that is `duplex` is one there and, right behind it, one
+/// back, at which its interfaces change places; one that begins at a station is none.
 ///
-/// The text is that of [`cqf_topology::Domain::read`], of which only the array of links and these keys of each are looked at: `interface` and
-/// `far-interface`, each a text of the form of an [`InterfaceName`] (profile).
+/// The text is that of a network's domain, of which only the stations, the array of links and these keys of each are looked at: `from`, `to`,
+/// `duplex`, and `interface` and `far-interface`, each a text of the form of an [`InterfaceName`] (profile).
 ///
 /// # Errors
 /// `NotToml` and `Missing` and `BadValue` of `links` where there is no array of tables; `BadValue` of the first key, in reading order,

@@ -1,3 +1,4 @@
 pub mod DomainMembers
 pub mod StreamMembers
 pub mod Plants
+pub mod Networks

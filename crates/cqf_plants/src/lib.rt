@@ -33,10 +33,13 @@
 #![tactic(auto)]
 
 mod domain;
+mod filling;
 mod laws;
+mod ordered;
 mod plant;
 mod streams;
 mod tables;
 
+pub use filling::{FilledStream, write_network};
 pub use laws::{read_streams_are_tellable, told_plants_read_back};
 pub use plant::write_plant;

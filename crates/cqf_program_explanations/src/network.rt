@@ -36,9 +36,9 @@ pub(crate) struct Network<'p> {
     are_bridges: BTreeMap<&'p str, bool>,
     /// The place of the first link between two nodes, as it is written.
     ends: EndsMap<'p>,
-    /// Of a sketch, the same of a link that stands for two, for its way back.
+    /// The same of a link that stands for two, for its way back.
     back: EndsMap<'p>,
-    /// Of a sketch, the place of the first talker's link of a station.
+    /// The place of the first access link of a station.
     talkers: BTreeMap<&'p str, usize>,
     /// In ns.
     pub cycle: u64,
@@ -46,8 +46,6 @@ pub(crate) struct Network<'p> {
     /// How far any two clocks may be apart.
     pub sync: u64,
     pub limits: Limits,
-    /// Whether it is a sketch's, in which a link may stand for two, there and back.
-    pub is_sketch: bool,
 }
 
 /// Puts the texts of an array behind others.
@@ -91,12 +89,11 @@ fn link_of<'p>(item: &WrittenItem<'p>, guard: u64) -> WrittenLink<'p> {
     }
 }
 
-/// The network of a plant, or of a sketch.
+/// The network that files have.
 pub(crate) fn network_of<'p>(
     alloc: Global,
     plant: &'p Plant<'_>,
     limits: Limits,
-    is_sketch: bool,
 ) -> Result<Network<'p>, AllocError> {
     let (bridge_names, station_names) = (plant.names("bridges")?, plant.names("stations")?);
     let (mut bridges, mut nodes) = (Vec::new(alloc), Vec::new(alloc));
@@ -108,7 +105,6 @@ pub(crate) fn network_of<'p>(
     network.cycle = plant.number("cycle");
     network.guard = plant.number("guard");
     network.sync = plant.number("sync");
-    network.is_sketch = is_sketch;
     for item in &items {
         network.put_link(alloc, link_of(item, network.guard))?;
     }
@@ -140,7 +136,6 @@ fn nodes_alone<'p>(
         guard: 0,
         sync: 0,
         limits,
-        is_sketch: false,
     })
 }
 
@@ -210,14 +205,12 @@ impl<'p> Network<'p> {
     fn put_link(&mut self, alloc: Global, link: WrittenLink<'p>) -> Result<(), AllocError> {
         let place = self.links.len();
         put_first(alloc, &mut self.ends, link.from, link.to, place)?;
-        if self.is_sketch {
-            if is_duplex(&link) {
-                put_first(alloc, &mut self.back, link.to, link.from, place)?;
-            }
-            if let Some(station) = talker_of(&*self, &link) {
-                if !self.talkers.contains_key(station) {
-                    self.talkers.insert(station, place)?;
-                }
+        if is_duplex(&link) {
+            put_first(alloc, &mut self.back, link.to, link.from, place)?;
+        }
+        if let Some(station) = talker_of(&*self, &link) {
+            if !self.talkers.contains_key(station) {
+                self.talkers.insert(station, place)?;
             }
         }
         self.links.push(link)?;
@@ -229,7 +222,7 @@ impl<'p> Network<'p> {
         self.are_bridges.get(name).copied().unwrap_or(false)
     }
 
-    /// The link by which a station's talker sends, in a sketch.
+    /// The first access link of a station.
     pub(crate) fn talkers_link(&self, station: &str) -> Option<&WrittenLink<'p>> {
         let place = self.talkers.get(station)?;
         self.links.get(*place)

@@ -190,14 +190,6 @@ pub(crate) fn tell_unknown_keys(
     Ok(())
 }
 
-/// Where the streams of a file begin.
-fn first_streams<'a>(file: &PlantFile<'a>) -> Place<'a> {
-    match file.outline.streams.first() {
-        Some(element) => file.at(Some(element.line)),
-        None => file.place_of("streams"),
-    }
-}
-
 /// Tells of each file that has a key of the top which a file before it has.
 pub(crate) fn tell_key_twice(
     given: &CommandInput<'_>,
@@ -209,11 +201,7 @@ pub(crate) fn tell_key_twice(
         if file.get(key).is_none() {
             continue;
         }
-        let place = if key == "streams" {
-            first_streams(file)
-        } else {
-            file.place_of(key)
-        };
+        let place = file.place_of(key);
         match first {
             Some(first) => {
                 told.tell(format!(in given.alloc; "{place}: {key} stands at {first} already")?)?;

@@ -11,7 +11,8 @@ ghost use Rattle.cqf_program_files.specs.Plants.{shown_key, shown_octet, strange
 use crate::faults::PlantFault;
 use crate::keys::strange_key;
 use crate::lines::first_long_line;
-use crate::plants::{are_several, key_twice, leading, plant_of, streams_twice};
+use crate::open::{first_open_stream, has_open_cycle};
+use crate::plants::{are_several, key_twice, leading, plant_of};
 use cqf_press::Stop;
 use cqf_program_words::{is_toml, is_undivided};
 use cqf_units::Memory;
@@ -221,9 +222,6 @@ fn first_refusal(
 fn tables_refusal(tables: &[Table]) -> Option<PlantFault>
     ensures { option_map plant_fault_line result ≡ tables_refusal (map table_view tables.now) }
 {
-    if streams_twice(tables) {
-        return Some(PlantFault::StreamsTwice);
-    }
     match key_twice(tables) {
         Some(key) => Some(PlantFault::KeyTwice(key)),
         None => None,
@@ -237,6 +235,7 @@ pub(crate) fn stop_of(alloc: Global, fault: &PlantFault) -> Stop
     match fault {
         PlantFault::NotToml => Stop::refused(alloc, "domain", fault),
         PlantFault::NoHeader => Stop::refused(alloc, "offers", fault),
+        PlantFault::OpenCycle | PlantFault::Open(_) => Stop::refused(alloc, "network", fault),
         _ => Stop::refused(alloc, "plant", fault),
     }
 }
@@ -320,5 +319,67 @@ pub(crate) fn check_plant(
     match joined(alloc, &texts[..leading(names)]) {
         Ok(text) => Ok(Some(text)),
         Err(stop) => Err(stop),
+    }
+}
+
+/// What is open of a network's tables, as a fault. The error is want of memory.
+fn open_fault(alloc: Global, tables: &[Table]) -> Result<Option<PlantFault>, Memory>
+    ensures { IfOk result (λ found. option_map plant_fault_line found ≡ open_refusal (map table_view tables.now)) }
+{
+    if has_open_cycle(tables) {
+        return Ok(Some(PlantFault::OpenCycle));
+    }
+    match first_open_stream(tables) {
+        Some(name) => {
+            let shown = shown_key(alloc, name)?;
+            Ok(Some(PlantFault::Open(shown)))
+        }
+        None => Ok(None),
+    }
+}
+
+/// How many of the first texts are a network's: those of TOML files, or else the first where no line divides it. The error is want of memory.
+fn count_of_network(alloc: Global, names: &[&str], texts: &[&[u8]]) -> Result<usize, Memory>
+    ensures { IfOk result (λ count. count ≤ length texts.now) }
+{
+    let count = leading(names);
+    if count > 0 {
+        return Ok(count.min(texts.len()));
+    }
+    match (names, texts) {
+        ([name, ..], [text, ..]) => {
+            if is_plain(alloc, name, text)? {
+                Ok(1)
+            } else {
+                Ok(0)
+            }
+        }
+        _ => Ok(0),
+    }
+}
+
+/// What is open of a network's files, as a fault. The error is want of memory.
+fn open_fault_of(
+    alloc: Global,
+    names: &[&str],
+    texts: &[&[u8]],
+) -> Result<Option<PlantFault>, Memory> {
+    let count = count_of_network(alloc, names, texts)?;
+    match tables_of(alloc, &texts[..count])? {
+        Some(tables) => open_fault(alloc, tables.as_slice()),
+        None => Ok(None),
+    }
+}
+
+/// Looks whether nothing of a network's files is open. `Err` with status 1 and the line of what is, and with status 3 for want of memory.
+pub(crate) fn check_open(alloc: Global, names: &[&str], texts: &[&[u8]]) -> Result<(), Stop>
+    requires { length names.now ≡ length texts.now }
+    ensures ok { OnOk result (open_refusal_of (map (λ name. name.now) names.now) (map (λ text. text.now) texts.now) ≡ None) }
+    ensures err { IfErr result (EndsBy (open_refusal_of (map (λ name. name.now) names.now) (map (λ text. text.now) texts.now))) }
+{
+    match open_fault_of(alloc, names, texts) {
+        Ok(None) => Ok(()),
+        Ok(Some(fault)) => Err(stop_of(alloc, &fault)),
+        Err(_) => Err(Stop::memory(alloc)),
     }
 }

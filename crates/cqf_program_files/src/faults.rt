@@ -15,8 +15,10 @@ pub enum PlantFault {
     UnknownKey(String),
     /// One of several files isn't TOML.
     NotToml,
-    /// The first of several files has streams, and the second too.
-    StreamsTwice,
+    /// The cycle time is open, and the command takes a plan.
+    OpenCycle,
+    /// Something of the first such stream is, by its name as a line shows it.
+    Open(String),
     /// The first key that may stand once and stands in two of several files.
     KeyTwice(&'static str),
     /// The only file behind a plant is empty, where offers may stand.
@@ -31,7 +33,8 @@ impl fmt::Display for PlantFault {
             PlantFault::LineTooLong(line) => write!(f, "LineTooLong {line}"),
             PlantFault::UnknownKey(key) => write!(f, "UnknownKey {key}"),
             PlantFault::NotToml => f.write_str("NotToml"),
-            PlantFault::StreamsTwice => f.write_str("StreamsTwice"),
+            PlantFault::OpenCycle => f.write_str("OpenCycle"),
+            PlantFault::Open(name) => write!(f, "Open {name}"),
             PlantFault::KeyTwice(key) => write!(f, "KeyTwice {key}"),
             PlantFault::NoHeader => f.write_str("BadHeader"),
         }

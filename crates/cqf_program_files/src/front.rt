@@ -7,7 +7,7 @@ ghost use Rattle.cqf_program_files.specs.Front.{called_script, cycles_of, has_fi
 ghost use Rattle.cqf_program_files.specs.Front.{lacks_header, parts_of_script, script_at, with_first};
 
 use crate::calls::{CallsScript, script_of_calls};
-use crate::checking::{check_plant, stop_of};
+use crate::checking::{check_open, check_plant, stop_of};
 use crate::faults::PlantFault;
 use crate::plants::leading;
 use cqf_press::Stop;
@@ -306,6 +306,19 @@ fn check_header(
     }
 }
 
+/// Looks whether nothing is open of a network's files for a job that takes a plan. `Err` where something is, and for want of memory.
+fn check_closed(alloc: Global, job: &Job, names: &[&str], texts: &[&[u8]]) -> Result<(), Stop>
+    requires { length names.now ≡ length texts.now }
+    ensures ok { OnOk result (closed_refusal job.now (map (λ name. name.now) names.now) (map (λ text. text.now) texts.now) ≡ None) }
+    ensures err { IfErr result (EndsBy (closed_refusal job.now (map (λ name. name.now) names.now) (map (λ text. text.now) texts.now))) }
+{
+    if job.takes_domain() && !matches!(*job, Job::Plan { .. }) {
+        check_open(alloc, names, texts)
+    } else {
+        Ok(())
+    }
+}
+
 /// What the texts of files with these names come to, for a job.
 ///
 /// Where the job takes a domain, the first 2 to 16 names that end with `.toml` are those of one plant: its text has all that commands
@@ -315,7 +328,7 @@ fn check_header(
 /// # Errors
 /// Where the job takes a domain, status 1 and the line of the first fault: of files whose names end with `.toml`, and then of the first file
 /// where no line divides it, a line that is too long to be parsed, and then a key that no command knows; of several files that are one plant
-/// one that isn't TOML, streams in the first two, `cycle`, `guard` or `sync` in two; and an only file behind a plant that is empty, of a job that
+/// one that isn't TOML, `cycle`, `guard` or `sync` in two; but for `plan`, a cycle time or a stream of which something is open; and an only file behind a plant that is empty, of a job that
 /// reads a script. Status 3 for want of memory.
 pub fn front_of(alloc: Global, job: &Job, names: &[&str], texts: &[&[u8]]) -> Result<Front, Stop>
     requires { length names.now ≡ length texts.now }
@@ -326,6 +339,7 @@ pub fn front_of(alloc: Global, job: &Job, names: &[&str], texts: &[&[u8]]) -> Re
         Ok(plant) => plant,
         Err(stop) => return Err(stop),
     };
+    check_closed(alloc, job, names, texts)?;
     match check_header(alloc, job, names, texts, plant.as_deref()) {
         Ok(()) => {}
         Err(stop) => return Err(stop),

@@ -2,3 +2,4 @@ pub mod ScriptLaws
 pub mod VerdictLaws
 pub mod PlanLaws
 pub mod SummaryLaws
+pub mod TalkerLaws

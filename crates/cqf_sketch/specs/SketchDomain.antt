@@ -1,7 +1,8 @@
 -- The domain of a sketch, or the first fault of its text (profile).
-use Rattle.std.specs.Prelude.{ℕ, ◌≡◌, ◌≢◌, ◌<◌, ◌≤◌, List, [], ◌∷◌, ◌||◌, All, AllPairs, Bool, IsTrue, filter, find, length, map, max, nat_lt, not}
-use Rattle.std.specs.Prelude.{option_map, slice_index_or, unwrap_or, Option, None, Result, Ok}
+use Rattle.std.specs.Prelude.{ℕ, ◌≡◌, ◌*◌, ◌<◌, ◌≤◌, List, [], ◌∷◌, ◌||◌, All, AllPairs, Bool, IsTrue, filter, find, length, map, max, nat_lt, not}
+use Rattle.std.specs.Prelude.{option_map, unwrap_or, Option, None, Result, Ok}
 use Rattle.std.specs.List.{list_any}
+use Rattle.std.specs.Option.{ForSome}
 use Rattle.cqf_lists.specs.Results.{and_then, refuse}
 use Rattle.cqf_units.specs.Name.{is_name}
 use Rattle.cqf_model.specs.Domain.{Domain, guard_by}
@@ -17,9 +18,9 @@ use Rattle.cqf_sketch.specs.declared.draft.SketchLink.{SketchLink}
 use Rattle.cqf_sketch.specs.declared.domain.TalkerLink.{TalkerLink}
 use Rattle.cqf_sketch.specs.declared.faults.SketchFault.{SketchFault}
 use Rattle.cqf_sketch.specs.declared.faults.SketchFault.TheVariants as fault
-use Rattle.cqf_sketch.specs.Edges.{Edge, first_again, first_long_delay, first_long_gap, first_long_guard, first_long_sync, first_twice}
+use Rattle.cqf_sketch.specs.Edges.{Edge, first_long_delay, first_long_gap, first_long_guard, first_long_sync, first_misplaced, first_twice}
 use Rattle.cqf_sketch.specs.Edges.{is_talkers, joined, plant_count, reaches_each, talkers_of}
-use Rattle.cqf_sketch.specs.SketchText.{SketchText, sketch_of_text}
+use Rattle.cqf_sketch.specs.SketchText.{SketchText, one_of_text, sketch_of_text}
 
 -- a sketch's domain: its limits, candidates for the cycle time, in the order of wish, the guard time, how far clocks may be apart, names by
 -- number, the plant's links by number, and the talkers' links
@@ -70,11 +71,14 @@ pub record IsTalkerLink (sketch : SketchDomain) (link : TalkerLink) : Type 0 whe
   pub station_there : link.station < length sketch.stations
   pub bridge_there : link.bridge < length sketch.bridges
   pub delay_most : link.delay ≤ longest_cycle
+  pub ordered : link.least ≤ link.delay
+  pub other_least : ForSome link.other (λ octets. 64 ≤ octets)
+  pub other_most : ForSome link.other (λ octets. octets ≤ 1522)
 
--- so does each, and no station has two
+-- so does each, and no two have the same ends
 pub record HasTalkerLinks (sketch : SketchDomain) : Type 0 where
   pub each_there : All (IsTalkerLink sketch) sketch.talkers
-  pub station_once : AllPairs (λ (a b : TalkerLink). a.station ≢ b.station) sketch.talkers
+  pub ends_once : AllPairs (λ (a b : TalkerLink). ¬ ((a.station ≡ b.station) × (a.bridge ≡ b.bridge))) sketch.talkers
 
 -- what a sketch's text gives: with each cycle time that is open the plant's domain is accepted, its names are apart and no link
 -- stands twice; some candidate is open; and talkers' links are the sketch's
@@ -97,21 +101,24 @@ abbrev pub link_of : Edge → Link
 link_of edge = link_with (number_of edge.from) edge.to edge.times
 
 abbrev pub talker_of : Edge → TalkerLink
-talker_of edge = record { station = number_of edge.from; bridge = number_of edge.to; rate = edge.times.rate; delay = edge.times.delay }
+talker_of edge = record {
+  station = number_of edge.from;
+  bridge = number_of edge.to;
+  rate = edge.times.rate;
+  delay = edge.times.delay;
+  least = edge.times.least;
+  other = edge.other;
+}
 
--- the name of a station
-abbrev pub station_named : List (List ℕ) → Node → List ℕ
-station_named stations node = slice_index_or stations (number_of node) []
+-- how many access links there may be: four for each station that there may be
+abbrev pub access_within : Limits → ℕ
+access_within limits = 4 * stations_within limits
 
--- the first station that gets a second talker's link
-abbrev pub second_talker : SketchText → List Edge → Option (List ℕ)
-second_talker text edges = option_map (station_named text.stations) (first_again (talkers_of edges))
-
--- there are more bridges, stations or links of the plant than a domain may have
+-- there are more bridges, stations, links that begin at a bridge or access links than there may be
 abbrev pub is_too_many : SketchText → List Edge → Bool
 is_too_many text edges =
-    nat_lt (bridges_within text.limits) (length text.bridges) || nat_lt (stations_within text.limits) (length text.stations)
-    || nat_lt (links_within text.limits) (plant_count edges)
+    nat_lt (bridges_within text.limits) (length text.bridges) || (nat_lt (stations_within text.limits) (length text.stations)
+    || (nat_lt (links_within text.limits) (plant_count edges) || nat_lt (access_within text.limits) (length (talkers_of edges))))
 
 -- the guard time reaches each candidate, and so the greatest
 abbrev pub is_guard_too_long : SketchText → Bool
@@ -134,13 +141,13 @@ sketch_with text edges = record {
 abbrev pub with_edges : SketchText → List Edge → Result SketchDomain SketchFault
 with_edges text edges =
     refuse (first_twice edges) (λ element. fault.Domain (domain.LinkTwice element)) (
-    refuse (second_talker text edges) fault.TwoTalkerLinks (
     refuse (if_so (is_guard_too_long text)) (λ _. fault.Domain domain.GuardTooLong) (
     refuse (first_long_guard text.candidates text.guard edges) (λ element. fault.Domain (domain.LinkGuardTooLong element)) (
     refuse (first_long_delay text.sync text.guard edges) (λ element. fault.Domain (domain.DelayTooLong element)) (
     refuse (first_long_gap text.guard edges) (λ element. fault.Domain (domain.GapTooLong element)) (
     refuse (if_so (is_too_many text edges)) (λ _. fault.Domain domain.TooMany) (
     refuse (first_long_sync text.sync edges) (λ element. fault.Domain (domain.SyncTooLong element)) (
+    refuse (first_misplaced edges) fault.NoAccessLink (
     Ok (sketch_with text edges)))))))))
 
 -- a name that stood earlier, as a fault
@@ -162,6 +169,10 @@ checked text =
 abbrev pub sketch_domain_of_text : Limits → Option (List ℕ) → List ℕ → Result SketchDomain SketchFault
 sketch_domain_of_text limits given text = and_then (sketch_of_text limits given text) checked
 
+-- that of a text whose cycle time isn't open
+abbrev pub network_of_text : Limits → List ℕ → Result SketchDomain SketchFault
+network_of_text limits text = and_then (one_of_text limits text) checked
+
 -- a node is one of so many bridges and stations, and so are both ends of an edge
 abbrev pub NodeInside : ℕ → ℕ → Node → Type 0
 NodeInside bridges stations (Bridge b) = b < bridges
@@ -170,11 +181,6 @@ NodeInside bridges stations (Station s) = s < stations
 pub record EdgeInside (bridges stations : ℕ) (edge : Edge) : Type 0 where
   pub from_inside : NodeInside bridges stations edge.from
   pub to_inside : NodeInside bridges stations edge.to
-
--- a talker's edge leaves one of so many stations
-abbrev pub StationInside : ℕ → Node → Type 0
-StationInside stations (Bridge b) = ⊥
-StationInside stations (Station s) = s < stations
 
 -- what the ranges and forms of the values give, where candidates that are given are such
 pub record IsReadableSketch (text : SketchText) : Type 0 where
@@ -185,6 +191,7 @@ pub record IsReadableSketch (text : SketchText) : Type 0 where
   pub bridges_named : All (λ name. IsTrue (is_name name)) text.bridges
   pub stations_named : All (λ name. IsTrue (is_name name)) text.stations
   pub times_are_read : All (λ (link : SketchLink). AreReadTimes link.there.times) text.links
+  pub others_are_read : All (λ (link : SketchLink). ForSome link.other (λ octets. (64 ≤ octets) × (octets ≤ 1522))) text.links
 
 -- a text's names by number: none of them stands twice
 pub record HasNumberedNames (text : SketchText) (bridges stations : List (List ℕ)) : Type 0 where

@@ -4,11 +4,11 @@ ghost use Rattle.cqf_model.specs.Limits.{most_bridges, most_stations};
 ghost use Rattle.cqf_sketch.specs.Edges.{talkers_of};
 ghost use Rattle.cqf_topology.specs.Fields.{Gives};
 ghost use Rattle.cqf_sketch.specs.SketchDomain.{AreCandidates, AreCheckedEdges, HasNumberedNames, HasTalkerLinks, IsOpenCycle, IsReadableSketch, domain_at, longest_guard, longest_of, open_cycle};
-ghost use Rattle.cqf_sketch.specs.SketchDomain.{EdgeInside, checked, link_of, plant_of, sketch_domain_of_text, sketch_with, talker_of, with_names};
+ghost use Rattle.cqf_sketch.specs.SketchDomain.{EdgeInside, checked, link_of, network_of_text, plant_of, sketch_domain_of_text, sketch_with, talker_of, with_names};
 
 use crate::SketchFault;
 use crate::checks::check;
-use crate::draft::{SketchDraft, read_draft};
+use crate::draft::{SketchDraft, read_draft, read_one_draft};
 use crate::ends::{JoinedEdge, join_edges};
 use cqf_model::{Limits, Link};
 use cqf_topology::{Domain, DomainFault, LinkList, NameList, numbered_names};
@@ -16,7 +16,7 @@ use cqf_units::{Memory, Name, Rate};
 use std::alloc::Global;
 use std::marker::Model;
 
-/// A talker's link: from a station to its bridge. It isn't in the plant.
+/// A talker's access link: from a station to its bridge. It has no gates and no budget, and isn't one of the domain's links.
 #[derive(Clone, Copy, Debug, PartialEq, Eq)]
 pub struct TalkerLink {
     /// The station's number.
@@ -26,6 +26,10 @@ pub struct TalkerLink {
     pub rate: Rate,
     /// The greatest delay, in nanoseconds.
     pub delay: u32,
+    /// The least delay, at most the greatest.
+    pub least: u32,
+    /// How many octets a frame may have that the station sends and that belongs to no stream, 64 to 1,522; without it the station sends none.
+    pub other: Option<u32>,
 }
 
 /// The domain of a sketch: its limits, candidates for its cycle time, in the order of wish, its guard time, how far its clocks may be apart,
@@ -185,12 +189,13 @@ impl SketchDomain {
     /// What is wrong in being read, as of [`read_draft`]; and then, each over the whole before the next: `NameTaken`, of the first name,
     /// bridges before stations, that stood earlier; `UnknownName`, of the first `from` that names no node, or `to` that names no node
     /// other than that, and no bridge where `from` is a station; `LinkTwice`, of the first link that leads as an earlier one does, also
-    /// back; `TwoTalkerLinks`, of the first station that gets a second; `GuardTooLong`, where the guard time reaches the greatest
+    /// back; `GuardTooLong`, where the guard time reaches the greatest
     /// candidate, and `LinkGuardTooLong`, of the first link of the plant whose own does; `DelayTooLong`, of the first link of the plant
     /// whose greatest delay and how far clocks may be apart, together, aren't below its guard time, and `GapTooLong`, of the first on
-    /// which the gap behind a frame takes longer; `TooMany`, where there are more bridges, stations or links of the plant than may be;
-    /// and `SyncTooLong`, of the first link of the plant on which clocks may be further apart than a shortest frame and its least delay
-    /// take together. `Memory` where a growth is refused.
+    /// which the gap behind a frame takes longer; `TooMany`, where there are more bridges, stations, links of the plant or access links
+    /// than may be; `SyncTooLong`, of the first link of the plant on which clocks may be further apart than a shortest frame and its least
+    /// delay take together; and `NoAccessLink`, of the first link that says what else its station may send, and leaves no station. Links are
+    /// told by their elements' places among the links, from 0. `Memory` where a growth is refused.
     pub fn read(
         alloc: Global,
         text: &[u8],
@@ -202,6 +207,17 @@ impl SketchDomain {
             (sketch_domain_of_text limits (option_map (λ cycles. cycles.items) given) text.now) }
     {
         let draft = read_draft(alloc, text, limits, given)?;
+        SketchDomain::of_draft(alloc, &draft)
+    }
+
+    /// The same of a text whose cycle time isn't open, as every command but `plan` reads it: it has one candidate, which is open (profile).
+    ///
+    /// # Errors
+    /// As of [`SketchDomain::read`], but that an array at `cycle` is `BadValue`.
+    pub fn read_one(alloc: Global, text: &[u8], limits: Limits) -> Result<SketchDomain, SketchFault>
+        ensures { Gives (SketchFault.Domain DomainFault.Memory) (λ domain. domain) result (network_of_text limits text.now) }
+    {
+        let draft = read_one_draft(alloc, text, limits)?;
         SketchDomain::of_draft(alloc, &draft)
     }
 
@@ -273,7 +289,7 @@ impl SketchDomain {
     }
 
     /// Does nothing, and makes known to a proof what was seen to when the sketch was read: each talker's link goes from a station to a
-    /// bridge of the sketch, and no station has two.
+    /// bridge of the sketch, and no two have the same ends.
     pub fn know(&self)
         ensures there { HasTalkerLinks self.now }
     {
@@ -281,7 +297,21 @@ impl SketchDomain {
         let _ = &self.talkers;
     }
 
-    /// The talkers' links, each from a station to a bridge of the sketch. No station has two.
+    /// The names of the bridges, by number.
+    pub fn bridges(&self) -> &NameList
+        ensures { result.now.keys ≡ self.now.bridges }
+    {
+        &self.bridges
+    }
+
+    /// The names of the stations, by number.
+    pub fn stations(&self) -> &NameList
+        ensures { result.now.keys ≡ self.now.stations }
+    {
+        &self.stations
+    }
+
+    /// The talkers' links, each from a station to a bridge of the sketch, in the order of the text. No two have the same ends.
     pub fn talkers(&self) -> &[TalkerLink]
         ensures value { result.now ≡ self.now.talkers }
         ensures there { HasTalkerLinks self.now }

@@ -3,7 +3,7 @@ ghost use Rattle.std.specs.Prelude.{◌≡◌, Some};
 ghost use Rattle.cqf_sketch.specs.Faults.{sketch_fault, sketch_fault_text};
 
 use cqf_topology::{DomainFault, TomlFault};
-use cqf_units::{Memory, Name};
+use cqf_units::Memory;
 use std::alloc::AllocFailed;
 use std::fmt;
 use thiserror::Error;
@@ -17,8 +17,10 @@ pub enum SketchFault {
     Domain(DomainFault),
     /// What stands at `duplex` of a link is no boolean.
     BadDuplex,
-    /// The first station that gets a second talker's link.
-    TwoTalkerLinks(Name),
+    /// What stands at `other` of a link is no size of a frame.
+    BadOther,
+    /// The first link, by its element's place, that says at `other` what else its station may send, and leaves no station.
+    NoAccessLink(usize),
 }
 
 impl fmt::Display for SketchFault {
@@ -28,7 +30,8 @@ impl fmt::Display for SketchFault {
         match self {
             SketchFault::Domain(fault) => write!(f, "{fault}"),
             SketchFault::BadDuplex => f.write_str("BadValue duplex"),
-            SketchFault::TwoTalkerLinks(station) => write!(f, "TwoTalkerLinks {station}"),
+            SketchFault::BadOther => f.write_str("BadValue other"),
+            SketchFault::NoAccessLink(element) => write!(f, "NoAccessLink {element}"),
         }
     }
 }

@@ -6,6 +6,7 @@
 //!   ends.
 //! - **Streams.** [`read_sketch_streams`] gives those of a text, each a [`Stream`] with traffic, a deadline, the ways that are [`WantedWay`], given
 //!   branches or the ends that they go between, and its [`Pacing`]; or the first thing wrong ([`FlowsFault`]).
+//!   [`read_network_flows`] gives streams of which nothing is open, each a [`NetworkFlow`] as its [`Talker`] has it.
 //! - **Ways.** A [`Room`] has the links of a network, what each has left, and what a stream costs. [`first_way`] finds the first way from a
 //!   bridge to a node on which each link has room, of those with fewest links, exactly where there is one, and [`first_ways`] those to several
 //!   stations, which are the branches of a tree ([`first_ways_are_a_tree`]), or a [`WaysFault`]. Where there is none for want of room,
@@ -22,8 +23,8 @@
 //! ]
 //! ```
 //!
-//! has two candidates and the plant's links a to b, b to a and b to s, numbered from 0; the way back from s to b is the talker's link of s. With
-//! a third link from s to a it is refused: `TwoTalkerLinks s`.
+//! has two candidates and the plant's links a to b, b to a and b to s, numbered from 0; the way back from s to b is a talker's link of s. A
+//! third link from s to a is another one.
 //!
 //! ```text
 //! [[streams]]
@@ -34,8 +35,8 @@
 //! size = 704
 //! ```
 //!
-//! is a stream from the talker mic to two listeners. With `path` beside `from` it is refused: `BadValue from`; and with `every` beside
-//! `in-step = true`, which says that its talker is in step with the network: `BadValue every`.
+//! is a stream from the talker mic to two listeners. With `path` beside them it is the same stream along that path. With `in-step = true`, which
+//! says that its talker is in step with the network, the plan says in which cycles it is offered, unless `every` stands there.
 //!
 //! The first way from a to s, with links 0 from bridge a to bridge b, 1 from a to c, 2 from b to station s and 3 from c to s:
 //!
@@ -55,10 +56,12 @@ mod faults;
 mod lacks;
 mod laws;
 mod listeners;
+mod network_flows;
 mod pacing;
 mod repeats;
 mod room;
 mod streams;
+mod talkers;
 mod wanted;
 mod way_ends;
 mod ways;
@@ -68,8 +71,10 @@ pub use domain::{SketchDomain, TalkerLink};
 pub use faults::SketchFault;
 pub use laws::{first_ways_are_a_tree, full_ways_have_a_short_link};
 pub use listeners::{WaysFault, first_ways};
+pub use network_flows::{NetworkFlow, read_network_flows};
 pub use pacing::Pacing;
 pub use room::Room;
 pub use streams::{Stream, read_sketch_streams};
+pub use talkers::Talker;
 pub use wanted::WantedWay;
 pub use ways::{first_short, first_way};

@@ -9,6 +9,8 @@ mod admission;
 #[cfg(test)]
 mod domains;
 #[cfg(test)]
+mod edges;
+#[cfg(test)]
 mod order;
 #[cfg(test)]
 mod pages;

@@ -75,8 +75,8 @@ fn first_lack_among(values: &[Value]) -> Option<FlowsFault>
     None
 }
 
-/// What a document's streams lack first.
-pub(crate) fn first_lack_of(table: &Table) -> Option<FlowsFault>
+/// What a document's streams lack first: of each the first key that each has, then the first that its traffic owes (profile).
+pub fn first_lack_of(table: &Table) -> Option<FlowsFault>
     ensures { result ≡ first_lack_of (table_view table.now) }
 {
     match value_at(table, Key::Streams).and_then(Value::as_array) {
@@ -95,8 +95,11 @@ pub(crate) fn read_traffic(table: &Table) -> Result<Option<Traffic>, FlowsFault>
     }
 }
 
-/// A stream's table.
-fn read_flow(alloc: Global, table: &Table) -> Result<Flow, FlowsFault>
+/// A stream's table, with its deadline and its traffic.
+///
+/// # Errors
+/// The fault of the first key at which something else stands than may; `Memory` where a growth is refused.
+pub fn read_flow(alloc: Global, table: &Table) -> Result<Flow, FlowsFault>
     ensures { Gives (FlowsFault.Streams StreamsFault.Memory) flow_text result (flow_from (table_view table.now)) }
 {
     let planned = read_planned(alloc, table)?;

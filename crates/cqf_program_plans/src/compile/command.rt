@@ -14,13 +14,13 @@ ghost use Rattle.cqf_admission.specs.Orders.{request_at};
 ghost use Rattle.cqf_press.specs.Stops.{EndsWith, IsRefused};
 
 use crate::compile::outputs::ConfigOutput;
-use crate::reserving::requests_in;
+use crate::reserving::requests_of_network;
 use cqf_admission::{Ledger, Receipt, Refused, count_places, judge_paced};
 use cqf_compile::compile;
 use cqf_laws_history::state_follows_history;
 use cqf_model::{Limits, Row};
 use cqf_press::{REFUSED, Sheet, Stop};
-use cqf_program_scenario::{domain_part, two_parts};
+use cqf_program_scenario::{domain_of, network_part, two_parts};
 use cqf_topology::{Domain, PacedRequest};
 use cqf_units::{Cycle, Memory};
 use std::alloc::Global;
@@ -43,8 +43,9 @@ pub fn read_plan(
     ensures err { IfErr result (IsRefused (compile_input limits input.now)) }
 {
     let (domain_text, streams_text) = two_parts(alloc, input)?;
-    let domain = domain_part(alloc, limits, domain_text)?;
-    let requests = requests_in(alloc, &domain, streams_text)?;
+    let network = network_part(alloc, limits, domain_text)?;
+    let domain = domain_of(alloc, &network)?;
+    let requests = requests_of_network(alloc, &network, &domain, streams_text)?;
     Ok((domain, requests))
 }
 

@@ -1,16 +1,17 @@
 //! The latencies of the streams of a table to their listeners.
-ghost use Rattle.std.specs.Prelude.{ℕ, ◌≡◌, ◌*◌, ◌<◌, ◌≤◌, ◌^◌, ◌++◌, Contains, IfOk, OnOk, Some, None, if◌then◌else◌, length};
+ghost use Rattle.std.specs.Prelude.{ℕ, ◌≡◌, ◌*◌, ◌<◌, ◌≤◌, ◌^◌, ◌++◌, Contains, IfOk, OnOk, Some, None, drop, if◌then◌else◌, length, map, take};
 ghost use Rattle.cqf_admission.specs.Rows.{IsCountable};
 ghost use Rattle.cqf_admission.specs.Turns.{AreOfGoodPaces, IsOfGoodPace};
 ghost use Rattle.cqf_laws_history.specs.StateLaws.{AreHeld};
 ghost use Rattle.cqf_laws_timing.specs.Latency.{least_of, most_of, window_of};
 ghost use Rattle.cqf_program_plans.specs.EndNames.{name_of_end};
-ghost use Rattle.cqf_program_plans.specs.Latency.Text.{deadline_of, is_station, latencies_of, latencies_of_row, latency_to};
+ghost use Rattle.cqf_program_plans.specs.Latency.Text.{deadline_of, is_station, latencies_from, latencies_of, latencies_of_row, latency_behind, latency_to, times_of};
 ghost use Rattle.cqf_model.specs.Domain.{end_of};
 ghost use Rattle.cqf_model.specs.History.{most_beside};
 
 use crate::latency::costs::Costs;
 use crate::latency::latencies::Latency;
+use cqf_edge::AccessTimes;
 use cqf_model::{Hop, Node, Row};
 use cqf_topology::Domain;
 use cqf_units::{Memory, Name, octet_ticks, span, time_of};
@@ -169,5 +170,79 @@ pub fn latencies_of_rows(
 {
     let costs = Costs::new(alloc, domain, rows)?;
     let latencies = latencies_of(alloc, &costs, deadlines)?;
+    Ok(latencies)
+}
+
+/// Where a plan's streams begin: their deadlines as they are written, and how long their frames take to their edge bridges from the
+/// hand-over, where their talkers are stations, both by stream number.
+#[derive(Clone, Copy)]
+pub(crate) struct TalkerEnds<'e> {
+    pub(crate) deadlines: &'e [Option<u32>],
+    pub(crate) times: &'e [Option<AccessTimes>],
+}
+
+/// How long the frames of the stream of a number take to its edge bridge.
+fn times_of(times: &[Option<AccessTimes>], number: u32) -> Option<AccessTimes>
+    ensures { result ≡ times_of times.now number }
+{
+    match times.get(number as usize) {
+        Some(times) => *times,
+        None => None,
+    }
+}
+
+/// Adds to latencies, from a place on, how long frames take to their edge bridge.
+fn add_times(latencies: &mut Vec<Latency>, from: usize, times: Option<AccessTimes>)
+    ensures { latencies.new.items ≡ take from latencies.old.items ++ map (latency_behind times) (drop from latencies.old.items) }
+{
+    let Some(times) = times else {
+        return;
+    };
+    for place in from..latencies.len() {
+        latencies[place].least += times.least;
+        latencies[place].most += times.most;
+    }
+}
+
+/// The latencies of the streams of a table to each of their listeners from the hand-over at their talkers, where these are stations.
+fn latencies_behind(
+    alloc: Global,
+    costs: &Costs<'_>,
+    ends: TalkerEnds<'_>,
+) -> Result<Vec<Latency>, Memory>
+    ensures { IfOk result (λ latencies. latencies.items
+        ≡ latencies_from costs.now.domain costs.now.rows ends.entry.deadlines.now ends.entry.times.now) }
+{
+    let mut latencies = Vec::new(alloc);
+    for row in costs.rows() {
+        let from = latencies.len();
+        push_listeners(
+            &mut latencies,
+            costs,
+            row,
+            deadline_of(ends.deadlines, row.no),
+        )?;
+        add_times(&mut latencies, from, times_of(ends.times, row.no));
+    }
+    Ok(latencies)
+}
+
+/// How long the frames of the streams of a table's rows take to each of their listeners, as of [`latencies_of_rows`], but from the hand-over at
+/// their talkers, where these are stations.
+///
+/// # Errors
+/// `Memory` where a growth is refused.
+pub(crate) fn latencies_from_talkers(
+    alloc: Global,
+    domain: &Domain,
+    rows: &[Row],
+    ends: TalkerEnds<'_>,
+) -> Result<Vec<Latency>, Memory>
+    requires held { (next : ℕ) × AreHeld domain.now rows.now next 0 }
+    requires good { AreOfGoodPaces rows.now }
+    ensures { IfOk result (λ latencies. latencies.items ≡ latencies_from domain.now rows.now ends.entry.deadlines.now ends.entry.times.now) }
+{
+    let costs = Costs::new(alloc, domain, rows)?;
+    let latencies = latencies_behind(alloc, &costs, ends)?;
     Ok(latencies)
 }

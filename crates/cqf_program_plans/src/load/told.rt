@@ -1,12 +1,15 @@
 //! The output of `load`, told line by line.
-ghost use Rattle.std.specs.Prelude.{◌≡◌, ◌-◌, ◌<◌, ◌^◌, decimal, length};
+ghost use Rattle.std.specs.Prelude.{◌≡◌, ◌-◌, ◌*◌, ◌<◌, ◌^◌, decimal, flat_map, length};
 ghost use Rattle.cqf_model.specs.Domain.{budget};
 ghost use Rattle.cqf_program_plans.specs.Load.Fitting.{fits_in, megabits_of, rate_on};
-ghost use Rattle.cqf_program_plans.specs.Load.Text.{left_text, lines_of_links, load_fields, load_header, load_text, percentage_text, text_of_load, used_text};
+ghost use Rattle.cqf_program_plans.specs.Load.Text.{left_text, lines_of_links, load_fields, load_header, load_text, percentage_text, used_text};
+ghost use Rattle.cqf_program_plans.specs.Load.Access.{access_fields};
+ghost use Rattle.cqf_program_plans.specs.Load.Told.{text_of_load};
 ghost use Rattle.cqf_press.specs.Edge.{HasTold, writing};
 ghost use Rattle.cqf_press.specs.Press.{Puts};
 ghost use Rattle.cqf_report.specs.Written.{line_of_fields};
 
+use crate::load::access::AccessLoad;
 use crate::load::listing::LoadListing;
 use crate::load::outputs::LoadOutput;
 use cqf_model::MOST_OCTETS;
@@ -127,6 +130,59 @@ fn put_line<W: Sink>(press: &mut Press<'_, W>, domain: &Domain, listing: &LoadLi
     press.put_byte(b'\n');
 }
 
+/// Puts what an access link has left of its budget.
+fn put_access_left<W: Sink>(press: &mut Press<'_, W>, budget: u64, held: u128)
+    ensures { Puts W.contents press.old press.new (left_text budget held) }
+{
+    if held <= u128::from(budget) {
+        press.put_number(budget - held as u64);
+    } else {
+        press.put_byte(b'-');
+        press.put_number((held - u128::from(budget)) as u64);
+    }
+}
+
+/// Puts the share of an access link's budget that its streams take.
+fn put_access_used<W: Sink>(press: &mut Press<'_, W>, budget: u64, held: u128)
+    requires { 1000 * held < 2 ^ 64 }
+    ensures { Puts W.contents press.old press.new (used_text budget held) }
+{
+    if budget != 0 {
+        put_percentage(press, (1000 * held / u128::from(budget)) as u64);
+    }
+}
+
+/// Puts the line of an access link. Nothing is reserved on it, so nothing fits.
+fn put_access<W: Sink>(press: &mut Press<'_, W>, load: &AccessLoad)
+    ensures { Puts W.contents press.old press.new (line_of_fields (access_fields load.now)) }
+{
+    press.put(load.from.as_bytes());
+    press.put_byte(b'>');
+    press.put(load.to.as_bytes());
+    press.put_byte(b',');
+    press.put_number(megabits_of(load.rate));
+    press.put_byte(b',');
+    press.put_number(load.budget);
+    press.put_byte(b',');
+    press.put_number(load.held as u64);
+    press.put_byte(b',');
+    put_access_left(press, load.budget, load.held);
+    press.put(b",,");
+    press.put_number(load.streams);
+    press.put_byte(b',');
+    put_access_used(press, load.budget, load.held);
+    press.put_byte(b'\n');
+}
+
+/// Puts a line for each access link.
+fn put_all_access<W: Sink>(press: &mut Press<'_, W>, loads: &[AccessLoad])
+    ensures { Puts W.contents press.old press.new (flat_map (λ load. line_of_fields (access_fields load)) loads.now) }
+{
+    for load in loads {
+        put_access(press, load);
+    }
+}
+
 /// Puts the header.
 fn put_header<W: Sink>(press: &mut Press<'_, W>)
     ensures { Puts W.contents press.old press.new (line_of_fields load_header) }
@@ -159,10 +215,12 @@ impl LoadOutput {
         let LoadOutput {
             domain,
             listing,
+            access,
             sheet,
         } = self;
         let mut press = Press::new(told, sheet);
         put_load(&mut press, &domain, &listing);
+        put_all_access(&mut press, access.as_slice());
         let _told = press.close();
     }
 }
