@@ -132,6 +132,17 @@ fn sources_of<'t>(
     Ok(sources)
 }
 
+/// The cycle times that the words of `plan` give, in nanoseconds: none of other words. `None` for want of memory.
+fn cycle_times_of(alloc: Global, job: &Job) -> Option<Vec<u32>> {
+    match *job {
+        Job::Plan {
+            given: Some(candidates),
+            ..
+        } => candidates.list(alloc).ok(),
+        _ => Some(Vec::new(alloc)),
+    }
+}
+
 /// Writes what explains the line of a refusal: nothing where there is nothing to say, and where memory lacks.
 fn explain(rt: &HostRuntime, given: &FilesInput<'_>, line: &[u8]) {
     let Some(command) = given.operands.words().first() else {
@@ -140,11 +151,14 @@ fn explain(rt: &HostRuntime, given: &FilesInput<'_>, line: &[u8]) {
     let Ok(sources) = sources_of(given.alloc, given.operands.files(), given.texts) else {
         return;
     };
-    let cycles = cycles_of(given.job);
+    let Some(cycle_times) = cycle_times_of(given.alloc, given.job) else {
+        return;
+    };
     if let Ok(text) = explanation(
         given.alloc,
         command,
-        cycles,
+        cycles_of(given.job),
+        cycle_times.as_slice(),
         given.limits,
         sources.as_slice(),
         line,
@@ -167,7 +181,15 @@ pub(crate) fn explain_nothing<F: Sink>(alloc: Global, words: &[&str], faults: &m
         text: b"",
     };
     let limits = limits_of(words);
-    if let Ok(text) = explanation(alloc, command, None, limits, &[source], b"cqf: parts\n") {
+    if let Ok(text) = explanation(
+        alloc,
+        command,
+        None,
+        &[],
+        limits,
+        &[source],
+        b"cqf: parts\n",
+    ) {
         write_out(faults, text.as_slice());
     }
 }

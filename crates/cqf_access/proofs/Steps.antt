@@ -5,9 +5,9 @@ use Rattle.cqf_lists.proofs.Members.{contains_at, place_of_member}
 use Rattle.cqf_units.proofs.Cycles.{cycle_is}
 use Rattle.cqf_laws_timing.specs.Traffic.{Traffic}
 use Rattle.cqf_access.specs.Access.{AccessLinkBoundsQueueing}
-use Rattle.cqf_access.specs.Arriving.{IsOnGrid, at_edge, edge_offset}
-use Rattle.cqf_access.specs.InStep.{AreWithin, EdgeComesInTurns, EdgeKeepsStep, KeepsStep}
-use Rattle.cqf_access.proofs.Edge.{shifted}
+use Rattle.cqf_access.specs.Arriving.{AreWithin, at_edge, edge_offset}
+use Rattle.cqf_access.specs.InStep.{EdgeComesInTurns, EdgeKeepsStep, KeepsStep}
+use Rattle.cqf_access.proofs.Arrivals.{shifted}
 
 -- an instant of a block's interval lies in a cycle, by each clock
 pub cycle_of_block : (cycle_time sync offset block reading at : ℕ) (t : Traffic) → KeepsStep cycle_time sync offset t →
@@ -47,14 +47,14 @@ turn_of_block first block every cycle_time interval some whole =
     ap (λ cycle. cycle % every) behind ∙ add-mul-mod_self_right first (block * times) every
 
 pub edge_comes_in_turns : AccessLinkBoundsQueueing → EdgeComesInTurns
-edge_comes_in_turns waits link streams others delays time shortest offset cycle_time every sync s arrived a reading sent bound c least on are step whole k clocks =
+edge_comes_in_turns waits link streams others delays time shortest offset cycle_time every sync s arrived a sent bound c least on are step whole k =
     let place = place_of_member arrived a k in
     let comes = are.each place.0 a place.1 in
     let there = contains_at s.crossings (are.place place.0) comes.crossing comes.there in
     let grid = on comes.crossing there in
-    let edge = shifted waits link streams others delays time shortest offset grid.block s comes.crossing a.at.0 sent bound c there
+    let edge = shifted waits link streams others delays time shortest offset grid.block s comes.crossing comes.at sent bound c there
     (least comes.crossing there) grid.least grid.most comes.whole in
     let begin = edge_offset link delays shortest offset in
     let word = at_edge link delays time shortest s.promise in
-    ap (λ cycle. cycle % every) (cycle_of_block cycle_time sync begin grid.block reading a.at.0 word step edge.0 edge.1 clocks)
+    ap (λ cycle. cycle % every) (cycle_of_block cycle_time sync begin grid.block a.at.0 comes.at word step edge.0 edge.1 comes.clocks)
     ∙ turn_of_block (begin / cycle_time) grid.block every cycle_time s.promise.interval step.some whole

@@ -3,17 +3,13 @@ use Rattle.std.specs.Prelude.{ℕ, ◌≡◌, ◌+◌, ◌-◌, ◌*◌, ◌/◌
 use Rattle.cqf_units.specs.Timing.{ending_of}
 use Rattle.cqf_model.specs.declared.frames.Offer.{Offer}
 use Rattle.cqf_laws_timing.specs.Traffic.{Conforms, IsTraffic, Traffic}
+use Rattle.cqf_access.specs.declared.edge.Delays.{Delays}
 use Rattle.cqf_access.specs.Access.{AccessLink, AccessStream, Crossing, IsBound, IsSent, Other, promises_of, taken_of}
-
--- how long the link's delay is, at least and at most: it may be another one for each frame
-pub record Delays : Type 0 where
-  pub least : ℕ
-  pub most : ℕ
 
 -- a frame is whole at the link's end as long after its last octet as the link's delay is
 pub record IsWholeAt (link : AccessLink) (delays : Delays) (x : Crossing) (at : ℕ) : Type 0 where
-  pub least : ending_of x.start x.frame.octets link.octet_time + delays.least ≤ at
-  pub most : at ≤ ending_of x.start x.frame.octets link.octet_time + delays.most
+  pub least : ending_of x.start x.frame.octets link.octet_time + delays.least.0 ≤ at
+  pub most : at ≤ ending_of x.start x.frame.octets link.octet_time + delays.most.0
 
 -- how long a frame of so many octets is on its way with so long a delay, where it needn't wait
 abbrev pub way_of : AccessLink → ℕ → ℕ → ℕ
@@ -25,8 +21,8 @@ longest_wait link time t = time - taken_of link t.size
 
 -- a frame is whole no earlier than its shortest way, and no later than its longest one and the longest wait, after the hand-over
 pub record IsWholeWithin (link : AccessLink) (delays : Delays) (time : ℕ) (t : Traffic) (x : Crossing) (at : ℕ) : Type 0 where
-  pub least : x.frame.at.0 + way_of link delays.least x.frame.octets ≤ at
-  pub most : at ≤ x.frame.at.0 + way_of link delays.most x.frame.octets + longest_wait link time t
+  pub least : x.frame.at.0 + way_of link delays.least.0 x.frame.octets ≤ at
+  pub most : at ≤ x.frame.at.0 + way_of link delays.most.0 x.frame.octets + longest_wait link time t
 
 abbrev pub FramesAreWholeWithin : Type 0
 FramesAreWholeWithin =
@@ -34,12 +30,12 @@ FramesAreWholeWithin =
     IsSent link streams others → IsBound link (promises_of streams) time → Contains streams s → Contains s.crossings x → IsWholeAt link delays x at →
     IsWholeWithin link delays time s.promise x at
 
--- how much longer the longest way of a largest frame is than the shortest way of a shortest one
+-- by how much the longest way of a largest frame is longer than the shortest way of a shortest one
 abbrev pub spread_of : AccessLink → Delays → ℕ → ℕ → ℕ
-spread_of link delays shortest size = way_of link delays.most size - way_of link delays.least shortest
+spread_of link delays shortest size = way_of link delays.most.0 size - way_of link delays.least.0 shortest
 
 -- what the stream's word is at the edge bridge, where none of its frames is shorter than so many octets: the same, but that a frame may be
--- later by the longest wait, and by what its way may be longer than another's
+-- later by the longest wait, and by what its way may be longer than another frame's
 abbrev pub at_edge : AccessLink → Delays → ℕ → ℕ → Traffic → Traffic
 at_edge link delays time shortest t = record {
   interval = t.interval;
@@ -48,25 +44,50 @@ at_edge link delays time shortest t = record {
   jitter = t.jitter + (longest_wait link time t + spread_of link delays shortest t.size);
 }
 
--- some of the frames, each once, in the order in which they are whole: what the edge bridge has of the stream
-pub record Arrives (link : AccessLink) (delays : Delays) (crossings : List Crossing) (place : ℕ) (a : Offer) : Type 0 where
+-- an instant by two clocks, which are so far apart at most
+pub record AreWithin (sync one other : ℕ) : Type 0 where
+  pub no_later : one ≤ other + sync
+  pub no_sooner : other ≤ one + sync
+
+-- the same word by another clock: each frame may be early and late by as much as the clocks are apart
+abbrev pub by_clock : ℕ → Traffic → Traffic
+by_clock sync t = record {
+  interval = t.interval;
+  frames = t.frames;
+  size = t.size;
+  jitter = t.jitter + 2 * sync;
+}
+
+-- what the edge bridge has of a stream: some of the frames, each once, in the order in which they are whole by its clock. That and the
+-- talker's are so far apart at most
+pub record Arrives (link : AccessLink) (delays : Delays) (sync : ℕ) (crossings : List Crossing) (place : ℕ) (a : Offer) : Type 0 where
   pub crossing : Crossing
   pub there : slice_get crossings place ≡ Some crossing
-  pub whole : IsWholeAt link delays crossing a.at.0
+  pub at : ℕ
+  pub whole : IsWholeAt link delays crossing at
+  pub clocks : AreWithin sync at a.at.0
   pub octets : a.octets ≡ crossing.frame.octets
 
-pub record AreArrivals (link : AccessLink) (delays : Delays) (crossings : List Crossing) (arrived : List Offer) : Type 0 where
+pub record AreArrivals (link : AccessLink) (delays : Delays) (sync : ℕ) (crossings : List Crossing) (arrived : List Offer) : Type 0 where
   pub place : ℕ → ℕ
-  pub each : (k : ℕ) (a : Offer) → slice_get arrived k ≡ Some a → Arrives link delays crossings (place k) a
+  pub each : (k : ℕ) (a : Offer) → slice_get arrived k ≡ Some a → Arrives link delays sync crossings (place k) a
   pub once : (i k : ℕ) → i < k → k < length arrived → place i ≡ place k → ⊥
   pub ordered : (i k : ℕ) (a b : Offer) → i ≤ k → slice_get arrived i ≡ Some a → slice_get arrived k ≡ Some b → a.at.0 ≤ b.at.0
 
--- so its talker keeps that word there, in whatever order the link sends, and whichever delays the frames have
+-- so its talker keeps a word there, in whatever order the link sends, and whichever delays the frames have: that one by another clock, and
+-- that one itself where no clocks are apart
+abbrev pub EdgeConformsByClocks : Type 0
+EdgeConformsByClocks =
+    (link : AccessLink) (streams : List AccessStream) (others : List Other) (delays : Delays) (time shortest sync : ℕ) (s : AccessStream)
+    (arrived : List Offer) → IsSent link streams others → IsBound link (promises_of streams) time → Contains streams s →
+    ((x : Crossing) → Contains s.crossings x → shortest ≤ x.frame.octets) → AreArrivals link delays sync s.crossings arrived →
+    Conforms (by_clock sync (at_edge link delays time shortest s.promise)) arrived
+
 abbrev pub EdgeConforms : Type 0
 EdgeConforms =
     (link : AccessLink) (streams : List AccessStream) (others : List Other) (delays : Delays) (time shortest : ℕ) (s : AccessStream) (arrived : List Offer) →
     IsSent link streams others → IsBound link (promises_of streams) time → Contains streams s →
-    ((x : Crossing) → Contains s.crossings x → shortest ≤ x.frame.octets) → AreArrivals link delays s.crossings arrived →
+    ((x : Crossing) → Contains s.crossings x → shortest ≤ x.frame.octets) → AreArrivals link delays 0 s.crossings arrived →
     Conforms (at_edge link delays time shortest s.promise) arrived
 
 -- an instant stands on a grid, or is late on it: the grid has so long intervals, and begins at an offset
@@ -77,7 +98,7 @@ pub record IsOnGrid (offset interval jitter at : ℕ) : Type 0 where
 
 -- the grid at the edge bridge of a stream that is handed over on a grid begins later by the shortest way of a shortest frame
 abbrev pub edge_offset : AccessLink → Delays → ℕ → ℕ → ℕ
-edge_offset link delays shortest offset = offset + way_of link delays.least shortest
+edge_offset link delays shortest offset = offset + way_of link delays.least.0 shortest
 
 -- there each frame is whole on it, in its own interval
 abbrev pub GridIsShifted : Type 0

@@ -3,16 +3,12 @@ use Rattle.std.specs.Prelude.{ℕ, ◌≡◌, ◌+◌, ◌*◌, ◌%◌, ◌<◌
 use Rattle.cqf_units.specs.Timing.{cycle_at}
 use Rattle.cqf_model.specs.declared.frames.Offer.{Offer}
 use Rattle.cqf_laws_timing.specs.Traffic.{Traffic}
+use Rattle.cqf_access.specs.declared.edge.Delays.{Delays}
 use Rattle.cqf_access.specs.Access.{AccessLink, AccessStream, Crossing, IsBound, IsSent, Other, promises_of}
-use Rattle.cqf_access.specs.Arriving.{AreArrivals, Delays, IsOnGrid, IsWholeAt, at_edge, edge_offset}
+use Rattle.cqf_access.specs.Arriving.{AreArrivals, AreWithin, IsOnGrid, IsWholeAt, at_edge, edge_offset}
 
--- an instant by two clocks, which are so far apart at most
-pub record AreWithin (sync one other : ℕ) : Type 0 where
-  pub no_later : one ≤ other + sync
-  pub no_sooner : other ≤ one + sync
-
--- intervals are whole cycles, and a frame that is as late as may be comes in the cycle in which it stands on the grid, even by a clock that is
--- so far apart: by none it comes before that cycle begins, or when it is over
+-- intervals are whole cycles, and a frame that is as late as may be comes in the cycle in which it stands on the grid, also by a clock that is
+-- so far apart: by none does it come before that cycle begins, or when it is over
 pub record KeepsStep (cycle_time sync offset : ℕ) (t : Traffic) : Type 0 where
   pub some : 0 < cycle_time
   pub whole : t.interval % cycle_time ≡ 0
@@ -33,14 +29,14 @@ EdgeKeepsStep =
 abbrev pub AreOnGrid : ℕ → AccessStream → Type 0
 AreOnGrid offset s = (x : Crossing) → Contains s.crossings x → IsOnGrid offset s.promise.interval s.promise.jitter x.frame.at.0
 
--- and where each interval is some times so many cycles long, all that comes of the stream comes in one of so many, those as far from one
--- another as from that in which its grid at the edge bridge begins
+-- and where each interval is some times so many cycles long, all that comes of the stream comes in one of so many, by the edge bridge's
+-- clock: in those that are some times so many away from the cycle in which its grid there begins
 abbrev pub EdgeComesInTurns : Type 0
 EdgeComesInTurns =
     (link : AccessLink) (streams : List AccessStream) (others : List Other) (delays : Delays) (time shortest offset cycle_time every sync : ℕ)
-    (s : AccessStream) (arrived : List Offer) (a : Offer) (reading : ℕ) → IsSent link streams others → IsBound link (promises_of streams) time →
+    (s : AccessStream) (arrived : List Offer) (a : Offer) → IsSent link streams others → IsBound link (promises_of streams) time →
     Contains streams s → ((x : Crossing) → Contains s.crossings x → shortest ≤ x.frame.octets) → AreOnGrid offset s →
-    AreArrivals link delays s.crossings arrived →
+    AreArrivals link delays sync s.crossings arrived →
     KeepsStep cycle_time sync (edge_offset link delays shortest offset) (at_edge link delays time shortest s.promise) →
-    s.promise.interval % (every * cycle_time) ≡ 0 → Contains arrived a → AreWithin sync a.at.0 reading →
-    cycle_at cycle_time reading % every ≡ cycle_at cycle_time (edge_offset link delays shortest offset) % every
+    s.promise.interval % (every * cycle_time) ≡ 0 → Contains arrived a →
+    cycle_at cycle_time a.at.0 % every ≡ cycle_at cycle_time (edge_offset link delays shortest offset) % every

@@ -2,3 +2,4 @@ pub mod Access
 pub mod Arriving
 pub mod Bounding
 pub mod InStep
+pub mod Reached

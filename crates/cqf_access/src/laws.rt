@@ -1,7 +1,8 @@
 //! Laws about a talker's access link.
 ghost use Rattle.cqf_access.specs.Access.{AccessLinkBoundsQueueing};
-ghost use Rattle.cqf_access.specs.Arriving.{EdgeConforms, FramesAreWholeWithin, GridIsShifted, GridsAreKept, GridsConform};
+ghost use Rattle.cqf_access.specs.Arriving.{EdgeConforms, EdgeConformsByClocks, FramesAreWholeWithin, GridIsShifted, GridsAreKept, GridsConform};
 ghost use Rattle.cqf_access.specs.InStep.{EdgeComesInTurns, EdgeKeepsStep};
+ghost use Rattle.cqf_access.specs.Reached.{LeastBoundIsReached};
 
 use cqf_laws_timing::conforming_offers_fit_a_cycle;
 
@@ -21,10 +22,16 @@ pub fn access_link_bounds_queueing()
     conforming_offers_fit_a_cycle();
 }
 
-/// So a talker that keeps its word at the hand-over keeps one at the edge bridge: the same, but for a greater jitter, and on a grid
-/// that begins later (profile).
+/// Where the least bound is no longer than each stream's interval less its jitter, there is a link on which a frame waits so long (profile).
+pub fn least_bound_is_reached()
+    ensures { LeastBoundIsReached }
+{}
+
+/// So a talker that keeps its word at the hand-over keeps one at the edge bridge, also by the clock there: the same, but for a greater
+/// jitter, and on a grid that begins later (profile).
 pub fn edge_conforms()
     ensures conforms { EdgeConforms }
+    ensures clocks { EdgeConformsByClocks }
     ensures grid { GridIsShifted }
 {
     access_link_bounds_queueing();

@@ -15,6 +15,7 @@ use Rattle.cqf_lists.proofs.Made.{contains_if_there, flat_map_same}
 use Rattle.cqf_lists.proofs.Members.{contains_filter, contains_from_filter, contains_from_flat, contains_from_map, contains_one}
 use Rattle.cqf_lists.proofs.Pairs.{pairs_below, pairs_from_map, pairs_none, pairs_one}
 use Rattle.cqf_units.proofs.Cycles.{cycle_is, cycle_upto}
+use Rattle.cqf_units.specs.Timing.{time_of}
 use Rattle.cqf_model.specs.declared.frames.Dropped.{Dropped}
 use Rattle.cqf_model.specs.declared.frames.Offered.{Offered}
 use Rattle.cqf_model.specs.declared.frames.Sent.{Sent}
@@ -137,14 +138,14 @@ module _ (d : Domain) (bridge cycle : ℕ) (rows : List Row) (batches : List Lin
     early = λ sent inside.
         let whole = (are.frames b sent held inside).in_time in
         let upto = cycle_upto d.cycle_time (whole_at d b.link sent) some in
-        let least : sent.start.0 ≤ whole_at d b.link sent = sooner sent.start.0 (sent.octets + 8) (octet_time_of d b.link) (delay_of d b.link) in
+        let least : sent.start.0 ≤ whole_at d b.link sent = sooner sent.start.0 (time_of (sent.octets + 8) (octet_time_of d b.link)) (delay_of d b.link) in
         let most : (cycle + 1) * d.cycle_time ≤ 100000 * 10000000 = product (cycle + 1) d.cycle_time (omega (arith, early)) short in
         omega (arith, least, upto, ap (λ (c : ℕ). c * d.cycle_time) whole, most);
   }
     where
       -- a frame is whole no sooner than it starts
-      sooner : (start octets time delay : ℕ) → start ≤ start + octets * time + delay
-      sooner start octets time delay = omega arith
+      sooner : (start time delay : ℕ) → start ≤ start + time + delay
+      sooner start time delay = omega arith
 
       -- a bounded product
       product : (n t : ℕ) → n ≤ 100000 → t ≤ 10000000 → n * t ≤ 100000 * 10000000

@@ -61,6 +61,7 @@ impl Plan {
 pub fn compile(alloc: Global, domain: &Domain) -> Result<Plan, Memory>
     ensures { IfOk result (λ plan. plan ≡ domain.now) }
 {
+    domain.know();
     let mut lists = Vec::new(alloc);
     for link in 0..domain.links() {
         lists.push(port_list_of(domain, link))?;

@@ -1,5 +1,5 @@
 -- What ports start of background frames is told, one after the other.
-use Rattle.std.proofs.Common.{◌≡◌, ℕ, suc, ◌+◌, ◌^◌, ◌≤◌, ◌<◌, ◌++◌, All, Bool, true, false, List, [], ◌∷◌, Some, arith}
+use Rattle.std.proofs.Common.{◌≡◌, ℕ, suc, ◌+◌, ◌^◌, ◌≤◌, ◌<◌, ◌++◌, All, Bool, true, false, List, [], ◌∷◌, Option, Some, arith}
 use Rattle.std.proofs.Common.{sym, ap, ◌∙◌, subst, length, map, take, get_or, filter, append_assoc, append-nil, inl}
 use Rattle.std.proofs.Common.{inr}
 use Rattle.std.specs.Prelude.{slice_get}
@@ -59,12 +59,12 @@ rules_same d l list link is there =
     λ i. record { entries = is i; octet_time = octet i }
 
 -- the guard time of a link is some time within the cycle, and its list goes by it
-pub own_guard : (d : Domain) (l : ℕ) (link : Link) (guard own : ℕ) → IsAccepted d → slice_get d.links l ≡ Some link → guard ≡ d.guard →
-    own ≡ guard_by guard link → (0 < own) × (own < d.cycle_time)
-own_guard d l link guard own accepted there is told =
+pub own_guard : (d : Domain) (l : ℕ) (link : Link) (cycle_time guard own : ℕ) → IsAccepted d → slice_get d.links l ≡ Some link →
+    cycle_time ≡ d.cycle_time → guard ≡ d.guard → own ≡ guard_by guard link → (0 < own) × (own < cycle_time)
+own_guard d l link cycle_time guard own accepted there time is told =
     let good = accepted.links_good l link there in
     let same : own ≡ guard_by d.guard link = told ∙ ap (λ (g : ℕ). guard_by g link) is in
-    (omega (arith, same, good.delay_short), omega (arith, same, good.guard_short))
+    (omega (arith, same, good.delay_short), omega (arith, same, time, good.guard_short))
 
 pub own_list : (d : Domain) (l : ℕ) (link : Link) (cycle_time guard own : ℕ) (list : List Entry) → slice_get d.links l ≡ Some link → cycle_time ≡ d.cycle_time →
     guard ≡ d.guard → own ≡ guard_by guard link → list ≡ port_list cycle_time own → list ≡ compiled_lists d l

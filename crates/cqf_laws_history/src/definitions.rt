@@ -69,8 +69,8 @@ pub fn frames_go_to_each_port()
 {}
 
 /// What a tree says: a frame goes on by the links behind the one that it came by, from the bridge that they leave; a stream has one gate at each bridge that
-/// its links leave; its frames are under way for as many cycles as its deepest link is deep; and it costs the same of each of
-/// its links, once, and nothing of another (profile).
+/// its links leave; its frames are under way for as many cycles as its deepest link is deep; and in a cycle in which its frames go
+/// by a link of it, it costs the same there as on any other, once; else it costs nothing, and nothing of a link that isn't its own (profile).
 pub fn trees_say_where_streams_go()
     ensures goes_on { FramesGoOnByTheirTree }
     ensures bridges { FramesGoOnWhereALinkLeaves }
@@ -121,8 +121,8 @@ pub fn relayed_frames_are_queued_or_lost()
     verdicts_have_their_reason();
 }
 
-/// An example: where a stream of every 16 cycles takes two thirds of a link's budget, a second one is granted just where no
-/// cycle is both of the one and of the other; and where the limits are set lower, it is refused by them (profile).
+/// Examples, worked out: beside a stream of every 16 cycles that takes two thirds of a link's budget, in which phases a second one is granted;
+/// and if the limits are set lower, it is refused by them (profile).
 pub fn second_stream_is_judged()
     ensures { IsSaidOfTheSecond }
 {}

@@ -24,8 +24,8 @@ pub fn slack_changes_no_cycle()
     loose_gates_mean_the_shift();
 }
 
-/// Where all count one clock and each link delays as it is stated, the network is one of them: with any slack with which the domain is
-/// accepted, and so with the one that the domain states (profile).
+/// If all clocks agree and each link takes its greatest delay, the network is one of them: with any slack with which the domain is accepted
+/// and whose least delays are no more than the greatest, and so with the one that the domain states (profile).
 pub fn exact_is_loose()
     ensures any { ExactIsLoose }
     ensures stated { ExactHasItsSlack }
@@ -78,7 +78,7 @@ pub fn loose_network_leaves_by_the_book()
     cqf_laws_shift::book_says_the_shift();
 }
 
-/// And what its links carry of streams' frames is settled (profile).
+/// And for one choice of transits, what its links carry of streams' frames is settled (profile).
 pub fn loose_network_is_unique()
     ensures { LooseNetworkIsUnique }
 {

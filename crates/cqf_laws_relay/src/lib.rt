@@ -10,7 +10,7 @@
 //! - The tapes of their reels have what the network sends ([`relays_keep_the_tapes`]), and with its background frames they are those of the
 //!   run's book ([`backed_tapes_are_the_books`]).
 //! - The tables of a history may come to such bridges ([`tables_may_come`]).
-//! - A link that has come least far can go on ([`some_link_can_go_on`]).
+//! - As long as some link has not come to the end of a run, one of these can go on ([`some_link_can_go_on`]).
 //!
 //! ```
 //! // here on, a proof knows that bridges whose links go on by themselves send what the gates ask for
@@ -76,8 +76,7 @@ pub fn tables_may_come()
     cqf_laws_coverage::rows_follow();
 }
 
-/// Of links that haven't come to the end of a run, one that has come least far waits for none: so no order of turns holds all of them up
-/// (profile).
+/// As long as some link has not come to the end of a run, one of these can go on: it waits for no other (profile).
 pub fn some_link_can_go_on()
     ensures { SomeLinkCanGoOn }
 {}

@@ -297,27 +297,26 @@ pub(crate) fn tell_guard_at(
     Ok(())
 }
 
-/// Tells of a guard time that is below no cycle time: the greatest of the file's, or where it is below that, of others that are given.
+/// Tells of a guard time that is below no cycle time, by the greatest of these.
 pub(crate) fn tell_guard(given: &CommandInput<'_>, told: &mut ToldLines) -> Result<(), AllocError> {
-    let (guard, cycle) = (given.plant.number("guard"), greatest_cycle(given)?);
-    if cycle <= guard {
-        return tell_guard_at(given, told, cycle);
-    }
-    if let Some(found) = given.plant.top("guard") {
-        let (place, guard) = (found.place, Grouped(guard));
-        told.tell(format!(in given.alloc;
-            "{place}: the guard time of {guard} ns is below none of the cycle times that are given"
-        )?)?;
-    }
-    Ok(())
+    tell_guard_at(given, told, greatest_cycle(given)?)
 }
 
-/// Tells of each link whose own guard time isn't below the cycle time, of several the greatest.
+/// Tells of each link whose own guard time is below no cycle time, by the greatest of these.
 pub(crate) fn tell_link_guards(
     given: &CommandInput<'_>,
     told: &mut ToldLines,
 ) -> Result<(), AllocError> {
-    let (network, cycle) = (given.network()?, greatest_cycle(given)?);
+    tell_link_guards_at(given, told, greatest_cycle(given)?)
+}
+
+/// Tells of each link whose own guard time isn't below a cycle time.
+pub(crate) fn tell_link_guards_at(
+    given: &CommandInput<'_>,
+    told: &mut ToldLines,
+    cycle: u64,
+) -> Result<(), AllocError> {
+    let network = given.network()?;
     for link in &network.links {
         let is_own = link.item.get("guard").is_some();
         let is_long = is_own && link.guard >= cycle && is_checked(&network, link);

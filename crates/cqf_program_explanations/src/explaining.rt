@@ -145,8 +145,8 @@ fn tell_refusal(
 /// texts, and behind these `and N more` where there are more. Each line begins with two blanks and ends with LF, and has printable
 /// characters of ASCII alone: another is told as `\u{..}`, with its number in hexadecimal digits. It is empty where there is nothing to say: the line is no refusal that is known, or says all by itself, or no file is named.
 ///
-/// `command` is the command's word, such as `run`. `cycles` is how many cycles are run, where the words say it. `limits` are those within
-/// which a plant is read. `sources` are the files that the words name, in their order. `line` is the line of the refusal with its line feed.
+/// `command` is the command's word, such as `run`. `cycles` is how many cycles are run, where the words say it, and `cycle_times` are the cycle
+/// times in nanoseconds that they give in place of those of the plant. `limits` are those within which a plant is read. `sources` are the files that the words name, in their order. `line` is the line of the refusal with its line feed.
 ///
 /// # Errors
 /// Where a growth is refused.
@@ -154,6 +154,7 @@ pub fn explanation(
     alloc: Global,
     command: &str,
     cycles: Option<u32>,
+    cycle_times: &[u32],
     limits: Limits,
     sources: &[NamedFile<'_>],
     line: &[u8],
@@ -163,7 +164,15 @@ pub fn explanation(
     let mut told = ToldLines::new(alloc);
     if let Some(refusal) = refusal_of(line) {
         if !sources.is_empty() {
-            let given = given_of(alloc, command, cycles, limits, sources, refusal.fault)?;
+            let given = given_of(
+                alloc,
+                command,
+                cycles,
+                cycle_times,
+                limits,
+                sources,
+                refusal.fault,
+            )?;
             tell_refusal(&given, &mut told, refusal)?;
         }
     }

@@ -15,6 +15,8 @@ pub(crate) struct CommandInput<'a> {
     pub command: &'a str,
     /// How many cycles are run, where the words say it.
     pub cycles: Option<u32>,
+    /// The cycle times in nanoseconds that the words give, in place of those of the plant.
+    pub cycle_times: &'a [u32],
     /// Those within which a plant is read.
     pub limits: Limits,
     pub sources: &'a [NamedFile<'a>],
@@ -32,6 +34,7 @@ pub(crate) fn given_of<'a>(
     alloc: Global,
     command: &'a str,
     cycles: Option<u32>,
+    cycle_times: &'a [u32],
     limits: Limits,
     sources: &'a [NamedFile<'a>],
     fault: &str,
@@ -46,6 +49,7 @@ pub(crate) fn given_of<'a>(
         alloc,
         command,
         cycles,
+        cycle_times,
         limits,
         sources,
         input,

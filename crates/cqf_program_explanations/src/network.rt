@@ -103,10 +103,11 @@ pub(crate) fn network_of<'p>(
     let items = plant.items(KeyOwner::Link)?;
     let mut network = nodes_alone(alloc, bridges, nodes, limits)?;
     network.cycle = plant.number("cycle");
-    network.guard = plant.number("guard");
+    let guard = plant.number("guard");
+    network.guard = guard;
     network.sync = plant.number("sync");
     for item in &items {
-        network.put_link(alloc, link_of(item, network.guard))?;
+        network.put_link(alloc, link_of(item, guard))?;
     }
     Ok(network)
 }

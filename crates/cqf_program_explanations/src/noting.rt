@@ -52,6 +52,15 @@ const NANOS_KEYS: [NanosKey; 4] = [
     },
 ];
 
+/// The number at a key; of two delays the greatest.
+fn greatest_at(item: &WrittenItem<'_>, key: &str) -> u64 {
+    if key == "delay" {
+        let (_, greatest) = delays_of(item);
+        return greatest;
+    }
+    item.number(key)
+}
+
 /// Notes the first value at a key, where one is above 0 and all are below the bound.
 fn note_nanos(
     given: &CommandInput<'_>,
@@ -61,17 +70,11 @@ fn note_nanos(
     let (mut most, mut first): (u64, Option<WrittenItem<'_>>) = (0, None);
     let items = given.plant.items(nanos.owner)?;
     for item in &items {
-        let value = item.number(nanos.key);
+        let value = greatest_at(item, nanos.key);
         if most == 0 && value > 0 {
             first = Some(*item);
         }
-        // of two delays the greatest counts
-        let (_, greatest) = delays_of(item);
-        most = most.max(if nanos.key == "delay" {
-            greatest
-        } else {
-            value
-        });
+        most = most.max(value);
     }
     let Some(item) = first else {
         return Ok(());
@@ -79,7 +82,11 @@ fn note_nanos(
     if most >= nanos.below {
         return Ok(());
     }
-    let (key, value, below) = (nanos.key, item.number(nanos.key), Grouped(nanos.below));
+    let (key, value, below) = (
+        nanos.key,
+        greatest_at(&item, nanos.key),
+        Grouped(nanos.below),
+    );
     let (place, label) = (item.place_of(key), item.label(given.alloc)?);
     told.tell(format!(in given.alloc;
         "{place}: {label}: {key} = {value}: each {key} is below {below} ns; is it meant in microseconds?"
@@ -187,7 +194,7 @@ pub fn notes(
 {
     let mut told = ToldLines::new(alloc);
     if may_have_notes(line) && takes_domain(command) && !sources.is_empty() {
-        let given = given_of(alloc, command, None, limits, sources, "note")?;
+        let given = given_of(alloc, command, None, &[], limits, sources, "note")?;
         note_bridges(&given, &mut told)?;
         note_talkers(&given, &mut told)?;
         for nanos in &NANOS_KEYS {

@@ -1,6 +1,6 @@
 //! Streams of a sketch that aren't placed, or may be late (profile).
 
-use crate::domain_faults::tell_guard_at;
+use crate::domain_faults::{tell_guard_at, tell_link_guards_at};
 use crate::given::CommandInput;
 use crate::network::Network;
 use crate::network_faults::{access_link_of, ends_of_talker, is_talker, tell_entering};
@@ -300,7 +300,7 @@ fn tell_many_hops(
     tell_form_faults(given, told, FormFault::TooManyHops)
 }
 
-/// The cycle time that was tried, in ns: that of the line, or else the first of the file's.
+/// The cycle time that was tried, in ns: that of the line, or else the first candidate.
 fn cycle_tried(given: &CommandInput<'_>, refusal: Refusal<'_>) -> Result<u64, AllocError> {
     let told = cycle_of(refusal);
     if told > 0 {
@@ -412,6 +412,18 @@ fn tell_unplaced(
     }
 }
 
+/// Tells of each guard time that isn't below a cycle time, the domain's first.
+fn tell_guards_at(
+    given: &CommandInput<'_>,
+    told: &mut ToldLines,
+    cycle: u64,
+) -> Result<(), AllocError> {
+    if given.plant.number("guard") >= cycle {
+        tell_guard_at(given, told, cycle)?;
+    }
+    tell_link_guards_at(given, told, cycle)
+}
+
 /// Tells why a sketch comes to no plant: of each stream that is wrong in this way whatever the cycle time is, or of the one that isn't
 /// placed.
 pub(crate) fn tell_plan(
@@ -420,7 +432,7 @@ pub(crate) fn tell_plan(
     refusal: Refusal<'_>,
 ) -> Result<(), AllocError> {
     let Some(unplaced) = unplaced_of(refusal) else {
-        return tell_guard_at(given, told, cycle_of(refusal));
+        return tell_guards_at(given, told, cycle_of(refusal));
     };
     match unplaced.fault {
         "NoTalker" => return tell_no_talkers(given, told),

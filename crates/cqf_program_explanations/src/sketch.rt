@@ -17,9 +17,15 @@ pub(crate) fn is_planning(given: &CommandInput<'_>) -> bool {
     given.command == "plan"
 }
 
-/// The candidates for the cycle time, as far as they are numbers.
+/// The candidates for the cycle time: those that the words give, or else those of the plant, as far as they are numbers.
 pub(crate) fn candidates_of(given: &CommandInput<'_>) -> Result<Vec<u64>, AllocError> {
     let mut candidates = Vec::new(given.alloc);
+    for cycle in given.cycle_times {
+        candidates.push(u64::from(*cycle))?;
+    }
+    if !candidates.is_empty() {
+        return Ok(candidates);
+    }
     if let Some(found) = given.plant.top("cycle") {
         match found.value.as_array() {
             Some(values) => {

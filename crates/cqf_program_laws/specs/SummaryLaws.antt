@@ -36,7 +36,7 @@ abbrev pub IsRowOf : ℕ → Scenario → List PlannedText → Contents → Fare
 IsRowOf cycles s streams book fare way =
     Contains (summary_of (run_of_scenario cycles s) streams book).fares fare × Contains fare.ways way
 
--- each offer that a row counts ends in just one of four ways at its listener
+-- the offers that a row counts are as many as those that are delivered, late, dropped and under way at its listener together
 abbrev pub RowsAddUp : Type 0
 RowsAddUp =
     (limits : Limits) (cycles : ℕ) (input : List ℕ) (s : Scenario) (streams : List PlannedText) (book : Contents) (fare : Fare) (way : ListenerWay) →

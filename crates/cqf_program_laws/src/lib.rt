@@ -50,7 +50,8 @@ pub fn told_verdicts_hold()
 /// which may miss its deadline. In each run that admits streams of the plan alone, whatever is withdrawn and offered by others, and
 /// beside any background frames, take a frame that a talker which keeps its own word offers of one of them at its edge, in a cycle in
 /// which the stream is offered, while it is live. It is covered, so it leaves on each link of its tree, and it is whole at each of the
-/// stream's listeners within its deadline, from its offer on. So it is in each script over the plan, on one thread and on threads.
+/// stream's listeners within its deadline, from its offer on, if the run lasts long enough. So it is in each script over the plan, on one
+/// thread and on threads.
 ///
 /// Where the plan's deadline is what a talker's link leaves of that of a sketch, as it is of each stream that was settled, the frame is
 /// there within the sketch's deadline, from the instant at which the talker begins to send it (profile).
@@ -70,9 +71,9 @@ pub fn told_plans_keep_their_word()
     cqf_laws_timing::conforming_stream_is_in_time();
 }
 
-/// So it does in every loose network, whatever clocks and delays do within what the domain states: each frame that a talker offers which keeps
-/// its word is whole at each of its stream's listeners, by the clock there, within the plan's deadline from its offer on by the edge bridge's
-/// (profile).
+/// So it does in every loose network, whatever clocks and delays do within what the domain states. Where all offers of a stream's name keep
+/// its talker's word, each of them that is made in a cycle of the stream while it is live is whole at each of its listeners, by the clock
+/// there, within the plan's deadline from its offer on by the edge bridge's, if the run lasts long enough (profile).
 pub fn told_plans_keep_their_word_loosely()
     ensures { PlansKeepTheirWordLoosely }
 {
@@ -82,8 +83,8 @@ pub fn told_plans_keep_their_word_loosely()
     cqf_laws_timing::conforming_stream_is_heard_in_time();
 }
 
-/// Each offer that a row of `summary` counts ends in just one of four ways at the row's listener: it is delivered, late, dropped, or under
-/// way. So it is of every script over the streams of the file, whatever it admits and withdraws, whatever is offered, and beside any
+/// The offers that a row of `summary` counts are as many as those that are delivered, late, dropped and under way at the row's listener
+/// together. So it is of every script over the streams of the file, whatever it admits and withdraws, whatever is offered, and beside any
 /// background frames (profile).
 pub fn summaries_add_up()
     ensures { RowsAddUp }

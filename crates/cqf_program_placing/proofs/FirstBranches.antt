@@ -33,12 +33,14 @@ use Rattle.cqf_sketch.specs.Ways.{IsFirstWay, has_room, led_to}
 use Rattle.cqf_sketch.proofs.PartLemmas.{leads_on}
 use Rattle.cqf_topology.specs.NodeNames.{name_of_node}
 use Rattle.cqf_program_plans.specs.EndNames.{name_of_end}
-use Rattle.cqf_admission.specs.Costs.{left_beside}
+use Rattle.cqf_admission.specs.Costs.{left_beside, left_in_turns}
 use Rattle.cqf_admission.proofs.CostLemmas.{beside_is_most}
 use Rattle.cqf_program_placing.specs.Placing.{names_along}
 use Rattle.cqf_program_placing.specs.Room.{HasRoomIn, HaveRoom, MayBeWays}
 use Rattle.cqf_program_placing.specs.Turns.{left_emptiest, lefts_on}
-use Rattle.cqf_program_placing.proofs.Emptiest.{emptiest_of_each}
+use Rattle.cqf_program_placing.specs.Hops.{AreLeftBehind, left_behind}
+use Rattle.cqf_program_placing.proofs.Emptiest.{emptiest_of_each, left_of_hop}
+use Rattle.cqf_program_placing.proofs.HopWays.{room_on_way}
 use Rattle.cqf_program_placing.proofs.RouteLemmas.{left_there, lefts_many}
 use Rattle.cqf_program_placing.proofs.WayNames.{branch_from, known_there, link_there, named_end, simple_there, whole_there}
 
@@ -134,6 +136,32 @@ tree_link d paths l c =
       among = among;
       place = k;
       stands = made_by (k + 1) (link_before d branch k) (link_at d branch k) hop made ∙ ap (λ (m : ℕ). Some m) same;
+    }
+
+-- and stands there as deep as the tree has it
+pub record HopStands (d : Domain) (paths : List Branch) (hop : Hop) : Type 0 where
+  pub branch : Branch
+  pub among : Contains paths branch
+  pub place : ℕ
+  pub stands : link_at d branch place ≡ Some hop.link
+  pub deep : hop.depth ≡ place + 1
+
+-- a hop is made as deep
+deep_by : (depth : ℕ) (from o : Option ℕ) (hop : Hop) → Contains (hop_to depth from o) hop → hop.depth ≡ depth
+deep_by depth from None hop c = absurd (contains_none hop c)
+deep_by depth from (Some l) hop c = ap (λ (h : Hop). h.depth) (sym (contains_one (record { link = l; depth = depth; from = from }) hop c))
+
+tree_hop : (d : Domain) (paths : List Branch) (hop : Hop) → Contains (tree_of d paths) hop → HopStands d paths hop
+tree_hop d paths hop in_tree =
+    let (branch, among, along) = contains_from_flat (hops_along d) paths hop
+    (once_from (λ (a b : Hop). a.link == b.link) (flat_map (hops_along d) paths) hop in_tree) in
+    let (k, below, made) = contains_from_below (λ place. hop_to (place + 1) (link_before d branch place) (link_at d branch place)) (length branch - 1) hop along in
+    record {
+      branch = branch;
+      among = among;
+      place = k;
+      stands = made_by (k + 1) (link_before d branch k) (link_at d branch k) hop made;
+      deep = deep_by (k + 1) (link_before d branch k) (link_at d branch k) hop made;
     }
 
 -- where each link of it has left what a stream costs, none is short
@@ -233,11 +261,11 @@ module _ (d : Domain) (good : IsDomain d) where
 
   -- ---- the branches of first ways
 
-  module _ (rows : List Row) (every cost bridge : ℕ) (inside : bridge < length d.bridges) (stations : List ℕ) (ways : List (List ℕ))
-      (first : HaveRoom d rows every cost bridge stations ways) where
+  module _ (left : List ℕ) (cost bridge : ℕ) (inside : bridge < length d.bridges) (stations : List ℕ) (ways : List (List ℕ))
+      (first : HaveRoom d left cost bridge stations ways) where
     -- each leads to its station
     pub way_there : (k : ℕ) (way : List ℕ) → slice_get ways k ≡ Some way →
-        IsFirstWay d.links (has_room (lefts_on d rows every) cost) (Bridge bridge) (Station (get_or stations k 0)) way
+        IsFirstWay d.links (has_room left cost) (Bridge bridge) (Station (get_or stations k 0)) way
     way_there k way at =
         let low : k < length stations = omega (arith, slice_get_within ways k way at, first.one_each) in
         first.each k (get_or stations k 0) way (slice_get-get_or stations k 0 low) at
@@ -282,7 +310,7 @@ module _ (d : Domain) (good : IsDomain d) where
               let within : place ≤ length (names_along d bridge way) = omega (arith, below, ap (λ (b : Branch). length b) same) in
               subst (λ (b : Branch). is_loop_at d b place ≡ false) same
               (simple_there d good bridge inside way to place w.is_way.leads
-              (no_loop d.links (has_room (lefts_on d rows every) cost) (Bridge bridge) to way w) within));
+              (no_loop d.links (has_room left cost) (Bridge bridge) to way w) within));
           together = none_stray paths (λ i j xs ys before at_i at_j.
               let (way, is, same) = branch_at i xs at_i in
               let (other, is_other, same_other) = branch_at j ys at_j in
@@ -293,19 +321,44 @@ module _ (d : Domain) (good : IsDomain d) where
               let t = get_or stations j 0 in
               (λ k. make_a_tree (sym same k) (sym same_other k))
               ∙ make_one (Bridge bridge) (Station s) (Station t) way other one.is_way.leads two.is_way.leads
-              (parts d.links (has_room (lefts_on d rows every) cost) (Bridge bridge) s t way other (apart i j 0 before low) one two));
+              (parts d.links (has_room left cost) (Bridge bridge) s t way other (apart i j 0 before low) one two));
         }
 
+    -- a link stands on a way where it does on its branch
+    link_on_way : (k : ℕ) (way : List ℕ) (branch : Branch) (place l : ℕ) → slice_get ways k ≡ Some way → names_along d bridge way ≡ branch →
+        link_at d branch place ≡ Some l → slice_get way place ≡ Some l
+    link_on_way k way branch place l at same stands =
+        sym (link_there d good (Bridge bridge) (Station (get_or stations k 0)) way place inside (way_there k way at).is_way.leads)
+        ∙ ap (λ (b : Branch). link_at d b place) same ∙ stands
+
     -- and, where it is offered in each cycle, each link of that tree has left what the stream costs
-    pub first_enough : every ≡ 1 → HasRoomIn d rows cost (tree_of d (map (names_along d bridge) ways)) each_cycle
-    first_enough each l c =
+    pub first_enough : (rows : List Row) (every : ℕ) → left ≡ lefts_on d rows every → every ≡ 1 →
+        HasRoomIn d rows cost (tree_of d (map (names_along d bridge) ways)) each_cycle
+    first_enough rows every are each l c =
         let stands = tree_link d (map (names_along d bridge) ways) l c in
         let (k, way, at, same) = way_of stands.branch stands.among in
         let w = way_there k way at in
-        let here : slice_get way stands.place ≡ Some l =
-        sym (link_there d good (Bridge bridge) (Station (get_or stations k 0)) way stands.place inside w.is_way.leads)
-        ∙ ap (λ (b : Branch). link_at d b stands.place) same ∙ stands.stands in
-        let enough : cost ≤ left_emptiest d rows every l =
-        has_left d rows every cost l (room_there (has_room (lefts_on d rows every) cost) way stands.place l w.is_way.roomy here) in
+        let here : slice_get way stands.place ≡ Some l = link_on_way k way stands.branch stands.place l at same stands.stands in
+        let there : has_room (lefts_on d rows every) cost l ≡ true =
+        subst (λ (xs : List ℕ). has_room xs cost l ≡ true) are (room_there (has_room left cost) way stands.place l w.is_way.roomy here) in
+        let enough : cost ≤ left_emptiest d rows every l = has_left d rows every cost l there in
         let beside : left_emptiest d rows every l ≡ left_beside d rows l = ap (λ n. left_emptiest d rows n l) each ∙ emptiest_of_each d rows l in
         omega (arith, enough, beside, left_of_tree d rows (map (names_along d bridge) ways) l c)
+
+    -- and, where its cycles are given, in these
+    pub first_given : (rows : List Row) (pace : Pace) → AreLeftBehind d rows pace cost bridge left →
+        HasRoomIn d rows cost (tree_of d (map (names_along d bridge) ways)) pace
+    first_given rows pace are l c =
+        let paths = map (names_along d bridge) ways in
+        let (hop, among, is_link) = contains_from_map (λ (h : Hop). h.link) (tree_of d paths) l c in
+        let stands = tree_hop d paths hop among in
+        let (k, way, at, same) = way_of stands.branch stands.among in
+        let here : slice_get way stands.place ≡ Some hop.link = link_on_way k way stands.branch stands.place hop.link at same stands.stands in
+        let w = subst (λ (xs : List ℕ). IsFirstWay d.links (has_room xs cost) (Bridge bridge) (Station (get_or stations k 0)) way) are.left_is (way_there k way at) in
+        let enough : cost ≤ left_behind d rows pace stands.place hop.link =
+        room_on_way d rows pace cost bridge are.hops are.are (Station (get_or stations k 0)) way stands.place hop.link w here in
+        let deep : left_in_turns d rows pace hop ≡ left_behind d rows pace stands.place hop.link =
+        ap (λ (n : ℕ). left_in_turns d rows pace (record { link = hop.link; depth = n; from = None })) stands.deep in
+        let on_tree : left_on d rows (tree_of d paths) pace hop.link ≡ left_in_turns d rows pace hop = left_of_hop d rows paths pace hop among in
+        let there : cost ≤ left_on d rows (tree_of d paths) pace hop.link = omega (arith, enough, deep, on_tree) in
+        subst (λ (n : ℕ). cost ≤ left_on d rows (tree_of d paths) pace n) is_link there

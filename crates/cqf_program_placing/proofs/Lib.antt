@@ -3,10 +3,12 @@ pub mod SettledLemmas
 pub mod RouteLemmas
 pub mod Stepping
 pub mod Emptiest
-pub mod Fullest
+pub mod Loads
+pub mod HopLemmas
 pub mod AskLemmas
 pub mod PlaceLemmas
 pub mod WayNames
+pub mod HopWays
 pub mod FirstBranches
 pub mod ReadyStreams
 pub mod StreamsRead

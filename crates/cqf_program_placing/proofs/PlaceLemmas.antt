@@ -190,12 +190,12 @@ reserved_so d entries stream octets turns become after is same placed =
     subst P is (subst (λ (t : Turns). IsRoutedAndAnswered d entries stream octets t become after) same placed)
 
 -- a stream without branches isn't placed
-pub unrouted_so : (d : Domain) (entries : List Recorded) (stream : SettledStream) (octets every cost : ℕ) (turns : Turns) (found : PlanFault) →
-    every ≡ every_in turns → cost ≡ cost_of octets → IsRouted d (held_in d entries (seals entries)) every cost stream.way (Err found) →
+pub unrouted_so : (d : Domain) (entries : List Recorded) (stream : SettledStream) (octets cost : ℕ) (turns : Turns) (found : PlanFault) →
+    cost ≡ cost_of octets → IsRouted d (held_in d entries (seals entries)) turns cost stream.way (Err found) →
     IsRoutedAndAnswered d entries stream octets turns (Unplaced found) entries
-unrouted_so d entries stream octets every cost turns found each is routed = record {
+unrouted_so d entries stream octets cost turns found is routed = record {
   routed = Err found;
-  is_routed = subst₂ (λ (e c : ℕ). IsRouted d (held_in d entries (seals entries)) e c stream.way (Err found)) each is routed;
+  is_routed = subst (λ (c : ℕ). IsRouted d (held_in d entries (seals entries)) turns c stream.way (Err found)) is routed;
   is_answered = (refl, refl);
 }
 
@@ -216,13 +216,13 @@ asked_so d entries called octets every phase cost turns name paths become after 
     }
 
 -- one with branches is
-pub routed_so : (d : Domain) (entries : List Recorded) (stream : SettledStream) (octets every cost : ℕ) (turns : Turns) (paths : List Branch)
-    (become : PlacedOr) (after : List Recorded) → every ≡ every_in turns → cost ≡ cost_of octets →
-    IsRouted d (held_in d entries (seals entries)) every cost stream.way (Ok paths) → IsAskedFor d entries stream.name octets turns paths become after →
+pub routed_so : (d : Domain) (entries : List Recorded) (stream : SettledStream) (octets cost : ℕ) (turns : Turns) (paths : List Branch)
+    (become : PlacedOr) (after : List Recorded) → cost ≡ cost_of octets →
+    IsRouted d (held_in d entries (seals entries)) turns cost stream.way (Ok paths) → IsAskedFor d entries stream.name octets turns paths become after →
     IsRoutedAndAnswered d entries stream octets turns become after
-routed_so d entries stream octets every cost turns paths become after each is routed so = record {
+routed_so d entries stream octets cost turns paths become after is routed so = record {
   routed = Ok paths;
-  is_routed = subst₂ (λ (e c : ℕ). IsRouted d (held_in d entries (seals entries)) e c stream.way (Ok paths)) each is routed;
+  is_routed = subst (λ (c : ℕ). IsRouted d (held_in d entries (seals entries)) turns c stream.way (Ok paths)) is routed;
   is_answered = so;
 }
 

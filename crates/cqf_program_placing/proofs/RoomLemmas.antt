@@ -38,14 +38,16 @@ use Rattle.cqf_program_placing.specs.declared.faults.PlanFault.{PlanFault}
 use Rattle.cqf_program_placing.specs.declared.faults.PlanFault.TheVariants as fault
 use Rattle.cqf_program_placing.specs.declared.turns.Turns.{Turns}
 use Rattle.cqf_program_placing.specs.declared.turns.Turns.TheVariants.{Given, Chosen}
-use Rattle.cqf_program_placing.specs.Placing.{ArePlacedFrom, IsAnswered, IsAskedFor, IsPlacedBy, IsPlacing, IsRouted, Placed, PlacedOr, Unplaced, answered}
+use Rattle.cqf_program_placing.specs.Placing.{AreFound, ArePlacedFrom, IsAnswered, IsAskedFor, IsFull, IsPlacedBy, IsPlacing, IsRouted, Placed, PlacedOr, Unplaced, answered}
 use Rattle.cqf_program_placing.specs.Placing.{names_along, reserved_on, turns_on}
-use Rattle.cqf_program_placing.specs.Turns.{AreGoodTurns, IsChosenBy, IsLeastFull, IsPhaseAlong, IsPhaseOnTree, MayBeFirst, every_in, lefts_on, pace_by, shares_with}
+use Rattle.cqf_program_placing.specs.Hops.{AreLeft, AreLeftBehind}
+use Rattle.cqf_program_placing.specs.Turns.{AreGoodTurns, IsChosenBy, IsLeastLoaded, IsPhaseAlong, IsPhaseOnTree, MayBeFirst, every_in, loads_with, pace_by, shares_with}
 use Rattle.cqf_program_placing.specs.Room.{ArePlacedByRoomFrom, HasNoRoom, HasRoomIn, HaveRoom, IsPlacedAlong, IsPlacedBetween, IsPlacedByRoom, IsPlacedOnWay, IsPlacedWith}
 use Rattle.cqf_program_placing.specs.Room.{MayBeWays, PlacedWhereThereIsRoom}
 use Rattle.cqf_program_placing.specs.Settled.{Along, Between, SettledStream, SettledWay, settled_behind, settled_next}
 use Rattle.cqf_program_placing.proofs.Behind.{IsBehind, none_behind, one_behind}
-use Rattle.cqf_program_placing.proofs.FirstBranches.{AreBranches, AreFew, first_branches, first_enough, none_short, way_there}
+use Rattle.cqf_program_placing.proofs.FirstBranches.{AreBranches, AreFew, first_branches, first_enough, first_given, none_short, way_there}
+use Rattle.cqf_program_placing.proofs.Loads.{some_as_full}
 use Rattle.cqf_program_placing.proofs.Emptiest.{left_of_hop}
 use Rattle.cqf_program_placing.proofs.PlaceLemmas.{reserved_few, reserved_there}
 use Rattle.cqf_program_placing.proofs.ReadyStreams.{IsGoodWay, IsReadStream, IsReady, IsToStations, next_ready, reserved_least}
@@ -176,14 +178,16 @@ left_within d rows pace hop = less (budget d hop.link) (most_in_turns rows pace 
     less : (a b : ℕ) → a - b ≤ a
     less a b = omega arith
 
--- where in some phase each link of a tree has room, it has it in the one in which the fullest link is least full
+-- where in some phase each link of a tree has room, it has it in the one in which the loads are the least
 room_in_first : (d : Domain) (rows : List Row) (cost every : ℕ) (paths : List Branch) (first other : ℕ) → 1 ≤ cost →
-    IsLeastFull (shares_with d rows cost every) (tree_of d paths) every first → other < every →
+    IsLeastLoaded (loads_with d rows cost every (tree_of d paths)) every first → other < every →
     HasRoomIn d rows cost (tree_of d paths) (pace_by every other) → HasRoomIn d rows cost (tree_of d paths) (pace_by every first)
 room_in_first d rows cost every paths first other some least low room l c =
     let tree : List Hop = tree_of d paths in
     let (hop, among, same) = contains_from_map (λ (h : Hop). h.link) tree l c in
-    let (there, there_among, no_fuller) = least.least other low hop among in
+    let held : (phase : ℕ) (h : Hop) → 1 ≤ (shares_with d rows cost every phase h).held = λ phase h. omega (arith, some) in
+    let (there, there_among, no_fuller) =
+    some_as_full (shares_with d rows cost every first) (shares_with d rows cost every other) tree (held first) (held other) (least.least other low) hop among in
     let there_room : cost ≤ left_in_turns d rows (pace_by every other) there =
     subst (λ n. cost ≤ n) (left_of_hop d rows paths (pace_by every other) there there_among)
     (room there.link (contains_map (λ (h : Hop). h.link) tree there there_among)) in
@@ -209,21 +213,21 @@ module _ (one_way : FirstWayIsOne) (no_loop : FirstWaysHaveNoLoop) (parts : Firs
   rows = held_in d entries (seals entries)
 
   -- first ways are the same
-  same_ways : (every cost bridge : ℕ) (stations : List ℕ) (ways others : List (List ℕ)) → bridge < length d.bridges →
-      HaveRoom d rows every cost bridge stations ways → HaveRoom d rows every cost bridge stations others → ways ≡ others
-  same_ways every cost bridge stations ways others inside first also =
+  same_ways : (left : List ℕ) (cost bridge : ℕ) (stations : List ℕ) (ways others : List (List ℕ)) → bridge < length d.bridges →
+      HaveRoom d left cost bridge stations ways → HaveRoom d left cost bridge stations others → ways ≡ others
+  same_ways left cost bridge stations ways others inside first also =
       ext_get_or [] ways others (first.one_each ∙ sym also.one_each) (λ k low.
       let there : k < length others = omega (arith, low, first.one_each, also.one_each) in
       let way = get_or ways k [] in
       let other = get_or others k [] in
-      one_way d.links (has_room (lefts_on d rows every) cost) (Bridge bridge) (Station (get_or stations k 0)) way other
-      (way_there d good rows every cost bridge inside stations ways first k way (slice_get-get_or ways k [] low))
-      (way_there d good rows every cost bridge inside stations others also k other (slice_get-get_or others k [] there)))
+      one_way d.links (has_room left cost) (Bridge bridge) (Station (get_or stations k 0)) way other
+      (way_there d good left cost bridge inside stations ways first k way (slice_get-get_or ways k [] low))
+      (way_there d good left cost bridge inside stations others also k other (slice_get-get_or others k [] there)))
 
   -- where there are ways to all, there is no first without
-  not_both : (every cost bridge : ℕ) (stations : List ℕ) (ways : List (List ℕ)) (place : ℕ) → HaveRoom d rows every cost bridge stations ways →
-      HasNoRoom d rows every cost bridge stations place → ⊥
-  not_both every cost bridge stations ways place first without =
+  not_both : (left : List ℕ) (cost bridge : ℕ) (stations : List ℕ) (ways : List (List ℕ)) (place : ℕ) → HaveRoom d left cost bridge stations ways →
+      HasNoRoom d left cost bridge stations place → ⊥
+  not_both left cost bridge stations ways place first without =
       let low : place < length ways = omega (arith, slice_get_within stations place without.station without.stands, first.one_each) in
       let way = get_or ways place [] in
       without.none way (first.each place without.station way without.stands (slice_get-get_or ways place [] low)).is_way
@@ -265,48 +269,93 @@ module _ (one_way : FirstWayIsOne) (no_loop : FirstWaysHaveNoLoop) (parts : Firs
       subst₂ (λ (e p : ℕ). HasRoomIn d rows (cost_of octets) (tree_of d paths) (pace_by e p)) (sym each) (sym none) room in
       is.placed is.phase may_be there ∙ (λ i. Placed (asked_with name octets (each i) (none i) paths))
 
+  -- and so is one whose phase is given
+  given_so : (name : List ℕ) (octets every phase : ℕ) (turns : Turns) (paths : List Branch) (become : PlacedOr) → turns ≡ Given every phase →
+      IsPlacedAlong d rows name octets turns paths become → HasRoomIn d rows (cost_of octets) (tree_of d paths) (pace_by every phase) →
+      become ≡ Placed (asked_with name octets every phase paths)
+  given_so name octets every phase turns paths become same is room =
+      let given = subst (λ (t : Turns). IsPlacedAlong d rows name octets t paths become) same is in
+      given.placed phase refl room ∙ ap (λ (n : ℕ). Placed (asked_with name octets every n paths)) given.is_phase
+
+  module _ (cost bridge : ℕ) (stations : List ℕ) (to : IsToStations d bridge stations) (left : List ℕ) (ways : List (List ℕ))
+      (first : HaveRoom d left cost bridge stations ways) where
+    abbrev tree : List Hop
+    tree = tree_of d (map (names_along d bridge) ways)
+
+    -- in the cycles that are given each link of the tree has room
+    given_room : (every phase : ℕ) (turns : Turns) → turns ≡ Given every phase → AreLeft d rows turns cost bridge left →
+        HasRoomIn d rows cost tree (pace_by every phase)
+    given_room every phase turns same are =
+        let behind : AreLeftBehind d rows (pace_by every phase) cost bridge left = subst (λ (t : Turns). AreLeft d rows t cost bridge left) same are in
+        first_given d good left cost bridge to.inside stations ways first rows (pace_by every phase) behind
+
+    -- and in each cycle
+    each_room : (turns : Turns) → AreGoodTurns turns → every_in turns ≡ 1 → AreLeft d rows turns cost bridge left → HasRoomIn d rows cost tree each_cycle
+    each_room (Given every phase) good_turns each are =
+        let low : phase < every = (pace_is_good every phase good_turns).1 in
+        let none : phase ≡ 0 = omega (arith, low, each) in
+        subst₂ (λ (e p : ℕ). HasRoomIn d rows cost tree (pace_by e p)) each none
+        (first_given d good left cost bridge to.inside stations ways first rows (pace_by every phase) are)
+    each_room (Chosen every) good_turns each are = first_enough d good left cost bridge to.inside stations ways first rows every are each
+
   -- a stream between a bridge and stations
   between_so : (name : List ℕ) (octets : ℕ) (turns : Turns) (bridge : ℕ) (stations : List ℕ) (routed : Result (List Branch) PlanFault) (become : PlacedOr)
       (after : List Recorded) → MayAsk d rows name octets → AreGoodTurns turns → IsToStations d bridge stations →
-      IsRouted d rows (every_in turns) (cost_of octets) (Between bridge stations) routed → IsAnswered d entries name octets turns routed become after →
+      IsRouted d rows turns (cost_of octets) (Between bridge stations) routed → IsAnswered d entries name octets turns routed become after →
       IsPlacedBetween d rows name octets turns bridge stations become
-  between_so name octets turns bridge stations (Ok paths) become after may good_turns to found is =
+  between_so name octets turns bridge stations (Ok paths) become after may good_turns to routed is =
       let cost : ℕ = cost_of octets in
-      let every : ℕ = every_in turns in
-      let first : HaveRoom d rows every cost bridge stations found.ways = found.first in
+      let left : List ℕ = routed.left in
+      let found : AreFound d left cost bridge stations paths = routed.found in
+      let first : HaveRoom d left cost bridge stations found.ways = found.first in
       let branches : AreBranches d paths = subst (AreBranches d) (sym found.are)
-      (first_branches d good rows every cost bridge to.inside stations found.ways first to.some to.apart room no_loop parts) in
-      let by_ways : (ways : List (List ℕ)) → HaveRoom d rows every cost bridge stations ways → paths ≡ map (names_along d bridge) ways =
-      λ ways also. found.are ∙ ap (map (names_along d bridge)) (same_ways every cost bridge stations found.ways ways to.inside first also) in
+      (first_branches d good left cost bridge to.inside stations found.ways first to.some to.apart room no_loop parts) in
+      let by_ways : (ways : List (List ℕ)) → HaveRoom d left cost bridge stations ways → paths ≡ map (names_along d bridge) ways =
+      λ ways also. found.are ∙ ap (map (names_along d bridge)) (same_ways left cost bridge stations found.ways ways to.inside first also) in
       let along : AreFew d paths → IsPlacedAlong d rows name octets turns paths become = λ few.
       along_so name octets turns paths become after may good_turns branches few is in
       record {
+        left = left;
+        are_left = routed.are_left;
         placed = λ ways also few.
             subst (λ (ps : List Branch). IsPlacedAlong d rows name octets turns ps become) (by_ways ways also)
             (along (subst (AreFew d) (sym (by_ways ways also)) few));
+        given = λ every phase turns_are ways also few.
+            let same : paths ≡ map (names_along d bridge) ways = by_ways ways also in
+            let enough : HasRoomIn d rows cost (tree_of d paths) (pace_by every phase) =
+            subst (λ (ps : List Branch). HasRoomIn d rows cost (tree_of d ps) (pace_by every phase)) (sym found.are)
+            (given_room cost bridge stations to left found.ways first every phase turns turns_are routed.are_left) in
+            given_so name octets every phase turns paths become turns_are (along (subst (AreFew d) (sym same) few)) enough
+            ∙ ap (λ (ps : List Branch). Placed (asked_with name octets every phase ps)) same;
         each_cycle = λ each ways also few.
             let same : paths ≡ map (names_along d bridge) ways = by_ways ways also in
             let enough : HasRoomIn d rows cost (tree_of d paths) each_cycle = subst (λ (ps : List Branch). HasRoomIn d rows cost (tree_of d ps) each_cycle)
-            (sym found.are) (first_enough d good rows every cost bridge to.inside stations found.ways first each) in
+            (sym found.are) (each_room cost bridge stations to left found.ways first turns good_turns each routed.are_left) in
             each_so name octets turns paths become good_turns each (along (subst (AreFew d) (sym same) few)) enough
             ∙ ap (λ (ps : List Branch). Placed (asked_with name octets 1 0 ps)) same;
         wide = λ ways also many.
             too_wide name octets turns paths become after may good_turns branches
             (subst (λ (ps : List Branch). hops_within d.limits < length (tree_of d ps)) (sym (by_ways ways also)) many) is;
-        unplaced = λ place without. absurd (not_both every cost bridge stations found.ways place first without);
+        unplaced = λ place without. absurd (not_both left cost bridge stations found.ways place first without);
         either = inl (found.ways, first);
       }
-  between_so name octets turns bridge stations (Err found) become after may good_turns to full is = record {
-    placed = λ ways first few. absurd (not_both (every_in turns) (cost_of octets) bridge stations ways full.place first full.without);
-    each_cycle = λ each ways first few. absurd (not_both (every_in turns) (cost_of octets) bridge stations ways full.place first full.without);
-    wide = λ ways first many. absurd (not_both (every_in turns) (cost_of octets) bridge stations ways full.place first full.without);
-    unplaced = λ place without. (found, is.0, full);
-    either = inr (full.place, full.without);
-  }
+  between_so name octets turns bridge stations (Err found) become after may good_turns to routed is =
+      let cost : ℕ = cost_of octets in
+      let full : IsFull d routed.left cost bridge stations found = routed.found in
+      record {
+        left = routed.left;
+        are_left = routed.are_left;
+        placed = λ ways first few. absurd (not_both routed.left cost bridge stations ways full.place first full.without);
+        given = λ every phase turns_are ways first few. absurd (not_both routed.left cost bridge stations ways full.place first full.without);
+        each_cycle = λ each ways first few. absurd (not_both routed.left cost bridge stations ways full.place first full.without);
+        wide = λ ways first many. absurd (not_both routed.left cost bridge stations ways full.place first full.without);
+        unplaced = λ place without. (found, is.0, full);
+        either = inr (full.place, full.without);
+      }
 
   on_way_so : (name : List ℕ) (octets : ℕ) (turns : Turns) (way : SettledWay) (routed : Result (List Branch) PlanFault) (become : PlacedOr)
       (after : List Recorded) → MayAsk d rows name octets → AreGoodTurns turns → IsGoodWay d way →
-      IsRouted d rows (every_in turns) (cost_of octets) way routed → IsAnswered d entries name octets turns routed become after →
+      IsRouted d rows turns (cost_of octets) way routed → IsAnswered d entries name octets turns routed become after →
       IsPlacedOnWay d rows name octets turns way become
   on_way_so name octets turns (Along paths) routed become after may good_turns branches given is =
       along_so name octets turns paths become after may good_turns branches.0 branches.1

@@ -1,5 +1,5 @@
 -- Ways of a domain as branches, and links that lack room.
-use Rattle.std.proofs.Common.{◌≡◌, ◌∙◌, ◌+◌, ◌<◌, ◌++◌, ℕ, Bool, true, List, [], ◌∷◌, Option, Some, None, Contains, inl, inr, length, get_or, map, take, arith, ap, refl, subst, sym, append_assoc}
+use Rattle.std.proofs.Common.{◌≡◌, ◌∙◌, ◌+◌, ◌<◌, ◌++◌, ℕ, Bool, true, List, [], ◌∷◌, Option, Some, None, Ok, Contains, inl, inr, length, get_or, map, take, arith, ap, refl, subst, sym, append_assoc}
 use Rattle.std.specs.Prelude.{not, option_and_then, option_map, slice_get}
 use Rattle.std.specs.List.{list_all}
 use Rattle.std.specs.Option.{option_map_or}
@@ -24,10 +24,14 @@ use Rattle.cqf_topology.specs.NodeNames.{name_of_bridge, name_of_node}
 use Rattle.cqf_program_plans.specs.EndNames.{name_of_end}
 use Rattle.cqf_program_placing.specs.declared.faults.PlanFault.{PlanFault}
 use Rattle.cqf_program_placing.specs.declared.faults.PlanFault.TheVariants as fault
-use Rattle.cqf_program_placing.specs.Placing.{AreFound, IsFull, IsFullTo, names_along}
-use Rattle.cqf_program_placing.specs.Routes.{AreReached, IsReached}
+use Rattle.cqf_program_placing.specs.Placing.{AreFound, IsFull, IsFullTo, IsRouted, names_along}
+use Rattle.cqf_program_placing.specs.declared.routes.Unrouted.{Unrouted}
+use Rattle.cqf_program_placing.specs.declared.routes.Unrouted.TheVariants as unrouted
+use Rattle.cqf_program_placing.specs.declared.turns.Turns.TheVariants.{Given, Chosen}
+use Rattle.cqf_program_placing.specs.Hops.{AreLeftBehind}
+use Rattle.cqf_program_placing.specs.Routes.{AreReached, IsFullFor, IsReached, IsUnrouted}
 use Rattle.cqf_program_placing.specs.Settled.{Between, IsOnWay, is_led}
-use Rattle.cqf_program_placing.specs.Turns.{left_emptiest, lefts_on}
+use Rattle.cqf_program_placing.specs.Turns.{left_emptiest, lefts_on, pace_by}
 use Rattle.cqf_program_placing.proofs.LedLemmas.{led_has_way}
 
 -- what is made of the elements so far, with that of one more
@@ -147,30 +151,21 @@ must_lack d left cost bridge station way short none first all =
     let (link, lacks) = short d.links left cost (Bridge bridge) (Station station) way none first.is_way in absurd cc
 
 -- and the station is full
-pub full_found : (d : Domain) (rows : List Row) (every : ℕ) (left : List ℕ) (cost bridge station : ℕ) (way : List ℕ) (link : ℕ) (found : PlanFault) →
+pub full_found : (d : Domain) (left : List ℕ) (cost bridge station : ℕ) (way : List ℕ) (link : ℕ) (found : PlanFault) →
     IsFirstWay d.links (λ l. true) (Bridge bridge) (Station station) way → short_link left cost way ≡ Some link →
     found ≡ fault.Full (name_of_node d (Station station)) cost (name_of_bridge d (bridge_of d link)) (name_of_end d link) (get_or left link 0) →
-    left ≡ lefts_on d rows every → IsFullTo d rows every cost bridge station found
-full_found d rows every left cost bridge station way link found first short is are =
-    let inside : link < length d.links = short_inside d.links left cost (Bridge bridge) (Station station) way link first.is_way.leads short in
-    record {
-      way = way;
-      is_first = first;
-      link = link;
-      lacks = subst (λ (xs : List ℕ). short_link xs cost way ≡ Some link) are short;
-      is = is ∙ ap (λ octets. fault.Full (name_of_node d (Station station)) cost (name_of_bridge d (bridge_of d link)) (name_of_end d link) octets)
-          (ap (λ xs. get_or xs link 0) are ∙ left_there d rows every link inside);
-    }
+    IsFullTo d left cost bridge station found
+full_found d left cost bridge station way link found first short is =
+    record { way = way; is_first = first; link = link; lacks = short; is = is }
 
 -- it is the first that is
-pub first_full : (d : Domain) (rows : List Row) (every : ℕ) (links : List Link) (left : List ℕ) (cost bridge : ℕ) (stations : List ℕ) (place station : ℕ) (found : PlanFault) →
+pub first_full : (d : Domain) (links : List Link) (left : List ℕ) (cost bridge : ℕ) (stations : List ℕ) (place station : ℕ) (found : PlanFault) →
     links ≡ d.links → IsFirstWithout links (has_room left cost) (Bridge bridge) stations place → slice_get stations place ≡ Some station →
-    left ≡ lefts_on d rows every → IsFullTo d rows every cost bridge station found → IsFull d rows every cost bridge stations found
-first_full d rows every links left cost bridge stations place station found are without stands lefts full = record {
+    IsFullTo d left cost bridge station found → IsFull d left cost bridge stations found
+first_full d links left cost bridge stations place station found are without stands full = record {
   place = place;
   station = station;
-  without = subst (λ (xs : List ℕ). IsFirstWithout d.links (has_room xs cost) (Bridge bridge) stations place) lefts
-      (subst (λ (ls : List Link). IsFirstWithout ls (has_room left cost) (Bridge bridge) stations place) are without);
+  without = subst (λ (ls : List Link). IsFirstWithout ls (has_room left cost) (Bridge bridge) stations place) are without;
   stands = stands;
   is_full = full;
 }
@@ -192,14 +187,36 @@ none_there d links left cost bridge stations place station are without stands =
     (subst (λ (s : ℕ). NoWay links (has_room left cost) (Bridge bridge) (Station s)) same without.none)
 
 -- the branches of the first ways are found
-pub ways_found : (d : Domain) (rows : List Row) (every : ℕ) (links : List Link) (left : List ℕ) (cost bridge : ℕ) (stations : List ℕ) (ways : List (ArrayVec ℕ))
+pub ways_found : (d : Domain) (links : List Link) (left : List ℕ) (cost bridge : ℕ) (stations : List ℕ) (ways : List (ArrayVec ℕ))
     (paths : List Branch) → links ≡ d.links → AreFirstWays links (has_room left cost) (Bridge bridge) stations (map (λ (way : ArrayVec ℕ). way.items) ways) →
-    paths ≡ map (λ (way : ArrayVec ℕ). names_along d bridge way.items) ways → left ≡ lefts_on d rows every → AreFound d rows every cost bridge stations paths
-ways_found d rows every links left cost bridge stations ways paths are first paths_are lefts =
+    paths ≡ map (λ (way : ArrayVec ℕ). names_along d bridge way.items) ways → AreFound d left cost bridge stations paths
+ways_found d links left cost bridge stations ways paths are first paths_are =
     let items = λ (way : ArrayVec ℕ). way.items in
     record {
       ways = map items ways;
-      first = subst (λ (xs : List ℕ). AreFirstWays d.links (has_room xs cost) (Bridge bridge) stations (map items ways)) lefts
-          (subst (λ (ls : List Link). AreFirstWays ls (has_room left cost) (Bridge bridge) stations (map items ways)) are first);
+      first = subst (λ (ls : List Link). AreFirstWays ls (has_room left cost) (Bridge bridge) stations (map items ways)) are first;
       are = paths_are ∙ sym (map-map (names_along d bridge) items ways);
     }
+
+-- ---- by what links have left
+
+module _ (d : Domain) (rows : List Row) (cost bridge : ℕ) (stations : List ℕ) where
+  -- in the cycles that are given
+  pub given_routed : (every phase : ℕ) (paths : List Branch) (left : List ℕ) → AreLeftBehind d rows (pace_by every phase) cost bridge left →
+      AreFound d left cost bridge stations paths → IsRouted d rows (Given every phase) cost (Between bridge stations) (Ok paths)
+  given_routed every phase paths left are found = record { left = left; are_left = are; found = found }
+
+  pub given_unrouted : (every phase : ℕ) (why : Unrouted) (left : List ℕ) → AreLeftBehind d rows (pace_by every phase) cost bridge left →
+      IsFullFor d left cost bridge stations why → IsUnrouted d rows (Given every phase) cost (Between bridge stations) why
+  given_unrouted every phase (unrouted.Fault found) left are full = record { left = left; are_left = are; found = full }
+  given_unrouted every phase unrouted.Memory left are full = tt
+
+  -- in the emptiest of so many cycles
+  pub chosen_routed : (every : ℕ) (paths : List Branch) → AreFound d (lefts_on d rows every) cost bridge stations paths →
+      IsRouted d rows (Chosen every) cost (Between bridge stations) (Ok paths)
+  chosen_routed every paths found = record { left = lefts_on d rows every; are_left = refl; found = found }
+
+  pub chosen_unrouted : (every : ℕ) (why : Unrouted) → IsFullFor d (lefts_on d rows every) cost bridge stations why →
+      IsUnrouted d rows (Chosen every) cost (Between bridge stations) why
+  chosen_unrouted every (unrouted.Fault found) full = record { left = lefts_on d rows every; are_left = refl; found = full }
+  chosen_unrouted every unrouted.Memory full = tt

@@ -36,7 +36,7 @@ pub record LeadsOn (d : Domain) (node end : Node) (l : ℕ) : Type 0 where
   pub from_is : node ≡ Bridge link.from
   pub to_is : link.to ≡ end
 
-leads_by : (d : Domain) (node end : Node) (l : ℕ) → led_to d.links node l ≡ Some end → LeadsOn d node end l
+pub leads_by : (d : Domain) (node end : Node) (l : ℕ) → led_to d.links node l ≡ Some end → LeadsOn d node end l
 leads_by d node end l e =
     let (link, stands, leads) = and_then-Some (led_by node) (slice_get d.links l) end e in by link stands (same_node node (Bridge link.from)) refl leads
   where

@@ -1,6 +1,7 @@
 pub mod Faults
 pub mod Settled
 pub mod Turns
+pub mod Hops
 pub mod Placing
 pub mod Known
 pub mod Routes

@@ -1,5 +1,5 @@
 -- Settled streams, placed on a cycle time one after the other (profile).
-use Rattle.std.specs.Prelude.{ℕ, ◌≡◌, ◌<◌, ⊤, Bool, List, [], ◌∷◌, if◌then◌else◌, false, map, nat_lt, option_map, Option, Some, None, Result, Ok, Err, slice_get, true}
+use Rattle.std.specs.Prelude.{ℕ, ◌≡◌, ◌<◌, ⊤, Bool, List, [], ◌∷◌, if◌then◌else◌, false, map, nat_lt, option_map, Option, Some, None, Result, Ok, Err, slice_get, slice_index, true}
 use Rattle.std.specs.Option.{option_map_or}
 use Rattle.cqf_units.specs.Timing.{cost_of}
 use Rattle.cqf_model.specs.declared.history.Refused.{Refused}
@@ -23,7 +23,8 @@ use Rattle.cqf_program_placing.specs.declared.outcomes.PlacingOutcome.{PlacingOu
 use Rattle.cqf_program_placing.specs.declared.outcomes.PlacingOutcome.TheVariants as outcome
 use Rattle.cqf_program_placing.specs.declared.turns.Turns.{Turns}
 use Rattle.cqf_program_placing.specs.Settled.{SettledStream, SettledWay, Along, Between}
-use Rattle.cqf_program_placing.specs.Turns.{IsPhaseAlong, can_step, every_in, is_in_step, left_emptiest, lefts_on, turns_by}
+use Rattle.cqf_program_placing.specs.Hops.{AreLeft}
+use Rattle.cqf_program_placing.specs.Turns.{IsPhaseAlong, can_step, every_in, is_in_step, turns_by}
 
 -- what becomes of a stream: it is placed, with its octets, its cycles and its branches, or it isn't, for a fault
 pub data PlacedOr : Type 0 where
@@ -63,34 +64,42 @@ is_chosen_on cycle_time stream = option_map_or (is_in_step cycle_time stream.pac
 abbrev pub names_along : Domain → ℕ → List ℕ → Branch
 names_along d bridge way = name_of_bridge d bridge ∷ map (name_of_end d) way
 
--- there is no room on the way to a listener for a stream that is offered in one of so many cycles: of the first way there is, the first link
--- that lacks it
-pub record IsFullTo (d : Domain) (rows : List Row) (every cost bridge station : ℕ) (found : PlanFault) : Type 0 where
+-- there is no room on the way to a listener, by what links have left for a stream: of the first way there is, the first link that lacks it
+pub record IsFullTo (d : Domain) (left : List ℕ) (cost bridge station : ℕ) (found : PlanFault) : Type 0 where
   pub way : List ℕ
   pub is_first : IsFirstWay d.links (λ _. true) (Bridge bridge) (Station station) way
   pub link : ℕ
-  pub lacks : short_link (lefts_on d rows every) cost way ≡ Some link
-  pub is : found
-      ≡ fault.Full (name_of_node d (Station station)) cost (name_of_bridge d (bridge_of d link)) (name_of_end d link) (left_emptiest d rows every link)
+  pub lacks : short_link left cost way ≡ Some link
+  pub is : found ≡ fault.Full (name_of_node d (Station station)) cost (name_of_bridge d (bridge_of d link)) (name_of_end d link) (slice_index left link)
 
 -- that listener is the first of its listeners to which no way has room
-pub record IsFull (d : Domain) (rows : List Row) (every cost bridge : ℕ) (stations : List ℕ) (found : PlanFault) : Type 0 where
+pub record IsFull (d : Domain) (left : List ℕ) (cost bridge : ℕ) (stations : List ℕ) (found : PlanFault) : Type 0 where
   pub place : ℕ
   pub station : ℕ
-  pub without : IsFirstWithout d.links (has_room (lefts_on d rows every) cost) (Bridge bridge) stations place
+  pub without : IsFirstWithout d.links (has_room left cost) (Bridge bridge) stations place
   pub stands : slice_get stations place ≡ Some station
-  pub is_full : IsFullTo d rows every cost bridge station found
+  pub is_full : IsFullTo d left cost bridge station found
 
--- the branches of a stream: those that are given; or those of the first ways with room to its listeners
-pub record AreFound (d : Domain) (rows : List Row) (every cost bridge : ℕ) (stations : List ℕ) (paths : List Branch) : Type 0 where
+-- the branches of the first ways with room to its listeners
+pub record AreFound (d : Domain) (left : List ℕ) (cost bridge : ℕ) (stations : List ℕ) (paths : List Branch) : Type 0 where
   pub ways : List (List ℕ)
-  pub first : AreFirstWays d.links (has_room (lefts_on d rows every) cost) (Bridge bridge) stations ways
+  pub first : AreFirstWays d.links (has_room left cost) (Bridge bridge) stations ways
   pub are : paths ≡ map (names_along d bridge) ways
 
-abbrev pub IsRouted : Domain → List Row → ℕ → ℕ → SettledWay → Result (List Branch) PlanFault → Type 0
-IsRouted d rows every cost (Along given) routed = routed ≡ Ok given
-IsRouted d rows every cost (Between bridge stations) (Ok paths) = AreFound d rows every cost bridge stations paths
-IsRouted d rows every cost (Between bridge stations) (Err found) = IsFull d rows every cost bridge stations found
+abbrev pub IsFoundOrFull : Domain → List ℕ → ℕ → ℕ → List ℕ → Result (List Branch) PlanFault → Type 0
+IsFoundOrFull d left cost bridge stations (Ok paths) = AreFound d left cost bridge stations paths
+IsFoundOrFull d left cost bridge stations (Err found) = IsFull d left cost bridge stations found
+
+-- by what links have left for it beside some rows
+pub record IsRoutedBetween (d : Domain) (rows : List Row) (turns : Turns) (cost bridge : ℕ) (stations : List ℕ) (routed : Result (List Branch) PlanFault) : Type 0 where
+  pub left : List ℕ
+  pub are_left : AreLeft d rows turns cost bridge left
+  pub found : IsFoundOrFull d left cost bridge stations routed
+
+-- the branches of a stream: those that are given, or those that are found
+abbrev pub IsRouted : Domain → List Row → Turns → ℕ → SettledWay → Result (List Branch) PlanFault → Type 0
+IsRouted d rows turns cost (Along given) routed = routed ≡ Ok given
+IsRouted d rows turns cost (Between bridge stations) routed = IsRoutedBetween d rows turns cost bridge stations routed
 
 -- what is told where admission refuses a stream
 abbrev pub fault_of_refusal : Domain → Refused → PlanFault
@@ -119,7 +128,7 @@ IsAnswered d entries name octets turns (Ok paths) become after = IsAskedFor d en
 pub record IsRoutedAndAnswered (d : Domain) (entries : List Recorded) (stream : SettledStream) (octets : ℕ) (turns : Turns) (become : PlacedOr)
     (after : List Recorded) : Type 0 where
   pub routed : Result (List Branch) PlanFault
-  pub is_routed : IsRouted d (held_in d entries (seals entries)) (every_in turns) (cost_of octets) stream.way routed
+  pub is_routed : IsRouted d (held_in d entries (seals entries)) turns (cost_of octets) stream.way routed
   pub is_answered : IsAnswered d entries stream.name octets turns routed become after
 
 abbrev pub IsPlacedBy : Domain → List Recorded → SettledStream → Result ℕ PlanFault → PlacedOr → List Recorded → Type 0

@@ -23,14 +23,16 @@ use Rattle.cqf_program_placing.specs.declared.faults.PlanFault.TheVariants as fa
 use Rattle.cqf_program_placing.specs.declared.turns.Turns.{Turns}
 use Rattle.cqf_program_placing.specs.Placing.{ArePlaced, IsFull, IsPlacing, Placed, PlacedOr, PlacedStreams, Unplaced, names_along, reserved_on, turns_on}
 use Rattle.cqf_program_placing.specs.Settled.{Along, Between, SettledStream, SettledWay, settled_of}
-use Rattle.cqf_program_placing.specs.Turns.{IsPhaseOnTree, MayBeFirst, every_in, lefts_on, pace_by}
+use Rattle.cqf_program_placing.specs.declared.turns.Turns.TheVariants.{Given}
+use Rattle.cqf_program_placing.specs.Hops.{AreLeft}
+use Rattle.cqf_program_placing.specs.Turns.{IsPhaseOnTree, MayBeFirst, every_in, pace_by}
 
 -- in the cycles of a pace each link of a tree has left what a stream costs
 abbrev pub HasRoomIn : Domain → List Row → ℕ → List Hop → Pace → Type 0
 HasRoomIn d rows cost tree pace = (l : ℕ) → Contains (links_in tree) l → cost ≤ left_on d rows tree pace l
 
--- a stream along the branches of a tree is asked for in the phase that is given, or in the first in which the fullest link of the tree is
--- least full. Where each link of the tree has left what it costs in the phase that is given, or in any that may be chosen, it is placed by
+-- a stream along the branches of a tree is asked for in the phase that is given, or in the first of those in which the tree's loads are the
+-- least. Where each link of the tree has left what it costs in the phase that is given, or in any that may be chosen, it is placed by
 -- them in that phase; and where a link has less left there it isn't, for the first such link in the tree's order
 pub record IsPlacedAlong (d : Domain) (rows : List Row) (name : List ℕ) (octets : ℕ) (turns : Turns) (paths : List Branch) (become : PlacedOr) : Type 0 where
   pub phase : ℕ
@@ -40,13 +42,13 @@ pub record IsPlacedAlong (d : Domain) (rows : List Row) (name : List ℕ) (octet
   pub unplaced : (l : ℕ) → short_link d rows (cost_of octets) (pace_by (every_in turns) phase) (tree_of d paths) ≡ Some l →
       become ≡ Unplaced (fault.Short (name_of_bridge d (bridge_of d l)) (name_of_end d l) (left_on d rows (tree_of d paths) (pace_by (every_in turns) phase) l))
 
--- the first ways from a bridge to stations, beside some rows, on which each link has left what a stream costs in the emptiest of so many cycles
-abbrev pub HaveRoom : Domain → List Row → ℕ → ℕ → ℕ → List ℕ → List (List ℕ) → Type 0
-HaveRoom d rows every cost bridge stations ways = AreFirstWays d.links (has_room (lefts_on d rows every) cost) (Bridge bridge) stations ways
+-- the first ways from a bridge to stations on which each link has left what a stream costs
+abbrev pub HaveRoom : Domain → List ℕ → ℕ → ℕ → List ℕ → List (List ℕ) → Type 0
+HaveRoom d left cost bridge stations ways = AreFirstWays d.links (has_room left cost) (Bridge bridge) stations ways
 
 -- there is no such way to the station at a place, the first of them
-abbrev pub HasNoRoom : Domain → List Row → ℕ → ℕ → ℕ → List ℕ → ℕ → Type 0
-HasNoRoom d rows every cost bridge stations place = IsFirstWithout d.links (has_room (lefts_on d rows every) cost) (Bridge bridge) stations place
+abbrev pub HasNoRoom : Domain → List ℕ → ℕ → ℕ → List ℕ → ℕ → Type 0
+HasNoRoom d left cost bridge stations place = IsFirstWithout d.links (has_room left cost) (Bridge bridge) stations place
 
 -- a branch may have as many nodes as stand on a way: so it is in the profile, and of large plants
 abbrev pub MayBeWays : Limits → Type 0
@@ -56,23 +58,28 @@ MayBeWays limits = most_links < nodes_within limits
 abbrev pub hops_on_ways : Domain → ℕ → List (List ℕ) → ℕ
 hops_on_ways d bridge ways = length (tree_of d (map (names_along d bridge) ways))
 
--- a stream between a bridge and stations: where there are ways with room whose tree has no more hops than may be, it goes by the first, and
--- what becomes of it is as above; one that is offered in each cycle is placed then. Where their tree has more it isn't, for its hops. Where
--- there is no way with room to some station it isn't, for the first such; and one of the two is the case. So it is never refused for its
--- name, its octets, its cycles or its branches, for its number among the streams, or, where it is offered in each cycle, for a link that
--- lacks room; and in the profile, where a tree may have as many hops as there are links, not for its hops
+-- a stream between a bridge and stations, by what links have left for it: where there are ways with room whose tree has no more hops than may
+-- be, it goes by the first, and what becomes of it is as above; one whose phase is given, or that is offered in each cycle, is placed then.
+-- Where their tree has more it isn't, for its hops. Where there is no way with room to some station it isn't, for the first such; and one of
+-- the two is the case. So it is never refused for its name, its octets, its cycles or its branches, for its number among the streams, or,
+-- where its phase isn't chosen, for a link that lacks room; and in the profile, where a tree may have as many hops as there are links, not for
+-- its hops
 pub record IsPlacedBetween (d : Domain) (rows : List Row) (name : List ℕ) (octets : ℕ) (turns : Turns) (bridge : ℕ) (stations : List ℕ)
     (become : PlacedOr) : Type 0 where
-  pub placed : (ways : List (List ℕ)) → HaveRoom d rows (every_in turns) (cost_of octets) bridge stations ways →
+  pub left : List ℕ
+  pub are_left : AreLeft d rows turns (cost_of octets) bridge left
+  pub placed : (ways : List (List ℕ)) → HaveRoom d left (cost_of octets) bridge stations ways →
       hops_on_ways d bridge ways ≤ hops_within d.limits → IsPlacedAlong d rows name octets turns (map (names_along d bridge) ways) become
-  pub each_cycle : every_in turns ≡ 1 → (ways : List (List ℕ)) → HaveRoom d rows (every_in turns) (cost_of octets) bridge stations ways →
+  pub given : (every phase : ℕ) → turns ≡ Given every phase → (ways : List (List ℕ)) → HaveRoom d left (cost_of octets) bridge stations ways →
+      hops_on_ways d bridge ways ≤ hops_within d.limits → become ≡ Placed (asked_with name octets every phase (map (names_along d bridge) ways))
+  pub each_cycle : every_in turns ≡ 1 → (ways : List (List ℕ)) → HaveRoom d left (cost_of octets) bridge stations ways →
       hops_on_ways d bridge ways ≤ hops_within d.limits → become ≡ Placed (asked_with name octets 1 0 (map (names_along d bridge) ways))
-  pub wide : (ways : List (List ℕ)) → HaveRoom d rows (every_in turns) (cost_of octets) bridge stations ways →
+  pub wide : (ways : List (List ℕ)) → HaveRoom d left (cost_of octets) bridge stations ways →
       hops_within d.limits < hops_on_ways d bridge ways → become ≡ Unplaced (fault.Refused refused.TooManyHops)
-  pub unplaced : (place : ℕ) → HasNoRoom d rows (every_in turns) (cost_of octets) bridge stations place →
-      (found : PlanFault) × (become ≡ Unplaced found) × IsFull d rows (every_in turns) (cost_of octets) bridge stations found
-  pub either : ((ways : List (List ℕ)) × HaveRoom d rows (every_in turns) (cost_of octets) bridge stations ways)
-      ⊎ ((place : ℕ) × HasNoRoom d rows (every_in turns) (cost_of octets) bridge stations place)
+  pub unplaced : (place : ℕ) → HasNoRoom d left (cost_of octets) bridge stations place →
+      (found : PlanFault) × (become ≡ Unplaced found) × IsFull d left (cost_of octets) bridge stations found
+  pub either : ((ways : List (List ℕ)) × HaveRoom d left (cost_of octets) bridge stations ways)
+      ⊎ ((place : ℕ) × HasNoRoom d left (cost_of octets) bridge stations place)
 
 abbrev pub IsPlacedOnWay : Domain → List Row → List ℕ → ℕ → Turns → SettledWay → PlacedOr → Type 0
 IsPlacedOnWay d rows name octets turns (Along paths) become = IsPlacedAlong d rows name octets turns paths become

@@ -6,13 +6,19 @@ use Rattle.cqf_model.specs.Domain.{Domain}
 use Rattle.cqf_sketch.specs.Ways.{IsWay}
 use Rattle.cqf_program_placing.specs.declared.routes.Unrouted.{Unrouted}
 use Rattle.cqf_program_placing.specs.declared.routes.Unrouted.TheVariants as unrouted
-use Rattle.cqf_program_placing.specs.Placing.{IsRouted}
+use Rattle.cqf_program_placing.specs.declared.turns.Turns.{Turns}
+use Rattle.cqf_program_placing.specs.Placing.{IsFull, IsRouted}
 use Rattle.cqf_program_placing.specs.Settled.{SettledWay}
 
 -- a stream beside these rows has none for this fault
-abbrev pub IsUnrouted : Domain → List Row → ℕ → ℕ → SettledWay → Unrouted → Type 0
-IsUnrouted d rows every cost way (unrouted.Fault found) = IsRouted d rows every cost way (Err found)
-IsUnrouted d rows every cost way unrouted.Memory = Unit {0}
+abbrev pub IsUnrouted : Domain → List Row → Turns → ℕ → SettledWay → Unrouted → Type 0
+IsUnrouted d rows turns cost way (unrouted.Fault found) = IsRouted d rows turns cost way (Err found)
+IsUnrouted d rows turns cost way unrouted.Memory = Unit {0}
+
+-- there is no room for it, by what links have left
+abbrev pub IsFullFor : Domain → List ℕ → ℕ → ℕ → List ℕ → Unrouted → Type 0
+IsFullFor d left cost bridge stations (unrouted.Fault found) = IsFull d left cost bridge stations found
+IsFullFor d left cost bridge stations unrouted.Memory = Unit {0}
 
 -- a station is the domain's, and a way leads to it from a bridge
 pub record IsReached (d : Domain) (bridge station : ℕ) : Type 0 where

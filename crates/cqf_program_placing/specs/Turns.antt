@@ -1,6 +1,6 @@
 -- In which cycles a stream is offered on a cycle time, and how full links are in these (profile).
-use Rattle.std.specs.Prelude.{ℕ, ◌≡◌, ◌+◌, ◌-◌, ◌*◌, ◌/◌, ◌%◌, ◌<◌, ◌≤◌, ◌==◌, ◌&&◌, ◌⊎◌, ⊤, Bool, true, false, Contains, List, [], ◌∷◌, Option, Some, None, fold}
-use Rattle.std.specs.Prelude.{if◌then◌else◌, length, max, nat_le, nat_lt}
+use Rattle.std.specs.Prelude.{ℕ, ◌≡◌, ◌+◌, ◌-◌, ◌*◌, ◌/◌, ◌%◌, ◌<◌, ◌≤◌, ◌==◌, ◌&&◌, ◌||◌, ⊤, Bool, true, false, Contains, List, [], ◌∷◌, Option, Some, None, fold}
+use Rattle.std.specs.Prelude.{if◌then◌else◌, length, max, nat_le, nat_lt, not}
 use Rattle.std.specs.Option.{option_map_or}
 use Rattle.cqf_lists.specs.Lists.{each_below}
 use Rattle.cqf_model.specs.declared.history.Refused.{Refused}
@@ -89,41 +89,47 @@ lefts_on d rows every = each_below (λ l. left_emptiest d rows every l ∷ []) (
 abbrev pub share_at : Domain → List Row → ℕ → Pace → Hop → BudgetShare
 share_at d rows cost pace hop = record { held = budget d hop.link - left_in_turns d rows pace hop + cost; budget = budget d hop.link }
 
--- one share is no greater than another, or less
-abbrev pub IsNoFuller : BudgetShare → BudgetShare → Type 0
-IsNoFuller share other = share.held * other.budget ≤ other.held * share.budget
+-- whether one share is less than another
+abbrev pub is_less_full : BudgetShare → BudgetShare → Bool
+is_less_full share other = nat_lt (share.held * other.budget) (other.held * share.budget)
 
-abbrev pub IsLessFull : BudgetShare → BudgetShare → Type 0
-IsLessFull share other = share.held * other.budget < other.held * share.budget
+-- a share among others that stand from the greatest down: behind those that are no less
+abbrev pub put_down : BudgetShare → List BudgetShare → List BudgetShare
+put_down share [] = share ∷ []
+put_down share (first ∷ rest) = if is_less_full first share then share ∷ (first ∷ rest) else first ∷ put_down share rest
 
--- of the hops of a tree, each one's link is no fuller in some phase than some one's in another: so the fullest isn't
-abbrev pub IsNoWorse : (ℕ → Hop → BudgetShare) → List Hop → ℕ → ℕ → Type 0
-IsNoWorse shares tree phase other =
-    (hop : Hop) → Contains tree hop → (there : Hop) × Contains tree there × IsNoFuller (shares phase hop) (shares other there)
+-- the loads of a tree: how full its hops' links are, from the greatest down
+abbrev pub loads_down : (Hop → BudgetShare) → List Hop → List BudgetShare
+loads_down shares tree = fold (λ loads hop. put_down (shares hop) loads) [] tree
 
--- and each is less full than some one: so the fullest is
-abbrev pub IsBetter : (ℕ → Hop → BudgetShare) → List Hop → ℕ → ℕ → Type 0
-IsBetter shares tree phase other =
-    (there : Hop) × Contains tree there × ((hop : Hop) → Contains tree hop → IsLessFull (shares phase hop) (shares other there))
+-- loads are less than others where the first two that differ are, and where they are fewer if none do
+abbrev pub are_less : List BudgetShare → List BudgetShare → Bool
+are_less loads [] = false
+are_less [] (other ∷ others) = true
+are_less (share ∷ loads) (other ∷ others) = is_less_full share other || (not (is_less_full other share) && are_less loads others)
 
--- a phase of so many is the first in which the fullest link is least full
-pub record IsLeastFull (shares : ℕ → Hop → BudgetShare) (tree : List Hop) (every phase : ℕ) : Type 0 where
+-- a phase of so many is the first of those whose loads are the least
+pub record IsLeastLoaded (loads : ℕ → List BudgetShare) (every phase : ℕ) : Type 0 where
   pub within : phase < every
-  pub least : (other : ℕ) → other < every → IsNoWorse shares tree phase other
-  pub first : (other : ℕ) → other < phase → IsBetter shares tree phase other
+  pub least : (other : ℕ) → other < every → are_less (loads other) (loads phase) ≡ false
+  pub first : (other : ℕ) → other < phase → are_less (loads phase) (loads other) ≡ true
 
 -- with a stream beside some rows
 abbrev pub shares_with : Domain → List Row → ℕ → ℕ → ℕ → Hop → BudgetShare
 shares_with d rows cost every phase hop = share_at d rows cost (pace_by every phase) hop
 
--- the phase of a stream along the branches of a tree: the one that is given, or the first in which the fullest link of the tree is least full
+-- the loads of a tree in a phase
+abbrev pub loads_with : Domain → List Row → ℕ → ℕ → List Hop → ℕ → List BudgetShare
+loads_with d rows cost every tree phase = loads_down (shares_with d rows cost every phase) tree
+
+-- the phase of a stream along the branches of a tree: the one that is given, or the first of those in which the tree's loads are the least
 abbrev pub IsPhaseOnTree : Domain → List Row → ℕ → List Branch → Turns → ℕ → Type 0
 IsPhaseOnTree d rows cost paths (Given every phase) first = first ≡ phase
-IsPhaseOnTree d rows cost paths (Chosen every) first = IsLeastFull (shares_with d rows cost every) (tree_of d paths) every first
+IsPhaseOnTree d rows cost paths (Chosen every) first = IsLeastLoaded (loads_with d rows cost every (tree_of d paths)) every first
 
 -- along any branches: for those that make no tree, and so are refused, nothing is chosen
 abbrev pub IsChosenBy : Domain → List Row → ℕ → List Branch → ℕ → Option Refused → ℕ → Type 0
-IsChosenBy d rows cost paths every None first = IsLeastFull (shares_with d rows cost every) (tree_of d paths) every first
+IsChosenBy d rows cost paths every None first = IsLeastLoaded (loads_with d rows cost every (tree_of d paths)) every first
 IsChosenBy d rows cost paths every (Some refusal) first = first ≡ 0
 
 abbrev pub IsPhaseAlong : Domain → List Row → ℕ → List Branch → Turns → ℕ → Type 0
@@ -146,9 +152,3 @@ AreGoodTurns (Chosen every) = IsGoodEvery every
 abbrev pub CostsSome : Turns → ℕ → Type 0
 CostsSome (Given every phase) cost = ⊤
 CostsSome (Chosen every) cost = 1 ≤ cost
-
--- the greatest share of the hops of a tree; of no hop nothing is held
-pub record IsFullest (shares : Hop → BudgetShare) (tree : List Hop) (fullest : BudgetShare) : Type 0 where
-  pub each : (hop : Hop) → Contains tree hop → IsNoFuller (shares hop) fullest
-  pub some : 0 < fullest.held + fullest.budget
-  pub of_hop : (fullest.held ≡ 0) ⊎ ((there : Hop) × Contains tree there × (fullest ≡ shares there))

@@ -3,11 +3,11 @@
 //! - [`settle`] looks the streams of a sketch over for what no cycle time changes, and gives them as [`Settled`], with each node by
 //!   number and deadlines from the edge bridge; or [`Unsettled`], the first fault.
 //! - [`place`] admits settled streams on a cycle time in their order, each with what its traffic needs of a cycle, those that have
-//!   no branches by the first ways with room, and those of talkers in step in the first phase in which the fullest of their links is least
-//!   full: a [`Placing`], with the [`PlacingOutcome`] of each stream.
+//!   no branches by the first ways with room, and those of talkers in step in the first of the phases in which their links, from the fullest
+//!   down, are least full: a [`Placing`], with the [`PlacingOutcome`] of each stream.
 //! - A [`PlanFault`] is why a stream isn't settled, or isn't placed.
 //!
-//! `specs/` has both as definitions (`Settled`, `Placing`), in which cycles streams are offered (`Turns`), the texts of faults (`Faults`), and
+//! `specs/` has both as definitions (`Settled`, `Placing`), in which cycles streams are offered (`Turns`), behind how many links their frames leave bridges (`Hops`), the texts of faults (`Faults`), and
 //! the law that streams are placed where there is room (`Room`), which [`placed_where_there_is_room`] proves.
 //!
 //! ```text
@@ -24,6 +24,7 @@ mod branches;
 mod deadlines;
 mod entrances;
 mod faults;
+mod hops;
 mod laws;
 mod outcomes;
 mod phases;

@@ -1,29 +1,34 @@
-//! In which phase a stream makes the fullest of its links least full.
-ghost use Rattle.std.specs.Prelude.{◌≡◌, ◌*◌, ◌<◌, ◌≤◌, All, length, nat_lt};
+//! In which phase a stream makes its links least full.
+ghost use Rattle.std.specs.Prelude.{◌≡◌, ◌+◌, ◌<◌, ◌≤◌, All, insert, length};
+ghost use Rattle.arrayvec.specs.ArrayVec.{array_vec_len};
 ghost use Rattle.cqf_admission.specs.Branches.{branches_of};
 ghost use Rattle.cqf_admission.specs.Turns.{IsGoodPace};
 ghost use Rattle.cqf_model.specs.declared.topology.Hop.{Hop as AHop};
 ghost use Rattle.cqf_model.specs.History.{held_in, seals};
 ghost use Rattle.cqf_program_placing.specs.Known.{IsBranched};
-ghost use Rattle.cqf_program_placing.specs.Turns.{AreGoodTurns, CostsSome, IsFullest, IsGoodEvery, IsLeastFull, IsPhaseAlong, share_at, shares_with};
+ghost use Rattle.cqf_program_placing.specs.Turns.{AreGoodTurns, CostsSome, IsGoodEvery, IsLeastLoaded, IsPhaseAlong, are_less, is_less_full, loads_down, loads_with, put_down, share_at};
 
 use crate::branched::Branched;
 use crate::rooms::pace_by;
 use crate::turns::Turns;
+use arrayvec::ArrayVec;
 use cqf_admission::{Admission, budget_on};
 use cqf_model::{Hop, Pace};
 use cqf_topology::Domain;
 
 /// How much of a link's budget is held, in octets a cycle.
-#[derive(Clone, Copy, Debug)]
+#[derive(Clone, Copy, Debug, Default)]
 pub(crate) struct BudgetShare {
     held: u64,
     budget: u32,
 }
 
+/// The shares of a tree's links, from the greatest down.
+type Loads = ArrayVec<BudgetShare, 200>;
+
 /// Whether a share is less than another.
 fn is_less_full(share: BudgetShare, other: BudgetShare) -> bool
-    ensures { result ≡ nat_lt (share.held * other.budget) (other.held * share.budget) }
+    ensures { result ≡ is_less_full share other }
 {
     let ours = u128::from(share.held) * u128::from(other.budget);
     let theirs = u128::from(other.held) * u128::from(share.budget);
@@ -45,53 +50,86 @@ fn share_at(domain: &Domain, admission: &Admission, cost: u32, pace: Pace, hop: 
     }
 }
 
-/// The share of the fullest link of a tree's hops.
-fn fullest(
-    domain: &Domain,
-    admission: &Admission,
-    cost: u32,
-    pace: Pace,
-    tree: &[Hop],
-) -> BudgetShare
+/// The place of a share among others that stand from the greatest down: behind those that are no less.
+fn place_of(share: BudgetShare, loads: &[BudgetShare]) -> usize
+    ensures inside { result ≤ length loads.now }
+    ensures value { insert loads.now result share ≡ put_down share loads.now }
+{
+    for place in 0..loads.len() {
+        if is_less_full(loads[place], share) {
+            return place;
+        }
+    }
+    loads.len()
+}
+
+/// Puts a share among others that stand from the greatest down.
+fn put_down(share: BudgetShare, loads: &mut Loads)
+    requires { array_vec_len loads.old < 200 }
+    ensures items { loads.new.items ≡ put_down share loads.old.items }
+    ensures len { array_vec_len loads.new ≡ array_vec_len loads.old + 1 }
+{
+    let place = place_of(share, loads.as_slice());
+    loads.insert(place, share);
+}
+
+/// The loads of a tree in the cycles of a pace, with what a stream costs: how full its hops' links are, from the greatest down.
+fn loads_at(domain: &Domain, admission: &Admission, cost: u32, pace: Pace, tree: &[Hop]) -> Loads
     requires domain { admission.now.domain ≡ domain.now }
     requires inside { All (λ (hop : AHop). hop.link < length domain.now.links) tree.now }
     requires good { IsGoodPace pace }
-    requires some { 1 ≤ cost }
+    requires few { length tree.now ≤ 200 }
     ensures { let d = domain.now in let entries = admission.now.entries in
-        IsFullest (share_at d (held_in d entries (seals entries)) cost pace) tree.now result }
+        result.items ≡ loads_down (share_at d (held_in d entries (seals entries)) cost pace) tree.now }
 {
-    let mut most = BudgetShare { held: 0, budget: 1 };
+    let mut loads = Loads::new();
     for hop in tree {
-        let share = share_at(domain, admission, cost, pace, hop);
-        if is_less_full(most, share) {
-            most = share;
-        }
+        put_down(share_at(domain, admission, cost, pace, hop), &mut loads);
     }
-    most
+    loads
 }
 
-/// The first phase of so many in which the fullest link of a tree's hops is least full.
-fn least_full(domain: &Domain, admission: &Admission, cost: u32, every: u8, tree: &[Hop]) -> u8
+/// Whether loads are less than others: the first two that differ are, or they are fewer.
+fn are_less(loads: &[BudgetShare], others: &[BudgetShare]) -> bool
+    ensures { result ≡ are_less loads.now others.now }
+{
+    for place in 0..others.len() {
+        if place == loads.len() {
+            return true;
+        }
+        if is_less_full(loads[place], others[place]) {
+            return true;
+        }
+        if is_less_full(others[place], loads[place]) {
+            return false;
+        }
+    }
+    false
+}
+
+/// The first phase of so many in which the loads of a tree are the least.
+fn least_loaded(domain: &Domain, admission: &Admission, cost: u32, every: u8, tree: &[Hop]) -> u8
     requires domain { admission.now.domain ≡ domain.now }
     requires inside { All (λ (hop : AHop). hop.link < length domain.now.links) tree.now }
     requires good { IsGoodEvery every }
     requires some { 1 ≤ cost }
+    requires few { length tree.now ≤ 200 }
     ensures { let d = domain.now in let entries = admission.now.entries in
-        IsLeastFull (shares_with d (held_in d entries (seals entries)) cost every) tree.now every result }
+        IsLeastLoaded (loads_with d (held_in d entries (seals entries)) cost every tree.now) every result }
 {
     let mut first = 0;
-    let mut least = fullest(domain, admission, cost, pace_by(every, 0), tree);
+    let mut least = loads_at(domain, admission, cost, pace_by(every, 0), tree);
     for phase in 1..every {
-        let share = fullest(domain, admission, cost, pace_by(every, phase), tree);
-        if is_less_full(share, least) {
+        let loads = loads_at(domain, admission, cost, pace_by(every, phase), tree);
+        if are_less(loads.as_slice(), least.as_slice()) {
             first = phase;
-            least = share;
+            least = loads;
         }
     }
     first
 }
 
-/// The phase of a stream along some branches: the one that is given, or else the first in which the fullest link of their tree is least full
+/// The phase of a stream along some branches: the one that is given, or else the first in which the loads of their tree are the least
 /// (profile); of no tree it is 0 then.
 pub(crate) fn phase_along(
     domain: &Domain,
@@ -110,7 +148,7 @@ pub(crate) fn phase_along(
     match turns {
         Turns::Given { phase, .. } => phase,
         Turns::Chosen { every } => match &branched.tree {
-            Some(tree) => least_full(domain, admission, cost, every, tree.as_slice()),
+            Some(tree) => least_loaded(domain, admission, cost, every, tree.as_slice()),
             None => 0,
         },
     }

@@ -9,17 +9,18 @@ ghost use Rattle.cqf_model.specs.History.{held_in, seals};
 ghost use Rattle.cqf_model.specs.Limits.{most_calls, most_reserved, most_streams};
 ghost use Rattle.cqf_sketch.specs.SketchDomain.{IsOpenCycle, domain_at};
 ghost use Rattle.cqf_program_placing.specs.Known.{AreKnown};
-ghost use Rattle.cqf_program_placing.specs.Placing.{ArePlaced, IsAskedFor, IsPlacing, IsRouted, IsRoutedAndAnswered, outcome_value};
-ghost use Rattle.cqf_program_placing.specs.Routes.{IsUnrouted};
-ghost use Rattle.cqf_program_placing.specs.Settled.{IsOnWay, IsPlaceable, open_domain, settled_value, way_value};
-ghost use Rattle.cqf_program_placing.specs.Turns.{AreGoodTurns, CostsSome, IsGoodEvery};
+ghost use Rattle.cqf_program_placing.specs.Placing.{AreFound, ArePlaced, IsAskedFor, IsPlacing, IsRouted, IsRoutedAndAnswered, outcome_value};
+ghost use Rattle.cqf_program_placing.specs.Routes.{AreReached, IsFullFor, IsUnrouted};
+ghost use Rattle.cqf_program_placing.specs.Settled.{Between, IsOnWay, IsPlaceable, open_domain, settled_value, way_value};
+ghost use Rattle.cqf_program_placing.specs.Turns.{AreGoodTurns, CostsSome, IsGoodEvery, lefts_on};
 
 use crate::asking::ask;
 use crate::branched::branched_by;
 use crate::branches::copied_branches;
+use crate::hops::PacedRoom;
 use crate::phases::phase_along;
 use crate::reserving::reservation;
-use crate::rooms::Rooms;
+use crate::rooms::{Rooms, pace_by};
 use crate::routes::{Unrouted, branches_between};
 use crate::turns::{Turns, turns_on};
 use crate::{PlacingOutcome, Settled, StreamWay};
@@ -52,8 +53,122 @@ impl Model for Placing {
     ghost invariant = { λ p. seals p.admission.entries ≡ 0 };
 }
 
-/// The branches of a stream of this cost that is offered in one of so many cycles: those that are given, or those of the first ways with
-/// room beside those that are placed.
+/// The branches of the first ways from a bridge to stations on which each link has room for a stream of this cost in the cycles that are
+/// given, beside those that are placed.
+///
+/// # Errors
+/// With the fault of the first station to which no way has room; and with `Memory` where a growth is refused.
+fn given_branches(
+    alloc: Global,
+    domain: &Domain,
+    links: &[Link],
+    admission: &Admission,
+    bridge: u16,
+    stations: &[u16],
+    every: u8,
+    phase: u8,
+    cost: u32,
+) -> Result<Vec<Vec<String>>, Unrouted>
+    requires domain { admission.now.domain ≡ domain.now }
+    requires links { links.now ≡ domain.now.links }
+    requires inside { bridge < length domain.now.bridges }
+    requires reached { AreReached domain.now bridge stations.now }
+    requires good { AreGoodTurns (Turns.Given every phase) }
+    ensures ok { let entries = admission.now.entries in IfOk result (λ paths. IsRouted domain.now (held_in domain.now entries (seals entries))
+        (Turns.Given every phase) cost (Between bridge stations.now) (Ok (branches_of paths.items))) }
+    ensures err { let entries = admission.now.entries in IfErr result (IsUnrouted domain.now (held_in domain.now entries (seals entries))
+        (Turns.Given every phase) cost (Between bridge stations.now)) }
+{
+    let paced = PacedRoom {
+        domain,
+        admission,
+        pace: pace_by(every, phase),
+        cost,
+    };
+    let left = paced.lefts(alloc, bridge)?;
+    let room = Room {
+        links,
+        left: left.as_slice(),
+        cost,
+    };
+    branches_between(alloc, domain, room, bridge, stations)
+}
+
+/// The branches of the first ways from a bridge to stations on which each link has room for a stream of this cost in the emptiest of so many
+/// cycles, beside those that are placed.
+///
+/// # Errors
+/// As [`given_branches`].
+fn chosen_branches(
+    alloc: Global,
+    domain: &Domain,
+    links: &[Link],
+    admission: &Admission,
+    rooms: &mut Rooms,
+    bridge: u16,
+    stations: &[u16],
+    every: u8,
+    cost: u32,
+) -> Result<Vec<Vec<String>>, Unrouted>
+    requires domain { admission.now.domain ≡ domain.now }
+    requires links { links.now ≡ domain.now.links }
+    requires reached { AreReached domain.now bridge stations.now }
+    requires good { IsGoodEvery every }
+    requires known { AreKnown domain.now (held_in domain.now admission.now.entries (seals admission.now.entries)) rooms.old }
+    ensures known { AreKnown domain.now (held_in domain.now admission.now.entries (seals admission.now.entries)) rooms.new }
+    ensures ok { let d = domain.now in let entries = admission.now.entries in IfOk result (λ paths.
+        AreFound d (lefts_on d (held_in d entries (seals entries)) every) cost bridge stations.now (branches_of paths.items)) }
+    ensures err { let d = domain.now in let entries = admission.now.entries in IfErr result
+        (IsFullFor d (lefts_on d (held_in d entries (seals entries)) every) cost bridge stations.now) }
+{
+    let place = rooms.find(alloc, domain, admission, every)?;
+    let room = Room {
+        links,
+        left: rooms.lefts_at(place, every),
+        cost,
+    };
+    branches_between(alloc, domain, room, bridge, stations)
+}
+
+/// The branches of the first ways with room from a bridge to stations for a stream of this cost in these cycles, beside those that are
+/// placed.
+///
+/// # Errors
+/// As [`given_branches`].
+fn found_branches(
+    alloc: Global,
+    domain: &Domain,
+    links: &[Link],
+    admission: &Admission,
+    rooms: &mut Rooms,
+    bridge: u16,
+    stations: &[u16],
+    turns: Turns,
+    cost: u32,
+) -> Result<Vec<Vec<String>>, Unrouted>
+    requires domain { admission.now.domain ≡ domain.now }
+    requires links { links.now ≡ domain.now.links }
+    requires on_way { IsOnWay domain.now (Between bridge stations.now) }
+    requires good { AreGoodTurns turns }
+    requires known { AreKnown domain.now (held_in domain.now admission.now.entries (seals admission.now.entries)) rooms.old }
+    ensures known { AreKnown domain.now (held_in domain.now admission.now.entries (seals admission.now.entries)) rooms.new }
+    ensures ok { let entries = admission.now.entries in IfOk result (λ paths.
+        IsRouted domain.now (held_in domain.now entries (seals entries)) turns cost (Between bridge stations.now) (Ok (branches_of paths.items))) }
+    ensures err { let entries = admission.now.entries in IfErr result
+        (IsUnrouted domain.now (held_in domain.now entries (seals entries)) turns cost (Between bridge stations.now)) }
+{
+    match turns {
+        Turns::Given { every, phase } => given_branches(
+            alloc, domain, links, admission, bridge, stations, every, phase, cost,
+        ),
+        Turns::Chosen { every } => chosen_branches(
+            alloc, domain, links, admission, rooms, bridge, stations, every, cost,
+        ),
+    }
+}
+
+/// The branches of a stream of this cost in these cycles: those that are given, or those of the first ways with room beside those that are
+/// placed.
 ///
 /// # Errors
 /// With the fault of the first listener to which no way has room; and with `Memory` where a growth is refused.
@@ -64,34 +179,36 @@ fn branches_by(
     admission: &Admission,
     rooms: &mut Rooms,
     way: &StreamWay,
-    every: u8,
+    turns: Turns,
     cost: u32,
 ) -> Result<Vec<Vec<String>>, Unrouted>
     requires domain { admission.now.domain ≡ domain.now }
     requires links { links.now ≡ domain.now.links }
     requires on_way { IsOnWay domain.now (way_value way.now) }
-    requires good { IsGoodEvery every }
+    requires good { AreGoodTurns turns }
     requires known { AreKnown domain.now (held_in domain.now admission.now.entries (seals admission.now.entries)) rooms.old }
     ensures known { AreKnown domain.now (held_in domain.now admission.now.entries (seals admission.now.entries)) rooms.new }
     ensures ok { let entries = admission.now.entries in IfOk result (λ paths.
-        IsRouted domain.now (held_in domain.now entries (seals entries)) every cost (way_value way.now) (Ok (branches_of paths.items))) }
+        IsRouted domain.now (held_in domain.now entries (seals entries)) turns cost (way_value way.now) (Ok (branches_of paths.items))) }
     ensures err { let entries = admission.now.entries in IfErr result
-        (IsUnrouted domain.now (held_in domain.now entries (seals entries)) every cost (way_value way.now)) }
+        (IsUnrouted domain.now (held_in domain.now entries (seals entries)) turns cost (way_value way.now)) }
 {
     match way {
         StreamWay::Along(paths) => {
             let given = copied_branches(alloc, paths.as_slice())?;
             Ok(given)
         }
-        StreamWay::Between(bridge, stations) => {
-            let place = rooms.find(alloc, domain, admission, every)?;
-            let room = Room {
-                links,
-                left: rooms.lefts_at(place, every),
-                cost,
-            };
-            branches_between(alloc, domain, room, *bridge, stations.as_slice())
-        }
+        StreamWay::Between(bridge, stations) => found_branches(
+            alloc,
+            domain,
+            links,
+            admission,
+            rooms,
+            *bridge,
+            stations.as_slice(),
+            turns,
+            cost,
+        ),
     }
 }
 
@@ -168,7 +285,7 @@ fn place_with(
         admission,
         rooms,
         &stream.way,
-        turns.every(),
+        turns,
         cost(Octets(octets)).0,
     ) {
         Ok(paths) => paths,
@@ -249,9 +366,10 @@ fn place_all(
 /// Places settled streams of a sketch on a cycle time that is open, in nanoseconds, one after the other (profile).
 ///
 /// A stream takes what its traffic needs of a cycle, or the octets that it asks for, where these are enough. One that has no branches
-/// takes the first ways to its listeners on which each link has room in the emptiest of as many cycles as it is offered in one of. Where its
-/// talker is in step, it takes the first phase in which the fullest of its links is least full. It is then asked for as any other. One
-/// that isn't placed holds nothing.
+/// takes the first ways to its listeners on which each link has room in the cycles in which its frames go by it, where its cycles are given.
+/// Where its talker is in step, each link has to have room in the emptiest of as many cycles as it is offered in one of, and it takes the first
+/// of the phases in which its links, from the fullest down, are least full. It is then asked for as any other. One that isn't placed holds
+/// nothing.
 ///
 /// # Errors
 /// `Memory` where a growth is refused.

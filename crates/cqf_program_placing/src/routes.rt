@@ -1,12 +1,9 @@
 //! The first ways with room from a bridge to some stations, as branches.
-ghost use Rattle.std.specs.Prelude.{ℕ, ◌≡◌, ◌<◌, List, IfErr, IfOk, length, slice_index};
+ghost use Rattle.std.specs.Prelude.{◌≡◌, ◌<◌, IfErr, IfOk, length, slice_index};
 ghost use Rattle.cqf_admission.specs.Branches.{branches_of};
-ghost use Rattle.cqf_model.specs.declared.topology.Row.{Row};
 ghost use Rattle.cqf_model.specs.Domain.{bridge_of};
 ghost use Rattle.cqf_program_placing.specs.Placing.{AreFound, IsFullTo};
-ghost use Rattle.cqf_program_placing.specs.Routes.{AreReached, IsReached, IsUnrouted};
-ghost use Rattle.cqf_program_placing.specs.Settled.{Between};
-ghost use Rattle.cqf_program_placing.specs.Turns.{lefts_on};
+ghost use Rattle.cqf_program_placing.specs.Routes.{AreReached, IsFullFor, IsReached};
 ghost use Rattle.cqf_program_plans.specs.EndNames.{name_of_end};
 ghost use Rattle.cqf_topology.specs.NodeNames.{name_of_bridge, name_of_node};
 ghost use Rattle.cqf_sketch.specs.Ways.{NoWay, has_room};
@@ -77,8 +74,7 @@ fn full_to(domain: &Domain, room: Room, bridge: u16, station: u16) -> PlanFault
     requires left { length room.left.now ≡ length domain.now.links }
     requires reached { IsReached domain.now bridge station }
     requires none { NoWay domain.now.links (has_room room.left.now room.cost) (Node.Bridge bridge) (Node.Station station) }
-    ensures { (rows : List Row) (every : ℕ) → room.entry.left.now ≡ lefts_on domain.now rows every →
-        IsFullTo domain.now rows every room.entry.cost bridge station result }
+    ensures { IsFullTo domain.now room.entry.left.now room.entry.cost bridge station result }
 {
     full_ways_have_a_short_link();
     domain.know();
@@ -111,10 +107,8 @@ pub(crate) fn branches_between(
     requires links { room.links.now ≡ domain.now.links }
     requires left { length room.left.now ≡ length domain.now.links }
     requires reached { AreReached domain.now bridge stations.now }
-    ensures ok { IfOk result (λ paths. (rows : List Row) (every : ℕ) → room.entry.left.now ≡ lefts_on domain.now rows every →
-        AreFound domain.now rows every room.entry.cost bridge stations.now (branches_of paths.items)) }
-    ensures err { IfErr result (λ fault. (rows : List Row) (every : ℕ) → room.entry.left.now ≡ lefts_on domain.now rows every →
-        IsUnrouted domain.now rows every room.entry.cost (Between bridge stations.now) fault) }
+    ensures ok { IfOk result (λ paths. AreFound domain.now room.entry.left.now room.entry.cost bridge stations.now (branches_of paths.items)) }
+    ensures err { IfErr result (IsFullFor domain.now room.entry.left.now room.entry.cost bridge stations.now) }
 {
     domain.know();
     match first_ways(alloc, room, bridge, stations) {

@@ -1,6 +1,6 @@
 -- Links that have a guard time of their own.
 use Rattle.std.proofs.Common.{◌≡◌, ◌∙◌, ◌+◌, ◌<◌, ◌++◌, ◌||◌, ℕ, Bool, true, false, List, [], Option, Some, None, ap, ap₂, arith, codes, get_or, if◌then◌else◌, inl, inr}
-use Rattle.std.proofs.Common.{length, slice_get, subst, sym, take}
+use Rattle.std.proofs.Common.{length, refl, slice_get, subst, sym, take}
 use Rattle.std.specs.List.{list_any}
 use Rattle.std.specs.Option.{option_map_or}
 use Rattle.std.proofs.lemmas.List.Folds.{list_any_more}

@@ -170,8 +170,8 @@ plain_spans n octets pace depth none =
 abbrev limited : ℕ → ℕ → ℕ → StreamEntry
 limited value time most = record { ipv = value; interval = time; octet_max = Some most }
 
-abbrev words_by : Bool → ℕ → ℕ → ℕ → List ℕ
-words_by shut value time most = if shut then closed_words time else open_words (limited value time most)
+abbrev shut_words : Bool → ℕ → ℕ → ℕ → List ℕ
+shut_words shut value time most = if shut then closed_words time else open_words (limited value time most)
 
 abbrev parts_by : Bool → ℕ → ℕ → ℕ → List (List ℕ)
 parts_by shut value time most =
@@ -187,7 +187,7 @@ record IsReadable (value time most : ℕ) : Type 0 where
 
 -- the words of one entry, before those of others
 one_parted : (shut : Bool) (value time most : ℕ) (rest : List ℕ) (more : List (List ℕ)) → IsReadable value time most → parted rest ≡ [] ∷ more →
-    parted (words_by shut value time most ++ rest) ≡ [] ∷ (parts_by shut value time most ++ more)
+    parted (shut_words shut value time most ++ rest) ≡ [] ∷ (parts_by shut value time most ++ more)
 one_parted true value time most rest more good e =
     let number : List ℕ = decimal time in
     let ones : List (List ℕ) = codes "-1" ∷ codes "-1" ∷ more in
@@ -255,7 +255,7 @@ one_read value time most good =
     record {
       parts = parts_by shut value time most;
       parting = λ rest more e.
-          ap (λ (text : List ℕ). parted (text ++ rest)) (append-nil (words_by shut value time most)) ∙ one_parted shut value time most rest more good e;
+          ap (λ (text : List ℕ). parted (text ++ rest)) (append-nil (shut_words shut value time most)) ∙ one_parted shut value time most rest more good e;
       reading = λ octets more others e.
           one_again shut octets value time most more refl good
           ∙ ap (before_others (Some (limited value time most))) e;

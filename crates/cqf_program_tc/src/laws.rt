@@ -40,7 +40,7 @@ pub fn env_has_what_the_script_wants()
 {}
 
 /// From each instant that a script takes for BASE on, the next multiple of what its lists go round in is at most as far as that from it, and
-/// below 2^63, so that the numbers of a shell have it, and those by which it's found (profile).
+/// below 2^63, so that a shell's numbers hold it (profile).
 pub fn instants_fit()
     ensures { InstantsFit }
 {}

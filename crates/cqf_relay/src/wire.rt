@@ -37,8 +37,10 @@ impl Wire {
     /// How long a frame and the gap behind it take.
     pub(crate) fn taken_by(&self, octets: u32) -> u64
         requires { octets < 2 ^ 16 }
-        ensures { result ≡ slot_of octets self.now.octet_time }
+        ensures value { result ≡ slot_of octets self.now.octet_time }
+        ensures ticks { self.now.octet_time < 2 ^ 32 }
     {
-        time_in_ticks(u64::from(octets) + 20, u64::from(self.octet_time))
+        let Wire { octet_time, .. } = *self;
+        time_in_ticks(u64::from(octets) + 20, u64::from(octet_time))
     }
 }

@@ -100,8 +100,8 @@ const OVER_LINE: &[Case] = &[
         &[
             Step::Admit(("X!", 10, WHOLE), Err(Refused::BadName)),
             Step::Admit(("x", 63, WHOLE), Err(Refused::BadOctets)),
-            Step::Admit(("x", 60_001, WHOLE), Err(Refused::BadOctets)),
-            Step::Admit(("x", 60_000, WHOLE), Err(TOO_MUCH)),
+            Step::Admit(("x", 1_000_001, WHOLE), Err(Refused::BadOctets)),
+            Step::Admit(("x", 1_000_000, WHOLE), Err(TOO_MUCH)),
             Step::Admit(("x", 64, &[&["a", "q", "s"]]), Err(Refused::UnknownNode(1))),
             Step::Admit(("x", 64, &[&["a", "c", "s"]]), Err(Refused::BrokenPath(1))),
             Step::Admit(("x", 64, &[&["a", "b"]]), Err(Refused::BrokenPath(1))),

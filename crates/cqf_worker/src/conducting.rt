@@ -227,7 +227,7 @@ fn back(
 /// the pace is asked, while no lock is held. It waits until all threads have ended.
 ///
 /// Refused with the first fault in the order that [`ConductFault`] tells; then the history and the tapes are gone. `Bridge` and
-/// `BookDisagrees` never come, and `ChannelLost` never as pipes are closed.
+/// `BookDisagrees` never come, and `ChannelLost` never comes of a run over no cycles.
 pub fn conduct_tapes<R: Threads + Wait + Sync, P: Pace>(
     rt: &R,
     alloc: Global,

@@ -47,6 +47,7 @@ fn window_at(domain: &Domain, link: u16, cost: u32) -> u64
     requires { link < length domain.now.links }
     ensures { result ≡ window_of domain.now link cost }
 {
+    domain.know();
     let (ends, sync) = (domain.link(link), domain.sync().0);
     let (gap, shortest) = (12 * octet_ticks(ends.rate) / 25, time_of(72, ends.rate));
     let busy = span(u64::from(cost), ends.rate).saturating_sub(gap + shortest);

@@ -1,4 +1,4 @@
-use Rattle.std.proofs.Common.{◌≡◌, ℕ, ◌+◌, ◌*◌, ◌<◌, ap, ◌∙◌, sym, subst, arith, length, get_or, min}
+use Rattle.std.proofs.Common.{◌≡◌, ◌+◌, ◌<◌, ◌∙◌, sym, subst, arith, length, get_or, min}
 use Rattle.std.proofs.lemmas.List.Elements.{All-more}
 use Rattle.cqf_traffic.specs.TrafficText.{IsTrafficText, TrafficText, promise_of}
 use Rattle.cqf_access.specs.Access.{taken_within}

@@ -1,4 +1,4 @@
-use Rattle.cqf_access.proofs.Edge.{frames_are_whole_within}
+use Rattle.cqf_access.proofs.Arrivals.{frames_are_whole_within}
 use Rattle.cqf_access.proofs.Queueing.{access_link_bounds_queueing}
 use Rattle.cqf_access.proofs.laws.access_link_bounds_queueing.Goals as goal
 

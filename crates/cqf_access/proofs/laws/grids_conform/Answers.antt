@@ -1,4 +1,4 @@
-use Rattle.cqf_access.proofs.Edge.{grids_are_kept, grids_conform}
+use Rattle.cqf_access.proofs.Arrivals.{grids_are_kept, grids_conform}
 use Rattle.cqf_access.proofs.laws.grids_conform.Goals as goal
 
 pub returns-clause-conforms : goal.returns-clause-conforms

@@ -4,13 +4,15 @@ use Rattle.cqf_instants_run.proofs.telling.port_list_of.Goals as goal
 
 pub compiled_list-requires-clause-some : goal.compiled_list-requires-clause-some
 compiled_list-requires-clause-some c =
-    (own_guard c.args.domain.now c.args.link c.link.result c.guard-guard.result.0 c.from.result c.cycle_time-cycle_time.ensures.accepted
-    c.link.ensures c.guard-guard.ensures (c.from.ensures ∙ c.guard_by-own.ensures)).0
+    (own_guard c.args.domain.now c.args.link c.link.result c.cycle_time-cycle_time.result.0 c.guard-guard.result.0 c.from.result
+    c.cycle_time-cycle_time.ensures.accepted c.link.ensures c.cycle_time-cycle_time.ensures.value c.guard-guard.ensures
+    (c.from.ensures ∙ c.guard_by-own.ensures)).0
 
 pub compiled_list-requires-clause-within : goal.compiled_list-requires-clause-within
 compiled_list-requires-clause-within c =
-    (own_guard c.args.domain.now c.args.link c.link.result c.guard-guard.result.0 c.from.result c.cycle_time-cycle_time.ensures.accepted
-    c.link.ensures c.guard-guard.ensures (c.from.ensures ∙ c.guard_by-own.ensures)).1
+    (own_guard c.args.domain.now c.args.link c.link.result c.cycle_time-cycle_time.result.0 c.guard-guard.result.0 c.from.result
+    c.cycle_time-cycle_time.ensures.accepted c.link.ensures c.cycle_time-cycle_time.ensures.value c.guard-guard.ensures
+    (c.from.ensures ∙ c.guard_by-own.ensures)).1
 
 pub returns : goal.returns
 returns c =

@@ -9,8 +9,8 @@ use Rattle.cqf_program_placing.specs.Turns.{IsPhaseAlong}
 use Rattle.cqf_program_placing.proofs.Known.{none_chosen}
 use Rattle.cqf_program_placing.proofs.phases.phase_along.Goals as goal
 
-pub least_full-requires-clause-inside : goal.least_full-requires-clause-inside
-least_full-requires-clause-inside c =
+pub least_loaded-requires-clause-inside : goal.least_loaded-requires-clause-inside
+least_loaded-requires-clause-inside c =
     let d = c.args.domain.now in
     let paths = branches_of c.args.branched.now.paths.items in
     let made = subst (MakeTree d paths) c.in-Some.is c.requires.tree in

@@ -1,16 +1,11 @@
-use Rattle.std.proofs.Common.{sym, subst}
+use Rattle.std.proofs.Common.{subst}
 use Rattle.cqf_admission.specs.Branches.{branches_of}
 use Rattle.cqf_model.specs.History.{held_in, seals}
 use Rattle.cqf_program_placing.specs.Placing.{outcome_value}
 use Rattle.cqf_program_placing.specs.Routes.{IsUnrouted}
 use Rattle.cqf_program_placing.specs.Settled.{settled_value, way_value}
-use Rattle.cqf_program_placing.specs.Turns.{IsGoodEvery}
 use Rattle.cqf_program_placing.proofs.PlaceLemmas.{routed_so, unrouted_so}
-use Rattle.cqf_program_placing.proofs.Stepping.{every_is_good_in}
 use Rattle.cqf_program_placing.proofs.placing.place_with.Goals as goal
-
-pub branches_by-requires-clause-good : goal.branches_by-requires-clause-good
-branches_by-requires-clause-good c = subst IsGoodEvery (sym c.every.ensures) (every_is_good_in c.args.turns c.requires.good)
 
 -- it has no branches
 pub returns-in-Fault-clause-placed : goal.returns-in-Fault-clause-placed
@@ -18,13 +13,12 @@ returns-in-Fault-clause-placed c =
     let d = c.args.domain.now in
     let entries = c.args.admission.now.entries in
     let cost = c.cost.result.0 in
-    let routed = subst (IsUnrouted d (held_in d entries (seals entries)) c.every.result cost (way_value c.args.stream.now.way)) c.in-Fault.is c.in-Err.ensures.err in
-    unrouted_so d entries (settled_value c.args.stream.now) c.args.octets c.every.result cost c.args.turns c.in-Fault.found c.every.ensures
-    c.cost.ensures routed
+    let routed = subst (IsUnrouted d (held_in d entries (seals entries)) c.args.turns cost (way_value c.args.stream.now.way)) c.in-Fault.is c.in-Err.ensures.err in
+    unrouted_so d entries (settled_value c.args.stream.now) c.args.octets cost c.args.turns c.in-Fault.found c.cost.ensures routed
 
 -- it is asked for along them
 pub returns-clause-placed : goal.returns-clause-placed
 returns-clause-placed c =
-    routed_so c.args.domain.now c.args.admission.now.entries (settled_value c.args.stream.now) c.args.octets c.every.result c.cost.result.0 c.args.turns
-    (branches_of c.in-Ok.paths.items) (outcome_value c.in_ok-outcome.outcome) c.place_along.new.admission.entries c.every.ensures c.cost.ensures
+    routed_so c.args.domain.now c.args.admission.now.entries (settled_value c.args.stream.now) c.args.octets c.cost.result.0 c.args.turns
+    (branches_of c.in-Ok.paths.items) (outcome_value c.in_ok-outcome.outcome) c.place_along.new.admission.entries c.cost.ensures
     c.in-Ok.ensures.ok c.in_ok-outcome.ensures.placed

@@ -12,11 +12,11 @@ pub first_ways-requires : goal.first_ways-requires
 first_ways-requires c = are_links c.args.domain.now c.args.room.links.now c.requires.links c.know.ensures.accepted
 
 pub returns-in_ok-paths-in-Ok-clause-ok : goal.returns-in_ok-paths-in-Ok-clause-ok
-returns-in_ok-paths-in-Ok-clause-ok c = λ rows every are.
+returns-in_ok-paths-in-Ok-clause-ok c =
     let d = c.args.domain.now in
-    ways_found d rows every c.args.room.links.now c.args.room.left.now c.args.room.cost c.args.bridge c.args.stations.now c.in-Ok.ways.items
+    ways_found d c.args.room.links.now c.args.room.left.now c.args.room.cost c.args.bridge c.args.stations.now c.in-Ok.ways.items
     (branches_of c.in_ok-paths-in-Ok.paths.items) c.requires.links c.in-Ok.ensures.ways
-    (c.in_ok-paths-in-Ok.ensures ∙ ap (map (λ (way : ArrayVec ℕ). names_along d c.args.bridge way.items)) c.as_slice.ensures.value) are
+    (c.in_ok-paths-in-Ok.ensures ∙ ap (map (λ (way : ArrayVec ℕ). names_along d c.args.bridge way.items)) c.as_slice.ensures.value)
 
 -- the first station without a way with room
 pub full_to-full-requires-clause-reached : goal.full_to-full-requires-clause-reached
@@ -39,11 +39,11 @@ full_to-full-requires-clause-none c =
     (stands_there links room (Bridge c.args.bridge) stations place without)
 
 pub returns-in-NoWay-clause-err : goal.returns-in-NoWay-clause-err
-returns-in-NoWay-clause-err c = λ rows every are.
+returns-in-NoWay-clause-err c =
     let links = c.args.room.links.now in
     let room = has_room c.args.room.left.now c.args.room.cost in
     let stations = c.args.stations.now in
     let place = c.in-NoWay.place in
     let without = subst (IsWaysFault links room (Bridge c.args.bridge) stations) c.in-NoWay.is c.in-Err.ensures.fault in
-    first_full c.args.domain.now rows every links c.args.room.left.now c.args.room.cost c.args.bridge stations place (get_or stations place 0) c.full_to-full.result
-    c.requires.links without (stands_there links room (Bridge c.args.bridge) stations place without) are (c.full_to-full.ensures rows every are)
+    first_full c.args.domain.now links c.args.room.left.now c.args.room.cost c.args.bridge stations place (get_or stations place 0) c.full_to-full.result
+    c.requires.links without (stands_there links room (Bridge c.args.bridge) stations place without) c.full_to-full.ensures

@@ -36,7 +36,7 @@ full_at-requires-clause-link c =
     short_inside d.links left c.args.room.cost (Bridge c.args.bridge) (Station c.args.station) way c.in-Some-first_short.link first.is_way.leads short
 
 pub returns : goal.returns
-returns c = λ rows every are.
+returns c =
     let d = c.args.domain.now in
     let left = c.args.room.left.now in
     let way = c.in-Some.way.items in
@@ -44,4 +44,4 @@ returns c = λ rows every are.
     c.requires.left c.in-Some.ensures in
     let short : short_link left c.args.room.cost way ≡ Some c.in-Some-first_short.link =
     ap (short_link left c.args.room.cost) (sym c.as_slice.ensures.value) ∙ sym c.in-Some-first_short.ensures in
-    full_found d rows every left c.args.room.cost c.args.bridge c.args.station way c.in-Some-first_short.link c.full_at.result first short c.full_at.ensures are
+    full_found d left c.args.room.cost c.args.bridge c.args.station way c.in-Some-first_short.link c.full_at.result first short c.full_at.ensures

@@ -1,5 +1,5 @@
 -- There is a list for each link, at its place.
-use Rattle.std.proofs.Common.{◌<◌, ◌≡◌, ◌∙◌, ◌∷◌, [], ℕ, List, ap, ap₂, arith, get_or, length, sym}
+use Rattle.std.proofs.Common.{◌<◌, ◌≡◌, ◌∙◌, ◌∷◌, [], ℕ, List, ap, ap₂, arith, get_or, length}
 use Rattle.cqf_lists.proofs.EachBelow.{get_or-singles, length-singles}
 use Rattle.cqf_model.specs.Domain.{Domain}
 use Rattle.cqf_model.specs.GateList.{Entry}
@@ -25,4 +25,4 @@ returns c =
     c.index.ensures
     ∙ ap₂ (λ (lists : List (List Entry)) (place : ℕ). get_or lists place list) c.self.invariant.one_each c.from.ensures
     ∙ get_or-singles (λ (l : ℕ). compiled_lists d l) (length d.links) c.args.link list inside
-    ∙ ap (λ (it : Domain). compiled_lists it c.args.link) (sym c.self.view_is)
+    ∙ ap (λ (it : Domain). compiled_lists it c.args.link) c.self.view_is

@@ -1,4 +1,4 @@
-use Rattle.std.proofs.Common.{◌≡◌, ◌+◌, ◌*◌, ℕ, false, true, refl, ap, ap₂, arith, sym, subst, ◌∙◌}
+use Rattle.std.proofs.Common.{◌≡◌, ◌+◌, ◌*◌, ◌<◌, ◌^◌, ℕ, false, true, refl, ap, ap₂, arith, sym, subst, ◌∙◌}
 use Rattle.std.proofs.lemmas.Bool.{true≢false}
 use Rattle.cqf_units.specs.Timing.{slot_of}
 use Rattle.cqf_relay.specs.declared.outlet.Outlet.{Outlet}
@@ -19,8 +19,8 @@ returns c =
           sends_one c.args.cycle c.args.offset c.args.came before after
           (ap (λ (o : Outlet). o.wire) w.self-is) (ap (λ (o : Outlet). o.leads) w.self-is) (ap (λ (o : Outlet). o.sent) w.self-is) (ap (λ (o : Outlet). o.told) w.self-is)
           (c.from.result * c.from-2.result) w.time_of.result c.taken_by.result begins w.time_of.ensures
-          (c.taken_by.ensures ∙ ap (λ (o : Outlet). slot_of c.args.came.octets o.wire.octet_time) w.self-is)
-          room (omega arith) (omega arith)
+          (c.taken_by.ensures.value ∙ ap (λ (o : Outlet). slot_of c.args.came.octets o.wire.octet_time) w.self-is)
+          room (omega arith) (subst (λ (o : Outlet). o.wire.octet_time < 2 ^ 32) w.self-is c.taken_by.ensures.ticks)
           (ap (λ (o : Outlet). o.tape.link) w.self-is ∙ c.keep.ensures.link)
           (ap (λ (o : Outlet). o.tape.background.items) w.self-is ∙ c.keep.ensures.background)
           (ap (λ (o : Outlet). o.tape.starts.items) w.self-is ∙ c.in_ok-keep.ensures.starts)
@@ -32,8 +32,8 @@ returns c =
           sends_one c.args.cycle c.args.offset c.args.came before after
           (ap (λ (o : Outlet). o.wire) w.self-is) (ap (λ (o : Outlet). o.leads) w.self-is) (ap (λ (o : Outlet). o.sent) w.self-is) (ap (λ (o : Outlet). o.told) w.self-is)
           (c.from.result * c.from-2.result) (time_on before.wire c.args.came.octets) c.taken_by.result begins refl
-          (c.taken_by.ensures ∙ ap (λ (o : Outlet). slot_of c.args.came.octets o.wire.octet_time) w.self-is)
-          room (omega arith) (omega arith)
+          (c.taken_by.ensures.value ∙ ap (λ (o : Outlet). slot_of c.args.came.octets o.wire.octet_time) w.self-is)
+          room (omega arith) (subst (λ (o : Outlet). o.wire.octet_time < 2 ^ 32) w.self-is c.taken_by.ensures.ticks)
           (ap (λ (o : Outlet). o.tape.link) w.self-is ∙ c.keep.ensures.link)
           (ap (λ (o : Outlet). o.tape.background.items) w.self-is ∙ c.keep.ensures.background)
           (ap (λ (o : Outlet). o.tape.starts.items) w.self-is ∙ c.in_ok-keep.ensures.starts)

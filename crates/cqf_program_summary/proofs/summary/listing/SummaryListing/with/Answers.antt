@@ -39,6 +39,6 @@ returns c = λ before is.
     let new =
     ap (λ (n : List ℕ). list_any (λ (a : Asked). is_text a.name n) (told_streams before)) (sym name_is)
     ∙ sym (known_by_name c.args.domain.now before c.args.self is c.in-Some.name) ∙ sym c.contains.ensures ∙ c.if-contains.false in
-    listing_more c.args.domain.now before asked c.args.self c.in_ok-after.after is named new (omega (arith, c.len.ensures, c.if-len.false))
+    listing_more c.args.domain.now before asked c.args.self c.in_ok-after.after is named new (omega (arith, c.len.ensures, c.if-len-ge-MOST_LISTED.false))
     (subst MayBeSummed c.in_ok-row.ensures.row c.in_ok-row.ensures.summable)
     (subst₂ (λ (n : List ℕ) (r : Option Row). ListsOne c.args.self n r c.in_ok-after.after) name_is c.in_ok-row.ensures.row c.in_ok-after.ensures)

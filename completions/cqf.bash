@@ -1,0 +1,63 @@
+# Completes the words of cqf in bash.
+# Made by build/completions from the program's table of commands; changes here are lost.
+
+_cqf() {
+    local IFS=$' \t\n' word=${COMP_WORDS[COMP_CWORD]} before='' own='' choices='' place option
+    COMPREPLY=()
+    ((COMP_CWORD > 0)) && before=${COMP_WORDS[COMP_CWORD - 1]}
+    # --format=tc is three words here
+    if [[ $word == '=' ]]; then
+        word=''
+    elif [[ $before == '=' ]]; then
+        before=${COMP_WORDS[COMP_CWORD - 2]}
+    fi
+    if ((COMP_CWORD == 1)); then
+        mapfile -t COMPREPLY < <(compgen -W 'port line compile load latency run report deliveries check summary hops offers plan help --help --version' -- "$word")
+        return
+    fi
+    case ${COMP_WORDS[1]} in
+    help)
+        ((COMP_CWORD > 2)) || mapfile -t COMPREPLY < <(compgen -W 'port line compile load latency run report deliveries check summary hops offers plan' -- "$word")
+        return
+        ;;
+    port) own='--until --rate --help' ;;
+    line) own='--cycles --help' ;;
+    compile) own='--format --bridge --software --large --help' ;;
+    load) own='--large --help' ;;
+    latency) own='--strict --large --help' ;;
+    run) own='--cycles --threads --large --help' ;;
+    report) own='--cycles --large --help' ;;
+    deliveries) own='--cycles --large --help' ;;
+    check) own='--cycles --large --help' ;;
+    summary) own='--cycles --large --help' ;;
+    hops) own='--cycles --stream --frame --large --help' ;;
+    offers) own='--cycles --seed --large --help' ;;
+    plan) own='--table --cycle --large --help' ;;
+    *) return ;;
+    esac
+    for ((place = 2; place < COMP_CWORD; place++)); do
+        # all words after this one are files
+        if [[ ${COMP_WORDS[place]} == -- ]]; then
+            compopt -o default
+            return
+        fi
+    done
+    case $before in
+    --rate) choices='10 100 1000 2500 5000 10000 25000 40000 100000' ;;
+    --format) choices='list tc env json' ;;
+    --until|--cycles|--bridge|--stream|--frame|--seed|--cycle) return ;;
+    esac
+    if [[ $choices ]]; then
+        mapfile -t COMPREPLY < <(compgen -W "$choices" -- "$word")
+    elif [[ $word == -* ]]; then
+        # each option is given once
+        for option in $own; do
+            [[ " ${COMP_WORDS[*]:2:COMP_CWORD-2} " == *" $option "* ]] || choices+=" $option"
+        done
+        mapfile -t COMPREPLY < <(compgen -W "$choices" -- "$word")
+    else
+        compopt -o default
+    fi
+}
+
+complete -F _cqf cqf

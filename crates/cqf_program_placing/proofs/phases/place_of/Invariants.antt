@@ -1,0 +1,6 @@
+-- The shares before the place are no less.
+use Rattle.cqf_program_placing.proofs.Loads.{AreNoLess}
+use Rattle.cqf_program_placing.proofs.phases.place_of.Given as goal
+
+abbrev pub invariant-loop-place : goal.invariant-loop-place
+invariant-loop-place l = AreNoLess l.share l.loads l.place

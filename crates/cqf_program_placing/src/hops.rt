@@ -1,0 +1,169 @@
+//! Behind how many links a stream's frames leave each bridge, where its cycles are given, and what links have left there.
+ghost use Rattle.std.specs.Prelude.{◌≡◌, ◌<◌, ◌+◌, ℕ, IfOk, MatchOption, None, length, slice_index_or};
+ghost use Rattle.cqf_admission.specs.Turns.{IsGoodPace};
+ghost use Rattle.cqf_model.specs.History.{held_in, seals};
+ghost use Rattle.cqf_sketch.specs.Ways.{most_links};
+ghost use Rattle.cqf_program_placing.specs.Hops.{AreHops, AreLeftBehind, AreReachedBy, AreShallow, IsReachedBy, LeadsBehind, has_room_behind, hop_of, left_behind, left_where, lefts_where};
+
+use cqf_admission::Admission;
+use cqf_model::{Hop, MOST_BRIDGES, Node, Pace};
+use cqf_topology::Domain;
+use cqf_units::Memory;
+use std::alloc::Global;
+
+/// Behind how many links frames leave each bridge, by number, where they do.
+type Hops = [Option<u8>; MOST_BRIDGES];
+
+/// The last hop of a way: so many links stand before it at most.
+const LAST_HOP: u8 = 15;
+
+/// A stream whose cycles are given, beside those that are placed on a domain.
+#[derive(Clone, Copy)]
+pub(crate) struct PacedRoom<'a> {
+    pub domain: &'a Domain,
+    pub admission: &'a Admission,
+    pub pace: Pace,
+    /// In octets a cycle, of each link.
+    pub cost: u32,
+}
+
+/// Behind how many links frames leave a bridge.
+fn hop_of(hops: &Hops, bridge: u16) -> Option<u8>
+    ensures { result ≡ hop_of hops.now bridge }
+{
+    match hops.get(usize::from(bridge)) {
+        Some(hop) => *hop,
+        None => None,
+    }
+}
+
+impl<'a> PacedRoom<'a> {
+    /// What a link has left in the cycles in which frames go by it behind so many others.
+    fn left_behind(self, before: u8, link: u16) -> u32
+        requires domain { self.admission.now.domain ≡ self.domain.now }
+        requires inside { link < length self.domain.now.links }
+        requires good { IsGoodPace self.pace }
+        requires few { before < most_links }
+        ensures { let d = self.entry.domain.now in let entries = self.entry.admission.now.entries in
+            result ≡ left_behind d (held_in d entries (seals entries)) self.entry.pace before link }
+    {
+        let hop = Hop {
+            link,
+            depth: before + 1,
+            from: None,
+        };
+        self.admission.left_at(&hop, self.pace).0
+    }
+
+    /// The bridge to which a link leads from one that frames leave behind so many others, where it has room there.
+    fn led(self, before: u8, link: u16, hops: &Hops) -> Option<u16>
+        requires domain { self.admission.now.domain ≡ self.domain.now }
+        requires inside { link < length self.domain.now.links }
+        requires good { IsGoodPace self.pace }
+        requires few { before < most_links }
+        ensures { let d = self.entry.domain.now in let entries = self.entry.admission.now.entries in
+            let room = has_room_behind d (held_in d entries (seals entries)) self.entry.pace self.entry.cost in
+            MatchOption result ((bridge : ℕ) → ¬ LeadsBehind d.links room hops.now before link bridge)
+            (λ bridge. LeadsBehind d.links room hops.now before link bridge) }
+    {
+        let it = self.domain.link(link);
+        let Some(hop) = hop_of(hops, it.from) else {
+            return None;
+        };
+        if hop != before {
+            return None;
+        }
+        if self.left_behind(before, link) < self.cost {
+            return None;
+        }
+        match it.to {
+            Node::Bridge(bridge) => Some(bridge),
+            Node::Station(_) => None,
+        }
+    }
+
+    /// Frames that leave a bridge behind so many links come by a link to another: that one is left behind one more, if it isn't behind
+    /// fewer.
+    fn reach(self, before: u8, link: u16, hops: &mut Hops)
+        requires domain { self.admission.now.domain ≡ self.domain.now }
+        requires inside { link < length self.domain.now.links }
+        requires good { IsGoodPace self.pace }
+        requires few { before < most_links }
+        ensures { let d = self.entry.domain.now in let entries = self.entry.admission.now.entries in
+            IsReachedBy d.links (has_room_behind d (held_in d entries (seals entries)) self.entry.pace self.entry.cost) before link hops.old hops.new }
+    {
+        self.domain.know();
+        let Some(bridge) = self.led(before, link, hops) else {
+            return;
+        };
+        if hop_of(hops, bridge).is_none() {
+            hops[usize::from(bridge)] = Some(before + 1);
+        }
+    }
+
+    /// So by each link.
+    fn reach_all(self, before: u8, hops: &mut Hops)
+        requires domain { self.admission.now.domain ≡ self.domain.now }
+        requires good { IsGoodPace self.pace }
+        requires few { before < most_links }
+        ensures { let d = self.entry.domain.now in let entries = self.entry.admission.now.entries in
+            AreReachedBy d.links (has_room_behind d (held_in d entries (seals entries)) self.entry.pace self.entry.cost) before (length d.links) hops.old hops.new }
+    {
+        for link in 0..self.domain.links() {
+            self.reach(before, link, hops);
+        }
+    }
+
+    /// Behind how many links frames from a bridge leave each: as few as they can, where each link has room in the cycles in which they go by
+    /// it.
+    fn hops_from(self, bridge: u16) -> Hops
+        requires domain { self.admission.now.domain ≡ self.domain.now }
+        requires good { IsGoodPace self.pace }
+        requires inside { bridge < length self.domain.now.bridges }
+        ensures { let d = self.entry.domain.now in let entries = self.entry.admission.now.entries in
+            AreHops d.links (has_room_behind d (held_in d entries (seals entries)) self.entry.pace self.entry.cost) bridge result }
+    {
+        self.domain.know();
+        let mut hops = [None; MOST_BRIDGES];
+        hops[usize::from(bridge)] = Some(0);
+        for before in 0..LAST_HOP {
+            self.reach_all(before, &mut hops);
+        }
+        hops
+    }
+
+    /// What a link has left where frames go by it.
+    fn left_where(self, link: u16, hops: &Hops) -> u32
+        requires domain { self.admission.now.domain ≡ self.domain.now }
+        requires inside { link < length self.domain.now.links }
+        requires good { IsGoodPace self.pace }
+        requires shallow { AreShallow hops.now }
+        ensures { let d = self.entry.domain.now in let entries = self.entry.admission.now.entries in
+            result ≡ left_where d (held_in d entries (seals entries)) self.entry.pace hops.now link }
+    {
+        let it = self.domain.link(link);
+        match hop_of(hops, it.from) {
+            Some(before) => self.left_behind(before, link),
+            None => 0,
+        }
+    }
+
+    /// What each link has left where frames from a bridge go by it, by number.
+    ///
+    /// # Errors
+    /// Where a growth is refused.
+    pub(crate) fn lefts(self, alloc: Global, bridge: u16) -> Result<Vec<u32>, Memory>
+        requires domain { self.admission.now.domain ≡ self.domain.now }
+        requires good { IsGoodPace self.pace }
+        requires inside { bridge < length self.domain.now.bridges }
+        ensures { let d = self.entry.domain.now in let entries = self.entry.admission.now.entries in
+            IfOk result (λ left. AreLeftBehind d (held_in d entries (seals entries)) self.entry.pace self.entry.cost bridge left.items) }
+    {
+        let hops = self.hops_from(bridge);
+        let mut left = Vec::new(alloc);
+        for link in 0..self.domain.links() {
+            left.push(self.left_where(link, &hops))?;
+        }
+        Ok(left)
+    }
+}
