@@ -6,7 +6,7 @@ use Rattle.cqf_units.proofs.Cycles.{cycle_below, cycle_from}
 use Rattle.cqf_access.proofs.Spread.{crowded}
 
 module _ (n : ℕ) (P : ℕ → ℕ → Type 0) (has : (k : ℕ) → k < n → (v : ℕ) × P k v) where
-  pick : (k : ℕ) → (k < n) ⊎ (n ≤ k) → ℕ
+  abbrev pick : (k : ℕ) → (k < n) ⊎ (n ≤ k) → ℕ
   pick k (inl l) = (has k l).0
   pick k (inr m) = 0
 
@@ -21,35 +21,34 @@ module _ (n : ℕ) (P : ℕ → ℕ → Type 0) (has : (k : ℕ) → k < n → (
 pub record HasRoom (low few from room at start v : ℕ) : Type 0 where
   pub which : ((at < low + few) × (low + v ≡ at)) ⊎ ((low + few ≤ at) × (v ≡ few + (start - from) / room))
 
--- where starts from an instant on are so far apart, and none is so late, there aren't so many
-pub too_many : (low few rooms from room count : ℕ) (at start : ℕ → ℕ) → 0 < room → few + rooms ≤ count →
-    ((k : ℕ) → k < suc count → low ≤ at k) →
-    ((k : ℕ) → k < suc count → low + few ≤ at k → from ≤ start k) →
-    ((k : ℕ) → k < suc count → start k < from + rooms * room) →
-    ((j k : ℕ) → j < k → k < suc count → at j ≡ at k → ⊥) →
-    ((j k : ℕ) → j < k → k < suc count → (start j + room ≤ start k) ⊎ (start k + room ≤ start j)) →
-    count ≤ few + rooms → ⊥
-too_many low few rooms from room count at start some enough least later sooner apart turns most = crowded f.0 count small different
+-- where starts from an instant on are so far apart, and none is so late, there are no more
+pub too_many : (low few rooms from room : ℕ) (at start : ℕ → ℕ) → 0 < room →
+    ((k : ℕ) → k < suc (few + rooms) → low ≤ at k) →
+    ((k : ℕ) → k < suc (few + rooms) → low + few ≤ at k → from ≤ start k) →
+    ((k : ℕ) → k < suc (few + rooms) → start k < from + rooms * room) →
+    ((j k : ℕ) → j < k → k < suc (few + rooms) → at j ≡ at k → ⊥) →
+    ((j k : ℕ) → j < k → k < suc (few + rooms) → (start j + room ≤ start k) ⊎ (start k + room ≤ start j)) → ⊥
+too_many low few rooms from room at start some least later sooner apart turns = crowded f.0 (few + rooms) small different
   where
     Place : ℕ → ℕ → Type 0
     Place k v = HasRoom low few from room (at k) (start k) v
 
-    has : (k : ℕ) → k < suc count → (v : ℕ) × Place k v
+    has : (k : ℕ) → k < suc (few + rooms) → (v : ℕ) × Place k v
     has k l = elim (cases_lt (at k) (low + few)) [
       | inl early ↦ (at k - low, record { which = inl (early, omega (arith, least k l)) })
       | inr late ↦ (few + (start k - from) / room, record { which = inr (late, omega arith) })
     ]
 
-    f : (g : ℕ → ℕ) × ((k : ℕ) → k < suc count → Place k (g k))
-    f = chosen (suc count) Place has
+    f : (g : ℕ → ℕ) × ((k : ℕ) → k < suc (few + rooms) → Place k (g k))
+    f = chosen (suc (few + rooms)) Place has
 
-    small : (k : ℕ) → k < suc count → f.0 k < count
+    small : (k : ℕ) → k < suc (few + rooms) → f.0 k < few + rooms
     small k l = elim ((f.1 k l).which) [
-      | inl p ↦ omega (arith, p.0, p.1, enough)
+      | inl p ↦ omega (arith, p.0, p.1)
       | inr p ↦
           let less : (start k - from) / room < rooms = cycle_below room (start k - from) rooms
           (omega (arith, sooner k l, later k l p.0)) in
-          omega (arith, p.1, less, enough)
+          omega (arith, p.1, less)
     ]
 
     -- a start that is so much later has a room behind
@@ -57,9 +56,9 @@ too_many low few rooms from room count at start some enough least later sooner a
     next_room first second a b = le-div ((first - from) / room + 1) (second - from) room some
         (omega (arith, cycle_from room (first - from), a, b))
 
-    different : (j k : ℕ) → j < k → k < suc count → f.0 j ≡ f.0 k → ⊥
+    different : (j k : ℕ) → j < k → k < suc (few + rooms) → f.0 j ≡ f.0 k → ⊥
     different j k less l e =
-        let m : j < suc count = omega (arith, less, l) in
+        let m : j < suc (few + rooms) = omega (arith, less, l) in
         elim ((f.1 j m).which) [
           | inl p ↦ elim ((f.1 k l).which) [
             | inl q ↦ apart j k less l (omega (arith, p.1, q.1, e))

@@ -3,6 +3,7 @@ pub mod Busy
 pub mod Queueing
 pub mod Spread
 pub mod Chosen
+pub mod Closer
 pub mod Arrivals
 pub mod Least
 pub mod Steps
