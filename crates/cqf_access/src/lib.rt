@@ -24,7 +24,7 @@ mod edge;
 mod laws;
 
 pub use bounds::access_bound;
-pub use edge::{Delays, edge_jitter, edge_offset};
+pub use edge::{Delays, edge_jitter, edge_offset, grid_jitter};
 pub use laws::{
     access_link_bounds_queueing, edge_conforms, edge_conforms_closer, edge_keeps_step, grids_conform,
     least_bound_is_reached,
