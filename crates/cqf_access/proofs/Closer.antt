@@ -1,7 +1,7 @@
 -- A closer word at the edge bridge. The first that starts of some arrivals in a row waits for what others take, and for those of its own that
 -- start before it. As many intervals later as many frames of its own come before the last of the arrivals, which are no shorter than the
 -- shortest, one after the other.
-use Rattle.std.proofs.Common.{◌≡◌, ℕ, suc, ◌+◌, ◌-◌, ◌*◌, ◌/◌, ◌<◌, ◌≤◌, ◌⊎◌, List, Bool, true, Some, inl, inr, sym, ap, ◌∙◌, arith, min, refl}
+use Rattle.std.proofs.Common.{◌≡◌, ℕ, suc, ◌+◌, ◌-◌, ◌*◌, ◌/◌, ◌<◌, ◌≤◌, ◌⊎◌, List, Bool, Some, inl, inr, sym, ap, ◌∙◌, arith, refl}
 use Rattle.std.proofs.Common.{Contains, get_or, length, mul-le-mul_right, nat_le, nat_lt, option_map, slice_get, zero-add}
 use Rattle.std.proofs.lemmas.Bool.{and_parts, cases_lt, leb-true, ltb-true}
 use Rattle.std.proofs.lemmas.Nat.{le-div}
@@ -11,11 +11,11 @@ use Rattle.cqf_lists.proofs.Ranks.{rank, ranked}
 use Rattle.cqf_units.proofs.Cycles.{cycle_from}
 use Rattle.cqf_units.proofs.Times.{slot_some, time_grows}
 use Rattle.cqf_model.specs.declared.frames.Offer.{Offer}
-use Rattle.cqf_laws_timing.specs.Traffic.{Conforms, SkippingConforms, Traffic, most_frames}
+use Rattle.cqf_laws_timing.specs.Traffic.{SkippingConforms, most_frames}
 use Rattle.cqf_access.specs.declared.edge.Delays.{Delays}
-use Rattle.cqf_access.specs.Access.{AccessLink, AccessLinkBoundsQueueing, AccessStream, Crossing, IsBound, IsSent, Other, handed, promises_of, taken_of, taken_within}
-use Rattle.cqf_access.specs.Arriving.{AreArrivals, Arrives, by_clock, longest_wait, spread_of, way_of}
-use Rattle.cqf_access.specs.Closer.{AreInTurn, EdgeConformsCloser, EdgeConformsCloserByClocks, closer_at_edge, unlike_wait}
+use Rattle.cqf_access.specs.Access.{AccessLink, AccessLinkBoundsQueueing, AccessStream, Crossing, IsBound, IsSent, Other, handed, promises_of, taken_of}
+use Rattle.cqf_access.specs.Arriving.{AreArrivals, Arrives, spread_of, way_of}
+use Rattle.cqf_access.specs.Closer.{AreInTurn, EdgeConformsCloser, EdgeConformsCloserByClocks, closer_at_edge, closer_wait}
 use Rattle.cqf_access.proofs.Arrivals.{at_place, edge_conforms_by_clocks, longer_way, one_clock}
 use Rattle.cqf_access.proofs.Busy.{IsLastIdle, last_idle, over_when_idle, stops_later}
 use Rattle.cqf_access.proofs.Chosen.{chosen, too_many}
@@ -58,14 +58,16 @@ module _ (skips : SkippingConforms) (link : AccessLink) (streams : List AccessSt
         let x = get_or s.crossings k.0 y in
         let t = and_parts (is_of last.at time x.frame.at.0) (nat_lt x.start y.start) k.2 in
         let u = and_parts (nat_le last.at x.frame.at.0) (nat_lt x.frame.at.0 (last.at + time)) t.0 in
-        let early = ltb-true x.start y.start t.1 in
-        (k.0, record {
-          crossing = x;
-          there = slice_get-get_or s.crossings k.0 y k.1;
-          from = leb-true last.at x.frame.at.0 u.0;
-          sooner = omega (arith, early, y_sooner);
-          which = inl (early, k.3);
-        })
+        let early = ltb-true x.start y.start t.1 in (
+          k.0,
+          record {
+            crossing = x;
+            there = slice_get-get_or s.crossings k.0 y k.1;
+            from = leb-true last.at x.frame.at.0 u.0;
+            sooner = omega (arith, early, y_sooner);
+            which = inl (early, k.3);
+          },
+        )
 
     -- one that starts no sooner was handed over no sooner than the link was last idle
     from_idle : (x : Crossing) → Contains s.crossings x → y.start ≤ x.start → last.at ≤ x.frame.at.0
@@ -89,14 +91,16 @@ module _ (skips : SkippingConforms) (link : AccessLink) (streams : List AccessSt
         let x = are.each j a.0 a.1 in
         let k = contains_at s.crossings (are.place j) x.crossing x.there in
         let later = first j x.crossing (omega arith) in_row x.there in
-        let way = longer_way link delays.least.0 shortest x.crossing.frame.octets (least x.crossing k) in
-        (are.place j, record {
-          crossing = x.crossing;
-          there = x.there;
-          from = from_idle x.crossing k later;
-          sooner = omega (arith, way, x.whole.least, x.clocks.no_later, latest j a.0 in_row a.1);
-          which = inr (m, later, refl);
-        })
+        let way = longer_way link delays.least.0 shortest x.crossing.frame.octets (least x.crossing k) in (
+          are.place j,
+          record {
+            crossing = x.crossing;
+            there = x.there;
+            from = from_idle x.crossing k later;
+            sooner = omega (arith, way, x.whole.least, x.clocks.no_later, latest j a.0 in_row a.1);
+            which = inr (m, later, refl);
+          },
+        )
 
     one : (r : ℕ) → r < suc (many + length (ahead_in last.at time y.start s)) → (p : ℕ) × IsOne r p
     one r l = elim (cases_lt r (length (ahead_in last.at time y.start s))) [
@@ -121,7 +125,7 @@ module _ (skips : SkippingConforms) (link : AccessLink) (streams : List AccessSt
           | inr f ↦ elim v.which [
             | inl g ↦ omega (arith, same, f.1, g.0)
             | inr g ↦ are.once (i + (j - length (ahead_in last.at time y.start s))) (i + (k - length (ahead_in last.at time y.start s)))
-              (omega (arith, less, f.0)) (omega (arith, l, inside, g.0)) (sym f.2 ∙ e ∙ g.2)
+                (omega (arith, less, f.0)) (omega (arith, l, inside, g.0)) (sym f.2 ∙ e ∙ g.2)
           ]
         ]
 
@@ -151,8 +155,8 @@ module _ (skips : SkippingConforms) (link : AccessLink) (streams : List AccessSt
     -- so there is room for no more of them than there are intervals and frames ahead
     crowd : (blocks : ℕ) → 0 < s.promise.frames → many ≡ blocks * s.promise.frames →
         ((x h : Crossing) → last.at ≤ h.frame.at.0 → x.start + way_of link delays.least.0 shortest ≤ b.at.0 + sync →
-            x.start < (h.frame.at.0 + blocks * s.promise.interval - s.promise.jitter)
-                + length (ahead_in last.at time y.start s) * taken_of link shortest) → ⊥
+        x.start < (h.frame.at.0 + blocks * s.promise.interval - s.promise.jitter)
+        + length (ahead_in last.at time y.start s) * taken_of link shortest) → ⊥
     crowd blocks fills long early =
         too_many low.0 many z from room at.0 start (slot_some shortest link.octet_time sent.takes_time) lowest later sooner
         (λ j k less l e. apart j k (at.0 j) (at.0 k) (at.1 j (omega (arith, less, l))) (at.1 k l) less l e) turned
@@ -203,14 +207,14 @@ module _ (skips : SkippingConforms) (link : AccessLink) (streams : List AccessSt
         turned j k less l =
             let m : j < suc (many + length (ahead_in last.at time y.start s)) = omega (arith, less, l) in
             elim (behind_each (at.1 j m).crossing (at.1 k l).crossing (at.0 j) (at.0 k) (at.1 j m).there (at.1 k l).there
-              (apart j k (at.0 j) (at.0 k) (at.1 j m) (at.1 k l) less l)) [
+            (apart j k (at.0 j) (at.0 k) (at.1 j m) (at.1 k l) less l)) [
               | inl t ↦ inl (omega (arith, t, start_is j m, start_is k l))
               | inr t ↦ inr (omega (arith, t, start_is j m, start_is k l))
             ]
 
   spaced : (i k : ℕ) (a b : Offer) → i ≤ k → slice_get arrived i ≡ Some a → slice_get arrived k ≡ Some b →
       a.at.0 + (k - i) / s.promise.frames * s.promise.interval
-      ≤ b.at.0 + (s.promise.jitter + (unlike_wait link time shortest s.promise + spread_of link delays shortest s.promise.size) + 2 * sync)
+      ≤ b.at.0 + (s.promise.jitter + (closer_wait link time shortest s.promise + spread_of link delays shortest s.promise.size) + 2 * sync)
   spaced i k a b order e f = elim (cases_lt (b.at.0 + jitter) (a.at.0 + blocks * s.promise.interval)) [
     | inl late ↦ absurd (crowd i many b (omega (arith, inside, in_row)) latest y y_there first y_sooner last blocks
         (sent.promised s c).some_frames refl (early late))
@@ -218,7 +222,7 @@ module _ (skips : SkippingConforms) (link : AccessLink) (streams : List AccessSt
   ]
     where
       jitter : ℕ
-      jitter = s.promise.jitter + (unlike_wait link time shortest s.promise + spread_of link delays shortest s.promise.size) + 2 * sync
+      jitter = s.promise.jitter + (closer_wait link time shortest s.promise + spread_of link delays shortest s.promise.size) + 2 * sync
 
       blocks : ℕ
       blocks = (k - i) / s.promise.frames
@@ -277,21 +281,24 @@ module _ (skips : SkippingConforms) (link : AccessLink) (streams : List AccessSt
           let way = longer_way link delays.most.0 y.frame.octets s.promise.size (no_larger skips link streams others sent s y c y_there) in
           omega (arith, way, arrives.whole.most, arrives.clocks.no_sooner, are.ordered i r.low a u.0 r.low_from e u.1)
 
-      numbers : (a b y x h at blocks jitter sync time taken ahead most size short longest least : ℕ) → short ≤ size → ahead + 1 ≤ most →
-          y + taken ≤ at + time + ahead * size → a ≤ y + longest + sync →
-          b + (jitter + ((time - taken) + (most - 1) * (size - short) + (longest - least)) + 2 * sync) < a + blocks → at ≤ h → x + least ≤ b + sync →
+      numbers : (a b y x h at blocks jitter sync time ahead most size short longest least : ℕ) → short ≤ size → ahead + 1 ≤ most →
+          y + most * size ≤ at + time + ahead * size → a ≤ y + longest + sync →
+          b + (jitter + (time - size - (most - 1) * short + (longest - least)) + 2 * sync) < a + blocks → at ≤ h → x + least ≤ b + sync →
           x < (h + blocks - jitter) + ahead * short
-      numbers a b y x h at blocks jitter sync time taken ahead most size short longest least shorter few starts y_late late from sooner =
-          let parts : size ≡ short + (size - short) = omega (arith, shorter) in
-          let all : ahead * size ≡ ahead * short + ahead * (size - short) = omega (arith, ap (λ n. ahead * n) parts) in
-          let more : ahead * (size - short) ≤ (most - 1) * (size - short) = mul-le-mul_right (size - short) (omega (arith, few)) in
-          omega (arith, all, more, starts, y_late, late, from, sooner)
+      numbers a b y x h at blocks jitter sync time ahead most size short longest least shorter few starts y_late late from sooner =
+          let rest : ℕ = most - 1 - ahead in
+          let parts : most ≡ ahead + 1 + rest = omega (arith, few) in
+          let taken : most * size ≡ ahead * size + size + rest * size = omega (arith, ap (λ n. n * size) parts) in
+          let fewer : most - 1 ≡ ahead + rest = omega (arith, few) in
+          let own : (most - 1) * short ≡ ahead * short + rest * short = omega (arith, ap (λ n. n * short) fewer) in
+          let more : rest * short ≤ rest * size = omega (arith, mul-le-mul_right rest shorter) in
+          omega (arith, taken, own, more, starts, y_late, late, from, sooner)
 
       early : b.at.0 + jitter < a.at.0 + blocks * s.promise.interval → (x h : Crossing) → last.at ≤ h.frame.at.0 →
           x.start + way_of link delays.least.0 shortest ≤ b.at.0 + sync →
           x.start < (h.frame.at.0 + blocks * s.promise.interval - s.promise.jitter) + length (ahead_in last.at time y.start s) * taken_of link shortest
       early late x h from sooner =
-          numbers a.at.0 b.at.0 y.start x.start h.frame.at.0 last.at (blocks * s.promise.interval) s.promise.jitter sync time (taken_within link time s.promise)
+          numbers a.at.0 b.at.0 y.start x.start h.frame.at.0 last.at (blocks * s.promise.interval) s.promise.jitter sync time
           (length (ahead_in last.at time y.start s)) (most_frames time s.promise) (taken_of link s.promise.size) (taken_of link shortest)
           (way_of link delays.most.0 s.promise.size) (way_of link delays.least.0 shortest) shorter own.few own.starts y_late late from sooner
         where
@@ -300,22 +307,10 @@ module _ (skips : SkippingConforms) (link : AccessLink) (streams : List AccessSt
               (omega (arith, least y y_there, no_larger skips link streams others sent s y c y_there))
 
 pub edge_conforms_closer_by_clocks : SkippingConforms → AccessLinkBoundsQueueing → EdgeConformsCloserByClocks
-edge_conforms_closer_by_clocks skips waits link streams others delays time shortest sync s arrived sent turns bound c least are =
-    let by_waits = edge_conforms_by_clocks waits link streams others delays time shortest sync s arrived sent bound c least are in
-    record {
-      sizes = by_waits.sizes;
-      spaced = λ i k a b order e f.
-        lesser (longest_wait link time s.promise) (unlike_wait link time shortest s.promise) s.promise.jitter (spread_of link delays shortest s.promise.size) sync
-        (a.at.0 + (k - i) / s.promise.frames * s.promise.interval) b.at.0 (by_waits.spaced i k a b order e f)
-        (spaced skips link streams others delays time shortest s sent turns bound c least sync arrived are i k a b order e f);
-    }
-  where
-    lesser : (u v jitter spread sync late at : ℕ) → late ≤ at + (jitter + (u + spread) + 2 * sync) → late ≤ at + (jitter + (v + spread) + 2 * sync) →
-        late ≤ at + (jitter + (min u v + spread) + 2 * sync)
-    lesser u v jitter spread sync late at a b = elim (cases_lt u v) [
-      | inl l ↦ let is : min u v ≡ u = omega (arith, l) in omega (arith, a, is)
-      | inr l ↦ let is : min u v ≡ v = omega (arith, l) in omega (arith, b, is)
-    ]
+edge_conforms_closer_by_clocks skips waits link streams others delays time shortest sync s arrived sent turns bound c least are = record {
+  sizes = (edge_conforms_by_clocks waits link streams others delays time shortest sync s arrived sent bound c least are).sizes;
+  spaced = spaced skips link streams others delays time shortest s sent turns bound c least sync arrived are;
+}
 
 pub edge_conforms_closer : SkippingConforms → AccessLinkBoundsQueueing → EdgeConformsCloser
 edge_conforms_closer skips waits link streams others delays time shortest s arrived sent turns bound c least are =

@@ -21,7 +21,7 @@ pub(crate) fn most_frames(promise: Traffic, time: Nanos) -> u128
 }
 
 /// What a talker hands over of a stream within so long takes of a link, at most, in nanoseconds.
-pub(crate) fn taken_within(rate: Rate, promise: Traffic, time: Nanos) -> u128
+fn taken_within(rate: Rate, promise: Traffic, time: Nanos) -> u128
     requires short { time.0 ≤ 2 ^ 32 }
     ensures value { result ≡ taken_within (link_of rate None) time.0 (promise_of promise) }
     ensures bounded { result < 2 ^ 126 }

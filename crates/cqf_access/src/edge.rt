@@ -3,9 +3,9 @@ ghost use Rattle.std.specs.Prelude.{◌≡◌, ◌≤◌, ◌^◌};
 ghost use Rattle.cqf_traffic.specs.TrafficText.{promise_of};
 ghost use Rattle.cqf_access.specs.Arriving.{at_edge, edge_offset, longest_wait, spread_of, way_of};
 ghost use Rattle.cqf_access.specs.Bounding.{link_of};
-ghost use Rattle.cqf_access.specs.Closer.{closer_at_edge, differing_wait, unlike_wait};
+ghost use Rattle.cqf_access.specs.Closer.{closer_at_edge, closer_wait};
 
-use crate::bounds::{most_frames, taken_within};
+use crate::bounds::most_frames;
 use cqf_traffic::Traffic;
 use cqf_units::{Nanos, Octets, Rate, slot, time_of};
 
@@ -33,25 +33,16 @@ fn longest_wait(rate: Rate, bound: Nanos, promise: Traffic) -> Nanos
     Nanos(bound.0.saturating_sub(slot(promise.size(), rate)))
 }
 
-/// What others take of the link within a bound, at most, and what frames of the stream that come within it differ in length.
-fn unlike_wait(rate: Rate, bound: Nanos, shortest: Octets, promise: Traffic) -> u128
+/// By how much the wait of one frame of a stream may be longer than that of another which stands as far behind in its interval: this waits for
+/// the stream's own frames too, of which none is shorter than so many octets.
+fn closer_wait(rate: Rate, bound: Nanos, shortest: Octets, promise: Traffic) -> Nanos
     requires bounded { bound.0 ≤ 2 ^ 32 }
-    ensures { result ≡ unlike_wait (link_of rate None) bound.0 shortest.0 (promise_of promise) }
-{
-    let others = u128::from(bound.0).saturating_sub(taken_within(rate, promise, bound));
-    let longer = slot(promise.size(), rate).saturating_sub(slot(shortest, rate));
-    others + most_frames(promise, bound).saturating_sub(1) * u128::from(longer)
-}
-
-/// By how much the wait of one frame of a stream may be longer than that of another which stands as far behind in its interval.
-fn differing_wait(rate: Rate, bound: Nanos, shortest: Octets, promise: Traffic) -> Nanos
-    requires bounded { bound.0 ≤ 2 ^ 32 }
-    ensures value { result.0 ≡ differing_wait (link_of rate None) bound.0 shortest.0 (promise_of promise) }
+    ensures value { result.0 ≡ closer_wait (link_of rate None) bound.0 shortest.0 (promise_of promise) }
     ensures short { result.0 ≤ bound.0 }
 {
-    let longest = longest_wait(rate, bound, promise).0;
-    let unlike = unlike_wait(rate, bound, shortest, promise);
-    Nanos(u128::from(longest).min(unlike) as u64)
+    let longest = u128::from(longest_wait(rate, bound, promise).0);
+    let own = most_frames(promise, bound).saturating_sub(1) * u128::from(slot(shortest, rate));
+    Nanos(longest.saturating_sub(own) as u64)
 }
 
 /// By how much the longest way of a largest frame is longer than the shortest way of a shortest one.
@@ -82,7 +73,7 @@ pub fn edge_jitter(
     requires brief { delays.most.0 ≤ 2 ^ 32 }
     ensures { result.0 ≡ (closer_at_edge (link_of rate None) delays bound.0 shortest.0 (promise_of promise)).jitter }
 {
-    let wait = differing_wait(rate, bound, shortest, promise).0;
+    let wait = closer_wait(rate, bound, shortest, promise).0;
     Nanos(promise.jitter().0 + wait + spread_of(rate, delays, shortest, promise).0)
 }
 
