@@ -1,7 +1,7 @@
 -- A closer word at the edge bridge. The first that starts of some arrivals in a row waits for what others take, and for those of its own that
 -- start before it. As many intervals later as many frames of its own come before the last of the arrivals, which are no shorter than the
 -- shortest, one after the other.
-use Rattle.std.proofs.Common.{◌≡◌, ℕ, suc, ◌+◌, ◌-◌, ◌*◌, ◌/◌, ◌<◌, ◌≤◌, ◌⊎◌, List, Bool, Some, inl, inr, sym, ap, ◌∙◌, arith, refl}
+use Rattle.std.proofs.Common.{◌≡◌, ℕ, suc, ◌+◌, ◌-◌, ◌*◌, ◌/◌, ◌<◌, ◌≤◌, ◌⊎◌, List, Some, inl, inr, sym, ap, ◌∙◌, arith, refl}
 use Rattle.std.proofs.Common.{Contains, get_or, length, mul-le-mul_right, nat_le, nat_lt, option_map, slice_get, zero-add}
 use Rattle.std.proofs.lemmas.Bool.{and_parts, cases_lt, leb-true, ltb-true}
 use Rattle.std.proofs.lemmas.Nat.{le-div}
@@ -37,10 +37,8 @@ module _ (skips : SkippingConforms) (link : AccessLink) (streams : List AccessSt
       (first : (j : ℕ) (x : Crossing) → i ≤ j → j ≤ i + many → slice_get s.crossings (are.place j) ≡ Some x → y.start ≤ x.start)
       (y_sooner : y.start + way_of link delays.least.0 shortest ≤ b.at.0 + sync)
       (last : IsLastIdle link streams y.frame.at.0) where
-    test : Crossing → Bool
-    test = is_ahead last.at time y.start
-
-    ahead : ℕ
+    -- how many of the stream's frames start before it since the link was idle
+    abbrev ahead : ℕ
     ahead = length (ahead_in last.at time y.start s)
 
     -- one of the frames that start before it, or of the arrivals
@@ -50,9 +48,9 @@ module _ (skips : SkippingConforms) (link : AccessLink) (streams : List AccessSt
       from : last.at ≤ crossing.frame.at.0
       sooner : crossing.start + way_of link delays.least.0 shortest ≤ b.at.0 + sync
       which : ((crossing.start < y.start) × (rank (is_ahead last.at time y.start) s.crossings p ≡ r))
-          ⊎ ((length (ahead_in last.at time y.start s) ≤ r) × (y.start ≤ crossing.start) × (p ≡ are.place (i + (r - length (ahead_in last.at time y.start s)))))
+          ⊎ ((ahead ≤ r) × (y.start ≤ crossing.start) × (p ≡ are.place (i + (r - ahead))))
 
-    one_ahead : (r : ℕ) → r < length (ahead_in last.at time y.start s) → (p : ℕ) × IsOne r p
+    one_ahead : (r : ℕ) → r < ahead → (p : ℕ) × IsOne r p
     one_ahead r l =
         let k = ranked (is_ahead last.at time y.start) s.crossings r y l in
         let x = get_or s.crossings k.0 y in
@@ -83,9 +81,9 @@ module _ (skips : SkippingConforms) (link : AccessLink) (streams : List AccessSt
       | inr e ↦ e
     ]
 
-    one_arrived : (r : ℕ) → length (ahead_in last.at time y.start s) ≤ r → r < suc (many + length (ahead_in last.at time y.start s)) → (p : ℕ) × IsOne r p
+    one_arrived : (r : ℕ) → ahead ≤ r → r < suc (many + ahead) → (p : ℕ) × IsOne r p
     one_arrived r m l =
-        let j : ℕ = i + (r - length (ahead_in last.at time y.start s)) in
+        let j : ℕ = i + (r - ahead) in
         let in_row : j ≤ i + many = omega (arith, l, m) in
         let a = at_place arrived j b (omega (arith, in_row, inside)) in
         let x = are.each j a.0 a.1 in
@@ -102,8 +100,8 @@ module _ (skips : SkippingConforms) (link : AccessLink) (streams : List AccessSt
           },
         )
 
-    one : (r : ℕ) → r < suc (many + length (ahead_in last.at time y.start s)) → (p : ℕ) × IsOne r p
-    one r l = elim (cases_lt r (length (ahead_in last.at time y.start s))) [
+    one : (r : ℕ) → r < suc (many + ahead) → (p : ℕ) × IsOne r p
+    one r l = elim (cases_lt r (ahead)) [
       | inl less ↦ one_ahead r less
       | inr more ↦ one_arrived r more l
     ]
@@ -114,7 +112,7 @@ module _ (skips : SkippingConforms) (link : AccessLink) (streams : List AccessSt
         sym (get_or_from_slice_get s.crossings p x y f) ∙ ap (λ n. get_or s.crossings n y) e ∙ get_or_from_slice_get s.crossings q z y g
 
     -- no two are the same
-    apart : (j k p q : ℕ) → IsOne j p → IsOne k q → j < k → k < suc (many + length (ahead_in last.at time y.start s)) → p ≡ q → ⊥
+    apart : (j k p q : ℕ) → IsOne j p → IsOne k q → j < k → k < suc (many + ahead) → p ≡ q → ⊥
     apart j k p q u v less l e =
         let same = ap (λ (x : Crossing). x.start) (same_crossing u.crossing v.crossing p q e u.there v.there) in
         elim u.which [
@@ -124,7 +122,7 @@ module _ (skips : SkippingConforms) (link : AccessLink) (streams : List AccessSt
           ]
           | inr f ↦ elim v.which [
             | inl g ↦ omega (arith, same, f.1, g.0)
-            | inr g ↦ are.once (i + (j - length (ahead_in last.at time y.start s))) (i + (k - length (ahead_in last.at time y.start s)))
+            | inr g ↦ are.once (i + (j - ahead)) (i + (k - ahead))
                 (omega (arith, less, f.0)) (omega (arith, l, inside, g.0)) (sym f.2 ∙ e ∙ g.2)
           ]
         ]
@@ -156,29 +154,26 @@ module _ (skips : SkippingConforms) (link : AccessLink) (streams : List AccessSt
     crowd : (blocks : ℕ) → 0 < s.promise.frames → many ≡ blocks * s.promise.frames →
         ((x h : Crossing) → last.at ≤ h.frame.at.0 → x.start + way_of link delays.least.0 shortest ≤ b.at.0 + sync →
         x.start < (h.frame.at.0 + blocks * s.promise.interval - s.promise.jitter)
-        + length (ahead_in last.at time y.start s) * taken_of link shortest) → ⊥
+        + ahead * taken_of link shortest) → ⊥
     crowd blocks fills long early =
-        too_many low.0 many z from room at.0 start (slot_some shortest link.octet_time sent.takes_time) lowest later sooner
+        too_many low.0 many ahead from room at.0 start (slot_some shortest link.octet_time sent.takes_time) lowest later sooner
         (λ j k less l e. apart j k (at.0 j) (at.0 k) (at.1 j (omega (arith, less, l))) (at.1 k l) less l e) turned
       where
-        z : ℕ
-        z = length (ahead_in last.at time y.start s)
-
         room : ℕ
         room = taken_of link shortest
 
-        at : (f : ℕ → ℕ) × ((r : ℕ) → r < suc (many + length (ahead_in last.at time y.start s)) → IsOne r (f r))
-        at = chosen (suc (many + length (ahead_in last.at time y.start s))) IsOne one
+        at : (f : ℕ → ℕ) × ((r : ℕ) → r < suc (many + ahead) → IsOne r (f r))
+        at = chosen (suc (many + ahead)) IsOne one
 
         start : ℕ → ℕ
         start r = (get_or s.crossings (at.0 r) y).start
 
-        start_is : (r : ℕ) (l : r < suc (many + length (ahead_in last.at time y.start s))) → start r ≡ (at.1 r l).crossing.start
+        start_is : (r : ℕ) (l : r < suc (many + ahead)) → start r ≡ (at.1 r l).crossing.start
         start_is r l = ap (λ (x : Crossing). x.start) (get_or_from_slice_get s.crossings (at.0 r) (at.1 r l).crossing y (at.1 r l).there)
 
-        low : (p : ℕ) × ((r : ℕ) → r < suc (many + length (ahead_in last.at time y.start s)) → p ≤ at.0 r) × ((q : ℕ) × IsOne q p)
+        low : (p : ℕ) × ((r : ℕ) → r < suc (many + ahead) → p ≤ at.0 r) × ((q : ℕ) × IsOne q p)
         low =
-            let e = ends at.0 0 (many + length (ahead_in last.at time y.start s)) in
+            let e = ends at.0 0 (many + ahead) in
             (at.0 e.low, (λ r l. omega (arith, e.least r (omega (arith, l)), ap at.0 (zero-add r))), (e.low, at.1 e.low (omega (arith, e.low_upto))))
 
         h : Crossing
@@ -187,10 +182,10 @@ module _ (skips : SkippingConforms) (link : AccessLink) (streams : List AccessSt
         from : ℕ
         from = h.frame.at.0 + blocks * s.promise.interval - s.promise.jitter
 
-        lowest : (r : ℕ) → r < suc (many + length (ahead_in last.at time y.start s)) → low.0 ≤ at.0 r
+        lowest : (r : ℕ) → r < suc (many + ahead) → low.0 ≤ at.0 r
         lowest = low.1
 
-        later : (r : ℕ) → r < suc (many + length (ahead_in last.at time y.start s)) → low.0 + many ≤ at.0 r → from ≤ start r
+        later : (r : ℕ) → r < suc (many + ahead) → low.0 + many ≤ at.0 r → from ≤ start r
         later r l far =
             let x = (at.1 r l).crossing in
             let spaced = (sent.kept s c).spaced low.0 (at.0 r) h.frame x.frame (low.1 r l) (handed_at low.0 h low.2.1.there) (handed_at (at.0 r) x (at.1 r l).there) in
@@ -199,13 +194,13 @@ module _ (skips : SkippingConforms) (link : AccessLink) (streams : List AccessSt
             let behind = sent.behind s x c (contains_at s.crossings (at.0 r) x (at.1 r l).there) in
             omega (arith, spaced, blocks_more, behind, start_is r l)
 
-        sooner : (r : ℕ) → r < suc (many + length (ahead_in last.at time y.start s)) → start r < from + z * room
+        sooner : (r : ℕ) → r < suc (many + ahead) → start r < from + ahead * room
         sooner r l = omega (arith, early (at.1 r l).crossing h low.2.1.from (at.1 r l).sooner, start_is r l)
 
-        turned : (j k : ℕ) → j < k → k < suc (many + length (ahead_in last.at time y.start s)) →
+        turned : (j k : ℕ) → j < k → k < suc (many + ahead) →
             (start j + room ≤ start k) ⊎ (start k + room ≤ start j)
         turned j k less l =
-            let m : j < suc (many + length (ahead_in last.at time y.start s)) = omega (arith, less, l) in
+            let m : j < suc (many + ahead) = omega (arith, less, l) in
             elim (behind_each (at.1 j m).crossing (at.1 k l).crossing (at.0 j) (at.0 k) (at.1 j m).there (at.1 k l).there
             (apart j k (at.0 j) (at.0 k) (at.1 j m) (at.1 k l) less l)) [
               | inl t ↦ inl (omega (arith, t, start_is j m, start_is k l))
