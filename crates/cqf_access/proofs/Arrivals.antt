@@ -22,7 +22,7 @@ frames_are_whole_within waits link streams others delays time s x at sent bound 
     record { least = omega (arith, whole.least, behind); most = omega (arith, whole.most, late, behind) }
 
 -- the way of a frame is no shorter where it has more octets
-longer_way : (link : AccessLink) (delay p q : ℕ) → p ≤ q → way_of link delay p ≤ way_of link delay q
+pub longer_way : (link : AccessLink) (delay p q : ℕ) → p ≤ q → way_of link delay p ≤ way_of link delay q
 longer_way link delay p q more = omega (arith, time_grows (p + 8) (q + 8) link.octet_time (omega (arith, more)))
 
 -- the longest way of one is as much longer than the shortest of another as the spread says, where none is larger or shorter than may be
@@ -36,7 +36,7 @@ spread_way link delays shortest size p q small large =
     numbers first most second least a b = omega (arith, a, b)
 
 -- an element of a list stands at each of its places
-at_place : {X : Type 0} (xs : List X) (k : ℕ) (d : X) → k < length xs → (x : X) × (slice_get xs k ≡ Some x)
+pub at_place : {X : Type 0} (xs : List X) (k : ℕ) (d : X) → k < length xs → (x : X) × (slice_get xs k ≡ Some x)
 at_place xs k d l = (get_or xs k d, slice_get-get_or xs k d l)
 
 module _ (waits : AccessLinkBoundsQueueing) (link : AccessLink) (streams : List AccessStream) (others : List Other) (delays : Delays) (time shortest : ℕ)
@@ -104,7 +104,7 @@ edge_conforms_by_clocks waits link streams others delays time shortest sync s ar
     conforms waits link streams others delays time shortest s sent bound c least sync arrived are
 
 -- a clock that is no other changes no word
-one_clock : (t : Traffic) (arrived : List Offer) → Conforms (by_clock 0 t) arrived → Conforms t arrived
+pub one_clock : (t : Traffic) (arrived : List Offer) → Conforms (by_clock 0 t) arrived → Conforms t arrived
 one_clock t arrived c = record { sizes = c.sizes; spaced = λ i k a b order e f. omega (arith, c.spaced i k a b order e f) }
 
 pub edge_conforms : AccessLinkBoundsQueueing → EdgeConforms

@@ -2,6 +2,8 @@ pub mod Windows
 pub mod Busy
 pub mod Queueing
 pub mod Spread
+pub mod Chosen
+pub mod Closer
 pub mod Arrivals
 pub mod Least
 pub mod Steps

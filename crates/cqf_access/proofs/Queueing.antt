@@ -1,19 +1,25 @@
 -- What is handed over from an idle instant on within the bound takes no longer than the bound.
-use Rattle.std.proofs.Common.{◌≡◌, ℕ, ◌+◌, ◌-◌, ◌<◌, ◌≤◌, ◌∷◌, [], ◌&&◌, ◌⊎◌, List, Bool, true, inl, inr, ap, ◌∙◌, arith, Contains, sum_by}
-use Rattle.std.proofs.Common.{nat_le, nat_lt, mul-le-mul_right, le-leb, lt-ltb}
-use Rattle.std.proofs.lemmas.Bool.{cases_lt, cond-true}
+use Rattle.std.proofs.Common.{◌≡◌, ℕ, ◌+◌, ◌-◌, ◌*◌, ◌<◌, ◌≤◌, ◌∷◌, [], ◌&&◌, ◌⊎◌, List, Bool, true, false, inl, inr, ap, sym, ◌∙◌, arith, Contains, sum_by}
+use Rattle.std.proofs.Common.{if◌then◌else◌, filter, length, nat_le, nat_lt, mul-le-mul_right, le-leb, lt-ltb}
+use Rattle.std.proofs.lemmas.Bool.{cases_Bool, cases_lt, cond-true}
 use Rattle.std.proofs.lemmas.List.Elements.{All-contains}
 use Rattle.std.proofs.lemmas.List.Sums.{sum_by-le}
 use Rattle.cqf_lists.proofs.EachBelow.{contains_from_below}
 use Rattle.cqf_lists.proofs.Members.{all_from_members, contains_filter, contains_from_filter, contains_map, contains_one}
-use Rattle.cqf_lists.proofs.Sums.{double, sum_grouped, sum_le_members, sum_map, sum_member}
+use Rattle.cqf_lists.proofs.Sums.{double, sum_filter, sum_grouped, sum_le_members, sum_map, sum_member}
 use Rattle.cqf_units.proofs.Times.{time_grows}
 use Rattle.cqf_model.specs.declared.frames.Offer.{Offer}
-use Rattle.cqf_laws_timing.specs.Traffic.{SkippingConforms, Traffic}
+use Rattle.cqf_laws_timing.specs.Traffic.{SkippingConforms, Traffic, most_frames}
 use Rattle.cqf_access.specs.Access.{AccessLink, AccessLinkBoundsQueueing, AccessStream, Crossing, IsBound, IsSent, Other, handed, promises_of}
 use Rattle.cqf_access.specs.Access.{taken_by_other, taken_of, taken_within}
-use Rattle.cqf_access.proofs.Windows.{few_handed, gained, handed_in, is_of, on, on_one, past, past_few, past_many, seen, seen_few, ups}
+use Rattle.cqf_access.proofs.Windows.{ahead_few, ahead_handed, ahead_in, few_handed, gained, handed_in, is_ahead, is_of, on, on_one, past, past_few, past_many, seen, seen_few, ups}
 use Rattle.cqf_access.proofs.Busy.{IsCovered, IsLastIdle, covered_until, last_idle, left_until, over_when_idle, stop_of, takes}
+
+-- a frame starts behind so many of its own stream that were handed over from an instant on, and others take no more than the bound leaves them
+pub record IsBehindOwn (link : AccessLink) (time at : ℕ) (s : AccessStream) (x : Crossing) : Type 0 where
+  pub few : length (ahead_in at time x.start s) + 1 ≤ most_frames time s.promise
+  pub early : x.start < at + time
+  pub starts : x.start + taken_within link time s.promise ≤ at + time + length (ahead_in at time x.start s) * taken_of link s.promise.size
 
 module _ (skips : SkippingConforms) (link : AccessLink) (streams : List AccessStream) (others : List Other) (sent : IsSent link streams others) where
   -- a stream's frames are no larger than it says
@@ -108,17 +114,55 @@ module _ (skips : SkippingConforms) (link : AccessLink) (streams : List AccessSt
                 inl (v.stream, v.is_stream, omega (arith, past_few (taken_by_other link) k, counts, one))
           ]
 
-  -- so a frame of the window that isn't sent in the stretch, or not all of it, has room behind the stretch
-  fits : (a n time g : ℕ) (s : AccessStream) (x : Crossing) → IsBound link (promises_of streams) time → n ≤ time →
-      ((k : ℕ) → k < n → (a + k < a + taken_by_other link) ⊎ IsCovered link streams a (a + k)) → Contains streams s → Contains (handed_in a time s) x →
-      here a n x + g ≤ taken_of link s.promise.size → n + g ≤ time
-  fits a n time g s x bound short covered c k room =
+  -- so what a stream doesn't take in the stretch of what it may take has room behind the stretch
+  fits_beside : (a n time g : ℕ) (s : AccessStream) → IsBound link (promises_of streams) time → n ≤ time →
+      ((k : ℕ) → k < n → (a + k < a + taken_by_other link) ⊎ IsCovered link streams a (a + k)) → Contains streams s →
+      inner a n time s + g ≤ taken_within link time s.promise → n + g ≤ time
+  fits_beside a n time g s bound short covered c room =
       let least = all_covered a n time short covered in
-      let most = gained (inner a n time) (λ (r : AccessStream). taken_within link time r.promise) g streams s (λ r l. inner_few a n time r l) c
-      (inner_more a n time g s x c k room) in
+      let most = gained (inner a n time) (λ (r : AccessStream). taken_within link time r.promise) g streams s (λ r l. inner_few a n time r l) c room in
       let same : sum_by (λ (t : Traffic). taken_within link time t) (promises_of streams) ≡ sum_by (λ (r : AccessStream). taken_within link time r.promise) streams =
       sum_map (λ (t : Traffic). taken_within link time t) (λ (r : AccessStream). r.promise) streams in
       omega (arith, least, most, same, bound.enough)
+
+  -- and so has a frame of the window that isn't sent in the stretch, or not all of it
+  fits : (a n time g : ℕ) (s : AccessStream) (x : Crossing) → IsBound link (promises_of streams) time → n ≤ time →
+      ((k : ℕ) → k < n → (a + k < a + taken_by_other link) ⊎ IsCovered link streams a (a + k)) → Contains streams s → Contains (handed_in a time s) x →
+      here a n x + g ≤ taken_of link s.promise.size → n + g ≤ time
+  fits a n time g s x bound short covered c k room = fits_beside a n time g s bound short covered c (inner_more a n time g s x c k room)
+
+  -- frames that start behind the stretch take nothing of it
+  inner_ahead : (a n time : ℕ) (s : AccessStream) → Contains streams s →
+      inner a n time s ≤ length (ahead_in a time (a + n) s) * taken_of link s.promise.size
+  inner_ahead a n time s c =
+      let size = taken_of link s.promise.size in
+      let test = is_ahead a time (a + n) in
+      let counts = sum_le_members (λ (x : Crossing). here a n x) (λ (x : Crossing). if test x then size else 0) (handed_in a time s)
+      (λ x k. ahead_or_none x (of_stream a time s x k) k) in
+      let kept : sum_by (λ (x : Crossing). size) (filter test (handed_in a time s)) ≡ sum_by (λ (x : Crossing). if test x then size else 0) (handed_in a time s) =
+      sum_filter (λ (x : Crossing). size) test (handed_in a time s) in
+      let few = sum_by-le (λ (x : Crossing). size) size (filter test (handed_in a time s))
+      (all_from_members (λ (x : Crossing). size ≤ size) (filter test (handed_in a time s)) (λ x k. omega arith)) in
+      let same : length (filter test (handed_in a time s)) ≡ length (ahead_in a time (a + n) s) = ap length (sym (ahead_handed a time (a + n) s)) in
+      omega (arith, counts, kept, few, ap (λ m. m * size) same)
+    where
+      ahead_or_none : (x : Crossing) → Contains s.crossings x → Contains (handed_in a time s) x →
+          here a n x ≤ (if is_ahead a time (a + n) x then taken_of link s.promise.size else 0)
+      ahead_or_none x k inside = elim (cases_Bool (is_ahead a time (a + n) x)) [
+        | inl t ↦ omega (arith, cond-true {A = ℕ} (is_ahead a time (a + n) x) (taken_of link s.promise.size) 0 t, here_few a n s x c k)
+        | inr f ↦
+            let t : is_of a time x.frame.at.0 ≡ true = (contains_from_filter (λ (y : Crossing). is_of a time y.frame.at.0) s.crossings x inside).1 in
+            let later : a + n ≤ x.start = elim (cases_lt x.start (a + n)) [
+              | inl sooner ↦
+                  let both : is_ahead a time (a + n) x ≡ true = ap (λ (b : Bool). b && nat_lt x.start (a + n)) t ∙ lt-ltb x.start (a + n) sooner in
+                  absurd (different (sym f ∙ both))
+              | inr e ↦ e
+            ] in
+            omega (arith, (seen_few a n x.start (stop_of link x)).0, later)
+      ]
+        where
+          different : false ≡ true → ⊥
+          different e = cc
 
   module _ (time : ℕ) (bound : IsBound link (promises_of streams) time) (s : AccessStream) (x : Crossing) (c : Contains streams s)
       (k : Contains s.crossings x) (last : IsLastIdle link streams x.frame.at.0) where
@@ -158,9 +202,21 @@ module _ (skips : SkippingConforms) (link : AccessLink) (streams : List AccessSt
             (in_window last.at time l.stream l.crossing l.is_crossing from l.before) room in
             omega (arith, over)
 
-    -- so it starts in time
-    starts : x.start + taken_of link s.promise.size ≤ x.frame.at.0 + time
-    starts = elim (cases_lt (last.at + time) x.start) [
+    some : 0 < size
+    some = takes link streams others sent s.promise.size
+
+    behind : x.frame.at.0 ≤ x.start
+    behind = sent.behind s x c k
+
+    inside : Contains (handed_in last.at time s) x
+    inside = in_window last.at time s x k last.early of_window
+
+    unseen : (n : ℕ) → last.at + n ≤ x.start → here last.at n x + size ≤ size
+    unseen n upto = omega (arith, (seen_few last.at n x.start (stop_of link x)).0, upto)
+
+    -- so one of its stream's largest would have its gap behind it within the window
+    starts_in_window : x.start + size ≤ last.at + time
+    starts_in_window = elim (cases_lt (last.at + time) x.start) [
       | inl late ↦
           let over = fits last.at time time size s x bound (omega arith) (covered_so time (omega (arith, late))) c inside
           (unseen time (omega (arith, late))) in
@@ -170,21 +226,51 @@ module _ (skips : SkippingConforms) (link : AccessLink) (streams : List AccessSt
           let whole : last.at + n ≡ x.start = omega (arith, behind, last.early) in
           let over = fits last.at n time size s x bound (omega (arith, early)) (covered_so n (omega (arith, whole))) c inside
           (unseen n (omega (arith, whole))) in
-          omega (arith, over, whole, last.early)
+          omega (arith, over, whole)
     ]
+
+    -- so it starts in time
+    starts : x.start + taken_of link s.promise.size ≤ x.frame.at.0 + time
+    starts = omega (arith, starts_in_window, last.early)
+
+    -- it waits for as many of its own stream as start before it, and for what others take at most
+    starts_behind : IsBehindOwn link time last.at s x
+    starts_behind =
+        let n = x.start - last.at in
+        let whole : last.at + n ≡ x.start = omega (arith, behind, last.early) in
+        let ahead = inner_ahead last.at n time s c in
+        let same : length (ahead_in last.at time (last.at + n) s) ≡ length (ahead_in last.at time x.start s) = ap (λ e. length (ahead_in last.at time e s)) whole in
+        let few : length (ahead_in last.at time x.start s) + 1 ≤ most_frames time s.promise =
+        omega (arith, ahead_few last.at time s x inside, few_handed skips last.at time s (sent.promised s c) (sent.kept s c)) in
+        let room : inner last.at n time s + (most_frames time s.promise - length (ahead_in last.at time x.start s)) * size ≤ taken_within link time s.promise =
+        numbers (inner last.at n time s) (length (ahead_in last.at time (last.at + n) s)) (length (ahead_in last.at time x.start s)) (most_frames time s.promise) size
+        ahead same few in
+        let over = fits_beside last.at n time ((most_frames time s.promise - length (ahead_in last.at time x.start s)) * size) s bound
+        (omega (arith, starts_in_window, whole)) (covered_so n (omega (arith, whole))) c room in
+        record {
+          few = few;
+          early = omega (arith, starts_in_window, some);
+          starts = put_together x.start last.at n time (length (ahead_in last.at time x.start s)) (most_frames time s.promise) size whole few over;
+        }
       where
-        some : 0 < size
-        some = takes link streams others sent s.promise.size
+        numbers : (taken these ahead most size : ℕ) → taken ≤ these * size → these ≡ ahead → ahead + 1 ≤ most → taken + (most - ahead) * size ≤ most * size
+        numbers taken these ahead most size a e few =
+            let parts : most ≡ ahead + (most - ahead) = omega (arith, few) in
+            let all : most * size ≡ ahead * size + (most - ahead) * size = omega (arith, ap (λ m. m * size) parts) in
+            omega (arith, a, ap (λ m. m * size) e, all)
 
-        behind : x.frame.at.0 ≤ x.start
-        behind = sent.behind s x c k
-
-        inside : Contains (handed_in last.at time s) x
-        inside = in_window last.at time s x k last.early of_window
-
-        unseen : (n : ℕ) → last.at + n ≤ x.start → here last.at n x + size ≤ size
-        unseen n upto = omega (arith, (seen_few last.at n x.start (stop_of link x)).0, upto)
+        put_together : (start at n time ahead most size : ℕ) → at + n ≡ start → ahead + 1 ≤ most → n + (most - ahead) * size ≤ time →
+            start + most * size ≤ at + time + ahead * size
+        put_together start at n time ahead most size e few over =
+            let parts : most ≡ ahead + (most - ahead) = omega (arith, few) in
+            let all : most * size ≡ ahead * size + (most - ahead) * size = omega (arith, ap (λ m. m * size) parts) in
+            omega (arith, e, over, all)
 
 pub access_link_bounds_queueing : SkippingConforms → AccessLinkBoundsQueueing
 access_link_bounds_queueing skips link streams others time s x sent bound c k =
     starts skips link streams others sent time bound s x c k (last_idle link streams x.frame.at.0)
+
+pub frame_is_behind_own : SkippingConforms → (link : AccessLink) (streams : List AccessStream) (others : List Other) (time : ℕ) (s : AccessStream)
+    (x : Crossing) → IsSent link streams others → IsBound link (promises_of streams) time → Contains streams s → Contains s.crossings x →
+    (last : IsLastIdle link streams x.frame.at.0) → IsBehindOwn link time last.at s x
+frame_is_behind_own skips link streams others time s x sent bound c k last = starts_behind skips link streams others sent time bound s x c k last

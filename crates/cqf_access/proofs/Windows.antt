@@ -1,5 +1,5 @@
 -- How many frames a talker hands over within so long, and how much of a stretch of instants a frame is under way.
-use Rattle.std.proofs.Common.{◌≡◌, ℕ, zero, suc, ◌+◌, ◌-◌, ◌*◌, ◌/◌, ◌<◌, ◌≤◌, ◌∷◌, [], ◌&&◌, List, Bool, Some, inl, inr, refl, sym, ap, ◌∙◌, subst}
+use Rattle.std.proofs.Common.{◌≡◌, ℕ, zero, suc, ◌+◌, ◌-◌, ◌*◌, ◌/◌, ◌<◌, ◌≤◌, ◌∷◌, [], ◌&&◌, List, Bool, true, false, Some, inl, inr, refl, sym, ap, ◌∙◌, subst}
 use Rattle.std.proofs.Common.{arith, filter, length, get_or, Contains, slice_get, sum_by, nat_le, nat_lt, mul-le-mul_right, if◌then◌else◌, zero-add}
 use Rattle.std.proofs.lemmas.Bool.{and_parts, cases_Bool, cond-false, cond-true, leb-true, ltb-true, lt-ltb, le-leb}
 use Rattle.std.proofs.lemmas.List.{length-map}
@@ -7,13 +7,28 @@ use Rattle.std.proofs.lemmas.List.Sums.{sum_by-cons}
 use Rattle.std.proofs.lemmas.Nat.{le-div}
 use Rattle.std.proofs.lemmas.Option.{slice_get-get_or}
 use Rattle.cqf_lists.specs.Lists.{each_below}
-use Rattle.cqf_lists.proofs.Filters.{filter-map}
+use Rattle.cqf_lists.proofs.Filters.{filter-map, filter_weaker}
 use Rattle.cqf_lists.proofs.Members.{contains_at, contains_cases, contains_from_filter, contains_here, contains_later, contains_none}
-use Rattle.cqf_lists.proofs.Sums.{sum_below, sum_le_members}
+use Rattle.cqf_lists.proofs.Sums.{sum_below, sum_filter, sum_le_members}
 use Rattle.cqf_units.proofs.Cycles.{cycle_upto}
 use Rattle.cqf_model.specs.declared.frames.Offer.{Offer}
 use Rattle.cqf_laws_timing.specs.Traffic.{Conforms, IsTraffic, SkippingConforms, Traffic, most_frames}
 use Rattle.cqf_access.specs.Access.{AccessStream, Crossing, handed}
+
+-- ---- sums in which one has more room
+
+pub gained : {X : Type 0} (f h : X → ℕ) (g : ℕ) (xs : List X) (x : X) → ((y : X) → Contains xs y → f y ≤ h y) → Contains xs x → f x + g ≤ h x →
+    sum_by f xs + g ≤ sum_by h xs
+gained f h g [] x each k l = absurd (contains_none x k)
+gained {X} f h g (y ∷ ys) x each k l = elim (contains_cases y ys x k) [
+  | inl e ↦
+      let here : f y + g ≤ h y = subst (λ (z : X). f z + g ≤ h z) (sym e) l in
+      let rest = sum_le_members f h ys (λ z c. each z (contains_later y ys z c)) in
+      omega (arith, sum_by-cons f y ys, sum_by-cons h y ys, here, rest)
+  | inr m ↦
+      let r = gained f h g ys x (λ z c. each z (contains_later y ys z c)) m l in
+      omega (arith, sum_by-cons f y ys, sum_by-cons h y ys, r, each y (contains_here y ys))
+]
 
 -- ---- frames of a window
 
@@ -45,6 +60,44 @@ is_of a n at = nat_le a at && nat_lt at (a + n)
 -- a stream's frames that are handed over in it
 abbrev pub handed_in : ℕ → ℕ → AccessStream → List Crossing
 handed_in a n s = filter (λ (x : Crossing). is_of a n x.frame.at.0) s.crossings
+
+-- of these, those that start before an instant
+abbrev pub is_ahead : ℕ → ℕ → ℕ → Crossing → Bool
+is_ahead a n start x = is_of a n x.frame.at.0 && nat_lt x.start start
+
+abbrev pub ahead_in : ℕ → ℕ → ℕ → AccessStream → List Crossing
+ahead_in a n start s = filter (is_ahead a n start) s.crossings
+
+pub ahead_handed : (a n start : ℕ) (s : AccessStream) → ahead_in a n start s ≡ filter (is_ahead a n start) (handed_in a n s)
+ahead_handed a n start s = filter_weaker (is_ahead a n start) (λ (x : Crossing). is_of a n x.frame.at.0) s.crossings
+    (λ x k t. (and_parts (is_of a n x.frame.at.0) (nat_lt x.start start) t).0)
+
+-- a filter that leaves one out keeps fewer
+fewer : {X : Type 0} (p : X → Bool) (xs : List X) (x : X) → Contains xs x → p x ≡ false → length (filter p xs) + 1 ≤ length xs
+fewer {X} p xs x k out =
+    let counts = gained (λ (y : X). if p y then 1 else 0) (λ (y : X). 1) 1 xs x (λ y c. at_most_one (p y)) k
+    (omega (arith, cond-false {A = ℕ} (p x) 1 0 out)) in
+    omega (arith, counts, sum_filter (λ (y : X). 1) p xs, ones_of (filter p xs), ones_of xs)
+  where
+    at_most_one : (b : Bool) → (if b then 1 else 0) ≤ 1
+    at_most_one true = omega arith
+    at_most_one false = omega arith
+
+    ones_of : (ys : List X) → sum_by (λ (y : X). 1) ys ≡ length ys
+    ones_of [] = refl
+    ones_of (y ∷ ys) = omega (arith, sum_by-cons (λ (z : X). 1) y ys, ones_of ys)
+
+-- so those that start before one of them are fewer
+pub ahead_few : (a n : ℕ) (s : AccessStream) (x : Crossing) → Contains (handed_in a n s) x → length (ahead_in a n x.start s) + 1 ≤ length (handed_in a n s)
+ahead_few a n s x k =
+    let less = fewer (is_ahead a n x.start) (handed_in a n s) x k (not_itself (is_of a n x.frame.at.0)) in
+    omega (arith, less, ap length (ahead_handed a n x.start s))
+  where
+    not_itself : (b : Bool) → (b && nat_lt x.start x.start) ≡ false
+    not_itself b = elim (cases_Bool (b && nat_lt x.start x.start)) [
+      | inl t ↦ absurd (omega (arith, ltb-true x.start x.start (and_parts b (nat_lt x.start x.start) t).1))
+      | inr f ↦ f
+    ]
 
 pub few_handed : SkippingConforms → (a n : ℕ) (s : AccessStream) → IsTraffic s.promise → Conforms s.promise (handed s) →
     length (handed_in a n s) ≤ most_frames n s.promise
@@ -106,21 +159,6 @@ past_many m (suc n) =
       | inl t ↦ omega (arith, ltb-true n m t)
       | inr u ↦ let is : past m n ≡ 1 = cond-false {A = ℕ} (nat_lt n m) 0 1 u in omega (arith, r, more, one, is)
     ]
-
--- ---- sums in which one has more room
-
-pub gained : {X : Type 0} (f h : X → ℕ) (g : ℕ) (xs : List X) (x : X) → ((y : X) → Contains xs y → f y ≤ h y) → Contains xs x → f x + g ≤ h x →
-    sum_by f xs + g ≤ sum_by h xs
-gained f h g [] x each k l = absurd (contains_none x k)
-gained {X} f h g (y ∷ ys) x each k l = elim (contains_cases y ys x k) [
-  | inl e ↦
-      let here : f y + g ≤ h y = subst (λ (z : X). f z + g ≤ h z) (sym e) l in
-      let rest = sum_le_members f h ys (λ z c. each z (contains_later y ys z c)) in
-      omega (arith, sum_by-cons f y ys, sum_by-cons h y ys, here, rest)
-  | inr m ↦
-      let r = gained f h g ys x (λ z c. each z (contains_later y ys z c)) m l in
-      omega (arith, sum_by-cons f y ys, sum_by-cons h y ys, r, each y (contains_here y ys))
-]
 
 -- an instant counts once at most, and so does one at which something is under way
 pub past_few : (m k : ℕ) → past m k ≤ 1

@@ -1,11 +1,24 @@
 //! The least bound of an access link's waits.
 ghost use Rattle.std.specs.Prelude.{◌≡◌, ◌+◌, ◌*◌, ◌<◌, ◌≤◌, ◌^◌, min, All};
+ghost use Rattle.cqf_laws_timing.specs.Traffic.{most_frames};
 ghost use Rattle.cqf_traffic.specs.TrafficText.{IsTrafficText, promise_of};
 ghost use Rattle.cqf_access.specs.Access.{demand, taken_within};
 ghost use Rattle.cqf_access.specs.Bounding.{IsAccessBound, all_promises, link_of};
 
 use cqf_traffic::Traffic;
 use cqf_units::{Nanos, Octets, Rate, slot};
+
+/// How many frames of a stream a talker hands over within so long, at most.
+pub(crate) fn most_frames(promise: Traffic, time: Nanos) -> u128
+    requires short { time.0 ≤ 2 ^ 32 }
+    ensures value { result ≡ most_frames time.0 (promise_of promise) }
+    ensures bounded { result < 2 ^ 84 }
+    ensures range { IsTrafficText promise }
+{
+    let interval = promise.interval().0;
+    let reach = time.0 + promise.jitter().0 + interval - 1;
+    u128::from(reach / interval) * u128::from(promise.frames())
+}
 
 /// What a talker hands over of a stream within so long takes of a link, at most, in nanoseconds.
 fn taken_within(rate: Rate, promise: Traffic, time: Nanos) -> u128
@@ -14,10 +27,7 @@ fn taken_within(rate: Rate, promise: Traffic, time: Nanos) -> u128
     ensures bounded { result < 2 ^ 126 }
     ensures range { IsTrafficText promise }
 {
-    let interval = promise.interval().0;
-    let reach = time.0 + promise.jitter().0 + interval - 1;
-    let frames = u128::from(reach / interval) * u128::from(promise.frames());
-    frames * u128::from(slot(promise.size(), rate))
+    most_frames(promise, time) * u128::from(slot(promise.size(), rate))
 }
 
 /// What all of a station's talkers hand over within so long takes of its access link, with one frame of no stream, at most; or one more

@@ -1,6 +1,7 @@
 //! Laws about a talker's access link.
 ghost use Rattle.cqf_access.specs.Access.{AccessLinkBoundsQueueing};
 ghost use Rattle.cqf_access.specs.Arriving.{EdgeConforms, EdgeConformsByClocks, FramesAreWholeWithin, GridIsShifted, GridsAreKept, GridsConform};
+ghost use Rattle.cqf_access.specs.Closer.{EdgeConformsCloser, EdgeConformsCloserByClocks};
 ghost use Rattle.cqf_access.specs.InStep.{EdgeComesInTurns, EdgeKeepsStep};
 ghost use Rattle.cqf_access.specs.Reached.{LeastBoundIsReached};
 
@@ -44,5 +45,15 @@ pub fn edge_keeps_step()
     ensures step { EdgeKeepsStep }
     ensures turns { EdgeComesInTurns }
 {
+    access_link_bounds_queueing();
+}
+
+/// And where the link sends a stream's frames one after the other, the jitter there has no part of a wait for frames of the stream itself
+/// that is the same in each interval: of these only what they may differ in length (profile).
+pub fn edge_conforms_closer()
+    ensures conforms { EdgeConformsCloser }
+    ensures clocks { EdgeConformsCloserByClocks }
+{
+    conforming_offers_fit_a_cycle();
     access_link_bounds_queueing();
 }

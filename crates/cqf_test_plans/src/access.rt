@@ -1,5 +1,5 @@
 //! Bounds of access links, and what is of a word at the edge bridge, worked out by hand.
-use cqf_access::{Delays, access_bound, edge_jitter, edge_offset};
+use cqf_access::{Delays, access_bound, edge_jitter, edge_offset, grid_jitter};
 use cqf_traffic::{Traffic, read_flows};
 use cqf_units::{Nanos, Octets, Rate};
 use std::alloc::Global;
@@ -150,15 +150,15 @@ fn each_frame_is_rounded_up(rt: HostRuntime) {
     }
 }
 
-/// Whether a stream has this jitter at the edge bridge, and its grid begins there at this instant, by a bound of its link and the delays of
-/// that, where its shortest frame has so many octets.
+/// Whether a stream has this jitter at the edge bridge, and its grid this one and begins there at this instant, by a bound of its link and the
+/// delays of that, where its shortest frame has so many octets.
 fn is_at_edge(
     alloc: Global,
     promise: Promise,
     rate: Rate,
     shortest: u32,
     by: (u64, u64, u64),
-    wanted: (u64, u64),
+    wanted: (u64, u64, u64),
 ) -> bool {
     let Some(traffic) = traffic_of(alloc, promise) else {
         return false;
@@ -172,8 +172,9 @@ fn is_at_edge(
         return false;
     }
     let jitter = edge_jitter(rate, delays, Nanos(bound), Octets(shortest), traffic);
+    let late = grid_jitter(rate, delays, Nanos(bound), Octets(shortest), traffic);
     let offset = edge_offset(rate, delays, Octets(shortest), traffic);
-    (jitter.0, offset.0) == wanted
+    (jitter.0, late.0, offset.0) == wanted
 }
 
 /// A frame waits for 32,000 of 48,000 ns, and its delay varies by 200; its way takes 188 octets of 80 ns.
@@ -181,7 +182,16 @@ fn is_at_edge(
 fn frames_of_one_size_are_as_late_as_they_wait(rt: HostRuntime) {
     let promise = (125_000, 1, 180, 0);
     let by = (48_000, 400, 600);
-    assert!(rt; is_at_edge(rt.alloc(), promise, Rate::Mb100, 180, by, (32_200, 15_440)));
+    assert!(rt;
+        is_at_edge(
+            rt.alloc(),
+            promise,
+            Rate::Mb100,
+            180,
+            by,
+            (32_200, 32_200, 15_440)
+        )
+    );
 }
 
 /// One waits for 5,000 ns less the 1,234 that it takes. Its way is 1,924 ns at most, and that of a shortest one, of 72 octets with the preamble, 558
@@ -190,5 +200,48 @@ fn frames_of_one_size_are_as_late_as_they_wait(rt: HostRuntime) {
 fn short_frames_are_early(rt: HostRuntime) {
     let promise = (125_000, 1, 1522, 1000);
     let by = (5000, 500, 700);
-    assert!(rt; is_at_edge(rt.alloc(), promise, Rate::Mb10000, 64, by, (6132, 558)));
+    assert!(rt;
+        is_at_edge(
+            rt.alloc(),
+            promise,
+            Rate::Mb10000,
+            64,
+            by,
+            (6132, 6132, 558)
+        )
+    );
+}
+
+/// Three frames of 16,000 ns that come together wait for one another in each interval, for up to 32,000 ns.
+#[test]
+fn a_burst_is_no_later_for_itself(rt: HostRuntime) {
+    let promise = (125_000, 3, 180, 0);
+    let by = (48_000, 400, 600);
+    assert!(rt;
+        is_at_edge(
+            rt.alloc(),
+            promise,
+            Rate::Mb100,
+            180,
+            by,
+            (200, 32_200, 15_440)
+        )
+    );
+}
+
+/// Where they may be as short as 64 octets, two of these take 13,440 ns less, and their way is 9,280 ns shorter. Others take 52,000 ns.
+#[test]
+fn a_burst_of_short_frames_is_early(rt: HostRuntime) {
+    let promise = (125_000, 3, 180, 0);
+    let by = (100_000, 400, 600);
+    assert!(rt;
+        is_at_edge(
+            rt.alloc(),
+            promise,
+            Rate::Mb100,
+            64,
+            by,
+            (80_040, 93_480, 6160)
+        )
+    );
 }
