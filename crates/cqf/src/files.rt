@@ -93,8 +93,8 @@ fn read_standard(
     texts.read(alloc, most, &mut input)
 }
 
-/// Reads the files, in their order: at most so many bytes, of all of them together. `Err` with status 1 if they have more, and with status 4
-/// at the first file that can't be read.
+/// Reads the files in their order: at most `most` bytes of all files together. `Err` with status 1 if they have more, and with status 4 at the
+/// first file that can't be read.
 fn read_files(rt: &HostRuntime, alloc: Global, most: usize, names: &[&str]) -> Result<Texts, Stop>
     requires { most < 2 ^ 63 }
     ensures { IfOk result (λ texts. length texts.bytes ≤ most) }

@@ -60,7 +60,7 @@ module _ (waits : AccessLinkBoundsQueueing) (link : AccessLink) (streams : List 
     handed_at : (k : ℕ) (x : Crossing) → slice_get s.crossings k ≡ Some x → slice_get (handed s) k ≡ Some x.frame
     handed_at k x e = slice_get-map (λ (y : Crossing). y.frame) s.crossings k ∙ ap (option_map (λ (y : Crossing). y.frame)) e
 
-    -- two frames that stand so many places apart at the hand-over, each whole within its bounds
+    -- two frames that are handed over `gap` places apart, and are each whole within its bounds
     two : (x y : Crossing) (first last i k gap : ℕ) → IsWholeAt link delays x first → IsWholeAt link delays y last → slice_get s.crossings i ≡ Some x →
         slice_get s.crossings k ≡ Some y → i + gap ≤ k →
         first + gap / s.promise.frames * s.promise.interval ≤ last + (at_edge link delays time shortest s.promise).jitter

@@ -17,11 +17,12 @@ module _ (n : ℕ) (P : ℕ → ℕ → Type 0) (has : (k : ℕ) → k < n → (
   pub chosen : (f : ℕ → ℕ) × ((k : ℕ) → k < n → P k (f k))
   chosen = (λ k. pick k (cases_lt k n), λ k l. picked k (cases_lt k n) l)
 
--- numbers that are below some or of one of so many rooms from there on
+-- which number a frame gets: its place, if that is one of the `few` from `low` on, or else `few` and the number of the room that it starts in,
+-- rooms being counted from the instant `from`
 pub record HasRoom (low few from room at start v : ℕ) : Type 0 where
   pub which : ((at < low + few) × (low + v ≡ at)) ⊎ ((low + few ≤ at) × (v ≡ few + (start - from) / room))
 
--- where starts from an instant on are so far apart, and none is so late, there are no more
+-- if starts are a room apart from each other, and the last room ends `rooms` rooms after `from`, there are at most `few + rooms` frames
 pub too_many : (low few rooms from room : ℕ) (at start : ℕ → ℕ) → 0 < room →
     ((k : ℕ) → k < suc (few + rooms) → low ≤ at k) →
     ((k : ℕ) → k < suc (few + rooms) → low + few ≤ at k → from ≤ start k) →

@@ -30,7 +30,7 @@ module _ (skips : SkippingConforms) (link : AccessLink) (streams : List AccessSt
   handed_at : (k : ℕ) (x : Crossing) → slice_get s.crossings k ≡ Some x → slice_get (handed s) k ≡ Some x.frame
   handed_at k x e = slice_get-map (λ (y : Crossing). y.frame) s.crossings k ∙ ap (option_map (λ (y : Crossing). y.frame)) e
 
-  -- so many arrivals in a row from one on, none later than another offer by the clock there, and one of them that starts first
+  -- arrivals i to i + many are no later than an offer b by the clock there; y is a frame that starts no later than any of them
   module _ (i many : ℕ) (b : Offer) (inside : i + many < length arrived)
       (latest : (j : ℕ) (a : Offer) → j ≤ i + many → slice_get arrived j ≡ Some a → a.at.0 ≤ b.at.0)
       (y : Crossing) (y_there : Contains s.crossings y)

@@ -15,7 +15,8 @@ use Rattle.cqf_access.specs.Access.{taken_by_other, taken_of, taken_within}
 use Rattle.cqf_access.proofs.Windows.{ahead_few, ahead_handed, ahead_in, few_handed, gained, handed_in, is_ahead, is_of, on, on_one, past, past_few, past_many, seen, seen_few, ups}
 use Rattle.cqf_access.proofs.Busy.{IsCovered, IsLastIdle, covered_until, last_idle, left_until, over_when_idle, stop_of, takes}
 
--- a frame starts behind so many of its own stream that were handed over from an instant on, and others take no more than the bound leaves them
+-- when a frame starts: after the frames of its own stream that were handed over since an instant and started before it, while other streams
+-- take no more than the bound leaves them
 pub record IsBehindOwn (link : AccessLink) (time at : ℕ) (s : AccessStream) (x : Crossing) : Type 0 where
   pub few : length (ahead_in at time x.start s) + 1 ≤ most_frames time s.promise
   pub early : x.start < at + time

@@ -1,4 +1,4 @@
--- In which cycles frames of a talker in step come to its edge bridge.
+-- The cycles in which frames of a talker in step arrive at its edge bridge.
 use Rattle.std.proofs.Common.{◌≡◌, ℕ, ◌+◌, ◌*◌, ◌/◌, ◌%◌, ◌<◌, ◌≤◌, ap, ◌∙◌, sym, arith, div-add-mod'}
 use Rattle.std.proofs.Math.Nat.{add-mul-mod_self_right}
 use Rattle.cqf_lists.proofs.Members.{contains_at, place_of_member}
@@ -36,7 +36,7 @@ edge_keeps_step waits link streams others delays time shortest offset cycle_time
     cycle_of_block cycle_time sync begin grid.block reading at word step edge.0 edge.1 clocks
     ∙ sym (cycle_of_beginning cycle_time sync begin grid.block word step)
 
--- of intervals that are some times so many cycles long, each block's is one of so many
+-- if an interval is a multiple of `every` cycles, all blocks begin in cycles that are the same modulo `every`
 turn_of_block : (first block every cycle_time interval : ℕ) → 0 < cycle_time → interval % (every * cycle_time) ≡ 0 →
     (first + block * (interval / cycle_time)) % every ≡ first % every
 turn_of_block first block every cycle_time interval some whole =

@@ -32,7 +32,7 @@ gained {X} f h g (y ∷ ys) x each k l = elim (contains_cases y ys x k) [
 
 -- ---- frames of a window
 
--- frames so many places apart that come within so long are of so many intervals
+-- two frames that come within n ns are fewer places apart than the frames of the intervals that n ns can touch
 few_between : (n jitter interval frames apart first last a : ℕ) → 0 < interval → 0 < frames → a ≤ first → last < a + n →
     first + apart / frames * interval ≤ last + jitter → apart < (n + jitter + interval - 1) / interval * frames
 few_between n jitter interval frames apart first last a takes fills one two spaced =
@@ -120,7 +120,7 @@ ups n = each_below (λ k. k ∷ []) n
 abbrev pub on : ℕ → ℕ → ℕ → ℕ
 on start stop at = if nat_le start at && nat_lt at stop then 1 else 0
 
--- at how many of so many instants it is
+-- at how many of the n instants from a on it is under way
 abbrev pub seen : ℕ → ℕ → ℕ → ℕ → ℕ
 seen a n start stop = sum_by (λ k. on start stop (a + k)) (ups n)
 

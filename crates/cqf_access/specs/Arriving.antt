@@ -11,7 +11,7 @@ pub record IsWholeAt (link : AccessLink) (delays : Delays) (x : Crossing) (at : 
   pub least : ending_of x.start x.frame.octets link.octet_time + delays.least.0 ≤ at
   pub most : at ≤ ending_of x.start x.frame.octets link.octet_time + delays.most.0
 
--- how long a frame of so many octets is on its way with so long a delay, where it needn't wait
+-- how long a frame that doesn't wait takes from its hand-over until it is whole at the edge bridge, by its octets and the link's delay
 abbrev pub way_of : AccessLink → ℕ → ℕ → ℕ
 way_of link delay octets = ending_of 0 octets link.octet_time + delay
 
