@@ -1,4 +1,4 @@
--- A talker's access link: what a station hands to it, and how long a frame waits there at most (profile).
+-- A talker's access link: what a station hands to it, and how long a frame waits there at most.
 -- Instants and lengths of time are in nanoseconds, and whole ones.
 use Rattle.std.specs.Prelude.{ℕ, ◌+◌, ◌*◌, ◌<◌, ◌≤◌, ◌⊎◌, List, Option, Some, None, Contains, map, sum_by}
 use Rattle.cqf_units.specs.Timing.{idle_after, slot_of}

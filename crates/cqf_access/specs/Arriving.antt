@@ -1,4 +1,4 @@
--- When frames of a talker's access link are whole at the edge bridge, and the word that their stream keeps there (profile).
+-- When frames of a talker's access link are whole at the edge bridge, and the word that their stream keeps there.
 use Rattle.std.specs.Prelude.{ℕ, ◌≡◌, ◌+◌, ◌-◌, ◌*◌, ◌/◌, ◌<◌, ◌≤◌, List, All, Some, Contains, length, slice_get}
 use Rattle.cqf_units.specs.Timing.{ending_of}
 use Rattle.cqf_model.specs.declared.frames.Offer.{Offer}

@@ -1,4 +1,4 @@
--- The least bound of an access link's waits, and when there is none (profile).
+-- The least bound of an access link's waits, and when there is none.
 use Rattle.std.specs.Prelude.{ℕ, ◌≤◌, List, Option, Some, None, map, option_map}
 use Rattle.cqf_units.specs.Timing.{ticks_of_octet}
 use Rattle.cqf_units.specs.declared.timing.Nanos.{Nanos}

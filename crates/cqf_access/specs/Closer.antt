@@ -1,4 +1,4 @@
--- A closer word at the edge bridge: frames of one stream that wait for one another do so in each interval (profile).
+-- A closer word at the edge bridge: frames of one stream that wait for one another do so in each interval.
 use Rattle.std.specs.Prelude.{ℕ, ◌≡◌, ◌+◌, ◌-◌, ◌*◌, ◌<◌, ◌≤◌, ◌⊎◌, List, Some, Contains, slice_get}
 use Rattle.cqf_units.specs.Timing.{idle_after}
 use Rattle.cqf_model.specs.declared.frames.Offer.{Offer}

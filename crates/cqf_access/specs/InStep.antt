@@ -1,4 +1,4 @@
--- Talkers in step: at the edge bridge all frames of an interval come within one cycle, by each clock that may be there (profile).
+-- Talkers in step: at the edge bridge all frames of an interval come within one cycle, by each clock that may be there.
 use Rattle.std.specs.Prelude.{ℕ, ◌≡◌, ◌+◌, ◌*◌, ◌%◌, ◌<◌, ◌≤◌, List, Contains}
 use Rattle.cqf_units.specs.Timing.{cycle_at}
 use Rattle.cqf_model.specs.declared.frames.Offer.{Offer}

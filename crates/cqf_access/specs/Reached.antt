@@ -1,4 +1,4 @@
--- That the bound of an access link's waits is reached (profile).
+-- That the bound of an access link's waits is reached.
 use Rattle.std.specs.Prelude.{ℕ, ◌≡◌, ◌+◌, ◌<◌, ◌≤◌, ◌++◌, ◌∷◌, [], List, Contains}
 use Rattle.cqf_laws_timing.specs.Traffic.{IsTraffic, Traffic}
 use Rattle.cqf_access.specs.Access.{AccessLink, AccessStream, Crossing, IsSent, Other, promises_of, taken_of}

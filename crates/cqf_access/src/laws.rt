@@ -15,7 +15,7 @@ pub fn grids_conform()
 {}
 
 /// No frame of a stream waits longer on its talker's access link than a bound says that is found from the promises of all the
-/// station's streams, whatever the order in which the link sends; so it is whole at the edge bridge within that (profile).
+/// station's streams, whatever the order in which the link sends; so it is whole at the edge bridge within that.
 pub fn access_link_bounds_queueing()
     ensures waits { AccessLinkBoundsQueueing }
     ensures whole { FramesAreWholeWithin }
@@ -23,13 +23,13 @@ pub fn access_link_bounds_queueing()
     conforming_offers_fit_a_cycle();
 }
 
-/// Where the least bound is no longer than each stream's interval less its jitter, there is a link on which a frame waits so long (profile).
+/// Where the least bound is no longer than each stream's interval less its jitter, there is a link on which a frame waits so long.
 pub fn least_bound_is_reached()
     ensures { LeastBoundIsReached }
 {}
 
 /// So a talker that keeps its word at the hand-over keeps one at the edge bridge, also by the clock there: the same, but for a greater
-/// jitter, and on a grid that begins later (profile).
+/// jitter, and on a grid that begins later.
 pub fn edge_conforms()
     ensures conforms { EdgeConforms }
     ensures clocks { EdgeConformsByClocks }
@@ -40,7 +40,7 @@ pub fn edge_conforms()
 
 /// And where that jitter leaves each frame in its cycle, by each clock that may be at the edge bridge, all that a talker hands over on a
 /// grid comes there in the cycle in which it stands on the grid: so in one of so many cycles, where its intervals are some times so long
-/// (profile).
+/// 
 pub fn edge_keeps_step()
     ensures step { EdgeKeepsStep }
     ensures turns { EdgeComesInTurns }
@@ -49,7 +49,7 @@ pub fn edge_keeps_step()
 }
 
 /// And where the link sends a stream's frames one after the other, the jitter there has no part of a wait for frames of the stream itself
-/// that is the same in each interval: of these only what they may differ in length (profile).
+/// that is the same in each interval: of these only what they may differ in length.
 pub fn edge_conforms_closer()
     ensures conforms { EdgeConformsCloser }
     ensures clocks { EdgeConformsCloserByClocks }

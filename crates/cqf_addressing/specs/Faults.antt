@@ -1,4 +1,4 @@
--- The texts of the faults of addressing (profile): a fault's name, and then its values, each after a space.
+-- The texts of the faults of addressing: a fault's name, and then its values, each after a space.
 use Rattle.std.specs.Prelude.{ℕ, ◌++◌, List, codes, decimal}
 use Rattle.cqf_press.specs.Stops.{fault_line}
 use Rattle.cqf_topology.specs.TomlFaults.{toml_fault_text}

@@ -1,4 +1,4 @@
--- The form of the name of an interface (profile).
+-- The form of the name of an interface.
 use Rattle.std.specs.Prelude.{ℕ, ◌==◌, ◌||◌, ◌&&◌, Bool, false, List, [], ◌∷◌, Option, Some, None, if◌then◌else◌, length, nat_le}
 use Rattle.std.specs.List.{list_all}
 

@@ -1,4 +1,4 @@
--- The keys that say how a plan is put into real bridges (profile).
+-- The keys that say how a plan is put into real bridges.
 use Rattle.std.specs.Prelude.{ℕ, List, codes}
 use Rattle.cqf_addressing.specs.declared.keys.AddressKey.{AddressKey}
 use Rattle.cqf_addressing.specs.declared.keys.AddressKey.TheVariants.{Mac, Vlan, Gate, Interface, FarInterface}

@@ -1,4 +1,4 @@
--- The interfaces of the links of a text, or the first fault of the text (profile).
+-- The interfaces of the links of a text, or the first fault of the text.
 use Rattle.std.specs.Prelude.{ℕ, List, [], ◌∷◌, Option, Result, Ok, Err, if◌then◌else◌, ok_or, option_and_then, slice_get}
 use Rattle.toml.specs.Data.{Items, Members, as_array, as_table}
 use Rattle.cqf_lists.specs.Results.{and_then}

@@ -1,4 +1,4 @@
--- Destination addresses of frames, and how they are written (profile).
+-- Destination addresses of frames, and how they are written.
 use Rattle.std.specs.Prelude.{ℕ, ◌≡◌, ◌+◌, ◌*◌, ◌/◌, ◌%◌, ◌<◌, ◌==◌, ◌&&◌, ◌++◌, Bool, not, All, IsTrue, List, [], ◌∷◌, Option, Some, None, if◌then◌else◌}
 use Rattle.std.specs.Prelude.{bytes_eq, length, nat_lt, option_and_then, slice_index, take}
 use Rattle.std.specs.Char.{digit_value, is_digit}

@@ -1,4 +1,4 @@
--- The addresses of the streams of a text, or the first fault of the text (profile).
+-- The addresses of the streams of a text, or the first fault of the text.
 use Rattle.std.specs.Prelude.{ℕ, ◌+◌, ◌++◌, ◌==◌, List, [], ◌∷◌, Option, Some, None, Result, Ok, Err, if◌then◌else◌, length, ok_or, option_and_then}
 use Rattle.std.specs.Prelude.{slice_get}
 use Rattle.std.specs.List.{list_any}

@@ -1,4 +1,4 @@
--- What stands at the keys of a table (profile).
+-- What stands at the keys of a table.
 use Rattle.std.specs.Prelude.{ℕ, ◌≤◌, ◌&&◌, Bool, List, Option, Some, None, Result, Ok, if◌then◌else◌, nat_le, ok_or, option_and_then}
 use Rattle.toml.specs.Data.{Data, Members, as_str, get_member}
 use Rattle.cqf_lists.specs.Results.{and_then}

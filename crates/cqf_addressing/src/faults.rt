@@ -9,7 +9,7 @@ use std::alloc::AllocFailed;
 use std::fmt;
 use thiserror::Error;
 
-/// Why a domain text or a streams text is refused for its keys of addressing (profile). The checks are made in the order of the variants,
+/// Why a domain text or a streams text is refused for its keys of addressing. The checks are made in the order of the variants,
 /// each over the whole text before the next. A fault prints as its name, and then its values.
 #[derive(Clone, Copy, Debug, PartialEq, Eq, Error)]
 pub enum AddressingFault {

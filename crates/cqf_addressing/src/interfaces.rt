@@ -9,7 +9,7 @@ use cqf_press::{Press, Sink};
 use std::marker::Model;
 
 /// The name of an interface of a bridge: 1 to 15 bytes, each `a` to `z`, `A` to `Z`, `0` to `9`, `.`, `_`, `-` or `@`. The first byte is a
-/// letter or a digit (profile). Linux allows each of these names, and no shell has to quote one.
+/// letter or a digit. Linux allows each of these names, and no shell has to quote one.
 #[derive(Drop)]
 pub struct InterfaceName {
     bytes: ArrayVec<u8, 15>,

@@ -66,7 +66,7 @@ fn interfaces_of_table(alloc: Global, table: &Table) -> Result<Vec<LinkInterface
 /// The interfaces of the links of a text, one element a link in its order.
 ///
 /// The text is that of [`cqf_topology::Domain::read`], of which only the array of links and these keys of each are looked at: `interface` and
-/// `far-interface`, each a text of the form of an [`InterfaceName`] (profile).
+/// `far-interface`, each a text of the form of an [`InterfaceName`].
 ///
 /// # Errors
 /// `NotToml` and `Missing` and `BadValue` of `links` where there is no array of tables; `BadValue` of the first key, in reading order,

@@ -81,7 +81,7 @@ fn addresses_of_table(
 ///
 /// The text is that of [`cqf_topology::read_paced_streams`], of which only the array of streams and these keys of each are looked at: `mac`, six
 /// pairs of hexadecimal digits of either case with `:` between, of an address to which bridges forward; `vlan`, an integer from 1 to 4,094; and
-/// `x-gate`, an integer from 1 to as many as streams may be held within the limits (profile).
+/// `x-gate`, an integer from 1 to as many as streams may be held within the limits.
 ///
 /// # Errors
 /// `NotToml` and `Missing` and `BadValue` of `streams` where there is no array of tables; `BadValue` of the first key, in reading order,

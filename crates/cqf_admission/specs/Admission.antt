@@ -1,4 +1,4 @@
--- What an administration is to those who call it, and what its calls do (profile).
+-- What an administration is to those who call it, and what its calls do.
 use Rattle.std.specs.Prelude.{ℕ, ◌≡◌, ◌+◌, ◌-◌, ◌≤◌, ◌<◌, ◌↔◌, ◌++◌, [], ◌∷◌, Bool, true, false, List, Result, Ok, Err, filter, length, map, string_bytes}
 use Rattle.std.specs.Arc.{arc_value}
 use Rattle.cqf_model.specs.declared.history.Receipt.{Receipt}

@@ -1,4 +1,4 @@
--- What streams cost of a link at most (profile).
+-- What streams cost of a link at most.
 use Rattle.std.specs.Prelude.{ℕ, ◌-◌, List, [], ◌∷◌, if◌then◌else◌, fold, max}
 use Rattle.cqf_lists.specs.Lists.{each_below}
 use Rattle.cqf_model.specs.declared.topology.Hop.{Hop}

@@ -1,4 +1,4 @@
--- What a ledger is to those who call it, and what its calls do (profile).
+-- What a ledger is to those who call it, and what its calls do.
 use Rattle.std.specs.Prelude.{ℕ, ◌≡◌, ◌+◌, ◌≤◌, ◌<◌, List, Result, Ok, Err, filter}
 use Rattle.cqf_units.specs.declared.reservations.Cycle.{Cycle}
 use Rattle.cqf_model.specs.declared.history.Reply.TheVariants.{Sealed}

@@ -1,4 +1,4 @@
--- Laws that say of each line of a script what it calls for, or why it is refused, in a planner's words (profile).
+-- Laws that say of each line of a script what it calls for, or why it is refused, in a planner's words.
 use Rattle.std.specs.Prelude.{ℕ, ◌≡◌, ◌+◌, ◌<◌, ◌≤◌, ◌⊎◌, ◌↔◌, true, false, not, List, Some, None, Ok, Err, count_by, length, slice_get, take, Contains}
 use Rattle.cqf_text.specs.Lines.{lines_of}
 use Rattle.cqf_model.specs.History.{Act, Admits, Asked, Seals, Withdraws}

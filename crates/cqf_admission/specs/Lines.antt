@@ -1,4 +1,4 @@
--- The lines of a script (profile): `N admit WORD`, `N withdraw WORD` or `seal`.
+-- The lines of a script: `N admit WORD`, `N withdraw WORD` or `seal`.
 use Rattle.std.specs.Prelude.{ℕ, ◌-◌, ◌&&◌, Bool, List, [], ◌∷◌, Option, Some, None, if◌then◌else◌}
 use Rattle.std.specs.Prelude.{codes, drop, length, nat_le, option_and_then, option_map, take}
 use Rattle.std.specs.List.{list_all}

@@ -1,4 +1,4 @@
--- What a script calls for (profile).
+-- What a script calls for.
 use Rattle.std.specs.Prelude.{ℕ, ◌+◌, ◌≤◌, List, [], ◌∷◌, Option, Some, None, Result, Ok, Err, count_by, find, max}
 use Rattle.std.specs.Prelude.{nat_le, not, ok_or, option_map, if◌then◌else◌}
 use Rattle.cqf_lists.specs.Results.{and_then}

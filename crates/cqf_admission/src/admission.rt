@@ -25,7 +25,7 @@ use std::alloc::Global;
 use std::marker::Model;
 use std::sync::Arc;
 
-/// An admission controller over a domain, with its history of calls (profile).
+/// An admission controller over a domain, with its history of calls.
 #[derive(Debug, Drop)]
 pub struct Admission {
     alloc: Global,
@@ -121,7 +121,7 @@ impl Admission {
     /// refused; then with the first reason that is due, in this order: `BadName`, `BadOctets`, `UnknownNode`,
     /// `BrokenPath`, `LoopingPath`, `NotATree`, each over all branches before the next, `TooManyHops`, `NameHeld`, `TooManyStreams`
     /// (as many are held as the domain may have), `BudgetShort`; and where none is, with `Memory` where there is none for the stream's row. `HistoryFull` and
-    /// `Memory` change nothing; each other call enters the history with its answer (profile).
+    /// `Memory` change nothing; each other call enters the history with its answer.
     pub fn admit(&mut self, seat: u16, request: &Request) -> Result<Receipt, Refused>
         ensures answers { Answers self.old self.new seat (Admits (asked_of request.now)) result }
         ensures held { HoldsOneMore self.old self.new (asked_of request.now) result }
@@ -204,7 +204,7 @@ impl Admission {
     ///
     /// Refused with `HistoryFull` and `Memory` as [`Admission::admit`], then with `NotHeld` where no held stream has the
     /// name, and `AlreadyWithdrawn`; and where none is, with `Memory` where there is none for the row of a stream that ends
-    /// (profile).
+    /// 
     pub fn withdraw(&mut self, seat: u16, name: &str) -> Result<Receipt, Refused>
         ensures answers { Answers self.old self.new seat (Withdraws name.now) result }
         ensures held { EndsOne self.old self.new result }
@@ -224,7 +224,7 @@ impl Admission {
 
     /// Closes the next cycle to changes, and gives its table: the streams that are held in it, by number.
     ///
-    /// Refused with `CyclesSpent` after 100,000 Seals, and with `Memory`; neither changes anything (profile).
+    /// Refused with `CyclesSpent` after 100,000 Seals, and with `Memory`; neither changes anything.
     pub fn seal(&mut self, seat: u16) -> Result<Table, SealFault>
         ensures closes { Closes self.old self.new seat result }
         ensures lets_go { IfOk result (λ table. LetsGo self.old self.new table) }
@@ -242,7 +242,7 @@ impl Admission {
         Ok(Table::new(cycle, listed))
     }
 
-    /// What the streams that are held in the next cycle cost of a link at most, in octets in a cycle: never more than its budget (profile).
+    /// What the streams that are held in the next cycle cost of a link at most, in octets in a cycle: never more than its budget.
     pub fn held_on(&self, link: u16) -> Octets
         requires { link < length self.now.domain.links }
         ensures held { result.0 ≡ most_cost (held_in self.now.domain self.now.entries (seals self.now.entries)) link }
@@ -253,7 +253,7 @@ impl Admission {
     }
 
     /// What a hop's link has left beside the streams that are held in the next cycle, in octets, in the cycles in which frames of a pace go
-    /// by it: the least in one of these (profile). The pace is of one cycle of a divisor of 80.
+    /// by it: the least in one of these. The pace is of one cycle of a divisor of 80.
     pub fn left_at(&self, hop: &Hop, pace: Pace) -> Octets
         requires inside { hop.now.link < length self.now.domain.links }
         requires good { IsGoodPace pace }

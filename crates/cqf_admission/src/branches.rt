@@ -135,7 +135,7 @@ fn is_bridge_node(node: Option<Node>) -> bool
 }
 
 /// Whether a branch is broken at a place: it is empty or begins with no bridge; no link goes from the node before to this
-/// one; its last node is a bridge; or as many nodes stand before this place as a branch may have (profile).
+/// one; its last node is a bridge; or as many nodes stand before this place as a branch may have.
 fn is_branch_broken_at(
     domain: &Domain,
     nodes: &[Option<Node>],
@@ -286,7 +286,7 @@ fn do_part(names: &[String], others: &[String]) -> bool
     false
 }
 
-/// Whether two branches make one tree: they begin at one bridge, and part for good (profile).
+/// Whether two branches make one tree: they begin at one bridge, and part for good.
 fn do_make_a_tree(names: &[String], others: &[String]) -> bool
     ensures { result ≡ make_a_tree (branch_of names.now) (branch_of others.now) }
 {

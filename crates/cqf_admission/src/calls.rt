@@ -69,7 +69,7 @@ fn seats_up_to(line: &[u8]) -> u16
 }
 
 /// The number of administrators of a script: one more than the greatest number whose order a line is, or 0 where there is
-/// none (profile). It is the seat of the Seals.
+/// none. It is the seat of the Seals.
 pub fn administrators(text: &[u8]) -> u16
     ensures { result ≡ administrators (lines_of text.now) }
 {
@@ -409,7 +409,7 @@ fn plain_calls(alloc: Global, calls: Vec<(u16, Call)>) -> Result<Vec<(u16, Call)
 /// Each line is `N admit NAME`, `N withdraw NAME` or `seal`, with single spaces: `N` is one digit from 0 to 7, the
 /// administrator, who is the call's seat, and `NAME` is 1 to 64 bytes from 0x21 to 0x7E. `admit` means the first request of
 /// the name. The seat of Seals is the number of administrators: one more than the greatest, or 0 where there is none. A
-/// script may have no lines (profile).
+/// script may have no lines.
 ///
 /// # Errors
 /// The fault of the first line that has one: `BadLine` where it has another form, `UnknownStream` where it admits a stream

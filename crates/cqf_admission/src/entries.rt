@@ -44,7 +44,7 @@ pub struct Entry {
     pub reply: Reply,
 }
 
-/// Why a cycle isn't closed (profile). Nothing is changed.
+/// Why a cycle isn't closed. Nothing is changed.
 #[derive(Clone, Copy, Debug, PartialEq, Eq, Error)]
 pub enum SealFault {
     /// 100,000 cycles were closed.

@@ -8,7 +8,7 @@ use std::fmt;
 use thiserror::Error;
 
 /// Why a script is refused: what is wrong with the first line that is not as it has to be, where lines count from 1
-/// (profile). Of one line the first fault in the order of the variants is told. A fault prints as its name, and then its
+///. Of one line the first fault in the order of the variants is told. A fault prints as its name, and then its
 /// line.
 #[derive(Clone, Copy, Debug, PartialEq, Eq, Error)]
 pub enum ScriptFault {

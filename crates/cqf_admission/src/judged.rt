@@ -106,7 +106,7 @@ fn judge_parts(
 }
 
 /// What a request is by itself, whose stream is offered in each cycle. The caller sees to it that its branches have fewer than 2^64 places
-/// together (profile).
+/// together.
 ///
 /// # Errors
 /// The first reason against its form: `BadName`, `BadOctets`, `UnknownNode`, `BrokenPath`, `LoopingPath`, `NotATree`, each
@@ -120,7 +120,7 @@ pub fn judge(domain: &Domain, request: &Request) -> Result<JudgedRequest, Refuse
 }
 
 /// What a request is by itself, whose stream is offered in some cycles. The caller sees to it that its branches have fewer than 2^64 places
-/// together (profile).
+/// together.
 ///
 /// # Errors
 /// As [`judge`], and behind `BadOctets` with `BadPace`, where the number of cycles, in one of which the stream is offered, doesn't divide

@@ -23,7 +23,7 @@ use cqf_units::{Cycle, Memory, Octets};
 use std::alloc::Global;
 use std::marker::Model;
 
-/// An admission controller over a domain, with its log of calls (profile). It answers as [`Admission`](crate::Admission)
+/// An admission controller over a domain, with its log of calls. It answers as [`Admission`](crate::Admission)
 /// does, but copies no request and makes no table: a call takes a time that grows with its own request's tree, and a Seal one
 /// that grows with the streams that end in it.
 #[derive(Drop)]
@@ -135,7 +135,7 @@ impl<'s> Ledger<'s> {
     /// refused; then with the first reason that is due, in this order: `BadName`, `BadOctets`, `UnknownNode`,
     /// `BrokenPath`, `LoopingPath`, `NotATree`, each over all branches before the next, `TooManyHops`, `NameHeld`, `TooManyStreams`
     /// (as many are held as the domain may have), `BudgetShort`. `HistoryFull` and `Memory` change nothing; each other call enters the log with its answer
-    /// (profile).
+    /// 
     pub fn admit(&mut self, seat: u16, place: usize) -> Result<Receipt, Refused>
         requires { place < length self.old.requests }
         ensures requests { self.new.requests ≡ self.old.requests }
@@ -179,7 +179,7 @@ impl<'s> Ledger<'s> {
     /// number and the first cycle in which it is live no more. It is held on for as many cycles as its deepest link is deep.
     ///
     /// Refused with `HistoryFull` and `Memory` as [`Ledger::admit`], then with `NotHeld` where no held stream has the name,
-    /// and `AlreadyWithdrawn` (profile).
+    /// and `AlreadyWithdrawn`.
     pub fn withdraw(&mut self, seat: u16, from: usize, octets: u8) -> Result<Receipt, Refused>
         requires { StandsIn self.old.requests self.old.script (Withdraw from octets) }
         ensures requests { self.new.requests ≡ self.old.requests }
@@ -200,7 +200,7 @@ impl<'s> Ledger<'s> {
 
     /// Closes the next cycle to changes, and gives its number.
     ///
-    /// Refused with `CyclesSpent` after 100,000 Seals, and with `Memory`; neither changes anything (profile).
+    /// Refused with `CyclesSpent` after 100,000 Seals, and with `Memory`; neither changes anything.
     pub fn seal(&mut self, seat: u16) -> Result<Cycle, SealFault>
         ensures requests { self.new.requests ≡ self.old.requests }
         ensures script { self.new.script ≡ self.old.script }
@@ -217,7 +217,7 @@ impl<'s> Ledger<'s> {
         Ok(cycle)
     }
 
-    /// What the streams that are held in the next cycle cost of a link at most, in octets in a cycle: never more than its budget (profile).
+    /// What the streams that are held in the next cycle cost of a link at most, in octets in a cycle: never more than its budget.
     pub fn held_on(&self, link: u16) -> Octets
         requires { link < length self.now.administration.domain.links }
         ensures held { result.0 ≡ most_cost (held_of self.now.administration) link }

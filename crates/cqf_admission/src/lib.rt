@@ -1,4 +1,4 @@
-//! The admission of streams into a domain, and the scripts that call for it (profile).
+//! The admission of streams into a domain, and the scripts that call for it.
 //!
 //! No link is ever over its budget in a cycle. A withdrawn stream keeps its costs and its name until its last frame has left the last bridge of
 //! its deepest branch.

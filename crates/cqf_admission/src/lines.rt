@@ -23,7 +23,7 @@ pub(crate) struct Order<'t> {
     pub(crate) name: &'t str,
 }
 
-/// Whether the line is `seal`, which closes a cycle to changes (profile).
+/// Whether the line is `seal`, which closes a cycle to changes.
 pub fn is_seal_line(line: &[u8]) -> bool
     ensures { result ≡ is_seal_line line.now }
 {
@@ -109,7 +109,7 @@ pub(crate) fn read_order(line: &[u8]) -> Option<Order<'_>>
     order_behind(rest, seat)
 }
 
-/// Whether the line is `N admit NAME` or `N withdraw NAME`, as [`read_script`](crate::read_script) reads them (profile).
+/// Whether the line is `N admit NAME` or `N withdraw NAME`, as [`read_script`](crate::read_script) reads them.
 pub fn is_order(line: &[u8]) -> bool
     ensures { result ≡ is_some (order_of_line line.now) }
 {

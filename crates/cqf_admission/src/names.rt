@@ -8,7 +8,7 @@ use std::alloc::Global;
 use std::collections::BTreeMap;
 use std::marker::Model;
 
-/// The requests for streams that a script may admit, found by their names: a name means the first request of it (profile).
+/// The requests for streams that a script may admit, found by their names: a name means the first request of it.
 #[derive(Drop)]
 pub struct Names<'r> {
     requests: &'r [PacedRequest],

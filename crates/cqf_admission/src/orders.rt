@@ -3,7 +3,7 @@ ghost use Rattle.std.specs.Prelude.{◌≡◌, ◌+◌, ◌≤◌, length};
 ghost use Rattle.std.specs.Str.{IsUtf8};
 ghost use Rattle.cqf_admission.specs.Orders.{word_at};
 
-/// What an administrator calls for, by where it stands (profile).
+/// What an administrator calls for, by where it stands.
 #[derive(Clone, Copy, Debug, PartialEq, Eq)]
 pub enum What {
     /// To admit the stream of the request at this place among all.

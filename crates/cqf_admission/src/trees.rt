@@ -118,7 +118,7 @@ fn looping_place_of(domain: &Domain, nodes: &[Option<Node>], paths: &[Vec<String
 /// as [`count_places`](crate::count_places) tells.
 ///
 /// # Errors
-/// The first reason why they are no tree, each asked of all branches before the next (profile): `UnknownNode`, at the first
+/// The first reason why they are no tree, each asked of all branches before the next: `UnknownNode`, at the first
 /// place whose node the domain lacks; `BrokenPath`, at the first place that no link leads to from the one before, at which a
 /// branch begins with no bridge or ends with one, or behind as many nodes as a branch may have, and 0 where there is no branch; `LoopingPath`, at
 /// the first place whose node stood earlier in its branch; `NotATree`, with the number, from 0, of the first branch that

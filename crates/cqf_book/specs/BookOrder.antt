@@ -1,4 +1,4 @@
--- The order of a book's drops, and of its starts (profile).
+-- The order of a book's drops, and of its starts.
 use Rattle.std.specs.Prelude.{ℕ, ◌<◌, ◌==◌, ◌&&◌, Bool, List, filter}
 use Rattle.cqf_model.specs.declared.frames.Dropped.{Dropped}
 use Rattle.cqf_model.specs.declared.frames.Started.{Started}

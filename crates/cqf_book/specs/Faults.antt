@@ -1,4 +1,4 @@
--- Why a cycle book takes no page and doesn't close (profile), and its faults as texts: the fault's name, and the bridge's number.
+-- Why a cycle book takes no page and doesn't close, and its faults as texts: the fault's name, and the bridge's number.
 use Rattle.std.specs.Prelude.{ℕ, ◌≡◌, ◌≢◌, ◌<◌, ◌++◌, ◌⊎◌, List, codes, decimal}
 use Rattle.cqf_model.specs.declared.frames.Page.{Page}
 use Rattle.cqf_book.specs.declared.faults.BookClose.{BookClose}

@@ -1,4 +1,4 @@
--- The pages that the bridges have posted, what makes a page the next one, and what the pages have on a link (profile).
+-- The pages that the bridges have posted, what makes a page the next one, and what the pages have on a link.
 use Rattle.std.specs.Prelude.{ℕ, ◌≡◌, ◌<◌, ◌≤◌, ◌++◌, List, [], ◌∷◌, length, sum_by}
 use Rattle.std.specs.Prelude.{Option, Some, slice_get, slice_index_or, slice_set}
 use Rattle.cqf_model.specs.declared.frames.Page.{Page}

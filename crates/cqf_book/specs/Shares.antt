@@ -1,4 +1,4 @@
--- The shares of a cycle book, and the book that their pages give (profile).
+-- The shares of a cycle book, and the book that their pages give.
 use Rattle.std.specs.Prelude.{ℕ, ◌≡◌, ◌<◌, ◌≤◌, ◌++◌, ◌==◌, List, [], ◌∷◌, Bool, Option, Some, None, count_by, find, length, map}
 use Rattle.std.specs.List.{All, flat_map}
 use Rattle.cqf_lists.specs.Lists.{each_below}

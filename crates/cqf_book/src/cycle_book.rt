@@ -256,7 +256,7 @@ impl CycleBook {
 
     /// The book of the pages that it was made of and, bridge by bridge, of those of the bridge's share behind them: the
     /// starts by cycle, then link, then instant, the drops by cycle, then bridge, then frame; what has these three in common
-    /// stands by page, and by its place there (profile). It waits for nobody. It takes one share of each bridge, in any
+    /// stands by page, and by its place there. It waits for nobody. It takes one share of each bridge, in any
     /// order; other shares are [`BookClose::ShareMissing`], and a share whose pages aren't those that the book took of its
     /// bridge is [`BookClose::SharesDisagree`], with the least such bridge; then comes `Memory`, where a growth is refused.
     /// Where it answers, no page of these stands twice and none is missing: each is of the bridge and the cycle at whose place

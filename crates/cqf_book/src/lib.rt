@@ -1,4 +1,4 @@
-//! Pages on which each bridge writes what it sent and dropped in a cycle, and the order of a book (profile).
+//! Pages on which each bridge writes what it sent and dropped in a cycle, and the order of a book.
 //!
 //! - [`Pages`] takes each bridge's [`Page`]s in order of cycle, each once, and refuses the others with a [`PageFault`]. [`Totals`] is how many
 //!   streams' frames and octets they have on a link.

@@ -1,4 +1,4 @@
--- What a link sends of streams' frames in a cycle, as the next bridge gets it (profile).
+-- What a link sends of streams' frames in a cycle, as the next bridge gets it.
 use Rattle.std.specs.Prelude.{ℕ, ◌≡◌, ◌^◌, ◌<◌, List, length, map, sum_by}
 use Rattle.std.specs.List.{zip}
 use Rattle.cqf_units.specs.declared.timing.Nanos.{Nanos}

@@ -1,4 +1,4 @@
--- Bridges that go on each at its own pace, with batches under way between them and tables still to come (profile).
+-- Bridges that go on each at its own pace, with batches under way between them and tables still to come.
 use Rattle.std.specs.Prelude.{ℕ, ◌≡◌, ◌+◌, ◌≤◌, ◌<◌, ◌++◌, List, [], Some, length, slice_get, true, Contains}
 use Rattle.std.specs.List.{flat_map}
 use Rattle.std.specs.Option.{option_to_list}

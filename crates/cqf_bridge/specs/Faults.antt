@@ -1,4 +1,4 @@
--- Why a bridge refuses a call, and what stands after it (profile).
+-- Why a bridge refuses a call, and what stands after it.
 use Rattle.std.specs.Prelude.{ℕ, ◌≡◌, ◌++◌, List, codes, decimal, false, true}
 use Rattle.cqf_bridge.specs.declared.faults.BridgeFault.{BridgeFault}
 use Rattle.cqf_bridge.specs.declared.faults.BridgeFault.TheVariants.{Spent, WrongCycle, StrangeBatch, OverOctets, Memory}

@@ -1,4 +1,4 @@
--- When the ports of a bridge start next, and cycles in which none of them starts a frame (profile).
+-- When the ports of a bridge start next, and cycles in which none of them starts a frame.
 use Rattle.std.specs.Prelude.{ℕ, ◌≡◌, ◌+◌, ◌≤◌, ◌<◌, false, List, [], MatchOption, Option, Contains, map, slice_index_or}
 use Rattle.cqf_units.specs.declared.timing.Nanos.{Nanos}
 use Rattle.cqf_model.specs.Limits.{most_cycles}

@@ -1,4 +1,4 @@
--- The receive phase of a cycle: what comes to a bridge in it, what becomes of it, and why a bridge refuses it (profile).
+-- The receive phase of a cycle: what comes to a bridge in it, what becomes of it, and why a bridge refuses it.
 use Rattle.std.specs.Prelude.{ℕ, ◌≡◌, ◌+◌, ◌==◌, List, [], ◌∷◌, if◌then◌else◌, false, true, length, map, slice_get, take, Contains, Some}
 use Rattle.std.specs.List.{flat_map}
 use Rattle.cqf_lists.specs.Lists.{each_below}

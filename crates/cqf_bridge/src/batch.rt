@@ -9,7 +9,7 @@ use std::alloc::Global;
 use std::marker::Model;
 
 /// The streams' frames that a link sends in a cycle, in order of start, as the node at its end gets them. No background
-/// frame is in it, since these end with their link (profile).
+/// frame is in it, since these end with their link.
 #[derive(Debug, Drop)]
 pub struct Batch {
     link: u16,

@@ -252,7 +252,7 @@ impl Bridge {
     }
 
     /// Passes over cycles in which the bridge does nothing, from the next one to this one: its ports run to the end of the
-    /// cycle with nothing started, as if it had sent and received each of them with nothing in it (profile). That nothing comes
+    /// cycle with nothing started, as if it had sent and received each of them with nothing in it. That nothing comes
     /// to the bridge in them is for the caller to see to.
     ///
     /// Where a growth is refused, the bridge is spent.

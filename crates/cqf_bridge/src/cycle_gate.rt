@@ -19,7 +19,7 @@ const CLASS_OF_ODD_CYCLE: u8 = 7;
 
 /// What is kept of a stream's gate. The stream gate that goes by the list of the stream's row, as it is compiled for frames that
 /// came so, counts each cycle for itself, and lets pass what is reserved in the cycle: so it needs no list, but what passed of the
-/// stream in the cycle, whichever way it came (profile).
+/// stream in the cycle, whichever way it came.
 #[derive(Clone, Copy, Debug)]
 pub(crate) struct KeptGate {
     /// The stream's number.
@@ -63,7 +63,7 @@ impl KeptGate {
     /// Whether a frame of a row's stream, of so many octets from the destination address to the FCS, passes at the instant, and
     /// with which traffic class: `Class` exactly where the octets and those that passed before in the same cycle are within what
     /// the row reserves there for frames that came by the link, or at the edge. A frame that doesn't pass takes nothing, so a
-    /// smaller one may pass behind it (profile).
+    /// smaller one may pass behind it.
     pub(crate) fn pass(
         &mut self,
         domain: &Domain,

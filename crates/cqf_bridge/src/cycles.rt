@@ -33,7 +33,7 @@ pub fn receiving_follows()
 }
 
 /// What a bridge gave in a cycle, the frames of its batches, its background frames and its drops, is its page of the run's book
-/// (profile).
+/// 
 pub fn page_follows()
     ensures { PageFollows }
 {

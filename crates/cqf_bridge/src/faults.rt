@@ -6,7 +6,7 @@ use cqf_units::Memory;
 use std::fmt;
 use thiserror::Error;
 
-/// Why a bridge refuses a call: the first of these that fits, in the order in which they stand here (profile). It prints as
+/// Why a bridge refuses a call: the first of these that fits, in the order in which they stand here. It prints as
 /// its name, and the frame's number.
 #[derive(Clone, Copy, Debug, PartialEq, Eq, Drop, Error)]
 pub enum BridgeFault {

@@ -45,7 +45,7 @@ pub struct Incoming {
 
 impl Incoming {
     /// A frame that a link sent, as it comes to the bridge in which the link ends: it is whole there when its last octet has
-    /// come, after the link's delay (profile). Its start is within the 1,000,000 longest cycles.
+    /// come, after the link's delay. Its start is within the 1,000,000 longest cycles.
     pub fn by_link(domain: &Domain, link: u16, sent: Sent) -> Incoming
         requires inside { link < length domain.now.links }
         requires early { sent.start.0 < end_of_starts }

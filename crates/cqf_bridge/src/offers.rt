@@ -19,7 +19,7 @@ fn is_offered(domain: &Domain, offer: &Offer, bridge: u16, cycle: Cycle) -> bool
     here && then
 }
 
-/// The offer at a place among all of a run, from 0, once more, with its number, which counts from 1 (profile).
+/// The offer at a place among all of a run, from 0, once more, with its number, which counts from 1.
 pub fn numbered_offer(place: usize, offer: &Offer) -> Offered
     requires { place + 1 < 2 ^ 32 }
     ensures { result ≡ record { frame = place + 1; offer = offer.now } }

@@ -18,7 +18,7 @@ use cqf_model::{Reason, Row};
 use cqf_topology::Domain;
 use cqf_units::{Cycle, Memory, Name, Octets};
 
-/// What becomes of a frame that comes to a bridge (profile, after IEEE 802.1Q, 8.6.5.1).
+/// What becomes of a frame that comes to a bridge (after IEEE 802.1Q, 8.6.5.1).
 #[derive(Clone, Copy, Debug)]
 pub enum FrameVerdict<'a> {
     /// It goes on with its stream's row, and waits in this class at each port of the bridge by whose link the stream goes on.
@@ -118,7 +118,7 @@ fn police_inside<'a>(
 }
 
 /// What becomes of a frame at the bridge of this number, by the table of its cycle and behind the frames that the gates have
-/// counted: its stream's gate counts it where it goes on (profile, after IEEE 802.1Q, 8.6.5.1). The frame is whole within the
+/// counted: its stream's gate counts it where it goes on (after IEEE 802.1Q, 8.6.5.1). The frame is whole within the
 /// cycle. `Memory` where a growth is refused; then the gates have counted nothing.
 pub fn police<'a>(
     domain: &Domain,

@@ -1,4 +1,4 @@
--- The gate that is written for a stream at a bridge (profile).
+-- The gate that is written for a stream at a bridge.
 use Rattle.std.specs.Prelude.{ℕ, List, Option, find}
 use Rattle.std.specs.Option.{option_and_then}
 use Rattle.cqf_model.specs.declared.gates.StreamEntry.{StreamEntry}

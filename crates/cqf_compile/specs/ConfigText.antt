@@ -1,4 +1,4 @@
--- The configuration of a domain and its streams, as a text (profile).
+-- The configuration of a domain and its streams, as a text.
 use Rattle.std.specs.Prelude.{ℕ, List, ◌∷◌, ◌++◌, codes}
 use Rattle.std.specs.Fmt.{decimal}
 use Rattle.std.specs.List.{flat_map}

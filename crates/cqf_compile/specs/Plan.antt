@@ -5,7 +5,7 @@ use Rattle.cqf_model.specs.GateList.{Entry}
 use Rattle.cqf_model.specs.Domain.{Domain, IsAccepted}
 use Rattle.cqf_model.specs.Network.{compiled_lists}
 
--- the domain is accepted, and there is a gate list for each link, which is that of its port (profile)
+-- the domain is accepted, and there is a gate list for each link, which is that of its port
 pub record IsPlan (d : Domain) (lists : List (List Entry)) : Type 0 where
   pub accepted : IsAccepted d
   pub one_each : lists ≡ each_below (λ l. compiled_lists d l ∷ []) (length d.links)

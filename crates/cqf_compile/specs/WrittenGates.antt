@@ -1,4 +1,4 @@
--- The gate that is written for a stream at a bridge is the one that the network demands there (profile).
+-- The gate that is written for a stream at a bridge is the one that the network demands there.
 use Rattle.std.specs.Prelude.{ℕ, ◌≡◌, ◌<◌, true, Contains, Option}
 use Rattle.cqf_gates.specs.SpanLaws.{PassTheSame}
 use Rattle.cqf_model.specs.declared.topology.Row.{Row}

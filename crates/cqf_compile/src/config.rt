@@ -1,4 +1,4 @@
-//! The configuration as a text, line by line (profile).
+//! The configuration as a text, line by line.
 ghost use Rattle.std.specs.Prelude.{◌≡◌, ◌<◌, ◌++◌, ◌∷◌, [], All, IfOk, codes, length, map};
 ghost use Rattle.std.specs.Arc.{arc_value};
 ghost use Rattle.std.specs.List.{flat_map};
@@ -123,7 +123,7 @@ fn put_shared<W: Sink>(press: &mut Press<'_, W>, plan: &Plan, rows: &[Arc<Row>])
 /// The configuration of the plan and the streams of a table. For each link by number it has a line `link FROM>TO`, and
 /// then the gate list of the link's port. Then, for each row of the table by number and each bridge of its tree, once and in
 /// the order in which the tree leaves them, it has a line `stream NO NAME bridge BRIDGE`, and then the stream's gate there
-/// (profile). The trees of the table go along links of the plan's domain, and the paces of its streams are good.
+///. The trees of the table go along links of the plan's domain, and the paces of its streams are good.
 pub fn write_config(alloc: Global, plan: &Plan, table: &Table) -> Result<Vec<u8>, Memory>
     requires along { AreAlongLinks plan.now table.now.rows }
     requires paced { AreOfGoodPaces table.now.rows }

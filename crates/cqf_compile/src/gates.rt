@@ -1,4 +1,4 @@
-//! The gate lists that a domain and a reservation determine (profile).
+//! The gate lists that a domain and a reservation determine.
 ghost use Rattle.std.specs.Prelude.{◌≡◌, ◌<◌, length};
 ghost use Rattle.cqf_model.specs.Network.{compiled_lists};
 ghost use Rattle.cqf_compile.specs.BridgeGates.{gate_at};

@@ -11,7 +11,7 @@ use std::alloc::Global;
 use std::marker::Model;
 
 /// A domain with the gate list of the port of each of its links. To those who hold it, it is its domain, since that
-/// determines the lists (profile).
+/// determines the lists.
 #[derive(Debug, Drop)]
 pub struct Plan {
     domain: Domain,

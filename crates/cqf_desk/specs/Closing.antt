@@ -1,4 +1,4 @@
--- What a closed desk's history is to its seats (profile).
+-- What a closed desk's history is to its seats.
 use Rattle.std.specs.Prelude.{ℕ, Bool, ◌≡◌, ◌+◌, ◌-◌, ◌<◌, ◌⊎◌, List, [], ◌∷◌, ◌==◌, ◌&&◌}
 use Rattle.std.specs.Prelude.{if◌then◌else◌, true, Option, None, Some, Result, Ok, Err}
 use Rattle.std.specs.Prelude.{All, Contains, drop, length, map, slice_get, take}

@@ -1,4 +1,4 @@
--- What a desk and its seats are to those who call them, and what a seat keeps of its calls (profile).
+-- What a desk and its seats are to those who call them, and what a seat keeps of its calls.
 use Rattle.std.specs.Prelude.{ℕ, ◌≡◌, ◌≤◌, ◌↔◌, List, [], ◌∷◌, ◌++◌, Result, Ok, Err, true, false}
 use Rattle.cqf_model.specs.declared.history.Receipt.{Receipt}
 use Rattle.cqf_model.specs.declared.history.Refused.{Refused}

@@ -17,7 +17,7 @@ use std::alloc::Global;
 use std::marker::Model;
 use std::sync::{Arc, Mutex, Wait};
 
-/// An admission behind a lock, at which threads ask with seats of their own (profile). A seat that seals follows its
+/// An admission behind a lock, at which threads ask with seats of their own. A seat that seals follows its
 /// history, so that mostly the desk is closed without a look at that seat's tables.
 #[derive(Drop)]
 pub struct Desk {
@@ -37,7 +37,7 @@ impl Model for Desk {
 }
 
 impl Desk {
-    /// A desk over an admission, and so many seats, numbered from 0 (profile). What the admission's history has already is
+    /// A desk over an admission, and so many seats, numbered from 0. What the admission's history has already is
     /// the opening part. `Memory` where a growth is refused; then the admission is gone. It waits for nobody.
     pub fn new(alloc: Global, admission: Admission, seats: u16) -> Result<(Desk, Vec<Seat>), Memory>
         ensures desk { IfOk result (λ made. made.0 ≡ record { opening = admission; seats = seats }) }

@@ -6,7 +6,7 @@ use cqf_units::Memory;
 use std::fmt;
 use thiserror::Error;
 
-/// Why a desk gives no history as it is closed (profile). `SeatMissing` comes before the others, and `Memory` also where a
+/// Why a desk gives no history as it is closed. `SeatMissing` comes before the others, and `Memory` also where a
 /// seat has disagreed already. It prints as its name, and then its value.
 #[derive(Clone, Copy, Debug, PartialEq, Eq, Drop, Error)]
 pub enum CloseFault {

@@ -2,7 +2,7 @@
 
 use cqf_admission::Entry;
 
-/// The history of a desk that was closed (profile).
+/// The history of a desk that was closed.
 #[derive(Debug, Drop)]
 pub struct History {
     /// How many entries were there when the desk was made.

@@ -20,7 +20,7 @@ use std::marker::Model;
 use std::sync::Arc;
 
 /// A seat of a desk: a number, the calls that were made with it, in order, with the answers that they got, and the tables
-/// of its Seals (profile). A seat that seals follows the history: at each Seal all calls up to it have been made once more
+/// of its Seals. A seat that seals follows the history: at each Seal all calls up to it have been made once more
 /// on a copy of the admission that the desk was made with, unless an answer was another.
 #[derive(Debug, Drop)]
 pub struct Seat {

@@ -1,4 +1,4 @@
--- The texts of a gate list's faults (profile): a fault's name, and then its value, after a space.
+-- The texts of a gate list's faults: a fault's name, and then its value, after a space.
 use Rattle.std.specs.Prelude.{ℕ, ◌++◌, List, codes, decimal}
 use Rattle.cqf_gates.specs.declared.faults.ListFault.{ListFault}
 use Rattle.cqf_gates.specs.declared.faults.ListFault.TheVariants as list_fault

@@ -1,4 +1,4 @@
--- Gate lists as texts (profile). An entry is the pair of its gate states and its interval.
+-- Gate lists as texts. An entry is the pair of its gate states and its interval.
 use Rattle.std.specs.Prelude.{ℕ, ◌+◌, ◌-◌, ◌*◌, ◌/◌, ◌%◌, ◌^◌, ◌==◌, ◌&&◌, nat_lt, List, [], ◌∷◌, ◌++◌, Option, Some, None, Result, Ok, Err, if◌then◌else◌}
 use Rattle.std.specs.Char.{digit_value, is_digit}
 use Rattle.std.specs.Fmt.{decimal}

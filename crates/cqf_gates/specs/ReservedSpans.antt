@@ -1,4 +1,4 @@
--- The gate of a reservation as it is written (profile): a list has few entries, so cycles in a row in which nothing passes are one.
+-- The gate of a reservation as it is written: a list has few entries, so cycles in a row in which nothing passes are one.
 use Rattle.std.specs.Prelude.{ℕ, ◌+◌, ◌-◌, ◌*◌, ◌%◌, ◌==◌, List, [], ◌∷◌, ◌++◌, if◌then◌else◌, Some}
 use Rattle.cqf_model.specs.declared.gates.StreamEntry.{StreamEntry}
 use Rattle.cqf_model.specs.declared.topology.Pace.{Pace}

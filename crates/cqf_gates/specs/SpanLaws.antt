@@ -1,4 +1,4 @@
--- What the written gate of a reservation does: what its list of one entry a cycle does (profile).
+-- What the written gate of a reservation does: what its list of one entry a cycle does.
 use Rattle.std.specs.Prelude.{ℕ, ◌≡◌, ◌<◌, List, true}
 use Rattle.cqf_model.specs.declared.gates.StreamEntry.{StreamEntry}
 use Rattle.cqf_model.specs.declared.topology.Pace.{Pace}

@@ -1,4 +1,4 @@
--- What a stream gate control list holds and is made of, and what a stream gate counts (profile).
+-- What a stream gate control list holds and is made of, and what a stream gate counts.
 use Rattle.std.specs.Prelude.{ℕ, ◌≡◌, ◌+◌, ◌≤◌, ◌<◌, ◌==◌, ◌&&◌, not, Bool, false, List, [], ◌∷◌, ◌++◌, if◌then◌else◌}
 use Rattle.std.specs.Prelude.{nat_lt, All, length, Option, Some, None, slice_get, Result, Ok, Err, ◌⊎◌}
 use Rattle.std.specs.List.{list_any}

@@ -1,4 +1,4 @@
--- The text that writes the list of a stream gate (profile).
+-- The text that writes the list of a stream gate.
 use Rattle.std.specs.Prelude.{ℕ, List, [], ◌∷◌, ◌++◌, ◌==◌, Bool, false, if◌then◌else◌, codes, Option, Some, None}
 use Rattle.std.specs.Fmt.{decimal}
 use Rattle.cqf_model.specs.declared.gates.StreamEntry.{StreamEntry}

@@ -11,7 +11,7 @@ pub record IsTxList (entries : List Entry) : Type 0 where
   pub few : length entries ≤ 16
   pub lasting : All (λ (entry : Entry). 0 < entry.1) entries
 
--- what is made of entries: the list, or the first fault that fits (profile)
+-- what is made of entries: the list, or the first fault that fits
 abbrev pub tx_list_of : List Entry → Result (List Entry) ListFault
 tx_list_of entries =
     if length entries == 0 then Err Empty else

@@ -1,4 +1,4 @@
--- What the text of a port's gate list is read as (profile).
+-- What the text of a port's gate list is read as.
 use Rattle.std.specs.Prelude.{ℕ, List, Result, Ok, Err}
 use Rattle.cqf_model.specs.GateList.{Entry}
 use Rattle.cqf_gates.specs.GateListText.{entries_of_text}

@@ -1,4 +1,4 @@
-//! One line of a gate list's text (profile).
+//! One line of a gate list's text.
 ghost use Rattle.std.specs.Prelude.{◌≡◌, ◌<◌};
 ghost use Rattle.std.specs.Char.{digit_value};
 ghost use Rattle.std.specs.Option.{SomeIff};
@@ -19,7 +19,7 @@ fn hex_value(byte: u8) -> Option<u8>
 }
 
 /// The entry that the line writes: its gate states as two hexadecimal digits of either case, one space, and its
-/// interval as a decimal number up to 4,294,967,295. `None` where the line has another form (profile).
+/// interval as a decimal number up to 4,294,967,295. `None` where the line has another form.
 pub(crate) fn read_entry(line: &[u8]) -> Option<(u8, u32)>
     ensures { result ≡ entry_of_line line.now }
 {

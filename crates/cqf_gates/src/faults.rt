@@ -5,10 +5,10 @@ ghost use Rattle.cqf_gates.specs.Faults.{list_fault_text, text_fault_text};
 use std::fmt;
 use thiserror::Error;
 
-/// The most entries that a gate list can have (profile).
+/// The most entries that a gate list can have.
 pub(crate) const MOST_ENTRIES: usize = 16;
 
-/// Why no gate list can be made of some entries (profile). It prints as its name.
+/// Why no gate list can be made of some entries. It prints as its name.
 #[derive(Clone, Copy, Debug, PartialEq, Eq, Drop, Error)]
 pub enum ListFault {
     /// There is no entry.
@@ -34,7 +34,7 @@ impl fmt::Display for ListFault {
     }
 }
 
-/// Why a text is no gate list (profile). It prints as its name and the line, or as the list's fault alone.
+/// Why a text is no gate list. It prints as its name and the line, or as the list's fault alone.
 #[derive(Clone, Copy, Debug, PartialEq, Eq, Drop, Error)]
 pub enum TextFault {
     /// The first line that writes no entry, where lines count from 1.

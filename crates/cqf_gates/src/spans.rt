@@ -1,4 +1,4 @@
-//! The entries of a reservation's gate, put one behind the other (profile).
+//! The entries of a reservation's gate, put one behind the other.
 ghost use Rattle.std.specs.Prelude.{[], ◌≡◌, ◌+◌, ◌*◌, ◌%◌, ◌^◌, ◌<◌, ◌∷◌, ◌++◌, length};
 ghost use Rattle.cqf_model.specs.declared.gates.StreamEntry.{StreamEntry as Entry};
 ghost use Rattle.cqf_gates.specs.ReservedSpans.{closed_for, open_in, second_turn};

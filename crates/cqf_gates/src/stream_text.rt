@@ -1,4 +1,4 @@
-//! The lists of stream gates as texts (profile).
+//! The lists of stream gates as texts.
 ghost use Rattle.std.specs.Prelude.{◌≡◌, ◌++◌, IfOk, codes, decimal};
 ghost use Rattle.cqf_gates.specs.StreamText.{is_shut, line_of_open, line_of_stream_entry, octet_max_text, text_of_stream_entries};
 ghost use Rattle.cqf_press.specs.Press.{Puts};
@@ -68,7 +68,7 @@ pub fn put_stream<W: Sink>(press: &mut Press<'_, W>, list: &StreamList)
 
 /// The text of a stream gate's list: for each entry a line with `open`, the internal priority value, the interval and
 /// the octet maximum, `-` where there is none; or, where that is 0, so that no frame passes, with `closed` and the interval
-/// (profile). The error is want of memory.
+///. The error is want of memory.
 pub fn write_stream(alloc: Global, list: &StreamList) -> Result<Vec<u8>, Memory>
     ensures { IfOk result (λ text. text.items ≡ text_of_stream_entries list.now) }
 {

@@ -20,7 +20,7 @@ pub(crate) const BLANK: StreamEntry = StreamEntry {
 };
 
 /// A stream gate control list: 1 to 16 entries. Rounds of the list follow one another from instant 0 without end
-/// (profile).
+/// 
 #[derive(Debug, Drop)]
 pub struct StreamList {
     /// The entries, and blanks behind them.
@@ -104,7 +104,7 @@ fn length_of(entries: &[StreamEntry]) -> u64
 impl StreamList {
     /// The list of these entries. It refuses no entries as `Empty`, more than 16 as `TooMany`, an interval of 0 as
     /// `ZeroInterval`, and an internal priority value other than 6 and 7 as `BadIpv`, the first of these that fits
-    /// (profile).
+    /// 
     pub fn new(entries: &[StreamEntry]) -> Result<StreamList, ListFault>
         ensures { result ≡ stream_list_of entries.now }
     {
@@ -217,7 +217,7 @@ impl StreamGate {
     /// Whether a frame of so many octets, from the destination address to the FCS, passes at the instant, and with
     /// which traffic class: `Class` exactly where the entry in force has no octet maximum, or where the octets and
     /// those that passed before in the same interval are within it. A frame that doesn't pass takes nothing, so a
-    /// smaller one may pass behind it (profile).
+    /// smaller one may pass behind it.
     pub fn pass(&mut self, t: Nanos, octets: Octets) -> Passed
         requires { self.old.last ≤ t.0 }
         ensures verdict { result ≡ verdict_on self.old t.0 octets.0 }

@@ -1,4 +1,4 @@
-//! Gate lists as texts (profile).
+//! Gate lists as texts.
 ghost use Rattle.std.specs.Prelude.{◌≡◌, ◌<◌, ◌^◌, ◌++◌, ◌∷◌, [], IfOk, OnOk};
 ghost use Rattle.cqf_gates.specs.GateListText.{hex_digit, line_of_gates, text_of_entries};
 ghost use Rattle.cqf_gates.specs.TxText.{list_of_text};
@@ -15,7 +15,7 @@ const TOO_MANY: usize = 17;
 
 /// The list that the text writes: on each line two hexadecimal digits of either case for the states, one space, and
 /// the interval as a decimal number up to 4,294,967,295. It refuses the first line of another form as `BadLine`, and
-/// then entries that make no list as `List` with [`TxList::new`]'s fault. An empty text has no line (profile).
+/// then entries that make no list as `List` with [`TxList::new`]'s fault. An empty text has no line.
 pub fn read_tx(text: &[u8]) -> Result<TxList, TextFault>
     ensures { result ≡ list_of_text text.now }
 {
@@ -63,7 +63,7 @@ fn push_entry(alloc: Global, text: &mut Vec<u8>, states: u8, interval: u32) -> R
 }
 
 /// The text that [`read_tx`] reads as this list: for each entry a line with its states as two upper case hexadecimal
-/// digits, one space, and its interval (profile).
+/// digits, one space, and its interval.
 pub fn write_tx(alloc: Global, list: &TxList) -> Result<Vec<u8>, Memory>
     ensures text { IfOk result (λ text. text.items ≡ text_of_entries list.now) }
     ensures again { IfOk result (λ text. list_of_text text.items ≡ Ok list.now) }

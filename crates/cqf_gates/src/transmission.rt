@@ -88,7 +88,7 @@ fn turned(entries: &[(u8, u32)], place: usize) -> ArrayVec<(u8, u32), 16>
 impl TxList {
     /// The list of these entries, each with the states of eight gates, class 7 in the highest bit and 1 for open,
     /// and its interval in nanoseconds. It refuses no entries as `Empty`, more than 16 as `TooMany`, and an interval
-    /// of 0 as `ZeroInterval`, the first of these that fits (profile).
+    /// of 0 as `ZeroInterval`, the first of these that fits.
     pub fn new(entries: &[(u8, u32)]) -> Result<TxList, ListFault>
         ensures { result ≡ tx_list_of entries.now }
     {
@@ -160,7 +160,7 @@ impl TxList {
 
     /// How long the class stays open from the instant on: `Closed` where it is closed at the instant, `Always` where
     /// each entry opens it, and otherwise up to the first later instant at which it is closed. A boundary between two
-    /// entries that both open the class is no close of its gate (profile).
+    /// entries that both open the class is no close of its gate.
     pub fn open_for(&self, t: Nanos, class: u8) -> OpenFor
         requires gate { class < 8 }
         requires early { t.0 < 2 ^ 62 }

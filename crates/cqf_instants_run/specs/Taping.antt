@@ -1,4 +1,4 @@
--- What the links' tapes get of background frames when a run has ended, beside what stands on them (profile).
+-- What the links' tapes get of background frames when a run has ended, beside what stands on them.
 use Rattle.std.specs.Prelude.{ℕ, ◌≡◌, ◌<◌, ◌*◌, ◌^◌, ◌++◌, List, length, map, slice_index_or}
 use Rattle.cqf_model.specs.declared.frames.Background.{Background}
 use Rattle.cqf_model.specs.declared.ports.Arrival.{Arrival}

@@ -17,7 +17,7 @@ use cqf_units::{Memory, Nanos};
 use std::alloc::Global;
 
 /// The starts of background frames in a run over so many cycles of a domain, all of which a history of it has closed, by cycle, then
-/// link, then instant: of each legal network of the run in which streams' frames start as given (profile). There are at most
+/// link, then instant: of each legal network of the run in which streams' frames start as given. There are at most
 /// 16,777,215 background frames, each for a link of the domain. The time grows with the starts, and with the
 /// background frames and their starts times the logarithm of their number, since these are sorted; a cycle in which nothing starts
 /// takes none.

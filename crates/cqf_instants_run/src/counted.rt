@@ -96,7 +96,7 @@ fn add_hops(columns: &mut Vec<Column>, hops: &[Hop], cycle: Cycle, octets: u32, 
 
 /// What each of a domain's links carries in so many cycles, by number, when each of some offers is judged as the verdict at
 /// its place says: an offer that a row covers leaves by each link of the row's tree, as many cycles after its own as the link is
-/// deep (profile). The offers stand in order of instant, and no link has 2^32 octets in a cycle. The time grows with the hops of
+/// deep. The offers stand in order of instant, and no link has 2^32 octets in a cycle. The time grows with the hops of
 /// the covered offers and with the columns, which end 256 cycles behind the last offer's.
 ///
 /// # Errors

@@ -93,7 +93,7 @@ fn drops_by_place(
 }
 
 /// The drops of a run of a domain over so many cycles, from what became of each offer, as each book has them of each legal
-/// history by which the offers are judged so: by cycle, then bridge, then frame (profile). Offers of later cycles are in no
+/// history by which the offers are judged so: by cycle, then bridge, then frame. Offers of later cycles are in no
 /// book. The offers stand in order of instant, and each has a verdict at its place. They are gathered in one pass by place,
 /// and then sorted once: the time grows with the offers, and with the drops times the logarithm of their number.
 ///

@@ -36,7 +36,7 @@ fn group_until(end: Nanos, groups: &[Group], offer: &Offer, edge_verdict: EdgeVe
 }
 
 /// Gives each of some offers, in their order, with where the hops stand by which it enters: where a row covers it, those of the
-/// group of the row, which is at the row's place; none where it is dropped, or offered at the end or later (profile). There
+/// group of the row, which is at the row's place; none where it is dropped, or offered at the end or later. There
 /// are as many verdicts as offers. The time grows with the offers.
 ///
 /// # Errors

@@ -113,7 +113,7 @@ fn no_use(alloc: Global, rows: usize) -> Result<Vec<Used>, Memory>
 /// What becomes of each of some offers of a domain, by the rows that were ever granted in it, in order of number: the row of
 /// the offer's name that is held in the offer's cycle covers it, where it is live, begins at the offer's bridge, and has the
 /// octets left that the covered offers before it in this cycle leave; else it is dropped, for the first of these reasons
-/// (profile). Of a cycle that the history hasn't closed nothing is said. The time grows with the rows and the offers.
+///. Of a cycle that the history hasn't closed nothing is said. The time grows with the rows and the offers.
 ///
 /// # Errors
 /// Where a growth is refused.

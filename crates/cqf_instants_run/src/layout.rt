@@ -27,7 +27,7 @@ fn links_of(alloc: Global, domain: &Domain) -> Result<Vec<Link>, Memory>
 
 /// Lays out a run over so many cycles of a domain, all of which a history of it has closed: the trees of the streams that the
 /// history ever granted, which are the rows, and the offers, which stand in order of instant, by what is judged of them
-/// (profile). From it the starts of the run are told, and background frames change none of them. The time grows with the
+///. From it the starts of the run are told, and background frames change none of them. The time grows with the
 /// hops of the rows and with the offers.
 ///
 /// # Errors

@@ -7,7 +7,7 @@ use cqf_model::{Book, Dropped, Started};
 use std::alloc::Global;
 
 /// The book with these starts of streams' frames, these of background frames, and these drops. Where they are those of each
-/// legal run of a history, it is the one book of the history, and all that is promised of a run's book holds of it (profile).
+/// legal run of a history, it is the one book of the history, and all that is promised of a run's book holds of it.
 pub fn book_of_parts(starts: Vec<Started>, background: Vec<Started>, drops: Vec<Dropped>) -> Book
     ensures parts { contents_of result ≡ record { starts = starts.items; background = background.items; drops = drops.items } }
     ensures book { AreBookOfHistory starts.items background.items drops.items (contents_of result) }
@@ -22,7 +22,7 @@ pub fn book_of_parts(starts: Vec<Started>, background: Vec<Started>, drops: Vec<
 }
 
 /// The same of a run in which no background frame comes: the book of its starts by exact instants, and of what its edges drop
-/// (profile).
+/// 
 pub fn book_by_instants(alloc: Global, starts: Vec<Started>, drops: Vec<Dropped>) -> Book
     ensures parts { contents_of result ≡ record { starts = starts.items; background = []; drops = drops.items } }
     ensures book { AreQuietBookOfHistory starts.items drops.items (contents_of result) }

@@ -22,7 +22,7 @@ use std::alloc::Global;
 
 /// A pass over so many cycles of a domain, all of which a history of it has closed. It tells the starts of the streams' frames cycle by
 /// cycle, each by link, then instant: those of each legal network of the run, beside any background frames. The rows are the streams that
-/// the history ever granted, the offers stand in order of instant, and the verdicts say what becomes of them (profile). It has all the
+/// the history ever granted, the offers stand in order of instant, and the verdicts say what becomes of them. It has all the
 /// memory that it will need, and the time grows with the hops of the rows and with the offers.
 ///
 /// # Errors
@@ -45,7 +45,7 @@ pub fn pass_of_history(
     Pass::new(alloc, basis)
 }
 
-/// The starts that such a pass tells, of all cycles, by cycle, then link, then instant (profile). The time grows with the hops of the
+/// The starts that such a pass tells, of all cycles, by cycle, then link, then instant. The time grows with the hops of the
 /// rows, with the offers, and with the starts.
 ///
 /// # Errors

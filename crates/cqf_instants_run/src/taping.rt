@@ -97,7 +97,7 @@ fn keep_on_each(
 }
 
 /// Puts on the tapes of a run's links, by number, what each link starts of background frames until the run's end, beside what stands there
-/// of streams' frames: in each legal network of the run in which streams' frames start as on the tapes (profile). The time grows with the
+/// of streams' frames: in each legal network of the run in which streams' frames start as on the tapes. The time grows with the
 /// background frames times the logarithm of their number, since these are sorted, and with what the ports of links that have any start.
 ///
 /// # Errors

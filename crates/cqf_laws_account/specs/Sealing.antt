@@ -1,4 +1,4 @@
--- A history of which one seat makes all Seals (profile).
+-- A history of which one seat makes all Seals.
 use Rattle.std.specs.Prelude.{ℕ, ◌≡◌, ◌≤◌, List, ◌∷◌, [], Contains, drop, length, take, true}
 use Rattle.cqf_lists.specs.Lists.{each_below}
 use Rattle.cqf_model.specs.Domain.{Domain}

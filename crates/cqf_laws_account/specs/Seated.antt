@@ -1,4 +1,4 @@
--- The history of a desk at which administrators make what is asked of them, and one more seat seals (profile).
+-- The history of a desk at which administrators make what is asked of them, and one more seat seals.
 use Rattle.std.specs.Prelude.{ℕ, ◌≡◌, ◌+◌, List, Contains, Some, false, length, replicate, slice_get}
 use Rattle.cqf_model.specs.Domain.{Domain}
 use Rattle.cqf_model.specs.History.{Act, Recorded, Seals, is_seal, seals}

@@ -1,4 +1,4 @@
--- A book that is told from its tapes (profile).
+-- A book that is told from its tapes.
 use Rattle.std.specs.Prelude.{ℕ, ◌≡◌, List}
 use Rattle.cqf_model.specs.declared.frames.Background.{Background}
 use Rattle.cqf_model.specs.declared.frames.Offer.{Offer}

@@ -18,14 +18,14 @@ ghost use Rattle.cqf_laws_account.specs.Sealing.{OneSeatClosesAllTables};
 ghost use Rattle.cqf_laws_account.specs.Seated.{ConductorHasTheTables, SeatsGiveTheHistory};
 ghost use Rattle.cqf_laws_account.specs.Taped.{TapesTellTheBook};
 
-/// The tables that a desk's seat closes which alone seals are the tables of the history's cycles, in order (profile).
+/// The tables that a desk's seat closes which alone seals are the tables of the history's cycles, in order.
 pub fn one_seat_closes_all_tables()
     ensures { OneSeatClosesAllTables }
 {}
 
 /// At a desk where each administrator makes what is asked of it and the next seat seals one cycle after the other, the closed
 /// history is of just that; and where the opening part has no Seal, the sealing seat's tables are those of the history's cycles
-/// (profile).
+/// 
 pub fn seats_give_the_history()
     ensures history { SeatsGiveTheHistory }
     ensures tables { ConductorHasTheTables }
@@ -34,7 +34,7 @@ pub fn seats_give_the_history()
 }
 
 /// The tapes of a book tell it: cycle by cycle the starts link by link, each from the link's tape, whose instants don't go back, and the drops
-/// bridge by bridge (profile).
+/// bridge by bridge.
 pub fn tapes_tell_the_book()
     ensures { TapesTellTheBook }
 {}

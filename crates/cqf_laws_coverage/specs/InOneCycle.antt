@@ -1,4 +1,4 @@
--- What a link has in one cycle, and the most that it has in one (profile).
+-- What a link has in one cycle, and the most that it has in one.
 use Rattle.std.specs.Prelude.{ℕ, ◌≡◌, ◌≤◌, ◌==◌, ◌&&◌, ◌⊎◌, List, if◌then◌else◌, fold, max, sum_by}
 use Rattle.cqf_model.specs.declared.frames.Started.{Started}
 

@@ -29,7 +29,7 @@ mod column;
 pub use column::Column;
 
 /// The starts of a book are the hops of the covered offers: what is counted of the ones is what is counted of the others
-/// (profile).
+/// 
 pub fn starts_are_hops()
     ensures { StartsAreHops }
 {
@@ -42,7 +42,7 @@ pub fn starts_are_hops()
 }
 
 /// So a link's frames, octets and octets in a cycle are those of the covered offers' hops, in each book of a legal history
-/// (profile).
+/// 
 pub fn history_is_counted()
     ensures { HistoryIsCounted }
 {
@@ -61,7 +61,7 @@ pub fn columns_tell()
 {}
 
 /// The rows that a history ever accepted say the table of each cycle that it closes, and the row of each name in it; no two of
-/// one name are held in one cycle (profile).
+/// one name are held in one cycle.
 pub fn rows_say_the_tables()
     ensures tables { RowsSayTheTables }
     ensures found { RowsAreFound }
@@ -72,7 +72,7 @@ pub fn rows_say_the_tables()
 }
 
 /// Rows stand in the order in which they begin, and those of one name follow one another in time: so a place that only goes
-/// on finds the row in force (profile).
+/// on finds the row in force.
 pub fn rows_follow()
     ensures begin { RowsStandAsTheyBegin }
     ensures follow { RowsOfANameFollow }
@@ -82,14 +82,14 @@ pub fn rows_follow()
 }
 
 /// Where offers stand in order of instant, the offers before one stand before it, so that what they
-/// take of a row is counted as one goes on (profile).
+/// take of a row is counted as one goes on.
 pub fn offers_stand_in_order()
     ensures before { OffersBeforeStandBefore }
     ensures goes_on { CountersGoOn }
     ensures begins { CountersBegin }
 {}
 
-/// Four tests by the row in force and its counter decide on an offer what the definitions say (profile).
+/// Four tests by the row in force and its counter decide on an offer what the definitions say.
 pub fn offers_are_judged()
     ensures { OffersAreJudged }
 {
@@ -97,7 +97,7 @@ pub fn offers_are_judged()
     offers_stand_in_order();
 }
 
-/// An offer changes the counter of the row in force alone, of the rows that are held in its cycle (profile).
+/// An offer changes the counter of the row in force alone, of the rows that are held in its cycle.
 pub fn counters_step()
     ensures row { CounterOfTheRow }
     ensures others { CountersOfOthers }
@@ -105,7 +105,7 @@ pub fn counters_step()
     rows_say_the_tables();
 }
 
-/// So a book's sums by link are those of the hops of the offers that pass these tests (profile).
+/// So a book's sums by link are those of the hops of the offers that pass these tests.
 pub fn report_is_counted()
     ensures { ReportIsCounted }
 {
@@ -113,7 +113,7 @@ pub fn report_is_counted()
     offers_are_judged();
 }
 
-/// And what leaves by a link in a cycle is within the link's budget, so that it has room in a cell of the link's column (profile).
+/// And what leaves by a link in a cycle is within the link's budget, so that it has room in a cell of the link's column.
 pub fn cells_fit()
     ensures { CellsFit }
 {
@@ -129,7 +129,7 @@ pub fn cells_fit()
 }
 
 /// The book of a legal history is there without any run: there is just one, and all that is promised of a run's book holds of
-/// it (profile).
+/// it.
 pub fn book_of_history_is_there()
     ensures { BookOfHistoryIsThere }
 {

@@ -1,4 +1,4 @@
--- What the compiled gate lists do in a cycle (profile).
+-- What the compiled gate lists do in a cycle.
 use Rattle.std.specs.Prelude.{ℕ, ◌≡◌, ◌⊎◌, ◌+◌, ◌-◌, ◌*◌, ◌%◌, ◌<◌, ◌≤◌, ◌↔◌, if◌then◌else◌, ◌==◌}
 use Rattle.cqf_units.specs.Timing.{cycle_at}
 use Rattle.cqf_model.specs.declared.topology.Pace.{Pace}

@@ -10,13 +10,13 @@ pub fn port_is_one_cycle_late()
 {}
 
 /// There a background frame starts only behind the streams' frames of earlier cycles, and is sent before the guard time
-/// (profile).
+/// 
 pub fn background_keeps_behind()
     ensures { BackgroundKeepsBehind }
 {}
 
 /// A port whose starts lag is one cycle late too, each frame's start by another time up to a bound: where what comes of streams in each
-/// cycle is within the budget with its lags, and the bound has its place in the guard time beside the gap (profile).
+/// cycle is within the budget with its lags, and the bound has its place in the guard time beside the gap.
 pub fn late_port_is_one_cycle_late()
     ensures { LatePortIsOneCycleLate }
 {}

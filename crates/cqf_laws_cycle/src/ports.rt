@@ -11,7 +11,7 @@ pub fn closed_arrivals_change_nothing()
 }
 
 /// A stream's frame that is queued in a cycle has a class that the compiled gate list doesn't open up to the cycle's end
-/// (profile).
+/// 
 pub fn queued_frames_wait()
     ensures { QueuedFramesWait }
 {
@@ -20,7 +20,7 @@ pub fn queued_frames_wait()
 }
 
 /// What comes to a port by the end of a cycle is what came before the cycle, then the background frames of the cycle, and
-/// then what its bridge queues to it in the cycle (profile).
+/// then what its bridge queues to it in the cycle.
 pub fn port_goes_on()
     ensures queued { QueuedInItsCycle }
     ensures goes_on { PortGoesOn }

@@ -47,13 +47,13 @@ ghost use Rattle.cqf_laws_history.specs.TreeLaws.{
 
 /// A frame gets each verdict exactly where it is due. At the edge the first reason to drop it counts, of no row, a stream
 /// that isn't live, a tree that begins at another bridge, and too many octets; inside it lacks a row or exceeds its gate
-/// (profile, after IEEE Std 802.1Q-2018, 8.6.5.1).
+/// (after IEEE Std 802.1Q-2018, 8.6.5.1).
 pub fn verdicts_have_their_reason()
     ensures edge { VerdictsHaveTheirReason }
     ensures inside { VerdictsInsideHaveTheirReason }
 {}
 
-/// A frame goes on only from a bridge that its stream's tree leaves behind the link that it came by (profile).
+/// A frame goes on only from a bridge that its stream's tree leaves behind the link that it came by.
 pub fn queued_frames_leave_their_bridge()
     ensures { QueuedFramesLeaveTheirBridge }
 {
@@ -61,7 +61,7 @@ pub fn queued_frames_leave_their_bridge()
 }
 
 /// A frame that goes on is queued once at each port by whose link its stream goes on, and at no other; what is dropped or
-/// lost is queued nowhere (profile).
+/// lost is queued nowhere.
 pub fn frames_go_to_each_port()
     ensures each { FramesGoToEachPort }
     ensures no_other { FramesGoToNoOtherPort }
@@ -70,7 +70,7 @@ pub fn frames_go_to_each_port()
 
 /// What a tree says: a frame goes on by the links behind the one that it came by, from the bridge that they leave; a stream has one gate at each bridge that
 /// its links leave; its frames are under way for as many cycles as its deepest link is deep; and in a cycle in which its frames go
-/// by a link of it, it costs the same there as on any other, once; else it costs nothing, and nothing of a link that isn't its own (profile).
+/// by a link of it, it costs the same there as on any other, once; else it costs nothing, and nothing of a link that isn't its own.
 pub fn trees_say_where_streams_go()
     ensures goes_on { FramesGoOnByTheirTree }
     ensures bridges { FramesGoOnWhereALinkLeaves }
@@ -82,7 +82,7 @@ pub fn trees_say_where_streams_go()
 {}
 
 /// A stream is live from the cycle of its admission up to that of its withdrawal, and is held for as many cycles more as its
-/// deepest link is deep (profile).
+/// deepest link is deep.
 pub fn streams_let_go_in_time()
     ensures held_for { WithdrawnIsHeldForItsTree }
     ensures held_on { OtherwiseItIsHeldOn }
@@ -102,19 +102,19 @@ pub fn delay_counts()
 
 /// Background frames are numbered by their places, from 1. Of what a port starts, just the frames of no stream are its
 /// background frames, and a book has each that the links send in the run, with its cycle, link, number, octets and instant
-/// (profile).
+/// 
 pub fn background_is_told()
     ensures numbers { BackgroundIsNumberedByPlace }
     ensures ports { PortsSayTheirBackground }
     ensures books { BooksSayTheBackground }
 {}
 
-/// No later call changes the table of a closed cycle (profile).
+/// No later call changes the table of a closed cycle.
 pub fn closed_tables_stay()
     ensures { ClosedTablesStay }
 {}
 
-/// A frame that came by a link is queued with the row of its stream, or lost (profile).
+/// A frame that came by a link is queued with the row of its stream, or lost.
 pub fn relayed_frames_are_queued_or_lost()
     ensures { RelayedFramesAreQueuedOrLost }
 {
@@ -122,7 +122,7 @@ pub fn relayed_frames_are_queued_or_lost()
 }
 
 /// Examples, worked out: beside a stream of every 16 cycles that takes two thirds of a link's budget, in which phases a second one is granted;
-/// and if the limits are set lower, it is refused by them (profile).
+/// and if the limits are set lower, it is refused by them.
 pub fn second_stream_is_judged()
     ensures { IsSaidOfTheSecond }
 {}

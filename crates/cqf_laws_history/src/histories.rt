@@ -34,7 +34,7 @@ ghost use Rattle.cqf_laws_history.specs.StateLaws.{
 
 /// The tables of the first cycles of a legal history are one a cycle, and orderly: their trees are trees of the domain,
 /// numbers and names name one stream, a live stream stays until its last frame has left the last bridge of its deepest
-/// branch, and what the streams of a table cost of a link is within the link's budget (profile). Their rows stand by number.
+/// branch, and what the streams of a table cost of a link is within the link's budget. Their rows stand by number.
 pub fn tables_are_orderly()
     ensures orderly { TablesAreOrderly }
     ensures ascend { TablesAscend }
@@ -43,7 +43,7 @@ pub fn tables_are_orderly()
 
 /// The branches of a request that isn't refused are a tree of the domain: each hop of the tree is one of a branch, and each
 /// hop of a branch is in the tree. A tree has no more links than its domain, and no more than a
-/// row holds (profile).
+/// row holds.
 pub fn granted_is_a_tree()
     ensures tree { GrantedIsATree }
     ensures branches { TreeIsItsBranches }
@@ -52,7 +52,7 @@ pub fn granted_is_a_tree()
 {}
 
 /// A running state tells what a whole history says: with each entry the streams that are held in the next cycle, and the
-/// number of the next stream, change in one small step. A request that isn't refused finds room (profile).
+/// number of the next stream, change in one small step. A request that isn't refused finds room.
 pub fn state_follows_history()
     ensures goes_on { HistoryGoesOn }
     ensures counted { SealsAreCounted }
@@ -66,7 +66,7 @@ pub fn state_follows_history()
 {}
 
 /// The streams of a history by number, held or not, change with each entry in one small step: a granted one stands behind
-/// the others, a withdrawn one ends in its place, and a Seal changes none (profile).
+/// the others, a withdrawn one ends in its place, and a Seal changes none.
 pub fn streams_follow_history()
     ensures granted { GrantedIsLast }
     ensures withdrawn { WithdrawnEnds }
@@ -78,7 +78,7 @@ pub fn streams_follow_history()
 /// differ, and that each node of both has the same nodes before it in both. A request is refused for the first branch that
 /// makes no tree with one before it, where no earlier refusal fits; so where none fits, it is refused for no branch exactly
 /// where each two of its branches make one tree. A tree of many hops is refused only where the domain has more links than a
-/// tree may have hops (profile).
+/// tree may have hops.
 pub fn branches_make_a_tree_by_pairs()
     ensures tested { PairsAreTested }
     ensures beginnings { PairsHaveTheirBeginnings }

@@ -25,7 +25,7 @@ pub fn batch_is_due()
     cqf_laws_shift::run_beside_is_run_alone();
 }
 
-/// The frames that a link sends in a cycle are no more than have room in its budget (profile).
+/// The frames that a link sends in a cycle are no more than have room in its budget.
 pub fn batch_is_short()
     ensures { BatchIsShort }
 {
@@ -38,7 +38,7 @@ pub fn batch_is_short()
 }
 
 /// What is queued to a link in a cycle of the run has room there: all of it is sent before the guard time of the next
-/// cycle, if the run goes on to it (profile).
+/// cycle, if the run goes on to it.
 pub fn queue_has_room()
     ensures { QueueHasRoom }
 {

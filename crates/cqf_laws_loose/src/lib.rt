@@ -7,7 +7,7 @@ ghost use Rattle.cqf_laws_loose.specs.LooseLaws.{LooseHistoryMeansTheShift, Loos
 ghost use Rattle.cqf_laws_loose.specs.LooseLaws.{LooseNetworkIsUnique};
 ghost use Rattle.cqf_laws_loose.specs.LooseLaws.{LooseNetworkExists, LooseNetworkLeavesByTheBook, SlackChangesNoCycle};
 
-/// In every loose network of an accepted domain the gates mean the shift (profile).
+/// In every loose network of an accepted domain the gates mean the shift.
 pub fn loose_gates_mean_the_shift()
     ensures { LooseGatesMeanTheShift }
 {
@@ -17,7 +17,7 @@ pub fn loose_gates_mean_the_shift()
     cqf_laws_cycle::gate_counts_cycles();
 }
 
-/// So neither background frames nor delays nor clocks change the cycle in which a stream's frame leaves (profile).
+/// So neither background frames nor delays nor clocks change the cycle in which a stream's frame leaves.
 pub fn slack_changes_no_cycle()
     ensures { SlackChangesNoCycle }
 {
@@ -25,7 +25,7 @@ pub fn slack_changes_no_cycle()
 }
 
 /// If all clocks agree and each link takes its greatest delay, the network is one of them: with any slack with which the domain is accepted
-/// and whose least delays are no more than the greatest, and so with the one that the domain states (profile).
+/// and whose least delays are no more than the greatest, and so with the one that the domain states.
 pub fn exact_is_loose()
     ensures any { ExactIsLoose }
     ensures stated { ExactHasItsSlack }
@@ -37,7 +37,7 @@ pub fn exact_is_loose()
     cqf_laws_cycle::gate_counts_cycles();
 }
 
-/// Each frame is whole at a link's end within what was held when it was queued, and the slack (profile).
+/// Each frame is whole at a link's end within what was held when it was queued, and the slack.
 pub fn loose_frames_are_timely()
     ensures whole { LooseFramesAreTimely }
     ensures latency { LooseLatencyIsWithin }
@@ -48,7 +48,7 @@ pub fn loose_frames_are_timely()
     cqf_laws_cycle::gate_counts_cycles();
 }
 
-/// So they do in every loose network of a legal history (profile).
+/// So they do in every loose network of a legal history.
 pub fn loose_history_means_the_shift()
     ensures { LooseHistoryMeansTheShift }
 {
@@ -56,7 +56,7 @@ pub fn loose_history_means_the_shift()
     cqf_laws_history::tables_are_orderly();
 }
 
-/// However frames come through within the bounds, there is a network in which they do (profile).
+/// However frames come through within the bounds, there is a network in which they do.
 pub fn loose_network_exists()
     ensures { LooseNetworkExists }
 {
@@ -70,7 +70,7 @@ pub fn loose_network_exists()
     cqf_laws_cycle::port_list_is_open();
 }
 
-/// What leaves in a loose network, and in which cycle, is what the run's book says (profile).
+/// What leaves in a loose network, and in which cycle, is what the run's book says.
 pub fn loose_network_leaves_by_the_book()
     ensures { LooseNetworkLeavesByTheBook }
 {
@@ -78,7 +78,7 @@ pub fn loose_network_leaves_by_the_book()
     cqf_laws_shift::book_says_the_shift();
 }
 
-/// And for one choice of transits, what its links carry of streams' frames is settled (profile).
+/// And for one choice of transits, what its links carry of streams' frames is settled.
 pub fn loose_network_is_unique()
     ensures { LooseNetworkIsUnique }
 {
@@ -93,7 +93,7 @@ pub fn loose_network_is_unique()
 }
 
 /// A network whose ports start each frame at most so much later than exact ports do, each frame by another time, is a loose one, where the
-/// greatest delays have room for that (profile).
+/// greatest delays have room for that.
 pub fn lagging_network_is_loose()
     ensures { LaggingIsLoose }
 {}

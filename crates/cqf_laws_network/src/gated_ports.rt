@@ -71,7 +71,7 @@ pub fn only_the_past_counts()
 {}
 
 /// Where its class was closed at each instant since it came, an arrival that is told late changes nothing: what was
-/// legal without it is legal with it (profile).
+/// legal without it is legal with it.
 pub fn late_arrival_changes_nothing()
     ensures { LateArrivalChangesNothing }
 {}

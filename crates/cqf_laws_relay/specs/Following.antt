@@ -1,4 +1,4 @@
--- Bridges whose links go on by themselves, in a run (profile).
+-- Bridges whose links go on by themselves, in a run.
 use Rattle.std.specs.Prelude.{ℕ, ◌≡◌, ◌≤◌, ◌<◌, ◌*◌, List, [], ◌∷◌, Option, Some, None, true, filter, length, map}
 use Rattle.std.specs.List.{flat_map}
 use Rattle.std.specs.List.Sorted.{IsNonDecreasingBy, IsPermutation}

@@ -1,4 +1,4 @@
--- Links that take turns in whatever order: one that has come least far waits for none (profile).
+-- Links that take turns in whatever order: one that has come least far waits for none.
 use Rattle.std.specs.Prelude.{ℕ, ◌≡◌, ◌+◌, ◌<◌, List, true, length}
 use Rattle.cqf_model.specs.declared.topology.Row.{Row}
 use Rattle.cqf_model.specs.Domain.{Domain, bridge_of, enters}

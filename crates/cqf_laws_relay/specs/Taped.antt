@@ -1,4 +1,4 @@
--- What the reels of all bridges come to, whose links went on by themselves in a run (profile).
+-- What the reels of all bridges come to, whose links went on by themselves in a run.
 use Rattle.std.specs.Prelude.{ℕ, ◌≡◌, ◌*◌, ◌<◌, ◌++◌, List, [], Some, true, All, filter, length, map, slice_get}
 use Rattle.std.specs.List.{flat_map}
 use Rattle.std.specs.List.Sorted.{IsNonDecreasingBy, IsPermutation}

@@ -23,7 +23,7 @@ ghost use Rattle.cqf_laws_relay.specs.Hindmost.{SomeLinkCanGoOn};
 ghost use Rattle.cqf_laws_relay.specs.Taped.{BackedTapesAreTheBooks, RelaysKeepTheTapes};
 
 /// The offers of a cycle that a bridge keeps, judging one behind the other by what is used of their rows, are those that the run's rows
-/// cover, each with its row (profile).
+/// cover, each with its row.
 pub fn kept_are_covered()
     ensures { KeptAreCovered }
 {
@@ -31,7 +31,7 @@ pub fn kept_are_covered()
     cqf_laws_instants::what_a_cycle_queues();
 }
 
-/// Those that it drops, by frame, are the drops of the run's book at the bridge in the cycle (profile).
+/// Those that it drops, by frame, are the drops of the run's book at the bridge in the cycle.
 pub fn dropped_are_the_runs()
     ensures { DroppedAreTheRuns }
 {
@@ -54,7 +54,7 @@ pub fn relays_follow_the_network()
 }
 
 /// The tapes that are gathered from the reels of bridges whose links have gone on so have the streams' frames that the network sends, and the
-/// drops of its book (profile).
+/// drops of its book.
 pub fn relays_keep_the_tapes()
     ensures { RelaysKeepTheTapes }
 {
@@ -62,12 +62,12 @@ pub fn relays_keep_the_tapes()
     relays_follow_the_network();
 }
 
-/// With the background frames that the network starts such tapes are those of its book (profile).
+/// With the background frames that the network starts such tapes are those of its book.
 pub fn backed_tapes_are_the_books()
     ensures { BackedTapesAreTheBooks }
 {}
 
-/// The tables of a legal history bring their new rows by number, behind those of all before (profile).
+/// The tables of a legal history bring their new rows by number, behind those of all before.
 pub fn tables_may_come()
     ensures { TablesMayCome }
 {
@@ -76,7 +76,7 @@ pub fn tables_may_come()
     cqf_laws_coverage::rows_follow();
 }
 
-/// As long as some link has not come to the end of a run, one of these can go on: it waits for no other (profile).
+/// As long as some link has not come to the end of a run, one of these can go on: it waits for no other.
 pub fn some_link_can_go_on()
     ensures { SomeLinkCanGoOn }
 {}

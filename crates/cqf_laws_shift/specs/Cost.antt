@@ -1,4 +1,4 @@
--- What a reservation costs of a link (profile).
+-- What a reservation costs of a link.
 use Rattle.std.specs.Prelude.{ℕ, ◌≤◌, List, All, sum, sum_by}
 use Rattle.cqf_units.specs.Timing.{wire_of, cost_of}
 

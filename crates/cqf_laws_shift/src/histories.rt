@@ -14,7 +14,7 @@
 ghost use Rattle.cqf_laws_shift.specs.BookOfHistory.{BookOfHistorySaysTheShift};
 
 /// A book of a legal history says the shift, and keeps all else that is promised of it and of its network (`KeepsThePromise` of
-/// `cqf_model/specs/Headline.antt`), for every accepted domain, whatever is offered and beside any background frames (profile).
+/// `cqf_model/specs/Headline.antt`), for every accepted domain, whatever is offered and beside any background frames.
 pub fn book_of_history_says_the_shift()
     ensures { BookOfHistorySaysTheShift }
 {

@@ -10,7 +10,7 @@ ghost use Rattle.cqf_laws_timing.specs.Streams.{TablesCostNoMore};
 ghost use Rattle.cqf_laws_timing.specs.Verdicts.{VerdictsHold};
 
 /// Each frame that a link sends is whole in the next node within what the streams cost that are held in the cycle of its
-/// start (profile).
+/// start.
 pub fn frames_are_timely()
     ensures whole { FramesAreWholeWithinHeld }
     ensures queued { FramesAreWholeWithinQueued }
@@ -29,7 +29,7 @@ pub fn frames_are_timely()
 
 /// Where each stream that a history admits is one of a list, each row of its tables is one of the list's, and no table costs
 /// more of a link than the whole list. A list that is admitted before cycle 0 costs just what the table of cycle 0 does
-/// (profile).
+/// 
 pub fn lists_bound_costs()
     ensures none { NoneAdmitsOnly }
     ensures more { AdmitsOnlyGoesOn }
@@ -44,7 +44,7 @@ pub fn lists_bound_costs()
 }
 
 /// So the frames of such a history take no less than the least and no more than the most that is told of the list, and the
-/// verdicts on deadlines hold (profile).
+/// verdicts on deadlines hold.
 pub fn lists_bound_latencies()
     ensures timely { HistoryIsTimely }
     ensures verdicts { VerdictsHold }
@@ -60,7 +60,7 @@ pub fn lists_bound_latencies()
 
 /// In every loose network of the history too: whatever clocks and delays do within what the domain states, frames take no less than the
 /// least and no more than the most that is told of the list, and the verdicts on deadlines hold. With any other slack they take no less
-/// and no more than the list's bounds, but for that (profile).
+/// and no more than the list's bounds, but for that.
 pub fn loose_history_is_timely()
     ensures timely { LooseHistoryIsTimely }
     ensures verdicts { LooseVerdictsHold }
@@ -71,7 +71,7 @@ pub fn loose_history_is_timely()
 }
 
 /// A branch of a request that isn't refused ends by a link of the request's tree in its listener's station, and that link is as
-/// deep as bridges are on the way (profile).
+/// deep as bridges are on the way.
 pub fn branches_end_at_listeners()
     ensures ends { BranchesEnd }
     ensures depths { DepthsAreBridges }

@@ -14,7 +14,7 @@ pub fn conforming_offers_fit_a_cycle()
 {}
 
 /// So a row with as much as is needed covers each offer of a talker that keeps its word, at its first bridge while it is live
-/// (profile).
+/// 
 pub fn conforming_stream_is_covered()
     ensures named { ConformingStreamIsCovered }
     ensures own { ConformingOwnIsCovered }
@@ -26,7 +26,7 @@ pub fn conforming_stream_is_covered()
 /// So a talker that keeps its word loses nothing: in each run that admits streams of a list alone, whatever is withdrawn and
 /// offered by others, and beside any background frames, each frame that it offers of a stream while that is live is whole at
 /// each of the stream's listeners no sooner than the least and no later than the most that is told of the list, and so within its
-/// deadline, if that is surely kept and the run lasts long enough (profile).
+/// deadline, if that is surely kept and the run lasts long enough.
 pub fn conforming_stream_is_in_time()
     ensures named { ConformingStreamIsInTime }
     ensures own { ConformingOwnIsInTime }
@@ -41,7 +41,7 @@ pub fn conforming_stream_is_in_time()
 /// So it is in every loose network, whatever clocks and delays do within what the domain states, and whatever is withdrawn and offered under
 /// other names. If all offers of a stream's name keep its talker's word, each of them that is made while the stream is live leaves on each
 /// link of its tree in its cycle, and is whole at each listener, by the clock there, within the least and the most that is told of the list,
-/// and so within its deadline, if that is surely kept and the run lasts long enough (profile).
+/// and so within its deadline, if that is surely kept and the run lasts long enough.
 pub fn conforming_stream_is_heard_in_time()
     ensures named { LooseConformingIsInTime }
     ensures planned { LoosePlannedIsInTime }

@@ -1,4 +1,4 @@
--- The book of a run: every transmission, and every offer that is dropped (profile).
+-- The book of a run: every transmission, and every offer that is dropped.
 use Rattle.std.specs.Prelude.{ℕ, ◌≡◌, ◌+◌, ◌*◌, ◌&&◌, ◌==◌, List, [], ◌∷◌, Bool, filter, map, length}
 use Rattle.std.specs.List.{flat_map}
 use Rattle.cqf_lists.specs.Lists.{each_below}

@@ -1,4 +1,4 @@
--- The calls of a history by the seats that made them, and what was asked of these (profile).
+-- The calls of a history by the seats that made them, and what was asked of these.
 use Rattle.std.specs.Prelude.{ℕ, ◌≡◌, ◌+◌, ◌<◌, ◌==◌, List, All, Some, drop, filter, length, map, replicate, slice_get, take}
 use Rattle.cqf_model.specs.Domain.{Domain}
 use Rattle.cqf_model.specs.History.{Act, IsLegalHistory, Recorded, Seals}

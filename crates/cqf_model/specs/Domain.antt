@@ -31,7 +31,7 @@ guard_by guard link = unwrap_or link.guard guard
 
 -- a link that is accepted: its ends exist. What is sent in a cycle is received in it by either clock: the greatest delay and the clocks'
 -- difference together are below the link's guard time, and no shortest frame is whole, by the receiver's clock, before it began by the
--- sender's. The gap behind the last frame of a cycle is over at the cycle's end (profile)
+-- sender's. The gap behind the last frame of a cycle is over at the cycle's end
 pub record IsAcceptedLink (d : Domain) (link : Link) : Type 0 where
   pub from_bridge : link.from < length d.bridges
   pub to_node : IsNode d link.to
@@ -42,7 +42,7 @@ pub record IsAcceptedLink (d : Domain) (link : Link) : Type 0 where
   pub gap_short : time_of 12 (ticks_of_octet link.rate) ≤ guard_by d.guard link
   pub guard_short : guard_by d.guard link < d.cycle_time
 
--- a domain that is accepted (profile). That names are well formed and stand once, and that no link stands twice, is said
+-- a domain that is accepted. That names are well formed and stand once, and that no link stands twice, is said
 -- where domains are read: nothing that a network does hangs on it, though what a name means to admission does
 pub record IsAccepted (d : Domain) : Type 0 where
   pub cycle_least : 10000 ≤ d.cycle_time

@@ -1,5 +1,5 @@
 -- The headline: all that the account of a run promises, of its history and of its book, over what was asked of those who
--- called (profile). Whoever wants to believe it reads this crate, and below it only the words for lists, for names and for how
+-- called. Whoever wants to believe it reads this crate, and below it only the words for lists, for names and for how
 -- long octets are on the wire (`cqf_lists/specs/Lists.antt`, `cqf_units/specs/Name.antt` and `Timing.antt`).
 --
 -- It is promised by `conduct` of `cqf_worker` for what a run may be given, which is what that call asks for: a domain that is

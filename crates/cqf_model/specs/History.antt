@@ -1,5 +1,5 @@
 -- The history of admission control: calls with the answers that they got, the streams that it accepted, and the table of
--- each cycle. All of it is said of the whole list of entries, with no running state (profile).
+-- each cycle. All of it is said of the whole list of entries, with no running state.
 use Rattle.std.specs.Prelude.{ℕ, ◌≡◌, ◌+◌, ◌-◌, ◌≤◌, List, [], ◌∷◌, Bool, true, false, not, ◌==◌, ◌&&◌, ◌||◌, ◌%◌, if◌then◌else◌, fold, max, nat_le, nat_lt, filter, find}
 use Rattle.std.specs.Prelude.{length, take, Option, Some, None, is_none, option_map, slice_get, slice_index_or, count_by, position, suc, zero}
 use Rattle.std.specs.Option.{option_map_or}

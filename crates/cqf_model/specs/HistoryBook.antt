@@ -1,4 +1,4 @@
--- The one-thread book of a history (profile).
+-- The one-thread book of a history.
 use Rattle.std.specs.Prelude.{ℕ, ◌≤◌, List}
 use Rattle.cqf_model.specs.declared.frames.Background.{Background}
 use Rattle.cqf_model.specs.declared.frames.Offer.{Offer}

@@ -1,4 +1,4 @@
--- The limits of a run and of what it reads (profile): those that are fixed, the bounds up to which plants are represented, and
+-- The limits of a run and of what it reads: those that are fixed, the bounds up to which plants are represented, and
 -- those that are set for a plant.
 use Rattle.std.specs.Prelude.{ℕ, ◌*◌, Bool, true, false, min}
 use Rattle.cqf_model.specs.declared.limits.Limits.{Limits}

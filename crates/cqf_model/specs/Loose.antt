@@ -1,4 +1,4 @@
--- A network whose bridges' clocks differ, and whose links delay by more and less: the loose network of a run (profile).
+-- A network whose bridges' clocks differ, and whose links delay by more and less: the loose network of a run.
 -- All that is defined of what comes to a bridge goes by starts and a link's stated delay (`whole_at` of `Traffic`). So of each frame
 -- that a link sends the node at its end has a start too: the one from which, after the stated delay, the frame is whole at the instant
 -- at which it is whole there by the node's own clock. What links send as the nodes at their ends have it is what is heard.

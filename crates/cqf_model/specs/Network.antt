@@ -131,7 +131,7 @@ pub record IsNetworkBy (run : Run) (lists : ℕ → List Entry) (cycles : ℕ) (
 abbrev pub IsLegalNetwork : Run → (ℕ → List Entry) → ℕ → Network → Type 0
 IsLegalNetwork run lists cycles net = IsNetworkBy run lists cycles net net.carried
 
--- the gate lists that a domain is compiled to: for each port by its link's guard time (profile)
+-- the gate lists that a domain is compiled to: for each port by its link's guard time
 abbrev pub compiled_lists : Domain → ℕ → List Entry
 compiled_lists d l = port_list d.cycle_time (guard_of d l)
 

@@ -1,4 +1,4 @@
--- How many of some starts are on a link, and their octets (profile).
+-- How many of some starts are on a link, and their octets.
 use Rattle.std.specs.Prelude.{ℕ, ◌==◌, List, count_by, if◌then◌else◌, sum_by}
 use Rattle.cqf_model.specs.declared.frames.Started.{Started}
 

@@ -1,4 +1,4 @@
--- In which cycles a stream's frames are on their way (profile).
+-- In which cycles a stream's frames are on their way.
 use Rattle.std.specs.Prelude.{ℕ, ◌+◌, ◌%◌, ◌==◌, Bool}
 use Rattle.cqf_model.specs.declared.topology.Pace.{Pace}
 

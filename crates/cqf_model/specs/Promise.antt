@@ -1,4 +1,4 @@
--- What the network of a run and its book promise, cycle by cycle (profile).
+-- What the network of a run and its book promise, cycle by cycle.
 use Rattle.std.specs.Prelude.{None, ℕ, ◌≡◌, ◌≢◌, ◌+◌, ◌*◌, ◌<◌, ◌≤◌, List, length, sum_by, AllPairs, Contains, if◌then◌else◌, ◌==◌}
 use Rattle.cqf_units.specs.Timing.{wire_of}
 use Rattle.cqf_model.specs.declared.frames.Dropped.{Dropped}

@@ -1,4 +1,4 @@
--- What a run is given (profile).
+-- What a run is given.
 use Rattle.std.specs.Prelude.{ℕ, ◌*◌, ◌<◌, ◌≤◌, All, List, length}
 use Rattle.cqf_model.specs.declared.frames.Background.{Background}
 use Rattle.cqf_model.specs.declared.frames.Offer.{Offer}
@@ -18,7 +18,7 @@ abbrev pub end_of_run : Run → ℕ
 end_of_run run = length run.tables * run.domain.cycle_time
 
 -- an offer that may be handed to a run: at a bridge of the domain, of a size that Ethernet has (IEEE 802.3), early
--- enough (profile)
+-- enough
 pub record IsOffer (d : Domain) (offer : Offer) : Type 0 where
   pub at_bridge : offer.bridge < length d.bridges
   pub least : 64 ≤ offer.octets
@@ -30,7 +30,7 @@ abbrev pub AreOffers : Domain → List Offer → Type 0
 AreOffers d offers = All (IsOffer d) offers
 
 -- a background frame that may be handed to a run: for a link of the domain, of a class that no stream has, of a size that
--- Ethernet has (IEEE 802.3), early enough (profile)
+-- Ethernet has (IEEE 802.3), early enough
 pub record IsBackground (d : Domain) (frame : Background) : Type 0 where
   pub on_link : frame.link < length d.links
   pub class_most : frame.class ≤ 5

@@ -1,5 +1,5 @@
 -- The meaning of a domain: which offers are covered, and which frame leaves on which link in which cycle. No queue, gate,
--- class, port or instant of sending is in it (profile).
+-- class, port or instant of sending is in it.
 use Rattle.std.specs.Prelude.{ℕ, ◌≡◌, ◌+◌, ◌<◌, ◌≤◌, ◌++◌, List, Bool, true, false, ◌==◌, ◌&&◌, if◌then◌else◌, nat_le, nat_lt, filter, fold, Option, Some, None}
 use Rattle.std.specs.Prelude.{Contains}
 use Rattle.cqf_lists.specs.Lists.{each_below}

@@ -1,4 +1,4 @@
--- The streams that are held in a cycle, and where they go (profile).
+-- The streams that are held in a cycle, and where they go.
 use Rattle.std.specs.Prelude.{ℕ, ◌≡◌, ◌≢◌, ◌+◌, ◌≤◌, ◌<◌, List, [], Bool, true, false, ◌==◌, ◌&&◌, if◌then◌else◌, nat_le, nat_lt, max, fold, map, filter, take}
 use Rattle.std.specs.Prelude.{length, All, Option, Some, None, AllPairs, Contains, slice_get, slice_index_or, sum_by, find}
 use Rattle.std.specs.Option.{option_map_or}

@@ -1,5 +1,4 @@
--- What comes to a bridge, and what becomes of it there: per-stream filtering and policing at the edge and inside (profile,
--- after IEEE Std 802.1Q-2018, 8.6.5.1).
+-- What comes to a bridge, and what becomes of it there: per-stream filtering and policing at the edge and inside (after IEEE Std 802.1Q-2018, 8.6.5.1).
 use Rattle.std.specs.Prelude.{ℕ, ◌+◌, List, [], ◌∷◌, ◌++◌, Bool, false, not, ◌==◌, ◌&&◌, if◌then◌else◌, map, filter, length, Option, Some, None}
 use Rattle.std.specs.List.{enumerate_from}
 use Rattle.cqf_lists.specs.Lists.{each_below}
@@ -70,7 +69,7 @@ abbrev pub within_gate : Domain → List Policed → Row → Received → Bool
 within_gate d earlier row x = gate_passes (gate_behind d row (came_by x.way)) (calls_of row.no earlier) x.at x.octets
 
 -- a frame at the edge, by the row of its name: the first reason that fits, of no row, a row that is not live, a tree that
--- begins at another bridge, and more octets than are left (profile)
+-- begins at another bridge, and more octets than are left
 abbrev pub edge_verdict : Domain → ℕ → ℕ → (Row → Bool) → Option Row → Verdict
 edge_verdict d bridge cycle passes None = DroppedFor Unknown
 edge_verdict d bridge cycle passes (Some row) =
@@ -123,7 +122,7 @@ abbrev pub Carried : Type 0
 Carried = ℕ → List Sent
 
 -- the instant at which a frame that a link sent is whole in the next node: its last octet has come, after the link's
--- delay (profile)
+-- delay
 abbrev pub whole_at : Domain → ℕ → Sent → ℕ
 whole_at d m sent = ending_of sent.start.0 sent.octets (octet_time_of d m) + delay_of d m
 
@@ -138,7 +137,7 @@ relayed_at d carried bridge t m =
     then map (sent_received d m) (filter (λ (sent : Sent). whole_at d m sent == t) (carried m))
     else []
 
--- all that comes to a bridge at an instant: by the links in order of number, then the offers by place (profile)
+-- all that comes to a bridge at an instant: by the links in order of number, then the offers by place
 abbrev pub received_at : Run → Carried → ℕ → ℕ → List Received
 received_at run carried bridge t =
     each_below (relayed_at run.domain carried bridge t) (length run.domain.links) ++ offered_at run.offers bridge t

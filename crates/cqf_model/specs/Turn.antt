@@ -1,4 +1,4 @@
--- When a stream's frame is due at a port: in its turn, one cycle behind the frame's own (profile).
+-- When a stream's frame is due at a port: in its turn, one cycle behind the frame's own.
 use Rattle.std.specs.Prelude.{ℕ, ◌+◌, ◌*◌, Bool, List, take, sum_by, if◌then◌else◌, nat_le, ◌==◌}
 use Rattle.cqf_units.specs.Timing.{wire_of, slot_of, cycle_at}
 use Rattle.cqf_model.specs.declared.ports.Arrival.{Arrival}

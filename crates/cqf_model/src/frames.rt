@@ -23,7 +23,7 @@ pub struct Offered {
 }
 
 /// A frame of a class that no stream has, for one hop: no stream gate polices it, it is never dropped, and it ends at the
-/// far end of its link (profile).
+/// far end of its link.
 #[derive(Clone, Copy, Debug, PartialEq, Eq)]
 pub struct Background {
     /// The instant from which it waits.
@@ -65,7 +65,7 @@ pub struct Started {
     pub start: Nanos,
 }
 
-/// Why an offer is dropped at its edge (profile).
+/// Why an offer is dropped at its edge.
 #[derive(Clone, Copy, Debug, PartialEq, Eq)]
 pub enum Reason {
     /// No held stream has the name.

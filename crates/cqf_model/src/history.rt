@@ -5,14 +5,14 @@ use cqf_units::{Cycle, Memory};
 use thiserror::Error;
 
 /// An accepted call: the stream's number, from 0 in the order of accepted admissions, and the cycle from which the call
-/// holds (profile).
+/// holds.
 #[derive(Clone, Copy, Debug, PartialEq, Eq)]
 pub struct Receipt {
     pub no: u32,
     pub effect: Cycle,
 }
 
-/// Why a call is refused (profile). Places are those of the nodes, from 0, counted through the branches as one list.
+/// Why a call is refused. Places are those of the nodes, from 0, counted through the branches as one list.
 #[derive(Clone, Copy, Debug, PartialEq, Eq, Error)]
 pub enum Refused {
     /// The name doesn't have the form of a name.

@@ -1,4 +1,4 @@
-//! The limits of a run and of what it reads (profile), as `specs/Limits.antt` has them: those that are fixed, the bounds up to
+//! The limits of a run and of what it reads, as `specs/Limits.antt` has them: those that are fixed, the bounds up to
 //! which plants are represented, and those that are set for a plant.
 ghost use Rattle.std.specs.Prelude.{◌≡◌};
 ghost use Rattle.cqf_model.specs.Limits.{

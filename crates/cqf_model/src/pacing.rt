@@ -7,7 +7,7 @@ ghost use Rattle.cqf_model.specs.Table.{depth_behind, reserved_in};
 use crate::{Hop, Pace, Row};
 
 /// Whether a stream's frames are so deep on their way in the cycle: offered in the cycles of its phase, they are on a link as many
-/// cycles later as the link is deep (profile).
+/// cycles later as the link is deep.
 fn is_turn(pace: Pace, depth: u8, cycle: u64) -> bool
     ensures { result ≡ is_turn pace depth cycle }
 {
@@ -37,7 +37,7 @@ impl Row {
     }
 
     /// What the stream reserves in a cycle for frames that came by a link, or at the edge, where `way` is none, in octets: in the cycles
-    /// that aren't its own there, nothing (profile).
+    /// that aren't its own there, nothing.
     pub fn reserved_behind(&self, way: Option<u16>, cycle: u64) -> u32
         ensures { result ≡ reserved_in self.now (depth_behind self.now way) cycle }
     {

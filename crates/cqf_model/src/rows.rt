@@ -41,7 +41,7 @@ fn is_under_way(cycle: u32, end: u32, cycles: u8) -> bool
 }
 
 impl Row {
-    /// Whether the stream is live in the cycle: admitted, and not yet withdrawn (profile).
+    /// Whether the stream is live in the cycle: admitted, and not yet withdrawn.
     pub fn live(&self, cycle: Cycle) -> bool
         ensures { result ≡ is_live self.now cycle.0 }
     {
@@ -53,7 +53,7 @@ impl Row {
     }
 
     /// Whether the stream is held in the cycle, with its costs, gates and name: from its admission on, and where it was
-    /// withdrawn until its last frame has left the last bridge of its deepest branch (profile).
+    /// withdrawn until its last frame has left the last bridge of its deepest branch.
     pub fn is_held(&self, cycle: Cycle) -> bool
         ensures { result ≡ is_held self.now cycle.0 }
     {

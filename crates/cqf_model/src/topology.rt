@@ -20,11 +20,11 @@ pub struct Link {
     /// The node that it ends in.
     pub to: Node,
     pub rate: Rate,
-    /// Propagation and bridge processing together, in nanoseconds: the greatest delay that a frame can have (profile).
+    /// Propagation and bridge processing together, in nanoseconds: the greatest delay that a frame can have.
     pub delay: u32,
     /// The least delay, at most the greatest.
     pub least: u32,
-    /// Its own guard time, in nanoseconds; none where it has the domain's (profile).
+    /// Its own guard time, in nanoseconds; none where it has the domain's.
     pub guard: Option<u32>,
 }
 
@@ -37,7 +37,7 @@ impl Link {
     }
 }
 
-/// A link of a stream's tree (profile).
+/// A link of a stream's tree.
 #[derive(Clone, Copy, Debug, Default, PartialEq, Eq)]
 pub struct Hop {
     /// The link's number.
@@ -48,7 +48,7 @@ pub struct Hop {
     pub from: Option<u16>,
 }
 
-/// In which cycles a stream's frames are offered: in one, and then in none for as many as the pause is long (profile).
+/// In which cycles a stream's frames are offered: in one, and then in none for as many as the pause is long.
 #[derive(Clone, Copy, Debug, Default, PartialEq, Eq)]
 pub struct Pace {
     /// How many cycles lie between two of its own; 0 where each is.
@@ -60,7 +60,7 @@ pub struct Pace {
 /// The pace of a stream that is offered in each cycle.
 pub const EACH_CYCLE: Pace = Pace { pause: 0, phase: 0 };
 
-/// A stream that is held in a cycle (profile).
+/// A stream that is held in a cycle.
 #[derive(Debug, Drop)]
 pub struct Row {
     /// The stream's number, from 0, in the order of accepted admissions.

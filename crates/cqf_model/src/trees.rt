@@ -7,7 +7,7 @@ use cqf_units::Memory;
 use std::alloc::Global;
 use std::marker::Model;
 
-/// The hops of a stream's branches, at most 200, each link once, in the order in which the links first stand in the branches (profile).
+/// The hops of a stream's branches, at most 200, each link once, in the order in which the links first stand in the branches.
 #[derive(Debug, Drop)]
 pub struct Tree {
     hops: Vec<Hop>,

@@ -1,4 +1,4 @@
--- When the ports of the bridges start next, and cycles in which nothing happens (profile).
+-- When the ports of the bridges start next, and cycles in which nothing happens.
 use Rattle.std.specs.Prelude.{ℕ, ◌≡◌, ◌≤◌, ◌⊎◌, List, [], Contains, IsSome}
 use Rattle.std.specs.BTreeMap.{is_at}
 use Rattle.std.specs.List.{flat_map}

@@ -1,4 +1,4 @@
--- A run of the network on one thread: what comes of it, and why it gives no book (profile).
+-- A run of the network on one thread: what comes of it, and why it gives no book.
 use Rattle.std.specs.Prelude.{ℕ, ◌≡◌, ◌<◌, Contains, List, length, map, slice_get, take, Some}
 use Rattle.cqf_model.specs.declared.frames.Background.{Background}
 use Rattle.cqf_model.specs.declared.frames.Offer.{Offer}

@@ -6,7 +6,7 @@ use cqf_units::Memory;
 use std::fmt;
 use thiserror::Error;
 
-/// Why a run gives no book: the first of these that fits, in the order in which they stand here (profile). It prints as its
+/// Why a run gives no book: the first of these that fits, in the order in which they stand here. It prints as its
 /// name, and the frame's number.
 #[derive(Clone, Copy, Debug, PartialEq, Eq, Drop, Error)]
 pub enum RunFault {

@@ -1,4 +1,4 @@
--- The table that a domain is told by (profile): its keys in the order of their bytes.
+-- The table that a domain is told by: its keys in the order of their bytes.
 use Rattle.std.specs.Prelude.{ℕ, pos, List, [], ◌∷◌, ◌==◌, Option, Some, None, if◌then◌else◌, map}
 use Rattle.std.specs.Ordering.{match_ordering, nat_cmp}
 use Rattle.std.specs.Cmp.Lexicographic.{slice_cmp}

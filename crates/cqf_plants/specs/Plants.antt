@@ -1,4 +1,4 @@
--- A plant's text (profile), and what every command reads in it.
+-- A plant's text, and what every command reads in it.
 use Rattle.std.specs.Prelude.{ℕ, ◌≡◌, ◌≤◌, false, true, List, map, Some, Ok, All, IfSome}
 use Rattle.std.specs.Str.{is_utf8}
 use Rattle.toml.specs.Data.{Members}

@@ -1,4 +1,4 @@
--- The tables that streams are told by (profile): their keys in the order of their bytes.
+-- The tables that streams are told by: their keys in the order of their bytes.
 use Rattle.std.specs.Prelude.{ℕ, pos, List, [], ◌∷◌, ◌&&◌, ◌==◌, Bool, if◌then◌else◌, Option, Some, None, map}
 use Rattle.toml.specs.Data.{Data, string, integer, array, table, Members, no_members, member}
 use Rattle.toml.specs.View.{items_of}

@@ -65,7 +65,7 @@ fn plant_table(alloc: Global, domain: &Domain, flows: &[Flow]) -> Result<Table, 
 /// The text of a plant, in TOML: the domain, and then its streams in order, each with its deadline and traffic, where it has them. Keys
 /// stand in the order of their bytes; a stream's only branch is its `path`, none or several are its `paths`, and `every` and `phase` stand
 /// both, and only where the stream isn't offered in each cycle, that is where they aren't 1 and 0; `sync` stands only where it isn't 0, a
-/// link's least delay only where it isn't the greatest, and its `guard` only where it has its own (profile). It reads back as this domain
+/// link's least delay only where it isn't the greatest, and its `guard` only where it has its own. It reads back as this domain
 /// and these streams ([`crate::told_plants_read_back`]).
 ///
 /// # Errors

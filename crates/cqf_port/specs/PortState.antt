@@ -20,7 +20,7 @@ pub record PortState : Type 0 where
   pub arrivals : List Arrival
   pub starts : List Transmission
 
--- the arrivals that a port takes: of eight classes, early enough (profile), and of each class in order of instant
+-- the arrivals that a port takes: of eight classes, early enough, and of each class in order of instant
 pub record AreTaken (arrivals : List Arrival) : Type 0 where
   pub classes : (place : ℕ) → place < length arrivals → class_of arrivals place < 8
   pub early : (place : ℕ) → place < length arrivals → instant_of arrivals place < 2 ^ 62

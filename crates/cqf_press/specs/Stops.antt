@@ -1,4 +1,4 @@
--- Ends of the program before its work is done (profile), and what it is that an input is refused.
+-- Ends of the program before its work is done, and what it is that an input is refused.
 use Rattle.std.specs.Prelude.{ℕ, ◌≡◌, ◌⊎◌, ◌++◌, List, [], ◌∷◌, Result, Ok, Err, codes}
 use Rattle.cqf_press.specs.declared.stops.Stop.{Stop}
 

@@ -1,4 +1,4 @@
--- What a run of the program comes to, for the words that it is given and the bytes that its reader has (profile).
+-- What a run of the program comes to, for the words that it is given and the bytes that its reader has.
 use Rattle.std.specs.Prelude.{ℕ, ◌≡◌, ◌≢◌, ◌⊎◌, ◌≤◌, ◌<◌, ◌==◌, ◌++◌, Bool, true, false, List, [], ◌∷◌, Ok, Option, String, ⊤, codes, if◌then◌else◌, length, option_map, string_bytes}
 use Rattle.std.specs.Io.KnownBytes.{Appends, IsAtEnd, Keeps}
 use Rattle.std.specs.List.{slice_split, before_first, after_first}

@@ -12,7 +12,7 @@ use cqf_press::{FAULT, REFUSED, Stop};
 use cqf_program_words::ask_for_large;
 use std::alloc::Global;
 
-/// The most bytes that the program reads where no large plants are asked for (profile).
+/// The most bytes that the program reads where no large plants are asked for.
 pub const MOST_BYTES: usize = 67_108_864;
 
 /// The most where they are.

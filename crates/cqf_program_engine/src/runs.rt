@@ -275,7 +275,7 @@ fn output_of(
     }
 }
 
-/// The most octets of a first line that has words (profile): it is split into words that are all kept.
+/// The most octets of a first line that has words: it is split into words that are all kept.
 const MOST_LINE: usize = 65_536;
 
 /// The version of the program.

@@ -1,4 +1,4 @@
--- The form of explanations and of notes (profile).
+-- The form of explanations and of notes.
 use Rattle.std.specs.Prelude.{ℕ, ◌≡◌, ◌++◌, ◌≤◌, ◌||◌, List, [], ◌∷◌, if◌then◌else◌, codes, length, map, nat_lt}
 use Rattle.std.specs.List.{flat_map}
 

@@ -1,4 +1,4 @@
-//! Streams that are refused beside those that stand before them: names that are held, and budgets (profile).
+//! Streams that are refused beside those that stand before them: names that are held, and budgets.
 
 use crate::given::CommandInput;
 use crate::network::Network;
@@ -49,7 +49,7 @@ struct Short {
     budget: u64,
 }
 
-/// What a reservation costs on a link, in octets (profile).
+/// What a reservation costs on a link, in octets.
 fn cost_of(octets: u64) -> u64 {
     let frames = octets / 64;
     octets.saturating_add(frames.saturating_mul(20))

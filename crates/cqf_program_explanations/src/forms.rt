@@ -1,4 +1,4 @@
-//! What may stand at each key of a plant (profile).
+//! What may stand at each key of a plant.
 
 use crate::lexer::before_comment;
 use crate::plant::{FoundKey, KeyOwner, number_of};

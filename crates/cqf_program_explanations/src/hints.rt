@@ -1,4 +1,4 @@
-//! What may be done about a refusal: another command, or larger limits (profile).
+//! What may be done about a refusal: another command, or larger limits.
 
 use crate::given::CommandInput;
 use crate::parts::takes_domain;

@@ -271,7 +271,7 @@ impl<'p> Network<'p> {
         question(alloc, name, self.nodes.as_slice())
     }
 
-    /// What a link may hold in a cycle, in octets (profile).
+    /// What a link may hold in a cycle, in octets.
     pub(crate) fn budget(&self, link: &WrittenLink<'_>) -> u64 {
         let open = self.cycle.saturating_sub(link.guard);
         open.saturating_mul(2100)

@@ -1,4 +1,4 @@
-//! The parts of the input, each with the file that it stands in (profile).
+//! The parts of the input, each with the file that it stands in.
 
 use crate::explaining::NamedFile;
 use cqf_text::parts;

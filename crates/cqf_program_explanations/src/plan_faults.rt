@@ -1,4 +1,4 @@
-//! Streams of a sketch that aren't placed, or may be late (profile).
+//! Streams of a sketch that aren't placed, or may be late.
 
 use crate::domain_faults::{tell_guard_at, tell_link_guards_at};
 use crate::given::CommandInput;

@@ -1,4 +1,4 @@
-//! Files that make no plant: keys that no command knows, keys and streams in two files, lines that are too long (profile).
+//! Files that make no plant: keys that no command knows, keys and streams in two files, lines that are too long.
 
 use crate::given::CommandInput;
 use crate::lines::Lines;

@@ -1,4 +1,4 @@
-//! Lines of a script that are refused (profile).
+//! Lines of a script that are refused.
 
 use crate::given::CommandInput;
 use crate::lines::Lines;

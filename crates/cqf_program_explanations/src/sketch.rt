@@ -1,4 +1,4 @@
-//! A sketch as it is written: what it has beyond a plant (profile).
+//! A sketch as it is written: what it has beyond a plant.
 
 use crate::given::CommandInput;
 use crate::network::{Network, WrittenLink};

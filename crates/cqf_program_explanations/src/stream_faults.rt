@@ -1,4 +1,4 @@
-//! Streams that are refused for their own form (profile).
+//! Streams that are refused for their own form.
 
 use crate::forms::{EVERY_FORM, NAME_FORM, PHASE_FORM};
 use crate::given::CommandInput;

@@ -1,4 +1,4 @@
-//! Rows of tables that are refused: offers, background frames, arrivals (profile).
+//! Rows of tables that are refused: offers, background frames, arrivals.
 
 use crate::forms::NAME_FORM;
 use crate::given::CommandInput;

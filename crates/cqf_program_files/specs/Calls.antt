@@ -1,4 +1,4 @@
--- What a file of calls comes to: the script that the program reads (profile).
+-- What a file of calls comes to: the script that the program reads.
 use Rattle.std.specs.Prelude.{ℕ, ◌≡◌, ◌==◌, ◌&&◌, ◌+◌, ◌-◌, Bool, true, List, [], ◌∷◌, ◌++◌, Option, Some, None, codes, if◌then◌else◌, is_some}
 use Rattle.std.specs.Prelude.{length, map, max, min, nat_eq, nat_le, nat_lt, replicate, take}
 use Rattle.std.specs.List.{ends_with, flat_map}

@@ -1,4 +1,4 @@
--- What the texts of files come to for a job: the input that the program reads (profile).
+-- What the texts of files come to for a job: the input that the program reads.
 use Rattle.std.specs.Prelude.{ℕ, ◌≡◌, ◌⊎◌, ◌==◌, ◌-◌, ◌&&◌, ◌||◌, Bool, true, false, nat_eq, nat_le, not, List, [], ◌∷◌, Option, Some, None, Vec, codes, drop, if◌then◌else◌, is_some, length, option_and_then, option_map}
 use Rattle.std.specs.declared.alloc.Global.{Global}
 use Rattle.cqf_press.specs.Stops.{fault_line}

@@ -1,4 +1,4 @@
--- The keys that a plant's texts may have (profile).
+-- The keys that a plant's texts may have.
 use Rattle.std.specs.Prelude.{ℕ, ◌&&◌, Bool, not, List, [], ◌∷◌, Option, Some, None, bytes_eq, codes, if◌then◌else◌, option_and_then, take}
 use Rattle.std.specs.List.{list_any}
 use Rattle.std.specs.Option.{option_or}

@@ -1,4 +1,4 @@
--- The lines of a plant that are too long to be parsed (profile): parsing costs by the square of a name's length, and much memory a dot.
+-- The lines of a plant that are too long to be parsed: parsing costs by the square of a name's length, and much memory a dot.
 use Rattle.std.specs.Prelude.{ℕ, ◌==◌, ◌&&◌, ◌||◌, ◌+◌, Bool, true, false, List, [], ◌∷◌, Option, Some, None, fold, if◌then◌else◌, length, nat_le, nat_lt}
 use Rattle.cqf_text.specs.Lines.{lines_of}
 use Rattle.cqf_program_files.specs.declared.lines.Seen.{Seen}

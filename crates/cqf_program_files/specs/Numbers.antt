@@ -1,4 +1,4 @@
--- The number of a file's line in place of that of its script's, in the line of a script's fault (profile).
+-- The number of a file's line in place of that of its script's, in the line of a script's fault.
 use Rattle.std.specs.Prelude.{ℕ, ◌-◌, List, [], ◌∷◌, ◌++◌, Option, Some, None, codes, decimal, drop, if◌then◌else◌, length, nat_eq, option_and_then}
 use Rattle.std.specs.Prelude.{option_map, slice_get, take}
 use Rattle.std.specs.List.{ends_with, starts_with}

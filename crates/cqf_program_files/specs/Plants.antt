@@ -1,4 +1,4 @@
--- Files that are one plant, and why they are refused (profile).
+-- Files that are one plant, and why they are refused.
 use Rattle.std.specs.Prelude.{ℕ, ◌≡◌, ◌⊎◌, ◌+◌, ◌++◌, ◌≤◌, ◌&&◌, Bool, true, false, List, [], ◌∷◌, Option, Some, None, codes, count_by, decimal, find, fold}
 use Rattle.std.specs.Prelude.{if◌then◌else◌, is_some, length, map, nat_le, nat_lt, not, option_and_then, option_map, string_bytes, take}
 use Rattle.std.specs.Ordering.{match_ordering, nat_cmp}

@@ -15,7 +15,7 @@ pub struct CallsScript {
     pub(crate) numbers: Vec<u64>,
 }
 
-/// The last cycle that a line may tell, up to which cycles are counted (profile).
+/// The last cycle that a line may tell, up to which cycles are counted.
 const LAST_TOLD: u64 = 4_294_967_295;
 
 /// A line without the carriage return before its line feed.
@@ -173,7 +173,7 @@ impl CallsPlace {
 /// The script of a file of calls, for a run of so many cycles: empty lines and those that begin with `#` are left out, so is a carriage
 /// return before a line feed; `@N` alone on a line says that what follows is called for in cycle N, and stands for as many Seals as that
 /// takes; Seals and calls of cycles that aren't run are left out. Every other line stays as it is, also one that no script may have,
-/// such as `@N` where N is before the cycle reached (profile). Time and memory grow with the text and the cycles.
+/// such as `@N` where N is before the cycle reached. Time and memory grow with the text and the cycles.
 ///
 /// # Errors
 /// Where a growth is refused.

@@ -6,7 +6,7 @@ use cqf_units::Memory;
 use std::fmt;
 use thiserror::Error;
 
-/// Why the files of a plant are refused (profile). A fault prints as its name, and then its value.
+/// Why the files of a plant are refused. A fault prints as its name, and then its value.
 #[derive(Debug, Drop, Error)]
 pub enum PlantFault {
     /// The first line, from 1, of the first file that has one, with a key of more than 4 parts, or in a TOML file of more than 4,096 octets.

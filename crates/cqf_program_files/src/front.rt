@@ -310,7 +310,7 @@ fn check_header(
 ///
 /// Where the job takes a domain, the first 2 to 16 names that end with `.toml` are those of one plant: its text has all that commands
 /// know of these texts, arrays one behind the other. Where the job reads a script, a text right behind a plant is a file of calls, which
-/// [`script_of_calls`] reads, unless it begins as offers do. The rest goes as [`cqf_program_words::composed`] has it (profile).
+/// [`script_of_calls`] reads, unless it begins as offers do. The rest goes as [`cqf_program_words::composed`] has it.
 ///
 /// # Errors
 /// Where the job takes a domain, status 1 and the line of the first fault: of files whose names end with `.toml`, and then of the first file

@@ -8,12 +8,12 @@ ghost use Rattle.cqf_program_files.specs.Keys.{strange_key};
 
 use toml::{Table, Value};
 
-/// The keys of a plant's top that commands know (profile).
+/// The keys of a plant's top that commands know.
 pub const TOP: [&str; 7] = [
     "cycle", "guard", "sync", "bridges", "stations", "links", "streams",
 ];
 
-/// Those of a link (profile).
+/// Those of a link.
 pub const LINK: [&str; 8] = [
     "from",
     "to",
@@ -25,13 +25,13 @@ pub const LINK: [&str; 8] = [
     "far-interface",
 ];
 
-/// Those of a stream (profile).
+/// Those of a stream.
 pub const STREAM: [&str; 17] = [
     "name", "octets", "every", "phase", "in-step", "path", "paths", "deadline", "from", "to",
     "interval", "frames", "size", "jitter", "offset", "mac", "vlan",
 ];
 
-/// How a key begins that is the user's own, which no command reads (profile).
+/// How a key begins that is the user's own, which no command reads.
 pub const OWN: &str = "x-";
 
 /// Whether the key is the user's own.
@@ -116,7 +116,7 @@ pub(crate) fn value_at<'t>(table: &'t Table, key: &str) -> Option<&'t Value>
 }
 
 /// The first key of a plant that no command knows and that isn't the user's own: of its top, in the order of their octets, then of its
-/// links, one after the other, and then of its streams (profile).
+/// links, one after the other, and then of its streams.
 pub fn strange_key(table: &Table) -> Option<&str>
     ensures { option_map (λ key. key.now) result ≡ strange_key (table_view table.now) }
 {

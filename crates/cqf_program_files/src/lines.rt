@@ -4,10 +4,10 @@ ghost use Rattle.cqf_program_files.specs.Lines.{ends_key, first_long_line, is_di
 
 use cqf_text::split_line;
 
-/// The most octets of a line (profile).
+/// The most octets of a line.
 pub const MOST_OCTETS: usize = 4096;
 
-/// The most parts of a key, which dots divide (profile).
+/// The most parts of a key, which dots divide.
 pub const MOST_PARTS: u8 = 4;
 
 /// The most dots between two dividers: a key of so many has one part more.
@@ -158,7 +158,7 @@ fn is_too_long(counts: bool, line: &[u8]) -> bool
 }
 
 /// The number of the text's first line that has a key of more than 4 parts, or where octets count, more than 4,096 of these, from 1. Time
-/// grows with the text, and no memory is asked for (profile).
+/// grows with the text, and no memory is asked for.
 pub fn first_long_line(counts: bool, text: &[u8]) -> Option<u64>
     requires { length text.now < 2 ^ 63 }
     ensures { result ≡ first_long_line counts text.now }

@@ -68,7 +68,7 @@ fn told_by(
 }
 
 /// The line of a script's fault, with the number of the file's line in place of the script's, where `numbers` has that of each of the
-/// script's lines, as [`Front`](crate::Front) has them; any other line stays as it is (profile).
+/// script's lines, as [`Front`](crate::Front) has them; any other line stays as it is.
 ///
 /// # Errors
 /// Where a growth is refused.

@@ -11,7 +11,7 @@ use cqf_units::Memory;
 use std::alloc::Global;
 use toml::{Table, Value};
 
-/// The most files that are one plant (profile).
+/// The most files that are one plant.
 pub const MOST_FILES: usize = 16;
 
 /// How many of the first names are those of TOML files.

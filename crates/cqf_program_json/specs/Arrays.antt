@@ -1,4 +1,4 @@
--- How arrays and their elements are told (profile): each element on lines of its own, with a comma behind each but the last.
+-- How arrays and their elements are told: each element on lines of its own, with a comma behind each but the last.
 use Rattle.std.specs.Prelude.{ℕ, ◌++◌, List, [], ◌∷◌, Bool, true, false, Option, Some, None, codes, decimal, if◌then◌else◌}
 
 -- whether there are none

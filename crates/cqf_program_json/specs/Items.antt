@@ -1,4 +1,4 @@
--- What the lines of an object tell, read one by one (profile), and that this is what is compiled.
+-- What the lines of an object tell, read one by one, and that this is what is compiled.
 use Rattle.std.specs.Prelude.{ℕ, ◌≡◌, ◌<◌, ◌≤◌, ◌^◌, ◌==◌, ◌++◌, All, IsTrue, List, [], ◌∷◌, Option, Some, None, codes, if◌then◌else◌, length, map}
 use Rattle.std.specs.Prelude.{option_map}
 use Rattle.std.specs.List.{flat_map}

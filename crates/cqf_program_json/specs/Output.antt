@@ -1,4 +1,4 @@
--- What the command `compile --format json` gives for its input (profile): the object, or the line of the input's first fault.
+-- What the command `compile --format json` gives for its input: the object, or the line of the input's first fault.
 use Rattle.std.specs.Prelude.{ℕ, List, [], Result, Ok}
 use Rattle.cqf_lists.specs.Results.{and_then}
 use Rattle.cqf_addressing.specs.declared.links.LinkInterfaces.{LinkInterfaces}

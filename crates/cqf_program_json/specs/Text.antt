@@ -1,4 +1,4 @@
--- The object of a domain and its streams (profile). Its names are those of the managed objects of IEEE Std 802.1Q-2018, 12.29.1 for ports
+-- The object of a domain and its streams. Its names are those of the managed objects of IEEE Std 802.1Q-2018, 12.29.1 for ports
 -- and 12.31 for stream filters and gates, and of IEEE Std 802.1CB-2017, clause 9, for how the frames of streams are known.
 use Rattle.std.specs.Prelude.{ℕ, ◌++◌, List, [], ◌∷◌, Option, Some, None, codes, decimal, filter, if◌then◌else◌, length, map, true}
 use Rattle.cqf_lists.specs.Lists.{each_below}

@@ -76,7 +76,7 @@ fn object_of(
 }
 
 /// The output of `compile --format json` for an input that is read within some limits, ready to be told: the object for the domain and its
-/// streams (profile).
+/// streams.
 ///
 /// # Errors
 /// With status 1 and the line of the first fault: those of `cqf_program_plans::compile_output`, then those of the interfaces of the domain's

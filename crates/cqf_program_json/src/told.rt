@@ -8,7 +8,7 @@ use crate::wired::Wired;
 use cqf_press::{Press, Sink, Told};
 
 impl JsonOutput {
-    /// Tells the output: the object (profile). It asks for no memory.
+    /// Tells the output: the object. It asks for no memory.
     pub fn tell<W: Sink>(self, told: &mut Told<W>)
         ensures { HasTold (writing W.contents told.old told.new) (text_of_json self) }
     {

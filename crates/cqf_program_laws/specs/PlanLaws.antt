@@ -1,4 +1,4 @@
--- A plan that was told keeps its word: of a stream whose talker keeps its own, no frame is lost and none is late (profile).
+-- A plan that was told keeps its word: of a stream whose talker keeps its own, no frame is lost and none is late.
 use Rattle.std.specs.Prelude.{ℕ, ◌≡◌, ◌⊎◌, ◌+◌, ◌<◌, ◌≤◌, List, [], All, Contains, false, map, Option, Some, Ok, option_map, slice_get, true}
 use Rattle.std.specs.Option.{ForSome}
 use Rattle.cqf_model.specs.declared.frames.Background.{Background}

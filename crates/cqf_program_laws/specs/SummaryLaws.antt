@@ -1,4 +1,4 @@
--- What a summary tells of a script over its streams (profile).
+-- What a summary tells of a script over its streams.
 use Rattle.std.specs.Prelude.{ℕ, ◌≡◌, ◌+◌, ◌≤◌, Contains, List, Ok, Some}
 use Rattle.cqf_model.specs.declared.limits.Limits.{Limits}
 use Rattle.cqf_model.specs.declared.topology.Hop.{Hop}

@@ -1,4 +1,4 @@
--- What the verdicts of `latency` say of deliveries (profile).
+-- What the verdicts of `latency` say of deliveries.
 use Rattle.std.specs.Prelude.{ℕ, ◌≡◌, ◌≢◌, ◌≤◌, List, [], true, Some, Ok, Contains}
 use Rattle.cqf_units.specs.declared.timing.Nanos.{Nanos}
 use Rattle.cqf_model.specs.declared.frames.Background.{Background}

@@ -17,7 +17,7 @@ ghost use Rattle.cqf_program_laws.specs.SummaryLaws.{LatenciesAreBounded, RowsAd
 ghost use Rattle.cqf_program_laws.specs.VerdictLaws.{VerdictsHoldOfAccounts, VerdictsHoldOfDeliveries, VerdictsHoldOfScripts};
 
 /// The calls of a script ask for no stream but those of its streams text. So its history admits no other, on one thread and in each
-/// account of its run on threads (profile).
+/// account of its run on threads.
 pub fn scripts_admit_only()
     ensures scripts { ScriptsAskOnly }
     ensures scenarios { ScenariosAskOnly }
@@ -32,7 +32,7 @@ pub fn scripts_admit_only()
 
 /// Where `latency` tells `in-time` of a stream and a listener, no delivery of a frame of that stream to that listener is late; where
 /// it tells `late`, each that has come is. So it is in the book of each history that admits streams of the plan alone, as are those
-/// of a script over them, on one thread and on threads, whatever is withdrawn or offered, and beside any background (profile).
+/// of a script over them, on one thread and on threads, whatever is withdrawn or offered, and beside any background.
 pub fn told_verdicts_hold()
     ensures deliveries { VerdictsHoldOfDeliveries }
     ensures scripts { VerdictsHoldOfScripts }
@@ -54,7 +54,7 @@ pub fn told_verdicts_hold()
 /// thread and on threads.
 ///
 /// Where the plan's deadline is what a talker's link leaves of that of a sketch, as it is of each stream that was settled, the frame is
-/// there within the sketch's deadline, from the instant at which the talker begins to send it (profile).
+/// there within the sketch's deadline, from the instant at which the talker begins to send it.
 pub fn told_plans_keep_their_word()
     ensures runs { PlansKeepTheirWord }
     ensures scripts { PlansKeepTheirWordToScripts }
@@ -73,7 +73,7 @@ pub fn told_plans_keep_their_word()
 
 /// So it does in every loose network, whatever clocks and delays do within what the domain states. Where all offers of a stream's name keep
 /// its talker's word, each of them that is made in a cycle of the stream while it is live is whole at each of its listeners, by the clock
-/// there, within the plan's deadline from its offer on by the edge bridge's, if the run lasts long enough (profile).
+/// there, within the plan's deadline from its offer on by the edge bridge's, if the run lasts long enough.
 pub fn told_plans_keep_their_word_loosely()
     ensures { PlansKeepTheirWordLoosely }
 {
@@ -85,7 +85,7 @@ pub fn told_plans_keep_their_word_loosely()
 
 /// The offers that a row of `summary` counts are as many as those that are delivered, late, dropped and under way at the row's listener
 /// together. So it is of every script over the streams of the file, whatever it admits and withdraws, whatever is offered, and beside any
-/// background frames (profile).
+/// background frames.
 pub fn summaries_add_up()
     ensures { RowsAddUp }
 {
@@ -96,7 +96,7 @@ pub fn summaries_add_up()
 }
 
 /// What the frames took that came to the listener of a row of `summary` lies between the least that `latency` has for the last link of
-/// their way and the row's bound, in every such script (profile).
+/// their way and the row's bound, in every such script.
 pub fn summaries_are_within_bounds()
     ensures { LatenciesAreBounded }
 {

@@ -1,4 +1,4 @@
--- What is made in place of parts that a run isn't given (profile): calls that admit all streams before cycle 0, and what their talkers
+-- What is made in place of parts that a run isn't given: calls that admit all streams before cycle 0, and what their talkers
 -- offer. A made part is a text, as if it had been read.
 use Rattle.cqf_model.specs.declared.limits.Limits.{Limits}
 use Rattle.std.specs.Prelude.{ℕ, ◌-◌, ◌*◌, ◌++◌, Bool, true, false, List, [], ◌∷◌, Option, Some, None, Result, Ok, codes, if◌then◌else◌, length, map, max, fold}

@@ -1,4 +1,4 @@
--- What the command `offers` gives for its input (profile): what the streams of a plant offer, or the line of the input's first fault.
+-- What the command `offers` gives for its input: what the streams of a plant offer, or the line of the input's first fault.
 use Rattle.std.specs.Prelude.{ℕ, ◌*◌, List, [], ◌∷◌, Option, None, Result, Ok, Err, codes, if◌then◌else◌, map, nat_le, option_and_then, slice_get}
 use Rattle.std.specs.Option.{unwrap_or}
 use Rattle.cqf_lists.specs.Results.{and_then}

@@ -79,7 +79,7 @@ pub fn offered_of(
 }
 
 /// The output of `offers` over so many cycles, up to 100,000, with a seed or without, for an input that is read within some limits: what the
-/// streams of a plant offer (profile).
+/// streams of a plant offer.
 ///
 /// # Errors
 /// With status 1 and the line of the first fault of the input: of its parts, of the domain, of the streams, or of the first stream that is

@@ -232,7 +232,7 @@ fn made_of_parts(
 
 /// The input of a job, read within some limits, with what isn't given, or `None` where it stays as it is: of a job that reads a script, a
 /// plant alone gets calls and offers, a plant and a script offers, a plant and offers, told by their first line, calls. Calls admit all
-/// streams before cycle 0; offers are those of the streams with traffic, so early that all arrive (profile).
+/// streams before cycle 0; offers are those of the streams with traffic, so early that all arrive.
 ///
 /// # Errors
 /// With status 1 and the line of the first fault: of the domain, of the streams, their traffic too where offers are made, of the script

@@ -31,7 +31,7 @@ fn offer_line(alloc: Global, domain: &Domain, offer: &Offer) -> Result<String, M
     Ok(line)
 }
 
-/// Offers as a text: a header, and a line an offer with its instant, its bridge, its stream and its octets (profile). `Memory` where a growth
+/// Offers as a text: a header, and a line an offer with its instant, its bridge, its stream and its octets. `Memory` where a growth
 /// is refused.
 pub fn offers_text(alloc: Global, domain: &Domain, offers: &[Offer]) -> Result<Vec<u8>, Memory>
     ensures { IfOk result (λ text. text.items ≡ offers_text domain.now offers.now) }

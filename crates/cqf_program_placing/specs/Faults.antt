@@ -1,4 +1,4 @@
--- How it is told why a stream of a sketch isn't settled, or isn't placed (profile).
+-- How it is told why a stream of a sketch isn't settled, or isn't placed.
 use Rattle.std.specs.Prelude.{ℕ, ◌++◌, List, codes, decimal}
 use Rattle.cqf_model.specs.Refusals.{text_of_refusal}
 use Rattle.cqf_program_placing.specs.declared.faults.PlanFault.{PlanFault}

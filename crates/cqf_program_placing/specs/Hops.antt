@@ -1,4 +1,4 @@
--- Behind how many links a stream's frames leave each bridge, and what links have left there (profile).
+-- Behind how many links a stream's frames leave each bridge, and what links have left there.
 use Rattle.std.specs.Prelude.{ℕ, ◌≡◌, ◌+◌, ◌<◌, ◌≤◌, ◌⊎◌, Bool, true, List, [], ◌∷◌, Option, Some, None, length, nat_le, slice_get, slice_index_or}
 use Rattle.std.specs.Option.{option_map_or}
 use Rattle.cqf_lists.specs.Lists.{each_below}

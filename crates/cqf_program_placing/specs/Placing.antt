@@ -1,4 +1,4 @@
--- Settled streams, placed on a cycle time one after the other (profile).
+-- Settled streams, placed on a cycle time one after the other.
 use Rattle.std.specs.Prelude.{ℕ, ◌≡◌, ◌<◌, ⊤, Bool, List, [], ◌∷◌, if◌then◌else◌, false, map, nat_lt, option_map, Option, Some, None, Result, Ok, Err, slice_get, slice_index, true}
 use Rattle.std.specs.Option.{option_map_or}
 use Rattle.cqf_units.specs.Timing.{cost_of}

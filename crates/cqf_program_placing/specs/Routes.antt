@@ -1,4 +1,4 @@
--- Why a stream has no branches (profile).
+-- Why a stream has no branches.
 use Rattle.std.specs.Prelude.{ℕ, ◌≡◌, ◌<◌, List, Err, Some, length, slice_get, true}
 use Rattle.cqf_model.specs.declared.topology.Row.{Row}
 use Rattle.cqf_model.specs.declared.topology.Node.TheVariants.{Bridge, Station}

@@ -1,4 +1,4 @@
--- The streams of a sketch, each looked over for what no cycle time changes (profile).
+-- The streams of a sketch, each looked over for what no cycle time changes.
 use Rattle.std.specs.Prelude.{ℕ, ◌+◌, ◌-◌, ◌*◌, ◌<◌, ◌≤◌, ◌==◌, ◌||◌, ◌&&◌, ◌++◌, List, [], ◌∷◌, ⊤, Bool, true, false, if◌then◌else◌, find, length, min}
 use Rattle.std.specs.Prelude.{All, IsTrue, nat_le, nat_lt, not, suc, zero, ok_or, option_and_then, option_map, unwrap_or, Option, Some, None}
 use Rattle.std.specs.Prelude.{Result, Ok, Err}

@@ -1,4 +1,4 @@
--- In which cycles a stream is offered on a cycle time, and how full links are in these (profile).
+-- In which cycles a stream is offered on a cycle time, and how full links are in these.
 use Rattle.std.specs.Prelude.{ℕ, ◌≡◌, ◌+◌, ◌-◌, ◌*◌, ◌/◌, ◌%◌, ◌<◌, ◌≤◌, ◌==◌, ◌&&◌, ◌||◌, ⊤, Bool, true, false, Contains, List, [], ◌∷◌, Option, Some, None, fold}
 use Rattle.std.specs.Prelude.{if◌then◌else◌, length, max, nat_le, nat_lt, not}
 use Rattle.std.specs.Option.{option_map_or}

@@ -32,7 +32,7 @@ fn fault_of_refusal(domain: &Domain, refused: Refused) -> PlanFault
     }
 }
 
-/// Asks for a stream: what becomes of it is what admission answers (profile).
+/// Asks for a stream: what becomes of it is what admission answers.
 pub(crate) fn ask(
     domain: &Domain,
     admission: &mut Admission,

@@ -7,7 +7,7 @@ use cqf_units::Name;
 use std::fmt;
 use thiserror::Error;
 
-/// Why a stream of a sketch isn't settled, isn't placed on a cycle time, or may be late there (profile). A fault prints as its name, and
+/// Why a stream of a sketch isn't settled, isn't placed on a cycle time, or may be late there. A fault prints as its name, and
 /// then its values, each after a space.
 #[derive(Debug, PartialEq, Eq, Drop, Error)]
 pub enum PlanFault {

@@ -12,7 +12,7 @@ use cqf_sketch::first_ways_are_a_tree;
 /// one of. One whose phase isn't chosen is placed by these ways; so admission refuses none for which they were found but for the hops of
 /// their tree, and in the profile not for these. One whose phase is chosen is placed exactly where from some first cycle on each link of the
 /// tree has left what it costs: in the first phase then in which the tree's loads, from the greatest down, are the least. Else it isn't, for
-/// the first link that hasn't; and so it is along branches that are given (profile).
+/// the first link that hasn't; and so it is along branches that are given.
 pub fn placed_where_there_is_room()
     ensures { PlacedWhereThereIsRoom }
 {

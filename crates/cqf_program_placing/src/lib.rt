@@ -1,4 +1,4 @@
-//! The streams of a sketch, settled, and placed on a cycle time one after the other (profile).
+//! The streams of a sketch, settled, and placed on a cycle time one after the other.
 //!
 //! - [`settle`] looks the streams of a sketch over for what no cycle time changes, and gives them as [`Settled`], with each node by
 //!   number and deadlines from the edge bridge; or [`Unsettled`], the first fault.

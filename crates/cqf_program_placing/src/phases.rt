@@ -130,7 +130,7 @@ fn least_loaded(domain: &Domain, admission: &Admission, cost: u32, every: u8, tr
 }
 
 /// The phase of a stream along some branches: the one that is given, or else the first in which the loads of their tree are the least
-/// (profile); of no tree it is 0 then.
+///; of no tree it is 0 then.
 pub(crate) fn phase_along(
     domain: &Domain,
     admission: &Admission,

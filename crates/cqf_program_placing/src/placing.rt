@@ -363,7 +363,7 @@ fn place_all(
     })
 }
 
-/// Places settled streams of a sketch on a cycle time that is open, in nanoseconds, one after the other (profile).
+/// Places settled streams of a sketch on a cycle time that is open, in nanoseconds, one after the other.
 ///
 /// A stream takes what its traffic needs of a cycle, or the octets that it asks for, where these are enough. One that has no branches
 /// takes the first ways to its listeners on which each link has room in the cycles in which its frames go by it, where its cycles are given.

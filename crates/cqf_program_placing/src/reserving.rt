@@ -27,7 +27,7 @@ fn reserved_for(octets: Option<u32>, needed: u128) -> Result<u32, PlanFault>
 }
 
 /// The reservation of a stream on a domain, in octets a cycle: what its traffic needs of a cycle, or the octets that it asks for, which
-/// have to be enough (profile).
+/// have to be enough.
 ///
 /// # Errors
 /// `BadInStep` where its talker is to be in step, and not all its frames of an interval come within one cycle, by its own clock and by the edge

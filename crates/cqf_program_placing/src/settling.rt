@@ -177,7 +177,7 @@ fn settle_all(
 }
 
 /// The streams of a sketch, in their order, each with its nodes by number, its deadline from its edge bridge on, and nothing wrong with
-/// it that a cycle time could change (profile).
+/// it that a cycle time could change.
 ///
 /// # Errors
 /// The first fault, stream by stream: `BadName`, with the place, from 1, where a name hasn't the form of one; and then `Stream` with the

@@ -70,7 +70,7 @@ fn stays_in_step(traffic: Traffic, cycle_time: Nanos, sync: Nanos) -> bool
 }
 
 /// Whether a stream can be offered on a cycle time where clocks may be so far apart: where its talker is to be in step, all its frames of an
-/// interval come within one cycle, by its own clock and by the edge bridge's (profile).
+/// interval come within one cycle, by its own clock and by the edge bridge's.
 pub(crate) fn can_step(stream: &Settled, cycle_time: Nanos, sync: Nanos) -> bool
     requires some { 0 < cycle_time.0 }
     requires short { sync.0 < 2 ^ 32 }
@@ -100,7 +100,7 @@ fn turns_in_step(traffic: Option<Traffic>, cycle_time: Nanos) -> Turns
 }
 
 /// In which cycles a stream that can be is offered on a cycle time: in those that are given; or, where its talker is in step, in one of as
-/// many as an interval has in common with 80, of which the first is to be chosen (profile).
+/// many as an interval has in common with 80, of which the first is to be chosen.
 pub(crate) fn turns_on(stream: &Settled, cycle_time: Nanos) -> Turns
     requires some { 0 < cycle_time.0 }
     requires paced { IsTrue (is_paced stream.now.pacing) }
@@ -118,7 +118,7 @@ pub(crate) fn turns_on(stream: &Settled, cycle_time: Nanos) -> Turns
 
 impl Settled {
     /// Whether it is chosen in which cycles the stream is offered on a cycle time: its talker is in step, and all its frames of an
-    /// interval come within one cycle (profile).
+    /// interval come within one cycle.
     pub fn is_chosen_on(&self, cycle_time: Nanos) -> bool
         requires { 0 < cycle_time.0 }
         ensures { result ≡ is_chosen_on cycle_time.0 (settled_value self.now) }

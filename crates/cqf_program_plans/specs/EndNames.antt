@@ -1,4 +1,4 @@
--- The name of the node that a link ends in (profile).
+-- The name of the node that a link ends in.
 use Rattle.std.specs.Prelude.{ℕ, List, []}
 use Rattle.std.specs.Option.{option_map_or}
 use Rattle.cqf_model.specs.Domain.{Domain, end_of}

@@ -1,4 +1,4 @@
--- Streams that are read with their traffic, and reserve what it needs (profile).
+-- Streams that are read with their traffic, and reserve what it needs.
 use Rattle.std.specs.Prelude.{ℕ, ◌+◌, ◌++◌, List, [], ◌∷◌, Option, Some, None, Result, Ok, codes, decimal, if◌then◌else◌, map, nat_lt}
 use Rattle.std.specs.Option.{option_or}
 use Rattle.cqf_lists.specs.Results.{and_then, refuse}

@@ -121,7 +121,7 @@ fn planned_of(alloc: Global, flows: Vec<Flow>) -> Result<Vec<Planned>, Memory>
     Ok(streams)
 }
 
-/// The streams of a part for a domain: each reserves what its traffic needs of a cycle, where it has traffic (profile).
+/// The streams of a part for a domain: each reserves what its traffic needs of a cycle, where it has traffic.
 ///
 /// # Errors
 /// With status 1 and the line of the first fault of the part, of its traffic too; or else of the first stream that reserves less than its

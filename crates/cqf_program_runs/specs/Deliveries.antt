@@ -1,5 +1,5 @@
 -- What becomes of the offers of a run, by its book: where one is dropped, and when it is whole at each listener of its stream
--- (profile).
+-- 
 pub mod Output
 pub mod Text
 pub mod Reading

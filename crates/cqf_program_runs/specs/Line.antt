@@ -1,4 +1,4 @@
--- The smallest network: one bridge, one station, the link from one to the other, and one stream (profile).
+-- The smallest network: one bridge, one station, the link from one to the other, and one stream.
 pub mod Output
 pub mod Told
 use Rattle.std.specs.Prelude.{ℕ, List, [], ◌∷◌, None, codes}

@@ -1,4 +1,4 @@
--- What comes of a scenario (profile).
+-- What comes of a scenario.
 use Rattle.std.specs.Prelude.{ℕ, ◌≡◌}
 use Rattle.cqf_model.specs.Book.{Contents}
 use Rattle.cqf_model.specs.Headline.{KeepsThePromise}

@@ -1,4 +1,4 @@
--- The history that calls make, one after the other, each with the answer that is due (profile).
+-- The history that calls make, one after the other, each with the answer that is due.
 use Rattle.std.specs.Prelude.{ℕ, ◌≡◌, ◌+◌, ◌-◌, ◌≤◌, ◌<◌, true, false, List, [], fold, replicate}
 use Rattle.cqf_model.specs.Domain.{Domain}
 use Rattle.cqf_model.specs.History.{Act, Recorded, Seals, is_seal, reply_to, seals}

@@ -1,4 +1,4 @@
--- A scenario's orders and its history, by what stands among its requests and in its script (profile).
+-- A scenario's orders and its history, by what stands among its requests and in its script.
 use Rattle.std.specs.Prelude.{List, All, map}
 use Rattle.cqf_model.specs.History.{Recorded}
 use Rattle.cqf_admission.specs.declared.orders.Ordered.{Ordered}

@@ -1,4 +1,4 @@
--- A scenario whose cycles are closed while it runs: what its bridges and administrators begin with (profile).
+-- A scenario whose cycles are closed while it runs: what its bridges and administrators begin with.
 use Rattle.cqf_model.specs.declared.limits.Limits.{Limits}
 use Rattle.std.specs.Prelude.{ℕ, ◌≡◌, List, [], Ok}
 use Rattle.cqf_model.specs.History.{Recorded, seals}

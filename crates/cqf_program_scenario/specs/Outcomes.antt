@@ -1,4 +1,4 @@
--- What comes of a scenario's calls and offers (profile).
+-- What comes of a scenario's calls and offers.
 use Rattle.std.specs.Prelude.{ℕ, ◌≡◌, map}
 use Rattle.cqf_model.specs.History.{IsLegalHistory, seals}
 use Rattle.cqf_admission.specs.Asking.{asked_paced}

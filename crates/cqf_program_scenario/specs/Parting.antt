@@ -1,4 +1,4 @@
--- A scenario's calls where its cycles are closed while it runs (profile): those before its first Seal, and behind it what each
+-- A scenario's calls where its cycles are closed while it runs: those before its first Seal, and behind it what each
 -- administrator calls for.
 use Rattle.std.specs.Prelude.{ℕ, ◌≡◌, ◌==◌, ◌<◌, ◌++◌, ◌&&◌, Bool, List, [], ◌∷◌, drop, filter, length, map, not, slice_index_or}
 use Rattle.std.specs.List.{before_first, position_or_len}

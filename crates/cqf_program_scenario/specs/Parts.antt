@@ -1,4 +1,4 @@
--- The parts of a command's input (profile).
+-- The parts of a command's input.
 use Rattle.std.specs.Prelude.{ℕ, List, [], ◌∷◌, Option, Some, None, Result, Ok, Err, codes}
 use Rattle.cqf_press.specs.Stops.{line_of}
 

@@ -1,4 +1,4 @@
--- What `run` and `report` are given (profile): a domain, what its administrators call for, and the frames that come.
+-- What `run` and `report` are given: a domain, what its administrators call for, and the frames that come.
 use Rattle.cqf_model.specs.declared.limits.Limits.{Limits}
 use Rattle.std.specs.Prelude.{ℕ, List, [], Option, Some, None, Result, Ok, map}
 use Rattle.cqf_lists.specs.Results.{and_then}

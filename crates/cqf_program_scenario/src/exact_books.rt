@@ -51,7 +51,7 @@ impl ExactBook {
     }
 
     /// Puts the text of the book, one of the domain, as `cqf_report::write_book` gives it: its header, the starts, those of background
-    /// frames, and the drops (profile). It asks for no memory. The time grows with the lines.
+    /// frames, and the drops. It asks for no memory. The time grows with the lines.
     pub fn put<W: Sink>(self, press: &mut Press<'_, W>, domain: &Domain)
         ensures { (book : Contents) → AreExactParts self book →
             Puts W.contents press.old press.new (text_of_book domain.now book) }

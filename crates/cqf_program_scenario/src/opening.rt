@@ -75,7 +75,7 @@ fn open_given(alloc: Global, cycles: u32, given: RunInput) -> Result<Opened, Mem
 
 /// Reads the scenario of an input within some limits that is to run over so many cycles, 0 to 100,000, which are closed while it runs.
 /// All of the input is read before anything is admitted. The calls of the script before its first Seal are applied in order, and the
-/// later ones are what each administrator calls for; later Seals are passed over (profile).
+/// later ones are what each administrator calls for; later Seals are passed over.
 ///
 /// # Errors
 /// With status 1 and the line of the first fault of the input: of its parts, of the domain, the streams, the script, the

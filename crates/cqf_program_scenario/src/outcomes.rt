@@ -27,7 +27,7 @@ pub struct ScenarioOutcome {
 /// What comes of the calls and offers of a scenario over so many cycles, 0 to 100,000: the calls are applied in order, and then the cycles
 /// that are still open are closed, by the seat of the Seals; no table is kept. What its orders name stands among its requests and in its
 /// script. Its offers are at bridges of its domain, in order of instant, and its background frames on links of it, at most 16,777,215 each;
-/// its calls are at most as many Seals as cycles, and at most 100,000 others (profile).
+/// its calls are at most as many Seals as cycles, and at most 100,000 others.
 ///
 /// # Errors
 /// Where a growth is refused.

@@ -12,7 +12,7 @@ use cqf_admission::{Call, Command};
 use cqf_units::Memory;
 use std::alloc::Global;
 
-/// The calls of a scenario, parted at the first Seal (profile).
+/// The calls of a scenario, parted at the first Seal.
 #[derive(Debug, Drop)]
 pub(crate) struct Parted {
     /// Those before it, each with its seat: all, where there is no Seal.

@@ -1,4 +1,4 @@
-//! The parts of an input (profile).
+//! The parts of an input.
 ghost use Rattle.std.specs.Prelude.{◌≡◌, Ok, IfOk, IfErr};
 ghost use Rattle.cqf_text.specs.Parts.{parts_of};
 ghost use Rattle.cqf_press.specs.Stops.{EndsWith, IsRefused};

@@ -1,4 +1,4 @@
-//! The readers of parts that several commands have (profile).
+//! The readers of parts that several commands have.
 ghost use Rattle.std.specs.Prelude.{◌≡◌, ◌≢◌, ◌≤◌, [], All, Ok, IfOk, IfErr, length, map};
 ghost use Rattle.cqf_admission.specs.Asking.{asked_paced};
 ghost use Rattle.cqf_program_scenario.specs.Lines.{background_line, domain_line, offers_line, script_line, streams_line};

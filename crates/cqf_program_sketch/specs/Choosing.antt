@@ -1,4 +1,4 @@
--- Which candidate for the cycle time is taken, and what is told where none is good (profile).
+-- Which candidate for the cycle time is taken, and what is told where none is good.
 use Rattle.std.specs.Prelude.{ℕ, ◌≡◌, ◌<◌, ◌==◌, ◌++◌, List, ◌∷◌, [], All, codes, decimal, fold, if◌then◌else◌, length, nat_lt, Option, Some, None, IsSome}
 use Rattle.cqf_model.specs.Domain.{Domain}
 use Rattle.cqf_sketch.specs.SketchDomain.{SketchDomain, longest_guard}

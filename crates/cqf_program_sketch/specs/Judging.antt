@@ -1,4 +1,4 @@
--- What is told of a candidate for the cycle time (profile).
+-- What is told of a candidate for the cycle time.
 use Rattle.std.specs.Prelude.{ℕ, ◌≡◌, ◌+◌, ◌*◌, ◌/◌, ◌%◌, ◌≤◌, ◌<◌, List, [], ◌∷◌, count_by, find, fold, if◌then◌else◌, length, map, max, nat_lt, option_map, suc, zero}
 use Rattle.std.specs.Prelude.{Option, Some, None, unwrap_or}
 use Rattle.std.specs.List.{flat_map}

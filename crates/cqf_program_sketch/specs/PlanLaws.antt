@@ -1,4 +1,4 @@
--- What a told plan keeps (profile).
+-- What a told plan keeps.
 use Rattle.std.specs.Prelude.{ℕ, ◌≡◌, ◌+◌, ◌*◌, ◌%◌, ◌≤◌, List, [], All, Contains, IfSome, Option, Some, None, Ok, false, length, map, option_map, slice_get, true}
 use Rattle.std.specs.Option.{ForSome}
 use Rattle.cqf_laws_timing.specs.Traffic.{needed, offers_named}

@@ -1,4 +1,4 @@
--- What the command `plan` gives for its input (profile): a plant, or a table of the candidates for its cycle time; or the line of the input's
+-- What the command `plan` gives for its input: a plant, or a table of the candidates for its cycle time; or the line of the input's
 -- first fault.
 use Rattle.cqf_model.specs.declared.limits.Limits.{Limits}
 use Rattle.std.specs.Prelude.{ℕ, ◌≡◌, ◌⊎◌, ◌++◌, Bool, true, false, List, [], codes, length, Option, Result, Ok, Err}

@@ -1,4 +1,4 @@
--- The table of the candidates for the cycle time (profile).
+-- The table of the candidates for the cycle time.
 use Rattle.std.specs.Prelude.{ℕ, ◌++◌, List, [], ◌∷◌, codes, decimal, Option}
 use Rattle.std.specs.List.{flat_map}
 use Rattle.std.specs.Option.{option_map_or}

@@ -7,7 +7,7 @@ use cqf_program_placing::PlanFault;
 use cqf_units::Name;
 use std::fmt;
 
-/// Why a candidate isn't good (profile).
+/// Why a candidate isn't good.
 #[derive(Debug, Drop)]
 pub enum CandidateFault {
     /// It isn't above each guard time.
@@ -16,7 +16,7 @@ pub enum CandidateFault {
     Stream(Name, PlanFault),
 }
 
-/// How much of a deadline is left (profile).
+/// How much of a deadline is left.
 #[derive(Debug, Drop)]
 pub struct Slack {
     /// The name of its stream.
@@ -27,7 +27,7 @@ pub struct Slack {
     pub most: u64,
 }
 
-/// What is told of a candidate for the cycle time (profile).
+/// What is told of a candidate for the cycle time.
 #[derive(Debug, Drop)]
 pub struct Candidate {
     /// In nanoseconds.

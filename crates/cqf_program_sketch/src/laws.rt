@@ -9,7 +9,7 @@ use cqf_traffic::offers_come_in_turns;
 /// A plan that is told has all streams of its sketch, in their order, each with its name, its deadline, the cycles in which it is to be
 /// offered and what its talker promises; and its whole traffic, but that one whose phase is chosen begins in the first of its cycles. All are
 /// admitted before cycle 0, each reserves what its talker needs of a cycle, and none may have a frame that misses its deadline: `latency --strict`
-/// ends well (profile).
+/// ends well.
 pub fn told_plan_is_admitted()
     ensures { ToldPlanIsAdmitted }
 {
@@ -17,7 +17,7 @@ pub fn told_plan_is_admitted()
 }
 
 /// What is offered of a told plan's stream whose phase was chosen comes in the cycles in which the stream reserves, for every seed and
-/// without one (profile).
+/// without one.
 pub fn chosen_streams_come_in_turns()
     ensures { ChosenStreamsComeInTurns }
 {
@@ -27,7 +27,7 @@ pub fn chosen_streams_come_in_turns()
 }
 
 /// The streams of each input that is a sketch are placed where there is room, on each cycle time above its guard time: as
-/// [`placed_where_there_is_room`] says it of settled streams (profile).
+/// [`placed_where_there_is_room`] says it of settled streams.
 pub fn sketches_are_placed_where_there_is_room()
     ensures { SketchesArePlacedByRoom }
 {

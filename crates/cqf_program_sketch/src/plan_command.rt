@@ -204,7 +204,7 @@ fn told_of(
 }
 
 /// The output of `plan` for an input that is read within some limits, where candidates for the cycle time may be given, each in
-/// nanoseconds: the text of a plant, or of a table of the candidates (profile).
+/// nanoseconds: the text of a plant, or of a table of the candidates.
 ///
 /// # Errors
 /// With status 1 and the line of the first fault: of the input's parts, of the domain, of the streams, or of what no cycle time changes; or

@@ -101,7 +101,7 @@ fn candidate_line(alloc: Global, streams: usize, candidate: &Candidate) -> Resul
     Ok(line)
 }
 
-/// The table of some candidates, beside so many streams: a header, and a line a candidate (profile). `Memory` where a growth is refused.
+/// The table of some candidates, beside so many streams: a header, and a line a candidate. `Memory` where a growth is refused.
 pub(crate) fn text_of_candidates(
     alloc: Global,
     streams: usize,

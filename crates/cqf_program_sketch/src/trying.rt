@@ -61,7 +61,7 @@ pub(crate) fn try_cycle(
 
 /// What is told of a cycle time, in nanoseconds, for settled streams of a sketch: of one that isn't above each guard time, that nothing is
 /// placed; else how many streams are placed, how much of the links' budgets is held, how tight deadlines are, and why it isn't good
-/// (profile).
+/// 
 ///
 /// # Errors
 /// `Memory` where a growth is refused.

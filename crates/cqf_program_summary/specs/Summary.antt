@@ -1,4 +1,4 @@
--- How the frames of streams fare to their listeners in a run, by its book (profile).
+-- How the frames of streams fare to their listeners in a run, by its book.
 pub mod Output
 pub mod Text
 pub mod Told

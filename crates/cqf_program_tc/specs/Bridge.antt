@@ -1,4 +1,4 @@
--- What a bridge does in the script, line by line (profile).
+-- What a bridge does in the script, line by line.
 use Rattle.std.specs.Prelude.{ℕ, ◌++◌, ◌==◌, List, [], Bool, true, false, Option, Some, None, codes, decimal}
 use Rattle.std.specs.Prelude.{if◌then◌else◌, is_some, length, not, option_map, slice_get, take}
 use Rattle.std.specs.Option.{option_map_or}

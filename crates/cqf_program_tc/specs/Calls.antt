@@ -1,4 +1,4 @@
--- What a script does at a bridge, read back from its lines (profile).
+-- What a script does at a bridge, read back from its lines.
 use Rattle.std.specs.Prelude.{ℕ, ◌≡◌, ◌<◌, ◌++◌, ◌||◌, Bool, true, List, [], ◌∷◌, codes, decimal, filter, if◌then◌else◌, length, take}
 use Rattle.std.specs.List.{flat_map, list_any}
 use Rattle.std.specs.Option.{option_map_or}

@@ -1,4 +1,4 @@
--- The functions of the script that check all before anything is changed, and that take back what was set (profile). They are the
+-- The functions of the script that check all before anything is changed, and that take back what was set. They are the
 -- same in each script.
 use Rattle.std.specs.Prelude.{ℕ, ◌++◌, List, codes}
 

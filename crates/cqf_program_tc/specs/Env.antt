@@ -1,4 +1,4 @@
--- The file of the variables of a bridge, which `compile --format env --bridge NAME` writes, to be filled in and read by a shell (profile):
+-- The file of the variables of a bridge, which `compile --format env --bridge NAME` writes, to be filled in and read by a shell:
 -- a line that says what a variable is, and then the variable with the value that the network's text gives, or with none.
 use Rattle.std.specs.Prelude.{ℕ, ◌++◌, List, [], Bool, Option, Some, None, codes, decimal, if◌then◌else◌, option_map}
 use Rattle.std.specs.Option.{option_map_or}

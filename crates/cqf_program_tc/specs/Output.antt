@@ -1,4 +1,4 @@
--- What the commands `compile --format tc` and `compile --format env` give for their input (profile): the script or the file, or the line of
+-- What the commands `compile --format tc` and `compile --format env` give for their input: the script or the file, or the line of
 -- the input's first fault.
 use Rattle.cqf_model.specs.declared.limits.Limits.{Limits}
 use Rattle.std.specs.Prelude.{ℕ, ◌≡◌, ◌<◌, ◌++◌, Bool, List, [], Option, Some, None, Result, Ok, Err, codes, length}

@@ -1,4 +1,4 @@
--- The program of bpf that gives a frame its class, 6 or 7 by the parity of the cycle of its coming, where gates are in software (profile):
+-- The program of bpf that gives a frame its class, 6 or 7 by the parity of the cycle of its coming, where gates are in software:
 -- an object of 456 octets, for a little-endian machine. Its text is the section tc of that object, eight instructions.
 use Rattle.std.specs.Prelude.{ℕ, ◌+◌, ◌/◌, ◌%◌, ◌++◌, Bool, List, [], ◌∷◌, codes, if◌then◌else◌}
 use Rattle.cqf_model.specs.Domain.{Domain}

@@ -1,4 +1,4 @@
--- The script that `compile --format tc` writes: a POSIX shell script that sets the gates of a bridge by `tc` (profile).
+-- The script that `compile --format tc` writes: a POSIX shell script that sets the gates of a bridge by `tc`.
 use Rattle.std.specs.Prelude.{ℕ, ◌*◌, ◌++◌, Bool, List, [], ◌∷◌, codes, decimal, if◌then◌else◌, length, nat_le}
 use Rattle.std.specs.List.{list_any}
 use Rattle.cqf_lists.specs.Lists.{each_below}

@@ -1,4 +1,4 @@
--- The variables of the script, which go by the names of links and streams (profile).
+-- The variables of the script, which go by the names of links and streams.
 use Rattle.std.specs.Prelude.{ℕ, ◌≡◌, ◌≢◌, ◌<◌, ◌^◌, ◌++◌, ◌==◌, ◌&&◌, Bool, Contains, List, [], codes, decimal, if◌then◌else◌, length, map, nat_lt, slice_get, take}
 use Rattle.std.specs.Global.{Global}
 use Rattle.std.specs.List.{list_any}

@@ -1,4 +1,4 @@
--- The variables that the script's function of a bridge wants, and those that the bridge's file sets, read back from their lines (profile).
+-- The variables that the script's function of a bridge wants, and those that the bridge's file sets, read back from their lines.
 use Rattle.std.specs.Prelude.{ℕ, ◌≡◌, ◌<◌, ◌++◌, ◌==◌, Bool, Contains, List, [], ◌∷◌, Some, codes, drop, if◌then◌else◌, length, true}
 use Rattle.std.specs.List.{flat_map}
 use Rattle.cqf_addressing.specs.Interface.{is_interface}

@@ -1,4 +1,4 @@
--- Gate lists as words of `tc`, and what these words are read as (profile, after man tc-taprio and man tc-gate).
+-- Gate lists as words of `tc`, and what these words are read as (after man tc-taprio and man tc-gate).
 use Rattle.std.specs.Prelude.{ℕ, ◌++◌, ◌==◌, ◌&&◌, List, [], ◌∷◌, Option, Some, None, Result, codes, decimal, drop, if◌then◌else◌, option_map}
 use Rattle.std.specs.Option.{option_and_then}
 use Rattle.cqf_text.specs.Decimal.{decimal_value}

@@ -165,7 +165,7 @@ fn script_of(alloc: Global, software: bool, found: Found) -> Result<TcOutput, St
 }
 
 /// The output of `compile --format tc` for an input that is read within some limits, ready to be told: the script for the domain and its
-/// streams (profile), with gates in hardware, or in software where that is asked.
+/// streams, with gates in hardware, or in software where that is asked.
 ///
 /// # Errors
 /// Those of `cqf_program_plans::compile_output`, with status 1 and the line of the first fault of the input, of its parts, of the
@@ -255,7 +255,7 @@ fn file_of(alloc: Global, name: &str, found: Found) -> Result<EnvOutput, Stop>
 }
 
 /// The output of `compile --format env` for an input that is read within some limits, ready to be told: the file of the variables of the
-/// bridge of a name (profile).
+/// bridge of a name.
 ///
 /// # Errors
 /// Those of [`tc_output`]; and with status 1 and the line `cqf: compile: UnknownBridge NAME` where the domain has no bridge of the name.

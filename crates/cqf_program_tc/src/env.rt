@@ -300,7 +300,7 @@ fn put_file<W: Sink>(
 }
 
 impl EnvOutput {
-    /// Tells the output: the file of the bridge's variables (profile). It asks for no memory.
+    /// Tells the output: the file of the bridge's variables. It asks for no memory.
     pub fn tell<W: Sink>(self, told: &mut Told<W>)
         ensures { HasTold (writing W.contents told.old told.new) (text_of_env self) }
     {

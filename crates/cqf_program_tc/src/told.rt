@@ -78,7 +78,7 @@ fn put_script<W: Sink>(
 }
 
 impl TcOutput {
-    /// Tells the output: the script (profile). It asks for no memory.
+    /// Tells the output: the script. It asks for no memory.
     pub fn tell<W: Sink>(self, told: &mut Told<W>)
         ensures { HasTold (writing W.contents told.old told.new) (text_of_tc self) }
     {

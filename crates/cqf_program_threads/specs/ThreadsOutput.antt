@@ -1,4 +1,4 @@
--- What the command `run` with `--threads` gives for its input (profile): the history and the book of an account of a scenario.
+-- What the command `run` with `--threads` gives for its input: the history and the book of an account of a scenario.
 use Rattle.cqf_model.specs.declared.limits.Limits.{Limits}
 use Rattle.std.specs.Prelude.{ℕ, ◌≡◌, ◌≢◌, ◌⊎◌, List, [], Result, Ok, Err, codes}
 use Rattle.cqf_model.specs.Book.{Contents}

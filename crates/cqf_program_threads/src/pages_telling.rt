@@ -132,7 +132,7 @@ fn put_all_drops<W: Sink>(press: &mut Press<'_, W>, book: &PagedBook)
 }
 
 /// Puts the text of the book that tapes tell, as `cqf_report::write_book` gives it: its header, the starts of streams' frames, those of
-/// background frames, and the drops (profile). It asks for no memory. The time grows with the lines, and with the cycles times the links.
+/// background frames, and the drops. It asks for no memory. The time grows with the lines, and with the cycles times the links.
 pub fn put_paged_book<W: Sink>(press: &mut Press<'_, W>, book: &PagedBook)
     ensures { Puts W.contents press.old press.new (text_of_book book.now.domain (contents_told book.now)) }
 {

@@ -101,7 +101,7 @@ fn put_account<W: Sink>(press: &mut Press<'_, W>, history: &[Entry], book: &Page
 }
 
 impl ThreadsOutput {
-    /// Tells the output: a history of the input's scenario, a line `%%`, and the one-thread book of that history (profile). It
+    /// Tells the output: a history of the input's scenario, a line `%%`, and the one-thread book of that history. It
     /// asks for no memory, and sorts nothing.
     pub fn tell<W: Sink>(self, told: &mut Told<W>)
         ensures { HasTold (writing W.contents told.old told.new) (text_of_account self) }

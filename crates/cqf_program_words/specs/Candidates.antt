@@ -1,4 +1,4 @@
--- The candidates for a cycle time that a word names (profile).
+-- The candidates for a cycle time that a word names.
 use Rattle.std.specs.Prelude.{ℕ, ◌≡◌, ◌⊎◌, ◌+◌, ◌-◌, ◌*◌, ◌/◌, ◌<◌, ◌≤◌, ◌++◌, List, [], ◌∷◌, Option, Some, None, codes, if◌then◌else◌, nat_le}
 use Rattle.std.specs.Option.{option_and_then}
 use Rattle.clap.specs.Words.{Text}

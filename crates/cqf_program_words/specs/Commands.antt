@@ -1,4 +1,4 @@
--- The program's commands (profile), as clap has them.
+-- The program's commands, as clap has them.
 use Rattle.std.specs.Prelude.{Bool, true, List, [], ◌∷◌, codes, fold}
 use Rattle.std.specs.List.{list_any}
 use Rattle.clap.specs.Words.{App, Text, new_app, with_rule, with_subcommand}

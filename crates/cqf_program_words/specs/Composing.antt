@@ -1,4 +1,4 @@
--- The input that the texts of files come to (profile).
+-- The input that the texts of files come to.
 use Rattle.std.specs.Prelude.{ℕ, ◌==◌, ◌||◌, ◌&&◌, ◌++◌, Bool, false, not, List, [], ◌∷◌, if◌then◌else◌, codes, length, nat_eq}
 use Rattle.std.specs.List.{ends_with, flat_map}
 use Rattle.cqf_press.specs.Stops.{line_of}

@@ -1,4 +1,4 @@
--- What is said of words that clap takes and that mean no job (profile): which value is wrong, and what is wanted.
+-- What is said of words that clap takes and that mean no job: which value is wrong, and what is wanted.
 use Rattle.std.specs.Prelude.{◌++◌, ◌||◌, Bool, List, [], Option, Some, None, if◌then◌else◌, bytes_eq, codes, unwrap_or}
 use Rattle.std.specs.Borrow.{Bor}
 use Rattle.clap.specs.Words.{Row, Text, first_of}

@@ -1,4 +1,4 @@
--- Which words of a command line name files (profile).
+-- Which words of a command line name files.
 use Rattle.std.specs.Prelude.{◌≡◌, ◌==◌, ◌++◌, Bool, true, false, List, [], ◌∷◌, if◌then◌else◌, bytes_eq, codes, count_by, fold, map, nat_le}
 use Rattle.std.specs.List.{list_any}
 use Rattle.clap.specs.Words.{Text}

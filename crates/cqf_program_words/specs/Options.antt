@@ -1,4 +1,4 @@
--- The options of the program's commands (profile), as clap has them.
+-- The options of the program's commands, as clap has them.
 use Rattle.std.specs.Prelude.{◌&&◌, ◌++◌, Bool, true, false, [], ◌∷◌, Option, Some, None, bytes_eq, codes, unwrap_or}
 use Rattle.clap.specs.Words.{Rule, Text, new_rule}
 use Rattle.clap.specs.declared.builder.action.ArgAction.{ArgAction}

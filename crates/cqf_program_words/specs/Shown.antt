@@ -1,4 +1,4 @@
--- Lines of the program's own that show a text which may hold anything (profile).
+-- Lines of the program's own that show a text which may hold anything.
 use Rattle.std.specs.Prelude.{ℕ, ◌≡◌, ◌⊎◌, ◌++◌, ◌&&◌, Bool, false, List, [], codes, length, nat_le}
 use Rattle.std.specs.List.{list_all}
 use Rattle.std.specs.Str.{chars}

@@ -1,4 +1,4 @@
--- What the words of a command line mean (profile): clap's reading of them, for the command that is written out here.
+-- What the words of a command line mean: clap's reading of them, for the command that is written out here.
 use Rattle.std.specs.Prelude.{ℕ, ◌≡◌, ◌≢◌, ◌⊎◌, ◌≤◌, ◌++◌, Bool, true, false, List, [], Option, Some, None, IsTrue, codes, bytes_eq, option_map, string_bytes}
 use Rattle.std.specs.List.{list_any}
 use Rattle.std.specs.Str.Parse.{IsNumeral, digits_value, without_leading_plus}

@@ -1,4 +1,4 @@
-//! Candidates for a cycle time (profile).
+//! Candidates for a cycle time.
 ghost use Rattle.std.specs.Prelude.{◌≡◌, ◌≤◌, ◌<◌, ◌+◌, ◌*◌, All, IfOk, length};
 
 use cqf_units::Memory;

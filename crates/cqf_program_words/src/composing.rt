@@ -1,4 +1,4 @@
-//! Texts of files, one behind the other (profile).
+//! Texts of files, one behind the other.
 ghost use Rattle.std.specs.Prelude.{◌≡◌, ◌∷◌, ◌++◌, IfOk, OnOk, map};
 ghost use Rattle.std.specs.List.{flat_map};
 ghost use Rattle.cqf_program_words.specs.Composing.{text_behind, closed, composed_of, first_text, is_closed, is_plant, is_toml, is_undivided, second_is_toml};
@@ -34,7 +34,7 @@ fn put_behind(input: &mut Vec<u8>, text: &[u8]) -> Result<(), AllocError>
     put_closed(input, text)
 }
 
-/// Whether the name is one of a TOML file: it ends with `.toml` (profile).
+/// Whether the name is one of a TOML file: it ends with `.toml`.
 pub fn is_toml(name: &str) -> bool
     ensures { result ≡ is_toml name.now }
 {

@@ -1,4 +1,4 @@
-//! The candidates for a cycle time that a word names (profile).
+//! The candidates for a cycle time that a word names.
 ghost use Rattle.std.specs.Prelude.{◌≡◌, IfSome, MatchOption, true};
 ghost use Rattle.std.specs.Char.{is_ascii_digit};
 ghost use Rattle.std.specs.List.{list_all};

@@ -1,4 +1,4 @@
-//! The files that the words of a command line name (profile).
+//! The files that the words of a command line name.
 ghost use Rattle.std.specs.Prelude.{◌≡◌, IfErr, IfOk, OnErr, OnOk, codes, false, map, string_bytes, true};
 ghost use Rattle.cqf_press.specs.Stops.{EndsWith, line_of};
 ghost use Rattle.cqf_program_words.specs.Operands.{behind_word, ends_options, is_option, is_standard, is_standard_twice, names_file};
@@ -150,7 +150,7 @@ fn is_standard_twice(files: &[&str]) -> bool
 }
 
 /// Nothing where at most one of the files is standard input, whose text can be read once. `Err` with status 2 and a line that says so
-/// where two are (profile).
+/// where two are.
 pub fn check_files(alloc: Global, files: &[&str]) -> Result<(), Stop>
     ensures ok { OnOk result (is_standard_twice (map (λ file. file.now) files.now) ≡ false) }
     ensures twice { OnErr result (is_standard_twice (map (λ file. file.now) files.now) ≡ true) }

@@ -8,7 +8,7 @@ use clap::{Arg, ArgAction};
 use cqf_model::{LAST_UNTIL, Limits, MOST_CYCLES};
 use std::alloc::Global;
 
-/// The greatest seed (profile).
+/// The greatest seed.
 pub(crate) const LAST_SEED: u64 = 4_294_967_295;
 
 /// An option of commands.

@@ -1,4 +1,4 @@
-//! The job that the words of a command line mean (profile).
+//! The job that the words of a command line mean.
 ghost use Rattle.std.specs.Prelude.{◌≡◌, ◌≢◌, ◌<◌, ◌^◌, IfOk, IfErr, MatchOption, None, Option, ℕ, Some, codes, false, map, option_map, string_bytes, true};
 ghost use Rattle.cqf_units.specs.declared.timing.Rate.{Rate};
 ghost use Rattle.clap.specs.Words.{Text, first_of, found_of, rows_of, subcommand_rows_of};

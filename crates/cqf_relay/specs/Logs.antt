@@ -1,4 +1,4 @@
--- What sources bring to a bridge, cycle by cycle (profile).
+-- What sources bring to a bridge, cycle by cycle.
 use Rattle.std.specs.Prelude.{ℕ, ◌≡◌, ◌+◌, ◌≤◌, ◌==◌, Bool, Contains, List, filter, min}
 use Rattle.std.specs.List.Sorted.{IsNonDecreasingBy}
 use Rattle.cqf_relay.specs.declared.log.ArrivedFrame.{ArrivedFrame}

@@ -1,4 +1,4 @@
--- What becomes of the offers of a cycle at a bridge (profile).
+-- What becomes of the offers of a cycle at a bridge.
 use Rattle.std.specs.Prelude.{ℕ, ◌≡◌, ◌+◌, ◌*◌, ◌-◌, ◌≤◌, ◌<◌, ◌++◌, ◌==◌, if◌then◌else◌, not, nat_le, List, [], ◌∷◌, Bool, true, false, Option, Some, None}
 use Rattle.std.specs.Prelude.{filter, map, slice_index_or, sum_by}
 use Rattle.std.specs.List.Sorted.{IsNonDecreasingBy, IsPermutation}

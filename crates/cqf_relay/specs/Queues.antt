@@ -1,4 +1,4 @@
--- The frames of a cycle that wait for a link (profile).
+-- The frames of a cycle that wait for a link.
 use Rattle.std.specs.Prelude.{ℕ, ◌≡◌, ◌+◌, ◌*◌, ◌++◌, ◌==◌, false, if◌then◌else◌, List, [], All, filter, map}
 use Rattle.std.specs.List.{flat_map, list_any}
 use Rattle.cqf_relay.specs.declared.inlet.Inlet.{Inlet}

@@ -1,4 +1,4 @@
--- What a link sends of the frames that wait for it, and what of it is to be handed on (profile).
+-- What a link sends of the frames that wait for it, and what of it is to be handed on.
 use Rattle.std.specs.Prelude.{ℕ, zero, suc, ◌≡◌, ◌+◌, ◌*◌, ◌-◌, ◌<◌, ◌^◌, ◌≤◌, ◌++◌, ◌&&◌, Bool, true, false, if◌then◌else◌, nat_le, nat_lt}
 use Rattle.std.specs.Prelude.{All, List, [], ◌∷◌, map, min}
 use Rattle.std.specs.List.Sorted.{IsNonDecreasingBy, IsPermutation}

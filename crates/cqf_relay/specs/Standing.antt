@@ -1,4 +1,4 @@
--- How far a bridge's links have gone on, by what has come to it (profile).
+-- How far a bridge's links have gone on, by what has come to it.
 use Rattle.std.specs.Prelude.{ℕ, ◌≡◌, ◌+◌, ◌-◌, ◌≤◌, ◌<◌, ◌⊎◌, ◌++◌, ◌==◌, ◌&&◌, Bool, true, false, if◌then◌else◌, nat_le, slice_index_or}
 use Rattle.std.specs.Prelude.{List, [], ◌∷◌, Some, All, AllPairs, Contains, filter, length, map, slice_get, slice_set, take}
 use Rattle.std.specs.Arc.{arc_value}

@@ -1,4 +1,4 @@
--- What links send, as stretches carry it (profile).
+-- What links send, as stretches carry it.
 use Rattle.std.specs.Prelude.{ℕ, ◌≡◌, ◌+◌, ◌*◌, ◌-◌, ◌≤◌, ◌<◌, All, List, [], ◌∷◌, length, map, slice_index_or}
 use Rattle.std.specs.List.{flat_map}
 use Rattle.cqf_lists.specs.Lists.{each_below}

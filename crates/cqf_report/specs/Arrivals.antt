@@ -1,4 +1,4 @@
--- The arrivals of a port as a text (profile).
+-- The arrivals of a port as a text.
 use Rattle.std.specs.Prelude.{ℕ, ◌≤◌, ◌-◌, ◌^◌, All, AllPairs, List, [], ◌∷◌, Option, Some, None, Result, codes}
 use Rattle.cqf_model.specs.declared.ports.Arrival.{Arrival}
 use Rattle.cqf_text.specs.Decimal.{decimal_in}

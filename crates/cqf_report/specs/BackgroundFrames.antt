@@ -1,4 +1,4 @@
--- Background frames as a text (profile).
+-- Background frames as a text.
 use Rattle.std.specs.Prelude.{ℕ, List, [], ◌∷◌, Option, Some, None, Result, codes, if◌then◌else◌}
 use Rattle.cqf_units.specs.Name.{is_name}
 use Rattle.cqf_model.specs.declared.frames.Background.{Background}

@@ -1,4 +1,4 @@
--- The book of a run as a text (profile).
+-- The book of a run as a text.
 use Rattle.std.specs.Prelude.{◌++◌, List, [], ◌∷◌, ℕ, codes, decimal}
 use Rattle.std.specs.List.{flat_map}
 use Rattle.cqf_model.specs.declared.frames.Dropped.{Dropped}

@@ -1,4 +1,4 @@
--- The text of the sums of what links carry (profile).
+-- The text of the sums of what links carry.
 use Rattle.std.specs.Prelude.{ℕ, ◌++◌, List, fold, length, max, sum}
 use Rattle.cqf_lists.specs.Lists.{each_below}
 use Rattle.cqf_model.specs.Domain.{Domain}

@@ -1,4 +1,4 @@
--- A history as a text (profile): one line an entry.
+-- A history as a text: one line an entry.
 use Rattle.std.specs.Prelude.{ℕ, ◌++◌, List, [], ◌∷◌, codes, decimal}
 use Rattle.std.specs.List.{flat_map}
 use Rattle.cqf_model.specs.declared.history.Reply.{Reply}

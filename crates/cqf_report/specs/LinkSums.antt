@@ -1,4 +1,4 @@
--- The sums of streams' frames by link, and these as a text (profile).
+-- The sums of streams' frames by link, and these as a text.
 use Rattle.std.specs.Prelude.{ℕ, ◌≡◌, ◌≤◌, ◌<◌, ◌++◌, ◌==◌, ◌&&◌, ◌⊎◌, List, [], ◌∷◌, Bool}
 use Rattle.std.specs.Prelude.{codes, decimal, length}
 use Rattle.std.specs.List.{AllPairs}

@@ -1,4 +1,4 @@
--- Offers as a text (profile).
+-- Offers as a text.
 use Rattle.std.specs.Prelude.{ℕ, List, [], ◌∷◌, Option, Some, None, Result, codes, if◌then◌else◌}
 use Rattle.cqf_units.specs.Name.{is_name}
 use Rattle.cqf_model.specs.declared.frames.Offer.{Offer}

@@ -1,4 +1,4 @@
--- The starts of a port as a text (profile).
+-- The starts of a port as a text.
 use Rattle.std.specs.Prelude.{ℕ, ◌++◌, List, [], ◌∷◌, codes, decimal}
 use Rattle.std.specs.List.{flat_map}
 use Rattle.cqf_units.specs.Timing.{ending_of}

@@ -1,4 +1,4 @@
--- The text of a book's sums by link, told from a count of frames and a column of octets for each link (profile).
+-- The text of a book's sums by link, told from a count of frames and a column of octets for each link.
 use Rattle.std.specs.Prelude.{ℕ, ◌≡◌, List}
 use Rattle.cqf_model.specs.declared.frames.Background.{Background}
 use Rattle.cqf_model.specs.declared.frames.Offer.{Offer}

@@ -1,4 +1,4 @@
--- Tables: a header, and under it rows in order of instant (profile). Rows count from 1.
+-- Tables: a header, and under it rows in order of instant. Rows count from 1.
 use Rattle.std.specs.Prelude.{ℕ, ◌≡◌, ◌≢◌, ◌+◌, List, [], ◌∷◌, Bool, true, false, Option, Some, None, Result, Ok, Err, if◌then◌else◌, length, nat_lt}
 use Rattle.std.specs.Cmp.Lexicographic.{pointwise}
 use Rattle.std.specs.Str.{bytes_eq}

@@ -1,4 +1,4 @@
--- Which fault of a table's rows is told, in words of places alone, and in which order offers are read (profile). Places count from 0, and numbers
+-- Which fault of a table's rows is told, in words of places alone, and in which order offers are read. Places count from 0, and numbers
 -- of rows from 1.
 use Rattle.std.specs.Prelude.{ℕ, ◌≡◌, ◌+◌, ◌≤◌, ◌<◌, List, Option, Some, None, Ok, MatchResult, length, slice_get}
 use Rattle.cqf_model.specs.declared.frames.Offer.{Offer}

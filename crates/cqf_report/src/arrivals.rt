@@ -78,7 +78,7 @@ impl RowFormat for ArrivalRows {
 ///
 /// The header is `at,class,octets,frame`. An arrival's instant is at most 100,000,000 ns, its class 0 to 7, its size 64
 /// to 1,522 octets (IEEE 802.3), and its label any number of 32 bits; no row's instant is before that of the row before
-/// it (profile). What the crate `csv` accepts is accepted: quotes, CR LF, and a last row without its line end.
+/// it. What the crate `csv` accepts is accepted: quotes, CR LF, and a last row without its line end.
 ///
 /// # Errors
 /// `BadHeader` where the first record is another or there is none; then the first fault of the rows in their order:

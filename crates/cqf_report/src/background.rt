@@ -122,7 +122,7 @@ impl RowFormat for BackgroundRows<'_> {
 ///
 /// The header is `at,from,to,class,octets`. A frame's instant is before 1,000,000,000,000 ns, `from` and `to` are the names
 /// of the ends of one of the domain's links, its class is 0 to 5, and its size 64 to 1,522 octets (IEEE 802.3); no row's
-/// instant is before that of the row before it (profile). What the crate `csv` accepts is accepted: quotes, CR LF, and a
+/// instant is before that of the row before it. What the crate `csv` accepts is accepted: quotes, CR LF, and a
 /// last row without its line end.
 ///
 /// # Errors

@@ -12,7 +12,7 @@ use cqf_topology::{Domain, put_bridge, put_link};
 use cqf_units::Memory;
 use std::alloc::Global;
 
-/// The word for a reason (profile).
+/// The word for a reason.
 pub fn reason_name(reason: Reason) -> &'static str
     ensures name { result.now ≡ name_of_reason reason }
     ensures plain { IsPlain result.now }
@@ -104,7 +104,7 @@ pub fn put_book<W: Sink>(press: &mut Press<'_, W>, domain: &Domain, book: &Book)
 /// The text of a book: the header `what,cycle,where,frame,octets,detail`; then one line a transmission of a stream's frame,
 /// `start,CYCLE,FROM>TO,FRAME,OCTETS,INSTANT`; then one line a transmission of a background frame,
 /// `background,CYCLE,FROM>TO,FRAME,OCTETS,INSTANT`; and then one line a drop, `drop,CYCLE,BRIDGE,FRAME,OCTETS,REASON`, each
-/// in the book's order (profile). The reasons are `unknown`, `withdrawn`, `other-bridge` and `octets`; a link, bridge or
+/// in the book's order. The reasons are `unknown`, `withdrawn`, `other-bridge` and `octets`; a link, bridge or
 /// station that the domain lacks has an empty name. The error is want of memory.
 pub fn write_book(alloc: Global, domain: &Domain, book: &Book) -> Result<Vec<u8>, Memory>
     ensures { IfOk result (λ text. text.items ≡ text_of_book domain.now (contents_of book.now)) }

@@ -147,7 +147,7 @@ pub fn put_history<W: Sink>(press: &mut Press<'_, W>, entries: &[Entry])
 
 /// The text of a history: one line an entry, in their order. A call's line is `SEAT admit NAME REPLY` or
 /// `SEAT withdraw NAME REPLY`, with the name as it was asked for; a Seal's is `SEAT seal`. REPLY is `accepted NO EFFECT`, the
-/// stream's number and the cycle from which the call holds, or `refused FAULT`, the refusal's name and its values (profile).
+/// stream's number and the cycle from which the call holds, or `refused FAULT`, the refusal's name and its values.
 /// The error is want of memory.
 pub fn write_history(alloc: Global, entries: &[Entry]) -> Result<Vec<u8>, Memory>
     ensures { IfOk result (λ text. text.items ≡ history_text (map recorded_of entries.now)) }

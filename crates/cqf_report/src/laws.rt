@@ -34,7 +34,7 @@ pub fn books_are_in_order()
 {}
 
 /// Law: the text of a book's sums by link is told from a count of frames and a column of octets for each link, where these are those of the hops
-/// of the covered offers (profile).
+/// of the covered offers.
 pub fn report_is_told()
     ensures { ReportIsTold }
 {

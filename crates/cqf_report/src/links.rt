@@ -193,7 +193,7 @@ pub(crate) fn put_header<W: Sink>(press: &mut Press<'_, W>)
 
 /// The sums of a book's streams' frames by link: the header `link,frames,octets,most`, and one line a link, by number,
 /// `FROM>TO,FRAMES,OCTETS,MOST`: how many frames the link started, how many octets they have together, and the most octets
-/// that it started in one cycle (profile). Background frames don't count. The starts stand in order of cycle, and within a
+/// that it started in one cycle. Background frames don't count. The starts stand in order of cycle, and within a
 /// cycle in order of link, as in every book. The error is want of memory.
 pub fn write_links(
     rt: &(impl Threads + Sync),

@@ -113,7 +113,7 @@ impl RowFormat for OfferRows<'_> {
 ///
 /// The header is `at,bridge,stream,octets`. An offer's instant is before 1,000,000,000,000 ns, its bridge is one of the
 /// domain's by name, its stream has the form of a name, and its size is 64 to 1,522 octets (IEEE 802.3); no row's
-/// instant is before that of the row before it (profile). What the crate `csv` accepts is accepted: quotes, CR LF, and a
+/// instant is before that of the row before it. What the crate `csv` accepts is accepted: quotes, CR LF, and a
 /// last row without its line end.
 ///
 /// # Errors

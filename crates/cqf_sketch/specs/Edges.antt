@@ -1,4 +1,4 @@
--- The links of a sketch one direction each, by the nodes that they join (profile).
+-- The links of a sketch one direction each, by the nodes that they join.
 use Rattle.std.specs.Prelude.{ℕ, ◌++◌, List, [], ◌∷◌, ◌==◌, ◌&&◌, Bool, true, false, if◌then◌else◌, count_by, filter, find, length, map, nat_le, not, ok_or}
 use Rattle.std.specs.Prelude.{option_map, slice_get, Option, Some, None, Result, Ok, Err, suc}
 use Rattle.std.specs.Option.{option_map_or}

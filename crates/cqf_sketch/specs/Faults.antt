@@ -1,4 +1,4 @@
--- Why a sketch's domain is refused, and how that is told (profile).
+-- Why a sketch's domain is refused, and how that is told.
 use Rattle.std.specs.Prelude.{ℕ, ◌++◌, List, Result, codes}
 use Rattle.std.specs.Result.{result_map_both}
 use Rattle.cqf_topology.specs.declared.toml_faults.TomlFault.{TomlFault}

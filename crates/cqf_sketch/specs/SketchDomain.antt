@@ -1,4 +1,4 @@
--- The domain of a sketch, or the first fault of its text (profile).
+-- The domain of a sketch, or the first fault of its text.
 use Rattle.std.specs.Prelude.{ℕ, ◌≡◌, ◌≢◌, ◌<◌, ◌≤◌, List, [], ◌∷◌, ◌||◌, All, AllPairs, Bool, IsTrue, filter, find, length, map, max, nat_lt, not}
 use Rattle.std.specs.Prelude.{option_map, slice_index_or, unwrap_or, Option, None, Result, Ok}
 use Rattle.std.specs.List.{list_any}

@@ -1,4 +1,4 @@
--- What the text of a sketch's domain says, before it is asked whether a network can be like that (profile).
+-- What the text of a sketch's domain says, before it is asked whether a network can be like that.
 use Rattle.std.specs.Prelude.{ℕ, List, [], ◌∷◌, ◌&&◌, Bool, false, if◌then◌else◌, codes, length, nat_le, Option, Some, None, ok_or, Result, Ok, Err}
 use Rattle.toml.specs.Data.{Data, Items, Members, as_array, as_bool, as_table, get_member}
 use Rattle.cqf_lists.specs.Results.{and_then}

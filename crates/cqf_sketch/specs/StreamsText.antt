@@ -1,4 +1,4 @@
--- The streams of a sketch, or the first fault of their text (profile).
+-- The streams of a sketch, or the first fault of their text.
 use Rattle.std.specs.Prelude.{ℕ, List, [], ◌∷◌, ◌++◌, ◌&&◌, ◌||◌, Bool, true, false, codes, if◌then◌else◌, find, is_none, is_some, length, map, nat_le, Option, Some, None, ok_or}
 use Rattle.std.specs.Prelude.{option_and_then, option_map, Result, Ok, Err, string_bytes}
 use Rattle.std.specs.Option.{option_or}

@@ -1,4 +1,4 @@
--- Ways through a network by the numbers of their links, and the first of those with room (profile).
+-- Ways through a network by the numbers of their links, and the first of those with room.
 use Rattle.std.specs.Prelude.{ℕ, ◌≡◌, ◌<◌, ◌≤◌, All, Bool, true, false, if◌then◌else◌, nat_le, List, find, length, not, Option, Some, None, option_and_then, slice_get}
 use Rattle.std.specs.Option.{option_map_or}
 use Rattle.std.specs.List.{list_all}

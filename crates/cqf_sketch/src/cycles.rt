@@ -12,7 +12,7 @@ use toml::{Table, Value};
 /// The shortest cycle, in nanoseconds.
 const SHORTEST_CYCLE: u32 = 10_000;
 
-/// The most candidates that a sketch may have (profile).
+/// The most candidates that a sketch may have.
 pub const MOST_CANDIDATES: usize = 1_000;
 
 /// The cycle time that a value means.

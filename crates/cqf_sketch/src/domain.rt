@@ -177,7 +177,7 @@ impl SketchDomain {
         SketchDomain::of_names(alloc, draft, bridges, stations)
     }
 
-    /// The domain that a sketch's text means within some limits, or the first fault of the text (profile). Where candidates for the cycle
+    /// The domain that a sketch's text means within some limits, or the first fault of the text. Where candidates for the cycle
     /// time are given, 1 to 1,000 of them and each from 10,000 to 10,000,000 ns, the text's `cycle` isn't read. Keys that mean nothing
     /// here are passed over.
     ///

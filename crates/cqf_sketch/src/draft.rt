@@ -251,7 +251,7 @@ fn owed_keys(keys: &[Key; 5], given: bool) -> &[Key]
     if given { &keys[1..] } else { &keys[..] }
 }
 
-/// What the text of a sketch's domain says that is read within some limits, or its first fault in being read (profile). Where candidates
+/// What the text of a sketch's domain says that is read within some limits, or its first fault in being read. Where candidates
 /// for the cycle time are given, the text's `cycle` isn't read. Keys that mean nothing here are passed over.
 ///
 /// # Errors

@@ -8,7 +8,7 @@ use std::alloc::AllocFailed;
 use std::fmt;
 use thiserror::Error;
 
-/// Why a sketch's domain is refused (profile): as a plant's is, and for what a plant doesn't have. A fault prints as its name, and
+/// Why a sketch's domain is refused: as a plant's is, and for what a plant doesn't have. A fault prints as its name, and
 /// then its value.
 #[derive(Debug, PartialEq, Eq, Drop, Error)]
 pub enum SketchFault {

@@ -1,4 +1,4 @@
-//! Sketches, of which a planner has candidates for the cycle time: their domains, their streams, and ways for these (profile).
+//! Sketches, of which a planner has candidates for the cycle time: their domains, their streams, and ways for these.
 //!
 //! - **Domains.** [`SketchDomain::read`] gives the domain that a text means, a plant's domain of which the cycle time isn't chosen yet, with each
 //!   [`TalkerLink`], by which talkers send; or a [`SketchFault`], the first thing wrong. `cycle` may be an array of candidates, a link may be

@@ -110,7 +110,7 @@ fn streams_of_table(alloc: Global, table: &Table) -> Result<Vec<Stream>, FlowsFa
 
 /// The streams of a sketch's text, in its order. Keys that mean nothing here are passed over.
 ///
-/// `streams` is an array of tables. Of each these keys are read, in this order (profile): `name`, a text; `octets`, an integer from
+/// `streams` is an array of tables. Of each these keys are read, in this order: `name`, a text; `octets`, an integer from
 /// 0 to 4,294,967,295, owed where no key of traffic stands; `every` and `phase`, such integers, 1 and 0 where nothing stands there;
 /// `in-step`, a boolean; `path`, an array of texts, or `paths`, an array of such arrays; without these `from`, a name, and `to`, a name or an array of 1 to 64 names, all different; `deadline`, an integer from 1 to
 /// 4,294,967,295; and the keys of traffic ([`cqf_traffic::traffic_of`]).

@@ -13,7 +13,7 @@ use cqf_units::Name;
 use std::alloc::Global;
 use toml::Table;
 
-/// The most listeners that a stream of a sketch may have (profile).
+/// The most listeners that a stream of a sketch may have.
 pub const MOST_LISTENERS: usize = 64;
 
 /// Which way a stream is to go.

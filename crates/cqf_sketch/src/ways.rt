@@ -9,7 +9,7 @@ use crate::way_ends::Ends;
 use arrayvec::ArrayVec;
 use cqf_model::Node;
 
-/// The most links of a way: a stream's branch has at most so many bridges (profile).
+/// The most links of a way: a stream's branch has at most so many bridges.
 pub const MOST_LINKS: u8 = 16;
 
 /// The first way into a set of nodes, and the node in which it ends.
@@ -68,7 +68,7 @@ fn way_into(room: Room, from: u16, ends: &Ends, most: u8) -> Option<FirstWay>
 
 /// Of the ways from a bridge to a node on which each link has room, of at most 16 links, the first: that has fewest links, and
 /// of these the one whose links have the lowest numbers, compared from the first on. `None` exactly where there is none
-/// (profile). Links are numbered from 0. There are at most 4,096, and they leave the first 1,024 bridges.
+///. Links are numbered from 0. There are at most 4,096, and they leave the first 1,024 bridges.
 pub fn first_way(room: Room, from: u16, to: Node) -> Option<ArrayVec<u16, 16>>
     requires { AreLinks room.links.now }
     ensures { let roomy = has_room room.entry.left.now room.entry.cost in

@@ -1,4 +1,4 @@
--- What a bridge's reel has of what the bridge did, and the tapes that the reels of all bridges come to (profile).
+-- What a bridge's reel has of what the bridge did, and the tapes that the reels of all bridges come to.
 use Rattle.std.specs.Prelude.{ℕ, ◌≡◌, ◌≢◌, ◌<◌, ◌++◌, List, [], ◌∷◌, Some, if◌then◌else◌, length, slice_get}
 use Rattle.std.specs.Option.{option_map_or}
 use Rattle.cqf_lists.specs.Lists.{each_below}

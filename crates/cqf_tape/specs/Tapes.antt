@@ -1,4 +1,4 @@
--- The tapes of a run's links: what each sends, in order, and what each bridge drops (profile).
+-- The tapes of a run's links: what each sends, in order, and what each bridge drops.
 use Rattle.std.specs.Prelude.{ℕ, ◌≡◌, ◌≤◌, ◌<◌, ◌==◌, List, [], ◌∷◌, AllPairs, Bool, filter, if◌then◌else◌, length, map, slice_get, slice_index_or, Some}
 use Rattle.std.specs.Global.{Global}
 use Rattle.std.specs.declared.vec.Vec.{Vec}

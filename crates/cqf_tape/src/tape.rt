@@ -13,7 +13,7 @@ pub struct Mark {
     pub octets: u32,
 }
 
-/// The transmissions of a link, in order of instant (profile).
+/// The transmissions of a link, in order of instant.
 #[derive(Debug, Drop)]
 pub struct Tape {
     /// The number of the link, by the domain, from 0.

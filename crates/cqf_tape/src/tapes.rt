@@ -15,7 +15,7 @@ pub enum TransmissionKind {
 }
 
 /// The tapes of all links of a domain, by number, and what each bridge dropped, by cycle, then frame: all that a run did, with each
-/// transmission once (profile).
+/// transmission once.
 #[derive(Debug, Drop)]
 pub struct Tapes {
     pub links: Vec<Tape>,

@@ -1,4 +1,4 @@
--- Decimal numbers in texts (profile).
+-- Decimal numbers in texts.
 use Rattle.std.specs.Prelude.{ℕ, ◌&&◌, Bool, List, length, nat_le, Option, Some, None, if◌then◌else◌}
 use Rattle.std.specs.Char.{is_ascii_digit}
 use Rattle.std.specs.List.{list_all}

@@ -1,4 +1,4 @@
--- The lines of a text (profile).
+-- The lines of a text.
 use Rattle.std.specs.Prelude.{ℕ, ◌==◌, Bool, List, [], ◌∷◌, length, if◌then◌else◌}
 use Rattle.std.specs.List.{slice_split}
 

@@ -1,4 +1,4 @@
--- The parts of an input (profile).
+-- The parts of an input.
 use Rattle.std.specs.Prelude.{ℕ, ◌==◌, ◌&&◌, Bool, false, List, [], ◌∷◌, ◌++◌, map}
 use Rattle.std.specs.List.{slice_split, concat}
 use Rattle.cqf_text.specs.Lines.{is_line_feed}

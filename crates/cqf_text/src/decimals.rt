@@ -1,4 +1,4 @@
-//! Decimal numbers in texts (profile).
+//! Decimal numbers in texts.
 ghost use Rattle.std.specs.Prelude.{◌≡◌, ◌+◌, ◌*◌, ◌^◌, ◌≤◌, ◌<◌, length, MatchOption};
 ghost use Rattle.cqf_text.specs.Decimal.{decimal_in, in_range};
 
@@ -63,7 +63,7 @@ fn read_long(bytes: &[u8], least: u64, most: u64) -> Option<u64>
 }
 
 /// The decimal number that the bytes write: one to twenty ASCII digits, leading zeros allowed, and in the range
-/// from `least` to `most`. `None` where the bytes are anything else (profile).
+/// from `least` to `most`. `None` where the bytes are anything else.
 pub fn read_decimal(bytes: &[u8], least: u64, most: u64) -> Option<u64>
     ensures { result ≡ decimal_in least most bytes.now }
 {

@@ -1,4 +1,4 @@
-//! The parts of an input (profile).
+//! The parts of an input.
 ghost use Rattle.std.specs.Prelude.{◌≡◌, ◌+◌, ◌<◌, [], ◌∷◌, length, map, take, drop, ⊤, IfOk, IsTrue, MatchOption};
 ghost use Rattle.std.specs.List.{position_or_len};
 ghost use Rattle.cqf_text.specs.Lines.{is_line_feed};
@@ -60,7 +60,7 @@ fn split_part(input: &[u8]) -> (&[u8], Option<&[u8]>)
 
 /// The parts of an input: what stands before, between and behind the lines that are exactly `%%`. The last `%%` may
 /// lack its line feed, and an empty part follows it all the same. An empty input is one empty part. The line feed
-/// before a divider belongs to the part before it (profile).
+/// before a divider belongs to the part before it.
 pub fn parts(alloc: Global, input: &[u8]) -> Result<Vec<&[u8]>, Memory>
     ensures { IfOk result (λ parts. map (λ part. part.now) parts.items ≡ parts_of input.now) }
 {

@@ -1,4 +1,4 @@
-//! The lines of a text (profile).
+//! The lines of a text.
 ghost use Rattle.std.specs.Prelude.{◌≡◌, ◌<◌, ◌≤◌, ◌↔◌, [], ◌∷◌, length, IsSome, IfSome, MatchOption};
 ghost use Rattle.std.specs.List.{position_or_len, before_first, after_first};
 ghost use Rattle.cqf_text.specs.Lines.{is_line_feed, lines_of};
@@ -17,7 +17,7 @@ pub(crate) fn line_end(text: &[u8]) -> usize
 }
 
 /// The first line of the text, and what stands behind its line feed. `None` exactly where the text is empty: it has
-/// no line. The last line may lack its line feed, and an empty piece behind the last line feed is no line (profile).
+/// no line. The last line may lack its line feed, and an empty piece behind the last line feed is no line.
 pub fn split_line(text: &[u8]) -> Option<(&[u8], &[u8])>
     ensures any { IsSome result ↔ (0 < length text.now) }
     ensures line { IfSome result (λ p. p.0.now ≡ before_first is_line_feed text.now) }

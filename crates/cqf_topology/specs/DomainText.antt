@@ -1,4 +1,4 @@
--- The domain that a text means, or the first fault of the text (profile).
+-- The domain that a text means, or the first fault of the text.
 use Rattle.std.specs.Prelude.{ℕ, ◌≡◌, ◌<◌, ◌≤◌, ◌≢◌, List, [], ◌∷◌, ◌++◌, ◌==◌, ◌&&◌, ◌||◌, Bool, true, false, if◌then◌else◌, length}
 use Rattle.std.specs.Prelude.{nat_le, nat_lt, position, slice_get, AllPairs, Option, Some, None, ok_or, Result, Ok, Err, All, IsTrue}
 use Rattle.std.specs.List.{list_any}

@@ -1,4 +1,4 @@
--- The texts of the faults of domain texts (profile): a fault's name, and then its value, after a space: a key and a name as
+-- The texts of the faults of domain texts: a fault's name, and then its value, after a space: a key and a name as
 -- they are, a link by its number.
 use Rattle.std.specs.Prelude.{ℕ, ◌++◌, List, codes, decimal}
 use Rattle.cqf_topology.specs.Fields.{key_text}

@@ -1,4 +1,4 @@
--- The tables and values of a TOML document (profile): which keys must be there, and what stands at a key.
+-- The tables and values of a TOML document: which keys must be there, and what stands at a key.
 use Rattle.std.specs.Prelude.{ℕ, ◌≡◌, ◌≢◌, ℤ, pos, negsuc, List, [], ◌∷◌, ◌&&◌, Bool, true, if◌then◌else◌, codes, nat_le, is_some, is_none, find, Option, Some}
 use Rattle.std.specs.Prelude.{None, option_and_then, ok_or, Result, Ok, Err}
 use Rattle.std.specs.Option.{option_or}

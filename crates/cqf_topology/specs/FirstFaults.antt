@@ -1,4 +1,4 @@
--- Which name is told as taken, and which link as standing twice, in words of places alone (profile).
+-- Which name is told as taken, and which link as standing twice, in words of places alone.
 use Rattle.std.specs.Prelude.{ℕ, ◌≡◌, ◌<◌, List, [], Some, MatchOption, slice_get}
 use Rattle.cqf_model.specs.declared.topology.Link.{Link}
 use Rattle.cqf_topology.specs.DomainText.{first_taken, first_twice}

@@ -1,4 +1,4 @@
--- What a link's table says beside its ends, and what of it no network can be like (profile).
+-- What a link's table says beside its ends, and what of it no network can be like.
 use Rattle.std.specs.Prelude.{ℕ, ◌≤◌, ◌+◌, ℤ, pos, negsuc, ◌==◌, Bool, if◌then◌else◌, nat_le, nat_lt, Option, Some, None, option_and_then, option_map, Result, Ok}
 use Rattle.std.specs.Option.{unwrap_or}
 use Rattle.toml.specs.Data.{Data, Items, no_items, item, Members, as_array, as_integer}

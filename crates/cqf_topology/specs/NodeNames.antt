@@ -1,4 +1,4 @@
--- The names of a domain's nodes and links (profile).
+-- The names of a domain's nodes and links.
 use Rattle.std.specs.Prelude.{ℕ, ◌++◌, List, [], ◌∷◌, slice_get, slice_index_or}
 use Rattle.std.specs.Option.{option_map_or}
 use Rattle.cqf_model.specs.declared.topology.Link.{Link}

@@ -1,4 +1,4 @@
--- The streams that a text asks for with the cycles in which they are offered, or the first fault of the text (profile).
+-- The streams that a text asks for with the cycles in which they are offered, or the first fault of the text.
 use Rattle.std.specs.Prelude.{ℕ, List, map, Result, Ok, string_bytes}
 use Rattle.toml.specs.Data.{as_str, Members}
 use Rattle.cqf_lists.specs.Results.{and_then}

@@ -1,4 +1,4 @@
--- The streams that a text asks for with their deadlines, or the first fault of the text (profile).
+-- The streams that a text asks for with their deadlines, or the first fault of the text.
 use Rattle.std.specs.Prelude.{ℕ, List, Option, Result, Ok}
 use Rattle.toml.specs.Data.{Members}
 use Rattle.cqf_lists.specs.Results.{and_then}

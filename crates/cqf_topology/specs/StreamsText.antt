@@ -1,4 +1,4 @@
--- The streams that a text asks for, or the first fault of the text (profile).
+-- The streams that a text asks for, or the first fault of the text.
 use Rattle.std.specs.Prelude.{ℕ, List, [], ◌∷◌, map, Option, Some, None, Result, Ok, Err, string_bytes}
 use Rattle.toml.specs.Data.{Data, as_str, Members}
 use Rattle.cqf_topology.specs.declared.keys.Key.{Key}

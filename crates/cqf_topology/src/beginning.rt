@@ -32,7 +32,7 @@ fn one_begins(domain: &Domain, hops: &[Hop], bridge: u16) -> bool
 }
 
 /// Whether a row's stream begins at the bridge of a number, 0 to 1,023: a hop of its tree that follows none leaves by a link of this
-/// bridge (profile).
+/// bridge.
 pub fn begins_at(domain: &Domain, row: &Row, bridge: u16) -> bool
     ensures { result ≡ begins_at domain.now row.now bridge }
 {

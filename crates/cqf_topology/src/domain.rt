@@ -163,7 +163,7 @@ impl Domain {
     }
 
     /// The domain of these parts, which is an accepted one: its limits, its times in nanoseconds, its bridges and stations by number, and its
-    /// links by number (profile).
+    /// links by number.
     pub fn of_parts(
         limits: Limits,
         cycle_time: u32,
@@ -218,14 +218,14 @@ impl Domain {
     }
 
     /// The guard time of each link that has none of its own: no transmission gate is open in the last so many nanoseconds of a cycle
-    /// (profile).
+    /// 
     pub fn guard(&self) -> Nanos
         ensures { result.0 ≡ self.now.guard }
     {
         Nanos(u64::from(self.guard))
     }
 
-    /// How far any two clocks of the domain may be apart (profile).
+    /// How far any two clocks of the domain may be apart.
     pub fn sync(&self) -> Nanos
         ensures { result.0 ≡ self.now.sync }
     {

@@ -9,7 +9,7 @@ use std::alloc::AllocFailed;
 use std::fmt;
 use thiserror::Error;
 
-/// Why a domain text is refused (profile). The checks are made in the order of the variants, each over the whole text
+/// Why a domain text is refused. The checks are made in the order of the variants, each over the whole text
 /// before the next; links are numbered from 0. Nothing is kept of a text that is refused. A fault prints as its name, and
 /// then its value.
 #[derive(Debug, PartialEq, Eq, Drop, Error)]

@@ -1,4 +1,4 @@
-//! The names of a domain's nodes and links, as texts have them (profile).
+//! The names of a domain's nodes and links, as texts have them.
 
 ghost use Rattle.cqf_press.specs.Press.{Puts};
 ghost use Rattle.cqf_topology.specs.NodeNames.{ends_of_link, name_of_bridge, name_of_link, name_of_node};

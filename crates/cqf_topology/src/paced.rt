@@ -135,7 +135,7 @@ fn all_paced(alloc: Global, table: &Table) -> Result<Vec<PacedRequest>, StreamsF
 
 /// The requests of a streams text, in its order, with the cycles in which they are offered.
 ///
-/// The text is that of [`crate::read_streams`], where a table may have `every` and `phase` too, integers from 0 to 4,294,967,295 (profile):
+/// The text is that of [`crate::read_streams`], where a table may have `every` and `phase` too, integers from 0 to 4,294,967,295:
 /// the stream is offered in one of `every` cycles, 1 where nothing stands there, of which `phase` is the first, else 0. They are read
 /// behind `octets`.
 ///

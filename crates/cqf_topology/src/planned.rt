@@ -81,7 +81,7 @@ fn all_planned(alloc: Global, table: &Table) -> Result<Vec<Planned>, StreamsFaul
 /// The requests of a streams text, in its order, with their deadlines.
 ///
 /// The text is that of [`crate::read_paced_streams`], where a table may have `deadline` too, an integer from 1 to 4,294,967,295, in
-/// nanoseconds (profile). It is read behind the table's other keys.
+/// nanoseconds. It is read behind the table's other keys.
 ///
 /// # Errors
 /// As of [`crate::read_paced_streams`]; and `BadValue` of `deadline` where another value stands there.

@@ -144,7 +144,7 @@ fn read_requests(alloc: Global, table: &Table) -> Result<Vec<Request>, StreamsFa
 /// The requests of a streams text, in its order. Keys that mean nothing here are passed over.
 ///
 /// `streams` is an array of tables, each with `name`, a text; `octets`, an integer from 0 to 4,294,967,295; and either
-/// `path`, an array of texts, which is its one branch, or `paths`, an array of such arrays (profile). They are read in this
+/// `path`, an array of texts, which is its one branch, or `paths`, an array of such arrays. They are read in this
 /// order.
 ///
 /// # Errors

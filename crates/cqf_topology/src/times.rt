@@ -139,7 +139,7 @@ fn delays_at(table: &Table) -> Result<(u32, u32), TomlFault>
 }
 
 /// What a link's table says beside its ends: `rate` in Mb/s; `delay`, an integer from 0 to 10,000,000, or an array of two such, the least
-/// and then the greatest; and `guard`, an integer from 1 to 10,000,000, if any (profile).
+/// and then the greatest; and `guard`, an integer from 1 to 10,000,000, if any.
 ///
 /// # Errors
 /// `BadValue` of the first of these keys at which something else stands.

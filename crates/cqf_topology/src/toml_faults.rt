@@ -8,7 +8,7 @@ use std::alloc::AllocFailed;
 use std::fmt;
 use thiserror::Error;
 
-/// Why a TOML text is refused (profile). The checks are made in the order of the variants, each over the whole text
+/// Why a TOML text is refused. The checks are made in the order of the variants, each over the whole text
 /// before the next. Nothing is kept of a text that is refused. A fault prints as its name, and then its key.
 #[derive(Clone, Copy, Debug, PartialEq, Eq, Error)]
 pub enum TomlFault {

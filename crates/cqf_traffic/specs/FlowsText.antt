@@ -1,4 +1,4 @@
--- The streams that a text asks for with their deadlines and traffic, or the first fault of the text (profile).
+-- The streams that a text asks for with their deadlines and traffic, or the first fault of the text.
 use Rattle.std.specs.Prelude.{ℕ, ◌++◌, List, [], Option, None, Result, Ok, Err, codes, if◌then◌else◌, ok_or, option_map, option_and_then}
 use Rattle.std.specs.Option.{option_or}
 use Rattle.std.specs.Result.{result_map_both}

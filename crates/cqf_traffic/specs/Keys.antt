@@ -1,4 +1,4 @@
--- The keys of a stream's traffic (profile; the terms are those of IEEE Std 802.1Q-2018, 46.2.3.5).
+-- The keys of a stream's traffic (the terms are those of IEEE Std 802.1Q-2018, 46.2.3.5).
 use Rattle.std.specs.Prelude.{ℕ, List, [], ◌∷◌, Option, Some, None, codes}
 use Rattle.cqf_traffic.specs.declared.keys.TrafficKey.{TrafficKey}
 use Rattle.cqf_traffic.specs.declared.keys.TrafficKey.TheVariants.{Interval, Frames, Size, Jitter, Offset}

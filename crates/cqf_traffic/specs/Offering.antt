@@ -1,4 +1,4 @@
--- What streams with traffic offer up to an instant (profile): blocks of frames on a regular grid, each late by chance where there is a
+-- What streams with traffic offer up to an instant: blocks of frames on a regular grid, each late by chance where there is a
 -- seed.
 use Rattle.std.specs.Prelude.{ℕ, zero, suc, ◌+◌, ◌-◌, ◌*◌, ◌/◌, ◌^◌, ◌==◌, List, [], ◌∷◌, ◌++◌, Option, Some, None, filter, if◌then◌else◌, max, nat_lt, option_map, sum_by}
 use Rattle.rand_pcg.specs.Lcg.{Lcg, increment_of, started}

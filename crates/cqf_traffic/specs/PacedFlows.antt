@@ -1,4 +1,4 @@
--- The streams that a text asks for with their traffic, whatever their deadlines are, or the first fault of the text (profile).
+-- The streams that a text asks for with their traffic, whatever their deadlines are, or the first fault of the text.
 use Rattle.std.specs.Prelude.{ℕ, List, [], Option, Result, Ok, Err, if◌then◌else◌, ok_or}
 use Rattle.toml.specs.Data.{Items, Members, as_array, as_table}
 use Rattle.cqf_lists.specs.Results.{and_then, refuse}

@@ -1,4 +1,4 @@
--- The traffic of a stream's table (profile): what its talker promises, and when its offers begin.
+-- The traffic of a stream's table: what its talker promises, and when its offers begin.
 use Rattle.std.specs.Prelude.{ℕ, ◌≤◌, ◌&&◌, Bool, Option, Some, None, Result, Ok, is_none, is_some, find, if◌then◌else◌, ok_or}
 use Rattle.std.specs.List.{list_any}
 use Rattle.toml.specs.Data.{Data, Members, get_member}

@@ -9,7 +9,7 @@ use std::alloc::AllocFailed;
 use std::fmt;
 use thiserror::Error;
 
-/// Why a text of streams with traffic is refused (profile): as a text of streams is, and by the keys of traffic. What is missing is
+/// Why a text of streams with traffic is refused: as a text of streams is, and by the keys of traffic. What is missing is
 /// told before any bad value. A fault prints as its name, and then its key.
 #[derive(Clone, Copy, Debug, PartialEq, Eq, Error)]
 pub enum FlowsFault {

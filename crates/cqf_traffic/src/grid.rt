@@ -25,7 +25,7 @@ fn frames_of(end: Nanos, traffic: Option<Traffic>) -> u128
     }
 }
 
-/// Whether senders have no more frames together before an instant than so many, none of them late (profile).
+/// Whether senders have no more frames together before an instant than so many, none of them late.
 pub fn are_few(end: Nanos, senders: &[TalkerStream], most: u32) -> bool
     ensures { result ≡ nat_le (frames_before end.0 senders.now) most }
 {

@@ -14,9 +14,9 @@ pub enum TrafficKey {
     Frames,
     /// Octets of a frame at most, with header, tag and FCS (MaxFrameSize leaves these out).
     Size,
-    /// How late a frame may be at its edge bridge against the regular grid, in nanoseconds (profile).
+    /// How late a frame may be at its edge bridge against the regular grid, in nanoseconds.
     Jitter,
-    /// When the stream's offers begin, in nanoseconds (profile).
+    /// When the stream's offers begin, in nanoseconds.
     Offset,
 }
 
@@ -43,7 +43,7 @@ impl TrafficKey {
         }
     }
 
-    /// The least number that may stand there (profile).
+    /// The least number that may stand there.
     pub fn least(self) -> u32
         ensures { result ≡ least_of self }
     {
@@ -54,7 +54,7 @@ impl TrafficKey {
         }
     }
 
-    /// The greatest number that may stand there (profile).
+    /// The greatest number that may stand there.
     pub fn most(self) -> u32
         ensures { result ≡ most_of self }
     {

@@ -12,7 +12,7 @@ pub fn offers_conform()
 
 /// What is offered of a stream comes in one of so many cycles alone, for every seed and without one, where its intervals are some times so
 /// many cycles long, and no frame is so late that it comes in a later cycle than it stands in on the grid. So it is by each clock that is no
-/// further apart from the talker's than leaves each frame in the cycle in which it stands (profile).
+/// further apart from the talker's than leaves each frame in the cycle in which it stands.
 pub fn offers_come_in_turns()
     ensures { OffersComeInTurns }
 {}

@@ -91,7 +91,7 @@ fn sent_from(alloc: Global, until: Until, senders: &[TalkerStream]) -> Result<Ve
 }
 
 /// What senders offer before an instant: block 0, 1, .. of each with traffic comes at its offset and so many intervals, with a seed late by
-/// up to its jitter, but none before the one before it. They stand by instant, then by the sender's place, then in order (profile).
+/// up to its jitter, but none before the one before it. They stand by instant, then by the sender's place, then in order.
 /// `Memory` where a growth is refused.
 pub fn offers_before(
     alloc: Global,

@@ -18,7 +18,7 @@ fn is_lacked(table: &Table, key: TrafficKey) -> bool
     value_at(table, key).is_none()
 }
 
-/// The first key that is owed, and absent, where a key of traffic stands in a stream's table: `interval`, or `size` (profile).
+/// The first key that is owed, and absent, where a key of traffic stands in a stream's table: `interval`, or `size`.
 pub fn first_owed(table: &Table) -> Option<TrafficKey>
     ensures { result ≡ first_owed (table_view table.now) }
 {

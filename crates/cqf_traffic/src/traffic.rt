@@ -97,7 +97,7 @@ impl Traffic {
         }
     }
 
-    /// Into how many intervals a cycle can reach, by the cycle time (profile).
+    /// Into how many intervals a cycle can reach, by the cycle time.
     fn intervals_in(self, cycle_time: Nanos) -> u128
         ensures value { result ≡ intervals_in cycle_time.0 (promise_of self) }
     {
@@ -105,7 +105,7 @@ impl Traffic {
         (u128::from(cycle_time.0) + u128::from(self.jitter) + interval - 1) / interval
     }
 
-    /// What a cycle needs of the stream, in octets, by the cycle time: as many frames of the greatest size as it can hold (profile).
+    /// What a cycle needs of the stream, in octets, by the cycle time: as many frames of the greatest size as it can hold.
     pub fn needed(self, cycle_time: Nanos) -> u128
         ensures { result ≡ needed cycle_time.0 (promise_of self) }
     {
@@ -179,7 +179,7 @@ fn numbers_of(table: &Table) -> Result<Traffic, TrafficKey>
 
 /// The traffic of a stream's table, or `None` where none of its keys stands there. Each of `interval`, from 1 to 1,000,000,000 ns,
 /// `frames`, from 1 to 1,000, else 1, `size`, from 64 to 1,522 octets, `jitter` and `offset`, up to 1,000,000,000 ns, else 0, is an
-/// integer (profile).
+/// integer.
 ///
 /// # Errors
 /// The first of these keys, in this order, at which something else stands, or which is owed and absent.

@@ -1,4 +1,4 @@
--- The form of a name (profile).
+-- The form of a name.
 use Rattle.std.specs.Prelude.{ℕ, ◌==◌, ◌||◌, ◌&&◌, Bool, List, length, nat_le}
 use Rattle.std.specs.List.{list_all}
 

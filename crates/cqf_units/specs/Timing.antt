@@ -1,4 +1,4 @@
--- Frames on a link (IEEE Std 802.3), cycles, and what a reservation takes of a link (profile).
+-- Frames on a link (IEEE Std 802.3), cycles, and what a reservation takes of a link.
 -- Instants and lengths of time are in nanoseconds, and whole ones. How long an octet takes is in ticks of 40 picoseconds, of
 -- which a nanosecond has 25.
 use Rattle.std.specs.Prelude.{ℕ, ◌+◌, ◌-◌, ◌*◌, ◌/◌, ◌%◌, ◌==◌, if◌then◌else◌}
@@ -18,7 +18,7 @@ ticks_of_octet Mb40000 = 5
 ticks_of_octet Mb100000 = 2
 
 -- how long so many octets take, in nanoseconds: one that has begun counts as a whole one, since ports start at whole
--- nanoseconds (profile). Up to 1,000 Mb/s nothing is rounded
+-- nanoseconds. Up to 1,000 Mb/s nothing is rounded
 abbrev pub time_of : ℕ → ℕ → ℕ
 time_of octets octet_time = (octets * octet_time + 24) / 25
 
@@ -38,7 +38,7 @@ ending_of start octets octet_time = start + time_of (octets + 8) octet_time
 abbrev pub idle_after : ℕ → ℕ → ℕ → ℕ
 idle_after start octets octet_time = start + slot_of octets octet_time
 
--- what a reservation costs once, of each link of its tree, in octets a cycle (profile): as many frames of the shortest
+-- what a reservation costs once, of each link of its tree, in octets a cycle: as many frames of the shortest
 -- size as it can hold have preamble and gap
 abbrev pub cost_of : ℕ → ℕ
 cost_of reserved = reserved + 20 * (reserved / 64)
@@ -52,14 +52,14 @@ abbrev pub shortest_of : ℕ → ℕ
 shortest_of octet_time = 84 * octet_time + rounding_of octet_time
 
 -- the nanoseconds in which frames are sent that cost so many octets, whatever their sizes: 84 of these octets take no longer
--- than a frame of the shortest size (profile)
+-- than a frame of the shortest size
 abbrev pub span_of : ℕ → ℕ → ℕ
 span_of cost octet_time = cost * shortest_of octet_time / 2100
 
--- what reservations may cost on a link, in octets a cycle: frames that cost so much are sent before the guard time (profile)
+-- what reservations may cost on a link, in octets a cycle: frames that cost so much are sent before the guard time
 abbrev pub budget_of : ℕ → ℕ → ℕ → ℕ
 budget_of cycle_time guard octet_time = (cycle_time - guard) * 2100 / shortest_of octet_time
 
--- the cycle that an instant lies in (profile)
+-- the cycle that an instant lies in
 abbrev pub cycle_at : ℕ → ℕ → ℕ
 cycle_at cycle_time t = t / cycle_time

@@ -1,4 +1,4 @@
-//! Names of bridges, stations and streams (profile).
+//! Names of bridges, stations and streams.
 ghost use Rattle.std.specs.Prelude.{◌≡◌, ◌≤◌, ◌↔◌, ⊤, IsTrue, Some, IsSome, IfSome, length};
 ghost use Rattle.std.specs.List.{list_all};
 ghost use Rattle.cqf_units.specs.Name.{is_name, is_name_byte};
@@ -8,7 +8,7 @@ use std::alloc::AllocError;
 use std::fmt;
 use std::marker::Model;
 
-/// The name of a bridge, a station or a stream: 1 to 32 bytes of `a` to `z`, `0` to `9`, `-` and `_` (profile). Names are ordered as
+/// The name of a bridge, a station or a stream: 1 to 32 bytes of `a` to `z`, `0` to `9`, `-` and `_`. Names are ordered as
 /// their bytes are.
 #[derive(PartialEq, Eq, PartialOrd, Ord, Hash, Drop)]
 pub struct Name {

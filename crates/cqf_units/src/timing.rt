@@ -52,7 +52,7 @@ pub fn octet_ticks(rate: Rate) -> u64
     }
 }
 
-/// How long so many octets take at the rate, in nanoseconds: one that has begun counts as a whole one (profile).
+/// How long so many octets take at the rate, in nanoseconds: one that has begun counts as a whole one.
 pub fn time_of(octets: u64, rate: Rate) -> u64
     requires { octets ≤ 2 ^ 33 }
     ensures value { result ≡ time_of octets (ticks_of_octet rate) }

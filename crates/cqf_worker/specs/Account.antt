@@ -1,5 +1,5 @@
 -- The account of a run on threads: the headline of `cqf_model/specs/Headline.antt`, of what the administrators' commands call for
--- (profile).
+-- 
 use Rattle.std.specs.Prelude.{ℕ, ◌≡◌, List, length, map}
 use Rattle.cqf_model.specs.declared.frames.Background.{Background}
 use Rattle.cqf_model.specs.declared.frames.Offer.{Offer}

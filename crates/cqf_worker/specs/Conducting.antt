@@ -1,4 +1,4 @@
--- A run on threads before they begin, and when all have ended (profile).
+-- A run on threads before they begin, and when all have ended.
 use Rattle.std.specs.Prelude.{ℕ, ◌≡◌, ◌⊎◌, ◌++◌, List, [], ◌∷◌, All, length, map}
 use Rattle.std.specs.List.{flat_map}
 use Rattle.cqf_model.specs.declared.frames.Offer.{Offer}

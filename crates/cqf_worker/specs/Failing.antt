@@ -1,4 +1,4 @@
--- Which fault a run on threads may tell, and of what cause (profile).
+-- Which fault a run on threads may tell, and of what cause.
 use Rattle.std.specs.Prelude.{ℕ, ◌≡◌, ◌+◌, ◌<◌, ◌⊎◌, List, Contains, length}
 use Rattle.cqf_model.specs.declared.frames.Background.{Background}
 use Rattle.cqf_model.specs.declared.frames.Offer.{Offer}

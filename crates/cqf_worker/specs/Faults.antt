@@ -1,4 +1,4 @@
--- Why a run on threads gives no account (profile).
+-- Why a run on threads gives no account.
 use Rattle.std.specs.Prelude.{ℕ, ◌≡◌, ◌++◌, List, Bool, Option, Some, None, codes, decimal, false, if◌then◌else◌, nat_lt}
 use Rattle.cqf_bridge.specs.Faults.{text_of_fault}
 use Rattle.cqf_worker.specs.declared.faults.ConductFault.{ConductFault}

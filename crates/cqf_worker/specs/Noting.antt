@@ -1,4 +1,4 @@
--- Which fault of a thread is told as which of the run's (profile).
+-- Which fault of a thread is told as which of the run's.
 use Rattle.std.specs.Prelude.{◌≡◌, ◌⊎◌, ◌++◌, [], ◌∷◌, Err, List, None, Ok, Option, Result, Some, true}
 use Rattle.cqf_worker_loops.specs.declared.calling.CallFault.{CallFault}
 use Rattle.cqf_worker_loops.specs.declared.calling.CallFault.TheVariants as call

@@ -1,4 +1,4 @@
--- The threads of a run: what they begin with and what they have in the end (profile).
+-- The threads of a run: what they begin with and what they have in the end.
 use Rattle.std.specs.Prelude.{ℕ, ◌≡◌, ◌≤◌, List, [], All, IfErr, IfOk, Result}
 use Rattle.std.specs.List.{AllZip}
 use Rattle.cqf_desk.specs.Desk.{Sitting}

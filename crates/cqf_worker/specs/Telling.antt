@@ -1,4 +1,4 @@
--- Which fault a run on threads may tell (profile).
+-- Which fault a run on threads may tell.
 use Rattle.std.specs.Prelude.{ℕ, ◌<◌, ◌⊎◌, Contains, length}
 use Rattle.cqf_worker.specs.declared.faults.ConductFault.{ConductFault}
 use Rattle.cqf_worker.specs.declared.faults.ConductFault.TheVariants as conduct

@@ -1,4 +1,4 @@
--- The pipes between the workers of a run: which is on which link, and what is known of them once they are closed (profile).
+-- The pipes between the workers of a run: which is on which link, and what is known of them once they are closed.
 use Rattle.std.specs.Prelude.{ℕ, ◌≡◌, ◌<◌, ◌==◌, ◌++◌, List, Option, Some, Contains, count_by, slice_get}
 use Rattle.cqf_admission.specs.Tables.{CycleTable}
 use Rattle.cqf_relay.specs.declared.moving.Stretch.{Stretch}

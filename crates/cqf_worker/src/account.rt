@@ -4,7 +4,7 @@ use cqf_desk::History;
 use cqf_model::Book;
 use cqf_tape::Tapes;
 
-/// What a run on threads gives: the history of all calls, and the book of every transmission and drop (profile).
+/// What a run on threads gives: the history of all calls, and the book of every transmission and drop.
 #[derive(Debug, Drop)]
 pub struct Account {
     pub history: History,

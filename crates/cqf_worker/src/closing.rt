@@ -24,7 +24,7 @@ use cqf_units::Memory;
 use cqf_worker_loops::{Carried, LinkEnd, PipeIn, PipeOut, Worker};
 use std::alloc::Global;
 
-/// Why the pipes of a run aren't closed (profile).
+/// Why the pipes of a run aren't closed.
 #[derive(Clone, Copy, Debug, PartialEq, Eq, Drop)]
 pub enum ClosingFault {
     /// A growth was refused.

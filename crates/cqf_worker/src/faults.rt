@@ -9,7 +9,7 @@ use std::fmt;
 use thiserror::Error;
 
 /// Why a run on threads gives no account. Of several causes that its threads note, or that closing it has, it tells the first in the
-/// order Spawn, Memory, Bridge, ChannelLost, DeskDisagrees, BookDisagrees (profile); a run that can't begin, or whose threads failed, is
+/// order Spawn, Memory, Bridge, ChannelLost, DeskDisagrees, BookDisagrees; a run that can't begin, or whose threads failed, is
 /// not closed. It prints as its name, and then its values.
 #[derive(Clone, Copy, Debug, PartialEq, Eq, Drop, Error)]
 pub enum ConductFault {

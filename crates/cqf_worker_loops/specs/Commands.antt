@@ -1,4 +1,4 @@
--- What administrators call for in a run (profile).
+-- What administrators call for in a run.
 use Rattle.std.specs.Prelude.{ℕ, ◌≡◌, ◌<◌, List, length, map, take}
 use Rattle.cqf_model.specs.declared.history.Refused.{Refused}
 use Rattle.cqf_model.specs.declared.history.Refused.TheVariants as refused

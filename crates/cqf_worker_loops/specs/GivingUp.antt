@@ -1,4 +1,4 @@
--- Why a bridge's thread gives up, and what comes back of it (profile).
+-- Why a bridge's thread gives up, and what comes back of it.
 use Rattle.std.specs.Prelude.{ℕ, ◌≡◌, ◌<◌, All}
 use Rattle.cqf_worker_loops.specs.declared.worker.GaveUp.{GaveUp}
 use Rattle.cqf_worker_loops.specs.declared.worker.Worker.{Worker}

@@ -1,4 +1,4 @@
--- What the conductor of a run hands to the workers: the table of each cycle, at the end of a pipe for each (profile).
+-- What the conductor of a run hands to the workers: the table of each cycle, at the end of a pipe for each.
 use Rattle.std.specs.Prelude.{ℕ, ◌≡◌, ◌<◌, ◌≤◌, ◌⊎◌, ◌++◌, List, [], ◌∷◌, All, Bool, true, false, length, map, replicate, slice_index_or}
 use Rattle.cqf_model.specs.History.{Seals}
 use Rattle.cqf_model.specs.Calls.{acts_of}

@@ -1,4 +1,4 @@
--- The two ends of a pipe: which pipe it is, and what was put or taken at the end (profile).
+-- The two ends of a pipe: which pipe it is, and what was put or taken at the end.
 use Rattle.std.specs.Prelude.{ℕ, ◌≡◌, ◌++◌, ◌-◌, List, [], ◌∷◌, true, false, length, take}
 use Rattle.atomic_table.specs.declared.badge.Badge.{Badge}
 use Rattle.atomic_table.specs.Seated.{TableId}

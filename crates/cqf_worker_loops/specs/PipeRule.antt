@@ -1,4 +1,4 @@
--- The rule of a pipe between two threads (profile). Each thread has a pass, with a view of what it has put and taken.
+-- The rule of a pipe between two threads. Each thread has a pass, with a view of what it has put and taken.
 use Rattle.std.specs.Prelude.{ℕ, ◌≡◌, ◌≤◌, ◌++◌, List, ◌∷◌, Bool, true, flat_map, length}
 use mathlib.Core.Option.{some}
 use lib.ListN.{get_elem?}

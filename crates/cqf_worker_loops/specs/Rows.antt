@@ -1,4 +1,4 @@
--- Items that are put at several ports, or taken there, one at each (profile).
+-- Items that are put at several ports, or taken there, one at each.
 use Rattle.std.specs.Prelude.{ℕ, ◌≡◌, ◌⊎◌, List, [], ◌∷◌, ◌++◌, map}
 use Rattle.cqf_worker_loops.specs.declared.link_ends.LinkEnd.{LinkEnd}
 use Rattle.cqf_worker_loops.specs.PipeEnds.{End, PipeId}

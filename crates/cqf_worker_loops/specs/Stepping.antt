@@ -1,4 +1,4 @@
--- How far a bridge on its thread is (profile).
+-- How far a bridge on its thread is.
 use Rattle.std.specs.Prelude.{ℕ, ◌≡◌, ◌+◌, ◌≤◌, ◌<◌, [], true, if◌then◌else◌, nat_lt, All, Contains, Some, filter, length, map, slice_get}
 use Rattle.std.specs.Arc.{arc_value}
 use Rattle.cqf_model.specs.Limits.{most_cycles}

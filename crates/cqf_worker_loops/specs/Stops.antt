@@ -1,4 +1,4 @@
--- What one thread of a run puts for another: items, and then at most one Stop (profile).
+-- What one thread of a run puts for another: items, and then at most one Stop.
 use Rattle.std.specs.Prelude.{ℕ, ◌≡◌, ◌<◌, ◌⊎◌, ◌++◌, List, [], ◌∷◌, length, map, slice_index_or}
 use Rattle.cqf_worker_loops.specs.declared.carried.Carried.{Carried}
 use Rattle.cqf_worker_loops.specs.declared.carried.Carried.TheVariants.{Item, Stop}

@@ -1,4 +1,4 @@
--- A bridge on a thread of its own: what it begins with, and what it promises (profile).
+-- A bridge on a thread of its own: what it begins with, and what it promises.
 use Rattle.std.specs.Prelude.{ℕ, ◌≡◌, ◌≤◌, ◌<◌, ◌==◌, List, [], ◌∷◌, true, if◌then◌else◌, All, filter, length, map}
 use Rattle.std.specs.List.{flat_map}
 use Rattle.std.specs.List.Sorted.{IsNonDecreasingBy, IsPermutation}

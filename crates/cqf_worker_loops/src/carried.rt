@@ -1,6 +1,6 @@
 //! What a pipe between two threads of a run carries.
 
-/// What a pipe carries between the threads of a run: an item, or that none comes any more (profile).
+/// What a pipe carries between the threads of a run: an item, or that none comes any more.
 #[derive(Debug, Drop)]
 pub enum Carried<T> {
     /// An item.

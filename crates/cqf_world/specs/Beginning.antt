@@ -1,4 +1,4 @@
--- What a world begins with (profile).
+-- What a world begins with.
 use Rattle.std.specs.Prelude.{ℕ, ◌≡◌, ◌<◌, List, [], false, length, replicate, slice_index_or}
 use Rattle.cqf_model.specs.declared.frames.Background.{Background}
 use Rattle.cqf_model.specs.declared.frames.Offer.{Offer}

@@ -1,4 +1,4 @@
--- The events of a world: when each is enabled, and what it does (profile).
+-- The events of a world: when each is enabled, and what it does.
 use Rattle.std.specs.Prelude.{ℕ, ◌≡◌, ◌+◌, ◌<◌, Result, Ok, Err, false, length, slice_set, true}
 use Rattle.std.specs.declared.alloc.AllocError.{AllocError}
 use Rattle.cqf_model.specs.declared.frames.Page.{Page}

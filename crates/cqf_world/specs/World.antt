@@ -1,4 +1,4 @@
--- A core in which all that happens in a network under administration happens as single events, in any order (profile).
+-- A core in which all that happens in a network under administration happens as single events, in any order.
 use Rattle.std.specs.Prelude.{ℕ, ◌≡◌, List, Bool, Some, slice_index_or}
 use Rattle.cqf_model.specs.declared.frames.Background.{Background}
 use Rattle.cqf_model.specs.declared.frames.Offer.{Offer}

@@ -372,7 +372,7 @@ impl World<'_> {
     }
 
     /// Applies an event, where it may happen now; the crate's page has the table of events, and `specs/Events.antt` says it in full
-    /// (profile).
+    /// 
     ///
     /// [`Applied::NotEnabled`] where it may not, as for a bridge or a link that the domain lacks; then nothing is changed, and no
     /// memory was taken. `Memory` where a growth is refused: the history and the pages are as they were, and no event may happen

@@ -1,4 +1,4 @@
--- What the command `compile` gives for its input (profile): the configuration of a domain and its streams, or the line of
+-- What the command `compile` gives for its input: the configuration of a domain and its streams, or the line of
 -- the input's first fault.
 use Rattle.cqf_model.specs.declared.limits.Limits.{Limits}
 use Rattle.std.specs.Prelude.{ℕ, ◌≡◌, ◌≤◌, ◌+◌, ◌++◌, codes, decimal, length, List, [], ◌∷◌, map, Result, Ok}

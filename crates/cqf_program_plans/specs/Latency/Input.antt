@@ -1,4 +1,4 @@
--- What the command `latency` reads, and gives for it (profile).
+-- What the command `latency` reads, and gives for it.
 use Rattle.cqf_model.specs.declared.limits.Limits.{Limits}
 use Rattle.std.specs.Prelude.{ℕ, Bool, List, Option, Result, Ok, map}
 use Rattle.cqf_lists.specs.Results.{and_then}

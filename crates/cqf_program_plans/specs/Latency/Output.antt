@@ -1,4 +1,4 @@
--- What the command `latency` gives for its domain, its streams and their deadlines (profile).
+-- What the command `latency` gives for its domain, its streams and their deadlines.
 use Rattle.std.specs.Prelude.{ℕ, ◌≡◌, ◌<◌, ◌≤◌, List, [], Bool, if◌then◌else◌, length, Contains, Option, None, Result, Ok}
 use Rattle.cqf_model.specs.declared.topology.Row.{Row}
 use Rattle.cqf_model.specs.Domain.{Domain}

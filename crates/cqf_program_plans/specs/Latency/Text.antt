@@ -1,4 +1,4 @@
--- The latencies of the streams of a table to each of their listeners, and their text (profile).
+-- The latencies of the streams of a table to each of their listeners, and their text.
 use Rattle.std.specs.Prelude.{ℕ, ◌++◌, List, [], ◌∷◌, Bool, true, false, codes, decimal, filter, find, map, Option, Some, None, option_map, slice_index_or}
 use Rattle.std.specs.Option.{option_map_or}
 use Rattle.std.specs.List.{flat_map}

@@ -1,4 +1,4 @@
--- What links have, and the greatest reservation that still fits one (profile).
+-- What links have, and the greatest reservation that still fits one.
 use Rattle.std.specs.Prelude.{ℕ, ◌+◌, ◌-◌, ◌*◌, ◌/◌, List, count_by, min, slice_get, suc, zero}
 use Rattle.std.specs.Option.{option_map_or}
 use Rattle.cqf_units.specs.declared.timing.Rate.{Rate}

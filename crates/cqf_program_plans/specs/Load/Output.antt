@@ -1,4 +1,4 @@
--- What the command `load` gives for its input (profile): what each link holds of the streams and has left, or the line of the
+-- What the command `load` gives for its input: what each link holds of the streams and has left, or the line of the
 -- input's first fault.
 use Rattle.cqf_model.specs.declared.limits.Limits.{Limits}
 use Rattle.std.specs.Prelude.{ℕ, ◌+◌, ◌++◌, List, [], ◌∷◌, Result, Ok, length}

@@ -1,4 +1,4 @@
--- What the links hold of some streams and have left, as a text (profile).
+-- What the links hold of some streams and have left, as a text.
 use Rattle.std.specs.Prelude.{ℕ, ◌-◌, ◌*◌, ◌/◌, ◌%◌, ◌++◌, List, [], ◌∷◌, if◌then◌else◌, codes, decimal, length, nat_le, suc, zero}
 use Rattle.cqf_lists.specs.Lists.{each_below}
 use Rattle.cqf_model.specs.declared.topology.Row.{Row}

@@ -1,4 +1,4 @@
--- What the command `port` gives for its input (profile): the starts before an instant, or the line of its first fault.
+-- What the command `port` gives for its input: the starts before an instant, or the line of its first fault.
 use Rattle.std.specs.Prelude.{ℕ, ◌≡◌, ◌<◌, ◌≤◌, ◌^◌, List, map, Result, Ok, All, AllPairs, codes}
 use Rattle.cqf_units.specs.Timing.{ticks_of_octet}
 use Rattle.cqf_units.specs.declared.timing.Rate.{Rate}

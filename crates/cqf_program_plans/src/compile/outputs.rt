@@ -27,7 +27,7 @@ impl Model for ConfigOutput {
 }
 
 impl ConfigOutput {
-    /// Tells the output: the configuration, as `cqf_compile::write_config` gives it (profile). It asks for no memory.
+    /// Tells the output: the configuration, as `cqf_compile::write_config` gives it. It asks for no memory.
     pub fn tell<W: Sink>(self, told: &mut Told<W>)
         ensures { HasTold (writing W.contents told.old told.new) (text_of_config self) }
     {

@@ -153,7 +153,7 @@ fn output_of_streams(
 }
 
 /// The output of `latency` for an input that is read within some limits, ready to be told: how long the frames of each stream of the
-/// input take to each of its listeners, and whether they keep the stream's deadline (profile).
+/// input take to each of its listeners, and whether they keep the stream's deadline.
 ///
 /// # Errors
 /// With status 1 and the line of the first fault of the input: of its parts, of the domain, of the streams, or of the first

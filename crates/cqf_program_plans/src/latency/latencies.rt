@@ -5,7 +5,7 @@ ghost use Rattle.cqf_program_plans.specs.Latency.Text.{is_not_sure, name_of_verd
 
 use cqf_units::Name;
 
-/// Whether the frames of a stream keep its deadline, for sure (profile).
+/// Whether the frames of a stream keep its deadline, for sure.
 #[derive(Clone, Copy, Debug, PartialEq, Eq)]
 pub enum Verdict {
     /// Each frame does.
@@ -30,7 +30,7 @@ impl Verdict {
 }
 
 /// How long the frames of a stream take to one of its listeners, in nanoseconds: from the instant of a frame's offer to its
-/// being whole in the listener's station (profile).
+/// being whole in the listener's station.
 #[derive(Debug, Drop)]
 pub struct Latency {
     /// The stream's name.

@@ -28,7 +28,7 @@ fn least_to(domain: &Domain, link: u16, depth: u8) -> u64
 }
 
 /// The most that a frame takes to the end of a link of this depth, in nanoseconds, of which the streams cost so many octets, however the
-/// clocks differ and the link delays (profile).
+/// clocks differ and the link delays.
 pub fn most_to(domain: &Domain, link: u16, depth: u8, cost: u64) -> u64
     requires link { link < length domain.now.links }
     requires cost { cost ≤ 2 ^ 29 * 2000000 }

@@ -73,7 +73,7 @@ fn put_latencies<W: Sink>(press: &mut Press<'_, W>, latencies: &[Latency])
 }
 
 impl LatencyOutput {
-    /// Tells the output: the latencies, in their order (profile). It asks for no memory.
+    /// Tells the output: the latencies, in their order. It asks for no memory.
     pub fn tell<W: Sink>(self, told: &mut Told<W>)
         ensures { HasTold (writing W.contents told.old told.new) (text_of_latency self) }
     {

@@ -56,7 +56,7 @@ fn list_all(alloc: Global, domain: &Domain, requests: &[PacedRequest]) -> Result
 }
 
 /// The output of `load` for an input that is read within some limits, ready to be told: a line a link, with what it holds of the streams
-/// and has left. A stream that a link has no room for is told with the others (profile).
+/// and has left. A stream that a link has no room for is told with the others.
 ///
 /// # Errors
 /// With status 1 and the line of the first fault of the input: of its parts, of the domain, of the streams, or of the first

@@ -152,7 +152,7 @@ fn put_load<W: Sink>(press: &mut Press<'_, W>, domain: &Domain, listing: &LoadLi
 }
 
 impl LoadOutput {
-    /// Tells the output: a line for each link (profile). It asks for no memory.
+    /// Tells the output: a line for each link. It asks for no memory.
     pub fn tell<W: Sink>(self, told: &mut Told<W>)
         ensures { HasTold (writing W.contents told.old told.new) (text_of_load self) }
     {

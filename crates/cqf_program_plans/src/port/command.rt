@@ -89,7 +89,7 @@ fn starts_ready(
 }
 
 impl PortOutput {
-    /// Tells the output: the starts before the instant (profile). It asks for no memory.
+    /// Tells the output: the starts before the instant. It asks for no memory.
     pub fn tell<W: Sink>(self, told: &mut Told<W>)
         ensures { HasTold (writing W.contents told.old told.new) (text_of_port self) }
     {

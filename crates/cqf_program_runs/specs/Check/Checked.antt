@@ -1,4 +1,4 @@
--- Whether all goes well in a run, by the calls of its history and its deliveries (profile).
+-- Whether all goes well in a run, by the calls of its history and its deliveries.
 use Rattle.std.specs.Prelude.{ℕ, ◌+◌, ◌++◌, ◌==◌, ◌&&◌, Bool, true, false, List, Result, Ok, Err, codes, count_by, decimal}
 use Rattle.std.specs.Prelude.{find, fold, if◌then◌else◌, is_some, length, max, nat_le}
 use Rattle.cqf_units.specs.Timing.{cycle_at}

@@ -1,4 +1,4 @@
--- What the command `check` tells of its input (profile).
+-- What the command `check` tells of its input.
 use Rattle.cqf_model.specs.declared.limits.Limits.{Limits}
 use Rattle.std.specs.Prelude.{ℕ, ◌≡◌, ◌⊎◌, List, [], Result, Ok, Err}
 use Rattle.cqf_model.specs.Book.{Contents}

@@ -1,4 +1,4 @@
--- The first call of a history that is refused, and what a check says of it (profile).
+-- The first call of a history that is refused, and what a check says of it.
 use Rattle.std.specs.Prelude.{ℕ, ◌++◌, Bool, true, false, not, List, Option, codes, decimal, filter, find}
 use Rattle.std.specs.List.{enumerate_from}
 use Rattle.cqf_model.specs.declared.history.Reply.{Reply}

@@ -1,4 +1,4 @@
--- What `deliveries` and `check` read: a scenario as `run` does, and its streams with their deadlines (profile).
+-- What `deliveries` and `check` read: a scenario as `run` does, and its streams with their deadlines.
 use Rattle.cqf_model.specs.declared.limits.Limits.{Limits}
 use Rattle.std.specs.Prelude.{ℕ, List, Result, Ok}
 use Rattle.cqf_lists.specs.Results.{and_then}

@@ -1,4 +1,4 @@
--- What the command `line` gives for its input (profile): the book of the smallest network, or the line of the input's
+-- What the command `line` gives for its input: the book of the smallest network, or the line of the input's
 -- first fault.
 use Rattle.std.specs.Prelude.{ℕ, ◌≡◌, List, Result, Ok}
 use Rattle.cqf_model.specs.Book.{Contents}

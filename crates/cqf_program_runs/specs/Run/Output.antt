@@ -1,4 +1,4 @@
--- What the command `run` gives for its input (profile): the history of a scenario, and its book.
+-- What the command `run` gives for its input: the history of a scenario, and its book.
 use Rattle.cqf_model.specs.declared.limits.Limits.{Limits}
 use Rattle.std.specs.Prelude.{ℕ, ◌≡◌, ◌++◌, List, Ok, codes}
 use Rattle.cqf_model.specs.Book.{Contents}

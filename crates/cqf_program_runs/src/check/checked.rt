@@ -181,7 +181,7 @@ fn complaint_of(alloc: Global, delivery: &Delivery) -> Result<String, AllocError
     }
 }
 
-/// The line that tells of a delivery that is dropped or late (profile).
+/// The line that tells of a delivery that is dropped or late.
 ///
 /// # Errors
 /// Where a growth is refused.
@@ -199,7 +199,7 @@ pub fn complaint_about(alloc: Global, delivery: &Delivery) -> Result<String, All
     Ok(line)
 }
 
-/// The line that tells that nothing is offered (profile).
+/// The line that tells that nothing is offered.
 ///
 /// # Errors
 /// Where a growth is refused.
@@ -230,7 +230,7 @@ fn some_come_line(alloc: Global, counts: CheckCounts) -> Result<String, AllocErr
     Ok(line)
 }
 
-/// The line that tells that not all has come, or nothing (profile).
+/// The line that tells that not all has come, or nothing.
 ///
 /// # Errors
 /// Where a growth is refused.
@@ -244,7 +244,7 @@ pub fn unfinished_line(alloc: Global, counts: CheckCounts) -> Result<String, All
     }
 }
 
-/// The line that tells that all is well (profile).
+/// The line that tells that all is well.
 ///
 /// # Errors
 /// Where a growth is refused.

@@ -75,7 +75,7 @@ fn call_text(
     }
 }
 
-/// The line that tells of a call of this number that is refused, over these requests and this script's text (profile).
+/// The line that tells of a call of this number that is refused, over these requests and this script's text.
 ///
 /// # Errors
 /// Where a growth is refused.

@@ -62,7 +62,7 @@ fn output_of(alloc: Global, cycles: u32, planned: PlannedGiven) -> Result<Delive
 }
 
 /// The output of `deliveries` over so many cycles, 0 to 100,000, for an input that is read within some limits, ready to be told: what
-/// becomes of each offer of these cycles, and when it is whole at each listener (profile).
+/// becomes of each offer of these cycles, and when it is whole at each listener.
 ///
 /// # Errors
 /// With status 1 and the line of the first fault of the input: of its parts, of the domain, the streams, the script, the
@@ -254,7 +254,7 @@ fn check_scenario(alloc: Global, cycles: u32, planned: &PlannedGiven) -> Result<
 
 /// The line of `check` over so many cycles, 0 to 100,000, for an input that is read within some limits, where all goes well: no call of
 /// the script is refused, there is an offer, and every offer is of a cycle that is run, covered, whole at every listener within the run, and within its
-/// deadline (profile).
+/// deadline.
 ///
 /// # Errors
 /// With status 1 and a line: of the first fault of the input, as [`deliveries_output`]; else of the first call that is refused; else

@@ -18,7 +18,7 @@ fn deadline_at(deadlines: &[Option<u32>], place: usize) -> Option<u32>
     }
 }
 
-/// Deadlines in nanoseconds, found by the names of their streams: a name means the first request of it (profile).
+/// Deadlines in nanoseconds, found by the names of their streams: a name means the first request of it.
 #[derive(Drop)]
 pub struct Deadlines<'r> {
     names: Names<'r>,

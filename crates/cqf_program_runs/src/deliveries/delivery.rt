@@ -5,7 +5,7 @@ ghost use Rattle.cqf_program_runs.specs.Deliveries.{arrival_at_listener, end_of_
 use cqf_model::Reason;
 use cqf_units::{Name, Nanos};
 
-/// What becomes of an offered frame (profile).
+/// What becomes of an offered frame.
 #[derive(Clone, Copy, Debug, PartialEq, Eq)]
 pub enum Fate {
     /// It is whole at its listener, within its deadline where it has one.
@@ -38,7 +38,7 @@ pub enum Passage {
     Goes(Journey),
 }
 
-/// An offered frame on its way to one of its listeners, or its drop (profile).
+/// An offered frame on its way to one of its listeners, or its drop.
 #[derive(Debug, Drop)]
 pub struct Delivery {
     /// The offer's place among the offers, from 1.
@@ -54,7 +54,7 @@ pub struct Delivery {
     pub passage: Passage,
 }
 
-/// How long a frame takes from its offer to its being whole, in nanoseconds (profile).
+/// How long a frame takes from its offer to its being whole, in nanoseconds.
 pub fn latency(at: Nanos, whole: Nanos) -> u64
     ensures { result ≡ latency_of at.0 whole }
 {

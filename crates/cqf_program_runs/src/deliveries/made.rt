@@ -189,7 +189,7 @@ fn put_offer(
     put_judged(here, ended, slot, deadline, x, edge_verdict);
 }
 
-/// Puts the deliveries of the offer at a place, from 0, in place of what was there: none where its cycle isn't run (profile). The frames
+/// Puts the deliveries of the offer at a place, from 0, in place of what was there: none where its cycle isn't run. The frames
 /// under way are those from this place on, and then those from the next one on. It asks for no memory.
 pub fn put_those_of(
     here: &mut Few,

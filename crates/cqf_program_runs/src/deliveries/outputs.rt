@@ -34,7 +34,7 @@ impl Model for DeliveriesOutput {
 }
 
 impl DeliveriesOutput {
-    /// Tells the output: the deliveries, in their order (profile). It asks for no memory.
+    /// Tells the output: the deliveries, in their order. It asks for no memory.
     pub fn tell<W: Sink>(self, told: &mut Told<W>)
         ensures { (text : List ℕ) → AreDeliveriesTold self text → HasTold (writing W.contents told.old told.new) text }
     {

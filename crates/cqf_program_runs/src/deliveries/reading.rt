@@ -53,7 +53,7 @@ fn read_planned_parts(
     Ok(PlannedGiven { given, deadlines })
 }
 
-/// The scenario of the input over so many cycles, read within some limits, with its streams' deadlines (profile).
+/// The scenario of the input over so many cycles, read within some limits, with its streams' deadlines.
 ///
 /// # Errors
 /// With status 1 and the line of the first fault of the input: of its parts, of the domain, the streams, the script, the

@@ -62,7 +62,7 @@ fn output_of_line(
 }
 
 impl LineOutput {
-    /// Tells the output: the book of the line (profile). It asks for no memory.
+    /// Tells the output: the book of the line. It asks for no memory.
     pub fn tell<W: Sink>(self, told: &mut Told<W>)
         ensures { (text : List ℕ) → IsLineTold self text → HasTold (writing W.contents told.old told.new) text }
     {

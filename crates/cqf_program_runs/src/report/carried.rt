@@ -13,7 +13,7 @@ use cqf_units::Memory;
 use std::alloc::Global;
 
 /// What each link carries in so many cycles of a scenario, of which this is the outcome: each offer is judged as the definitions say
-/// (profile).
+/// 
 pub(crate) fn carried_columns(
     alloc: Global,
     cycles: u32,

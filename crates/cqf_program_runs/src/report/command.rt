@@ -40,7 +40,7 @@ fn text_of_report(
 }
 
 /// The output of `report` over so many cycles, 0 to 100,000, for an input that is read within some limits: the sums by link of the book
-/// of the input's scenario, which is the book that `run` writes (profile). The network isn't run: what its links carry is told by the
+/// of the input's scenario, which is the book that `run` writes. The network isn't run: what its links carry is told by the
 /// offers and the history of admissions. The time grows with the input and the cycles, and with the links by which the offers leave.
 ///
 /// # Errors

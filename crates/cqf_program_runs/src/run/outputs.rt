@@ -61,7 +61,7 @@ fn put_run<W: Sink>(press: &mut Press<'_, W>, given: &RunInput, entries: &[Logge
 }
 
 impl RunOutput {
-    /// Tells the output: the history of the scenario, a line `%%`, and the one-thread book of that history (profile). It asks for no memory.
+    /// Tells the output: the history of the scenario, a line `%%`, and the one-thread book of that history. It asks for no memory.
     pub fn tell<W: Sink>(self, told: &mut Told<W>)
         ensures { (text : List ℕ) → IsRunTold self text → HasTold (writing W.contents told.old told.new) text }
     {

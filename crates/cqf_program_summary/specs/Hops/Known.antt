@@ -1,4 +1,4 @@
--- Whether there is what `hops` is asked about (profile).
+-- Whether there is what `hops` is asked about.
 use Rattle.cqf_model.specs.declared.limits.Limits.{Limits}
 use Rattle.std.specs.Prelude.{ℕ, ◌++◌, ◌||◌, Bool, List, [], Option, Some, None, Result, Ok, bytes_eq, codes, decimal, if◌then◌else◌, length, map, nat_le}
 use Rattle.std.specs.List.{list_any}

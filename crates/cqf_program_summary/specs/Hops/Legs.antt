@@ -1,4 +1,4 @@
--- What a book tells of streams' frames, by frame (profile).
+-- What a book tells of streams' frames, by frame.
 use Rattle.std.specs.Prelude.{ℕ, ◌≡◌, ◌<◌, ◌-◌, ◌==◌, ◌&&◌, ◌++◌, ◌⊎◌, AllPairs, Bool, true, List, [], Option, Some, None, IsPermutation, bytes_eq, filter, map, slice_get}
 use Rattle.std.specs.Option.{option_map_or}
 use Rattle.cqf_model.specs.declared.frames.Offer.{Offer}

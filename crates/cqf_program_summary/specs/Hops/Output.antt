@@ -1,4 +1,4 @@
--- What the command `hops` gives for its input (profile).
+-- What the command `hops` gives for its input.
 use Rattle.cqf_model.specs.declared.limits.Limits.{Limits}
 use Rattle.std.specs.Prelude.{ℕ, ◌≡◌, List, Ok}
 use Rattle.cqf_model.specs.Book.{Contents}

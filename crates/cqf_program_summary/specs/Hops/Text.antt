@@ -1,4 +1,4 @@
--- The text of what a book tells of frames (profile).
+-- The text of what a book tells of frames.
 use Rattle.std.specs.Prelude.{ℕ, ◌++◌, List, [], ◌∷◌, codes, decimal}
 use Rattle.std.specs.List.{flat_map}
 use Rattle.cqf_units.specs.Timing.{ending_of}

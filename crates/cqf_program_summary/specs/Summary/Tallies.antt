@@ -1,4 +1,4 @@
--- Deliveries to a listener, counted (profile).
+-- Deliveries to a listener, counted.
 use Rattle.std.specs.Prelude.{ℕ, ◌+◌, ◌/◌, ◌&&◌, Bool, true, false, List, [], ◌∷◌, Option, Some, None, count_by, fold, if◌then◌else◌, length, max, min, sum}
 use Rattle.std.specs.List.{flat_map}
 use Rattle.cqf_units.specs.declared.timing.Nanos.{Nanos}

@@ -1,4 +1,4 @@
--- The text of a summary (profile).
+-- The text of a summary.
 use Rattle.std.specs.Prelude.{ℕ, ◌++◌, List, [], ◌∷◌, Option, None, codes, decimal, suc, zero}
 use Rattle.std.specs.List.{flat_map}
 use Rattle.std.specs.Option.{option_map_or}

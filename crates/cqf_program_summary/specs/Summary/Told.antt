@@ -1,4 +1,4 @@
--- The streams of which a summary tells, and what they cost (profile).
+-- The streams of which a summary tells, and what they cost.
 use Rattle.std.specs.Prelude.{ℕ, Bool, List, Option, Some, None, filter, is_none, not}
 use Rattle.std.specs.List.{list_any}
 use Rattle.cqf_lists.specs.Lists.{each_once}

@@ -44,7 +44,7 @@ fn output_of(
 }
 
 /// The output of `hops` over so many cycles, 0 to 100,000, for an input that is read within some limits, ready to be told: each start and
-/// each drop of the wanted frames in the book of the input's scenario, by frame, then instant, then link (profile).
+/// each drop of the wanted frames in the book of the input's scenario, by frame, then instant, then link.
 ///
 /// # Errors
 /// With status 1 and the line of the first fault of the input: of its parts, of the domain, the streams, the script, the

@@ -32,7 +32,7 @@ impl Model for HopsOutput {
 }
 
 impl HopsOutput {
-    /// Tells the output: what a book tells of frames, in its order (profile). It asks for no memory.
+    /// Tells the output: what a book tells of frames, in its order. It asks for no memory.
     pub fn tell<W: Sink>(self, told: &mut Told<W>)
         ensures { (text : List ℕ) → IsToldText self text → HasTold (writing W.contents told.old told.new) text }
     {

@@ -38,7 +38,7 @@ fn read_paced(alloc: Global, limits: Limits, cycles: u32, input: &[u8]) -> Resul
     read_parts(alloc, limits, cycles, parts)
 }
 
-/// The scenario of the input over so many cycles, read within some limits, in which there is what is asked about (profile).
+/// The scenario of the input over so many cycles, read within some limits, in which there is what is asked about.
 ///
 /// # Errors
 /// With status 1 and the line of the first fault of the input: of its parts, of the domain, the streams, the script, the offers, or the

@@ -31,7 +31,7 @@ fn output_of(alloc: Global, cycles: u32, planned: &PlannedGiven) -> Result<Summa
 
 /// The output of `summary` over so many cycles, 0 to 100,000, for an input that is read within some limits, ready to be told: of each
 /// stream and listener how many frames are offered, how they end, how long those took that came, and the most that one can take
-/// (profile).
+/// 
 ///
 /// # Errors
 /// With status 1 and the line of the first fault of the input: of its parts, of the domain, the streams, the script, the

@@ -23,7 +23,7 @@ impl Model for SummaryOutput {
 }
 
 impl SummaryOutput {
-    /// Tells the output: a row a stream and listener, in their order, and one of other names (profile). It asks for no memory.
+    /// Tells the output: a row a stream and listener, in their order, and one of other names. It asks for no memory.
     pub fn tell<W: Sink>(self, told: &mut Told<W>)
         ensures { HasTold (writing W.contents told.old told.new) (text_of_summary self) }
     {

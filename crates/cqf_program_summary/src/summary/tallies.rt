@@ -7,7 +7,7 @@ ghost use Rattle.cqf_program_summary.specs.Summary.Tallies.{is_dropped, mean_of,
 use cqf_program_runs::{Delivery, Fate, latency};
 use cqf_units::Nanos;
 
-/// How long the frames took that came, one at least, in nanoseconds from a frame's offer to its being whole (profile).
+/// How long the frames took that came, one at least, in nanoseconds from a frame's offer to its being whole.
 #[derive(Clone, Copy, Debug, PartialEq, Eq)]
 pub struct LatencySummary {
     pub least: u64,
@@ -18,7 +18,7 @@ pub struct LatencySummary {
     pub behind: u32,
 }
 
-/// How deliveries to a listener end (profile).
+/// How deliveries to a listener end.
 #[derive(Clone, Copy, Debug, PartialEq, Eq)]
 pub struct Tally {
     /// Those that are whole there in time, or without a deadline.
