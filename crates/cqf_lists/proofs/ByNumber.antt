@@ -1,4 +1,4 @@
--- Lists side by side grow by one list, or by an element of one of them.
+-- Lists side by side, with one more list or one more element of one of them.
 use Rattle.std.proofs.Common.{◌≡◌, ◌≢◌, ◌∙◌, ◌++◌, ◌∷◌, [], ◌<◌, ◌+◌, ◌-◌, ◌≤◌, ◌⊎◌, ℕ, Bool, true, false, List, filter}
 use Rattle.std.proofs.Common.{map, ap, sym, length, refl, arith, get_or, inl, inr, set}
 use Rattle.std.specs.Prelude.{◌==◌, if◌then◌else◌}
@@ -11,14 +11,14 @@ use Rattle.std.proofs.lemmas.List.{get_or_append_left, length-append, length-map
 use Rattle.std.proofs.lemmas.List.Elements.{filter-append}
 use Rattle.cqf_lists.specs.ByNumber.{AddsTo, AreListsBy, lists_of}
 
--- no lists at all
+-- with no lists, the count is 0
 pub no_lists : {X : Type 0} (told : ℕ → List X) (lists : List (Vec X Global)) → lists ≡ [] → AreListsBy told 0 (lists_of lists)
 no_lists {X} told lists none = record {
   one_each = ap (λ (l : List (Vec X Global)). length (lists_of l)) none;
   each = λ k d below. absurd (omega (arith, below));
 }
 
--- one list more, which is the next number's
+-- one more list: the one of the next number
 pub list_more : {X : Type 0} (told : ℕ → List X) (n : ℕ) (lists after : List (Vec X Global)) (last : Vec X Global) → AreListsBy told n (lists_of lists) →
     last.items ≡ told n → after ≡ lists ++ last ∷ [] → AreListsBy told (n + 1) (lists_of after)
 list_more {X} told n lists after last h is more = record {
@@ -26,11 +26,11 @@ list_more {X} told n lists after last h is more = record {
   each = λ k none below. ap (λ (l : List (List X)). get_or l k none) same ∙ by k none below (cases_lt k n);
 }
   where
-    -- what the lists hold
+    -- the contents of the lists
     same : lists_of after ≡ lists_of lists ++ told n ∷ []
     same = ap lists_of more ∙ map-append (λ (l : Vec X Global). l.items) lists (last ∷ []) ∙ ap (λ (l : List X). lists_of lists ++ l ∷ []) is
 
-    -- the lists of before, and the new one
+    -- the earlier lists, and the new one
     by : (k : ℕ) (none : List X) → k < n + 1 → (k < n) ⊎ (n ≤ k) → get_or (lists_of lists ++ told n ∷ []) k none ≡ told k
     by k none below (inl l) = get_or_append_left (lists_of lists) (told n ∷ []) none k (omega (arith, l, h.one_each)) ∙ h.each k none l
     by k none below (inr g) =
@@ -38,7 +38,7 @@ list_more {X} told n lists after last h is more = record {
         let here : n ≡ k = omega (arith, below, g) in
         get_or-append_right (lists_of lists) (told n ∷ []) n k none h.one_each g ∙ ap (λ (j : ℕ). get_or (told n ∷ []) j none) first ∙ ap told here
 
--- an element is put to the list at a place
+-- an element is appended to the list at an index
 pub put_to : {X : Type 0} (lists : List (Vec X Global)) (place k : ℕ) (own old d : Vec X Global) (x : X) →
     place ≡ k → place < length lists → old ≡ get_or lists place d → own.items ≡ old.items ++ x ∷ [] →
     AddsTo (lists_of lists) (lists_of (set lists place own)) k x
@@ -56,11 +56,11 @@ put_to {X} lists place k own old d x is below at more = record {
       ∙ get_or-set_other (lists_of lists) place other own.items none (λ e. apart (e ∙ is));
 }
   where
-    -- the list set is seen in its place
+    -- the contents of the updated lists
     same : lists_of (set lists place own) ≡ set (lists_of lists) place own.items
     same = map-set (λ (l : Vec X Global). l.items) lists place own
 
--- a list at its place is what is told of its number
+-- the list at a number's index is what the function gives for that number
 pub list_there : {X : Type 0} (told : ℕ → List X) (count : ℕ) (lists : List (Vec X Global)) (k place : ℕ) (list d : Vec X Global) →
     AreListsBy told count (lists_of lists) → k < count → place ≡ k → list ≡ get_or lists place d → list.items ≡ told k
 list_there {X} told count lists k place list d are below at there =
@@ -68,35 +68,35 @@ list_there {X} told count lists k place list d are below at there =
     ap (λ (l : Vec X Global). l.items) there ∙ sym (get_or-map (λ (l : Vec X Global). l.items) lists place d [] inside)
     ∙ ap (λ (j : ℕ). get_or (lists_of lists) j []) at ∙ are.each k [] below
 
--- what is made of those elements of a list whose key is a number
+-- what is made of those elements of a list that have a given key
 module _ {A X : Type 0} (key : A → ℕ) (made : A → X) where
-  -- in their order
+  -- in the order of the list
   abbrev pub made_by_key : List A → ℕ → List X
   made_by_key xs k = map made (filter (λ (x : A). key x == k) xs)
 
-  -- it goes by parts of the list
+  -- the results for two parts of a list are concatenated
   pub made-append : (xs ys : List A) (k : ℕ) → made_by_key (xs ++ ys) k ≡ made_by_key xs k ++ made_by_key ys k
   made-append xs ys k =
       ap (map made) (filter-append (λ (x : A). key x == k) xs ys)
       ∙ map-append made (filter (λ (x : A). key x == k) xs) (filter (λ (x : A). key x == k) ys)
 
-  -- of an element with that key it is what is made of it
+  -- an element with that key gives what is made of it
   pub made_here : (x : A) (k : ℕ) → (key x == k) ≡ true → made_by_key (x ∷ []) k ≡ made x ∷ []
   made_here x k e = ap (λ (b : Bool). map made (if b then x ∷ [] else [])) e
 
-  -- and of another nothing
+  -- an element with another key gives nothing
   pub made_elsewhere : (x : A) (k : ℕ) → (key x == k) ≡ false → made_by_key (x ∷ []) k ≡ []
   made_elsewhere x k e = ap (λ (b : Bool). map made (if b then x ∷ [] else [])) e
 
-  -- a number that isn't the key of an element is another
+  -- a number that isn't equal to an element's key by the test differs from it
   pub apart_from_key : (x : A) (k : ℕ) → (key x == k) ≡ false → k ≢ key x
   apart_from_key x k e same = true≢false (itself (key x) ∙ ap (λ (j : ℕ). key x == j) (sym same) ∙ e)
     where
-      -- a number is itself
+      -- each number is equal to itself
       itself : (n : ℕ) → true ≡ (n == n)
       itself n = grind (arith, nat_tests)
 
-  -- with what is made of an element put to the list of its key, the lists are those of one element more
+  -- after the result for one more element was appended to the list of its key, the lists are those of the longer list
   pub listed_by_key : (xs more : List A) (x : A) (count : ℕ) (before after : List (List X)) → more ≡ xs ++ x ∷ [] →
       AddsTo before after (key x) (made x) → AreListsBy (made_by_key xs) count before → AreListsBy (made_by_key more) count after
   listed_by_key xs more x count before after is adds h = record {
@@ -104,7 +104,7 @@ module _ {A X : Type 0} (key : A → ℕ) (made : A → X) where
     each = λ k none below. by k none below (key x == k) refl ∙ sym (made-append xs (x ∷ []) k) ∙ ap (λ (ys : List A). made_by_key ys k) (sym is);
   }
     where
-      -- its own list has it, and the others are the same
+      -- the list of its key has it, and the other lists are the same
       by : (k : ℕ) (none : List X) → k < count → (b : Bool) → (key x == k) ≡ b → get_or after k none ≡ made_by_key xs k ++ made_by_key (x ∷ []) k
       by k none below true e =
           let same : k ≡ key x = grind (arith, nat_tests) in

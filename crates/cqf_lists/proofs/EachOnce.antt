@@ -1,4 +1,4 @@
--- The first of each, where some are the same; and the elements of lists end to end.
+-- Lists without repetitions, and the elements of concatenated lists.
 use Rattle.std.proofs.Common.{◌≡◌, ℕ, ◌+◌, ◌<◌, ◌⊎◌, Bool, true, false, cond, List, Some, length, refl, sym, ap, ◌∙◌, inl, inr, arith, subst, append_assoc}
 use Rattle.std.proofs.Common.{append-nil}
 use Rattle.std.specs.Prelude.{[], ◌∷◌, ◌++◌, fold, slice_get, take, zero, suc}
@@ -12,20 +12,20 @@ use Rattle.cqf_lists.proofs.Members.{any_member, contains_at, contains_cases, co
 use Rattle.cqf_lists.proofs.Pairs.{pairs_none, pairs_push}
 use Rattle.cqf_lists.proofs.Places.{slice_get-take, slice_get_parts}
 
--- those kept, with one element more where it is none of them
+-- the kept elements, with one more unless it is a repetition
 abbrev pub kept_with : {X : Type 0} → Bool → List X → X → List X
 kept_with b kept x = cond b kept (kept ++ x ∷ [])
 
--- those kept, with the next one where it is none of them
+-- the kept elements, with the next one unless it is the same as one of them
 abbrev pub keep : {X : Type 0} → (X → X → Bool) → List X → X → List X
 keep same kept x = kept_with (list_any (λ y. same y x) kept) kept x
 
--- one more keeps those kept in front
+-- the kept elements remain at the front
 kept_front : {X : Type 0} (b : Bool) (kept : List X) (x : X) → (rest : List X) × (kept_with b kept x ≡ kept ++ rest)
 kept_front true kept x = ([], sym (append-nil kept))
 kept_front false kept x = (x ∷ [], refl)
 
--- what is kept was kept before, or is the new one
+-- each kept element was kept before, or is the new one
 kept_cases : {X : Type 0} (b : Bool) (kept : List X) (x z : X) → Contains (kept_with b kept x) z → Contains kept z ⊎ (x ≡ z)
 kept_cases true kept x z c = inl c
 kept_cases false kept x z c = elim (Contains-append_cases kept (x ∷ []) z c) [
@@ -34,7 +34,7 @@ kept_cases false kept x z c = elim (Contains-append_cases kept (x ∷ []) z c) [
 ]
 
 module _ {X : Type 0} (same : X → X → Bool) where
-  -- what is kept stays in front
+  -- the kept elements remain at the front
   front : (kept xs : List X) → (rest : List X) × (fold (keep same) kept xs ≡ kept ++ rest)
   front kept [] = ([], sym (append-nil kept))
   front kept (x ∷ xs) =
@@ -42,11 +42,11 @@ module _ {X : Type 0} (same : X → X → Bool) where
       let more = front (keep same kept x) xs in
       (one.0 ++ more.0, more.1 ∙ ap (λ (ys : List X). ys ++ more.0) one.1 ∙ append_assoc kept one.0 more.0)
 
-  -- what is kept stays
+  -- each kept element remains
   stays : (kept xs : List X) (z : X) → Contains kept z → Contains (fold (keep same) kept xs) z
   stays kept xs z c = let f = front kept xs in subst (λ (ys : List X). Contains ys z) (sym f.1) (Contains-append_left kept f.0 z c)
 
-  -- what is kept at the end was kept or is one of the list
+  -- each element kept at the end was kept before, or is from the list
   from : (kept xs : List X) (z : X) → Contains (fold (keep same) kept xs) z → Contains kept z ⊎ Contains xs z
   from kept [] z c = inl c
   from kept (x ∷ xs) z c = elim (from (keep same kept x) xs z c) [
@@ -58,9 +58,9 @@ module _ {X : Type 0} (same : X → X → Bool) where
     | inr k ↦ inr (contains_later x xs z k)
   ]
 
-  -- an element of the list is the same as one that is kept
+  -- for each element of the list, one that is the same is kept
   module _ (itself : (x : X) → same x x ≡ true) where
-    -- behind an element's turn, one that is the same is kept
+    -- after an element's step, one that is the same as it is kept
     one_kept : (kept : List X) (x : X) → (y : X) × Contains (keep same kept x) y × (same y x ≡ true)
     one_kept kept x = by_test (list_any (λ y. same y x) kept) refl
       where
@@ -78,11 +78,11 @@ module _ {X : Type 0} (same : X → X → Bool) where
     pub once_covers : (xs : List X) (z : X) → Contains xs z → (y : X) × Contains (each_once same xs) y × (same y z ≡ true)
     once_covers xs z c = cover [] xs z c
 
-  -- what is kept stood in the list
+  -- each kept element is from the list
   pub once_from : (xs : List X) (z : X) → Contains (each_once same xs) z → Contains xs z
   once_from xs z c = elim (from [] xs z c) [ inl n ↦ absurd (contains_none z n) | inr k ↦ k ]
 
-  -- no two of those kept are the same
+  -- no two of the kept elements are the same
   pairs_step : (kept : List X) (x : X) → AllPairs (λ (a b : X). same a b ≡ false) kept → AllPairs (λ (a b : X). same a b ≡ false) (keep same kept x)
   pairs_step kept x p = by_test (list_any (λ y. same y x) kept) refl
     where
@@ -90,16 +90,16 @@ module _ {X : Type 0} (same : X → X → Bool) where
       by_test true e = p
       by_test false e = pairs_push (λ (a c : X). same a c ≡ false) kept x p (λ y c. none_member (λ z. same z x) kept y e c)
 
-  -- those kept are apart
+  -- the kept elements are pairwise different
   pairs : (kept xs : List X) → AllPairs (λ (a b : X). same a b ≡ false) kept → AllPairs (λ (a b : X). same a b ≡ false) (fold (keep same) kept xs)
   pairs kept [] p = p
   pairs kept (x ∷ xs) p = pairs (keep same kept x) xs (pairs_step kept x p)
 
-  -- so no two that are the same are left
+  -- so no two elements that are the same remain
   pub once_apart : (xs : List X) → AllPairs (λ (a b : X). same a b ≡ false) (each_once same xs)
   once_apart xs = pairs [] xs (pairs_none (λ (a b : X). same a b ≡ false))
 
-  -- one that is kept stands in the list behind those from which the ones before it are kept
+  -- an element at an index among the kept ones was there before, or is the new one at the end
   new_place : (b : Bool) (kept : List X) (x : X) (p : ℕ) (z : X) → slice_get (kept_with b kept x) p ≡ Some z →
       (slice_get kept p ≡ Some z) ⊎ ((b ≡ false) × (p ≡ length kept) × (x ≡ z))
   new_place true kept x p z e = inl e
@@ -116,7 +116,7 @@ module _ {X : Type 0} (same : X → X → Bool) where
       here zero f = same_Some x z f
       here (suc k) f = absurd cc
 
-  -- what is kept stood in the list, and before it what is kept of those before
+  -- each kept element is from the list; those kept before it are what is kept of the elements before it
   place : (kept xs : List X) (p : ℕ) (z : X) → slice_get (fold (keep same) kept xs) p ≡ Some z →
       (slice_get kept p ≡ Some z) ⊎ ((i : ℕ) × (slice_get xs i ≡ Some z) × (take p (fold (keep same) kept xs) ≡ fold (keep same) kept (take i xs)))
   place kept [] p z e = inl e
@@ -132,15 +132,15 @@ module _ {X : Type 0} (same : X → X → Bool) where
     ]
   ]
 
-  -- what is kept stood in the list, behind what is kept before it
+  -- each kept element is from the list; those kept before it are what is kept of the elements before it
   pub once_place : (xs : List X) (p : ℕ) (z : X) → slice_get (each_once same xs) p ≡ Some z → (i : ℕ) × (slice_get xs i ≡ Some z) ×
       (take p (each_once same xs) ≡ each_once same (take i xs))
   once_place xs p z e = elim (place [] xs p z e) [ inl n ↦ absurd cc | inr w ↦ w ]
 
--- ---- lists end to end
+-- ---- concatenated lists
 
 module _ {X A : Type 0} (f : X → List A) where
-  -- an element of one of the lists, of which all before it stands before it
+  -- an element at index i of a concatenation is from one of the lists, and all elements before it there precede it in the concatenation
   pub record StandsIn (xs : List X) (i : ℕ) (z : A) : Type 0 where
     pub x : X
     pub of_list : Contains xs x
@@ -160,7 +160,7 @@ module _ {X A : Type 0} (f : X → List A) where
         (contains_at (take i (f x)) j y (slice_get-take (f x) i j h ∙ g));
   }
 
-  -- each element of lists end to end is one of a list
+  -- each element of a concatenation is from one of the lists
   pub flat_place : (xs : List X) (i : ℕ) (z : A) → slice_get (flat_map f xs) i ≡ Some z → StandsIn xs i z
   flat_place [] i z e = absurd cc
   flat_place (x ∷ xs) i z e = elim (slice_get_parts (f x) (flat_map f xs) i z e) [

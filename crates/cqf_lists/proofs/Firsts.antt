@@ -1,4 +1,4 @@
--- The first place of an element that passes a test.
+-- The first index of an element that passes a test.
 use Rattle.std.proofs.Common.{◌≡◌, ◌∙◌, ◌+◌, ◌≤◌, ℕ, Bool, true, false, cond, eqb, List, [], ◌∷◌, ◌++◌, Some}
 use Rattle.std.proofs.Common.{None, length, length-append, refl, sym, ap, arith, inl, inr}
 use Rattle.std.specs.Prelude.{find, nat_lt, position, slice_get}
@@ -9,14 +9,14 @@ use Rattle.std.proofs.lemmas.List.Sums.{prefix_len-le-length}
 use Rattle.std.proofs.lemmas.Option.{slice_get_past}
 use Rattle.cqf_lists.specs.Lists.{or_else}
 
--- the place of the last element, where nothing passes before it
+-- the index of the last element, if nothing passes before it
 last_place : (m : ℕ) (b : Bool) → cond (nat_lt (m + cond b 0 1) (m + 1)) (Some (m + cond b 0 1)) None ≡ cond b (Some m) None
 last_place m true =
     let same : m + 0 ≡ m = omega arith in
     rw (same, lt-ltb m (m + 1) (omega arith)) refl
 last_place m false = rw (le-ltb (m + 1) (m + 1) (omega arith)) refl
 
--- the first place with one element more, by the first place without it
+-- the first index after one more element, from the first index without it
 place_by : (n m : ℕ) (b : Bool) → n ≤ m → cond (nat_lt (cond (eqb n m) (m + cond b 0 1) n) (m + 1)) (Some (cond (eqb n m) (m + cond b 0 1) n)) None
     ≡ or_else (cond (nat_lt n m) (Some n) None) (cond b (Some m) None)
 place_by n m b within = elim (cases_lt n m) [
@@ -24,13 +24,13 @@ place_by n m b within = elim (cases_lt n m) [
   | inr g ↦ rw (eq-eqb n m (omega (arith, g, within)), le-ltb n m g) (last_place m b)
 ]
 
--- with one element more the first place is what it was, or else the last
+-- with one more element, the first index is what it was, or else the last
 pub position-push : {X : Type 0} (p : X → Bool) (xs : List X) (y : X) →
     position p (xs ++ y ∷ []) ≡ or_else (position p xs) (cond (p y) (Some (length xs)) None)
 position-push p xs y =
     rw (position_or_len_push p xs y, length-append xs (y ∷ [])) (place_by (position_or_len p xs) (length xs) (p y) (prefix_len-le-length _ xs))
 
--- the first element that passes stands at the first place
+-- the first element that passes is at the first index that passes
 pub found_there : {X : Type 0} (p : X → Bool) (xs : List X) (place : ℕ) → position p xs ≡ Some place → slice_get xs place ≡ find p xs
 found_there p xs place is = by (nat_lt (position_or_len p xs) (length xs)) is
   where
@@ -40,7 +40,7 @@ found_there p xs place is = by (nat_lt (position_or_len p xs) (length xs)) is
         ap (slice_get xs) (sym same) ∙ sym (find_at p xs)
     by false h = absurd cc
 
--- without a place there is none
+-- if there is no such index, there is no such element
 pub found_nowhere : {X : Type 0} (p : X → Bool) (xs : List X) → position p xs ≡ None → None ≡ find p xs
 found_nowhere p xs is = by (nat_lt (position_or_len p xs) (length xs)) refl is
   where

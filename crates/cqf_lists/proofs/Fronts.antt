@@ -1,4 +1,4 @@
--- A list as a front and a rest of which something holds.
+-- A list as a front and a rest whose elements have a property.
 use Rattle.std.proofs.Common.{◌≡◌, ℕ, zero, suc, ◌<◌, ◌≤◌, ◌++◌, [], List, Bool, true, false, filter, inl, inr, sym, ap, ◌∙◌, arith, append_assoc, append-nil}
 use Rattle.std.proofs.Common.{Contains}
 use Rattle.std.proofs.lemmas.Bool.{cases_lt}
@@ -7,7 +7,7 @@ use Rattle.cqf_lists.specs.Lists.{each_below}
 use Rattle.cqf_lists.proofs.Members.{contains_from_filter, contains_none}
 use Rattle.cqf_lists.proofs.EachBelow.{contains_from_below, filter_each, filter_none}
 
--- the list is the front, and then a rest of which something holds
+-- the list is the front, followed by a rest whose elements have the property
 pub record Front {X : Type 0} (whole front : List X) (Late : X → Type 0) : Type 0 where
   pub rest : List X
   pub is : whole ≡ front ++ rest
@@ -17,7 +17,7 @@ pub record Front {X : Type 0} (whole front : List X) (Late : X → Type 0) : Typ
 pub front_whole : {X : Type 0} (xs ys : List X) (Late : X → Type 0) → xs ≡ ys → Front xs ys Late
 front_whole xs ys Late e = record { rest = []; is = e ∙ sym (append-nil ys); late = λ x h. absurd (contains_none x h) }
 
--- with more of the same behind it, the front stays
+-- appending elements with the property keeps the front
 pub front_more : {X : Type 0} (whole front more : List X) (Late : X → Type 0) → Front whole front Late → ((x : X) → Contains more x → Late x) →
     Front (whole ++ more) front Late
 front_more {X} whole front more Late f late =
@@ -27,18 +27,18 @@ front_more {X} whole front more Late f late =
       late = λ x h. elim (Contains-append_cases f.rest more x h) [ inl k ↦ f.late x k | inr k ↦ late x k ];
     }
 
--- with a list before it, the front has that before it
+-- prepending a list prepends it to the front
 pub front_behind : {X : Type 0} (before whole front : List X) (Late : X → Type 0) → Front whole front Late → Front (before ++ whole) (before ++ front) Late
 front_behind {X} before whole front Late f =
     record { rest = f.rest; is = ap (λ (xs : List X). before ++ xs) f.is ∙ sym (append_assoc before front f.rest); late = f.late }
 
--- what a test keeps of the front is the front of what it keeps
+-- the filtered front is the front of the filtered list
 pub front_filter : {X : Type 0} (p : X → Bool) (whole front : List X) (Late : X → Type 0) → Front whole front Late →
     Front (filter p whole) (filter p front) Late
 front_filter p whole front Late f =
     record { rest = filter p f.rest; is = ap (filter p) f.is ∙ filter-append p front f.rest; late = λ x h. f.late x (contains_from_filter p f.rest x h).0 }
 
--- up to a smaller number the lists end to end are the front, and the rest is of the later ones
+-- the concatenation up to a smaller number is a front, and the rest is from the later lists
 pub each_front : {X : Type 0} (f : ℕ → List X) (n m : ℕ) → n ≤ m → Front (each_below f m) (each_below f n) (λ x. (k : ℕ) × (n ≤ k) × (k < m) × Contains (f k) x)
 each_front f n zero le =
     let e : 0 ≡ n = omega (arith, le) in
@@ -59,7 +59,7 @@ each_front {X} f n (suc m) le =
           }
     ]
 
--- a test that holds just for what is of the lists before a number keeps those
+-- a test that passes exactly for the lists before a number keeps their concatenation
 pub filter_front : {X : Type 0} (p : X → Bool) (f : ℕ → List X) (n m : ℕ) → n ≤ m → ((k : ℕ) (x : X) → k < n → Contains (f k) x → p x ≡ true) →
     ((k : ℕ) (x : X) → n ≤ k → Contains (f k) x → p x ≡ false) → filter p (each_below f m) ≡ each_below f n
 filter_front {X} p f n m le pass fail =

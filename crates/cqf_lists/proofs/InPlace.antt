@@ -1,4 +1,4 @@
--- A list that is done in place: the first elements are done, the others as they were.
+-- A list that is updated in place: its first elements are updated, the others unchanged.
 use Rattle.std.proofs.Common.{◌≡◌, ℕ, ◌+◌, ◌<◌, ◌++◌, List, [], ◌∷◌, get_or, length, set, sym, ap}
 use Rattle.std.proofs.Common.{◌∙◌, arith, append_assoc, drop, map, take}
 use Rattle.std.proofs.Math.Seq.{get_or-append_seam, set-append_seam}
@@ -12,14 +12,14 @@ module _ {X : Type 0} (f : X → X) (before now : List X) (count : ℕ) (inside 
   seam : (r : X) → now ≡ map f (take count before) ++ get_or before count r ∷ drop (count + 1) before
   seam r = h ∙ ap (λ (xs : List X). map f (take count before) ++ xs) (drop_more before count r inside)
 
-  -- the next is as it was
+  -- the next element is unchanged
   pub next_is : (r : X) → get_or now count r ≡ get_or before count r
   next_is r =
       ap (λ (xs : List X). get_or xs count r) (seam r)
       ∙ ap (λ (n : ℕ). get_or (map f (take count before) ++ get_or before count r ∷ drop (count + 1) before) n r) (sym done_len)
       ∙ get_or-append_seam (map f (take count before)) (get_or before count r) (drop (count + 1) before) r
 
-  -- and is done
+  -- and becomes updated
   pub next_done : (r after : X) → r ≡ get_or now count r → after ≡ f r → set now count after ≡ map f (take (count + 1) before) ++ drop (count + 1) before
   next_done r after is done =
       ap (λ (xs : List X). set xs count after) (seam r)

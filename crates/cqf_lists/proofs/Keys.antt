@@ -1,4 +1,4 @@
--- Lists whose keys ascend.
+-- Lists with ascending keys.
 use Rattle.std.proofs.Common.{◌≡◌, ℕ, zero, suc, ◌<◌, ◌≤◌, ◌==◌, ◌∷◌, ◌++◌, [], List, filter, inl, inr, sym, refl, ap, ◌∙◌, arith, subst, eq-eqb, ne_eqb}
 use Rattle.std.proofs.Common.{Contains}
 use Rattle.std.specs.List.Sorted.{IsNonDecreasingBy}
@@ -8,7 +8,7 @@ use Rattle.cqf_lists.proofs.Members.{contains_here, contains_later}
 use Rattle.cqf_lists.proofs.EachBelow.{filter_none, none_below}
 
 module _ {X : Type 0} where
-  -- lists end to end of which one has an element more, in front, and those before it have none
+  -- one list has one more element at its front, and the lists before it are empty: so has their concatenation
   one_more_first : (f g : ℕ → List X) (n k : ℕ) (x : X) → k < n → ((j : ℕ) → j < k → g j ≡ []) → ((j : ℕ) → (j ≡ k → ⊥) → f j ≡ g j) → f k ≡ x ∷ g k →
       each_below f n ≡ x ∷ each_below g n
   one_more_first f g zero k x l none same more = absurd (omega (arith, l))
@@ -27,7 +27,7 @@ module _ {X : Type 0} where
       less : (n ≡ k → ⊥) → k < n
       less differ = omega (arith, l, differ)
 
-  -- a list whose keys ascend is, key by key, the elements with that key
+  -- a list with ascending keys is the concatenation, key by key, of its elements with that key
   pub by_key : (key : X → ℕ) (n : ℕ) (xs : List X) → IsNonDecreasingBy key xs → ((x : X) → Contains xs x → key x < n) →
       xs ≡ each_below (λ t. filter (λ x. key x == t) xs) n
   by_key key n [] ascends below = sym (none_below (λ t. []) n (λ t l. refl))

@@ -22,17 +22,17 @@ kept_number test n l h =
     let e : w.0 ≡ l = contains_one w.0 l t.1 in
     (omega (arith, w.1, e), ap test (sym e) ∙ t.0)
 
--- there are as many as the bound at most
+-- there are at most as many as the bound
 pub kept_length : (test : ℕ → Bool) (n : ℕ) → length (kept_below test n) ≤ n
 kept_length test zero = omega arith
 kept_length test (suc n) = omega (arith, kept_length test n, one (test n), length-append (kept_below test n) (if test n then n ∷ [] else []))
   where
-    -- one at most
+    -- at most one
     one : (b : Bool) → length (if b then n ∷ [] else []) ≤ 1
     one true = omega arith
     one false = omega arith
 
--- what is made of each of them, end to end
+-- the results for each of them, concatenated
 pub made_of_kept : {X : Type 0} (test : ℕ → Bool) (g : ℕ → List X) (n : ℕ) →
     flat_map g (kept_below test n) ≡ each_below (λ k. if test k then g k else []) n
 made_of_kept test g zero = refl
@@ -40,12 +40,12 @@ made_of_kept {X} test g (suc n) =
     flat_map-append g (kept_below test n) (if test n then n ∷ [] else [])
     ∙ ap₂ (λ (xs ys : List X). xs ++ ys) (made_of_kept test g n) (one (test n))
   where
-    -- of a number itself
+    -- the result for one number
     one : (b : Bool) → flat_map g (if b then n ∷ [] else []) ≡ (if b then g n else [])
     one true = append-nil (g n)
     one false = refl
 
--- numbers that pass a test ascend
+-- the numbers ascend
 pub numbers_ascend : (test : ℕ → Bool) (n : ℕ) → AllPairs (λ (a b : ℕ). a < b) (kept_below test n)
 numbers_ascend test n =
     pairs_below (λ (a b : ℕ). a < b) (λ k. if test k then k ∷ [] else []) n (λ k below. one (test k) k)

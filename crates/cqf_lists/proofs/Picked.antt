@@ -1,11 +1,11 @@
--- The one of the lists of all numbers below one that a test keeps.
+-- A test that keeps elements of one list only, among the lists of the numbers below a bound.
 use Rattle.std.proofs.Common.{◌≡◌, ℕ, zero, suc, ◌<◌, ◌++◌, [], List, Bool, false, filter, inl, inr, ap, ◌∙◌, arith, Contains, append-nil}
 use Rattle.std.proofs.lemmas.Bool.{cases_eq}
 use Rattle.std.proofs.lemmas.List.Elements.{filter-append}
 use Rattle.cqf_lists.specs.Lists.{each_below}
 use Rattle.cqf_lists.proofs.EachBelow.{contains_from_below, filter_none}
 
--- where a test holds of one list's members alone, it keeps that list's part
+-- if a test fails on all lists but one, filtering their concatenation is filtering that list
 pub filter_one : {X : Type 0} (p : X → Bool) (f : ℕ → List X) (n k : ℕ) → k < n → ((j : ℕ) (x : X) → (j ≡ k → ⊥) → Contains (f j) x → p x ≡ false) →
     filter p (each_below f n) ≡ filter p (f k)
 filter_one p f zero k l apart = absurd (omega (arith, l))
@@ -22,6 +22,6 @@ filter_one {X} p f (suc n) k l apart =
           split ∙ ap (λ (xs : List X). filter p (each_below f n) ++ xs) behind ∙ append-nil (filter p (each_below f n)) ∙ here
     ]
   where
-    -- where the number isn't the last, it is below the last
+    -- a number that isn't the last is below the last
     less : (n ≡ k → ⊥) → k < n
     less differ = omega (arith, l, differ)

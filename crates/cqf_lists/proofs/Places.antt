@@ -1,4 +1,4 @@
--- Elements of a list by their places.
+-- Elements of a list by their indices.
 use Rattle.std.proofs.Common.{◌≡◌, ◌∙◌, ℕ, ◌+◌, ◌-◌, ◌<◌, ◌⊎◌, List, Some, None, length, refl, ap, sym, subst, inl, inr, arith}
 use Rattle.std.proofs.Common.{get_or-append-add, length-append}
 use Rattle.std.specs.List.{enumerate_from}
@@ -6,37 +6,37 @@ use Rattle.std.specs.Prelude.{[], ◌∷◌, ◌++◌, Contains, slice_get, slic
 use Rattle.std.proofs.lemmas.Bool.{cases_lt}
 use Rattle.std.proofs.lemmas.List.Elements.{Contains-get_or}
 
--- no list but the empty one has no first element
+-- only the empty list has no first element
 pub nil_from_none : {X : Type 0} (xs : List X) → slice_get xs 0 ≡ None → xs ≡ []
 nil_from_none [] e = refl
 nil_from_none (x ∷ xs) e = absurd cc
 
--- the first element of a list stays the first with more behind
+-- the first element remains the first after appending
 pub first_stays : {X : Type 0} (xs ys : List X) (x : X) → slice_get xs 0 ≡ Some x → slice_get (xs ++ ys) 0 ≡ Some x
 first_stays [] ys x e = absurd cc
 first_stays (z ∷ xs) ys x e = e
 
--- an element of a front is the same with more behind it
+-- an element of the first list has the same index in the concatenation
 pub slice_get_front : {X : Type 0} (xs ys : List X) (k : ℕ) → k < length xs → slice_get (xs ++ ys) k ≡ slice_get xs k
 slice_get_front [] ys k h = absurd (omega (arith, h))
 slice_get_front (x ∷ xs) ys zero h = refl
 slice_get_front (x ∷ xs) ys (suc k) h = slice_get_front xs ys k (omega (arith, h))
 
--- and the element behind a front
+-- the first element after the first list
 pub slice_get_behind : {X : Type 0} (xs : List X) (y : X) (ys : List X) (k : ℕ) → k ≡ length xs → slice_get (xs ++ y ∷ ys) k ≡ Some y
 slice_get_behind [] y ys zero e = refl
 slice_get_behind [] y ys (suc k) e = absurd (omega (arith, e))
 slice_get_behind (x ∷ xs) y ys zero e = absurd (omega (arith, e))
 slice_get_behind (x ∷ xs) y ys (suc k) e = slice_get_behind xs y ys k (omega (arith, e))
 
--- an element of a front is one of the list
+-- an element of a front has the same index in the list
 pub slice_get-take : {X : Type 0} (xs : List X) (n k : ℕ) → k < n → slice_get (take n xs) k ≡ slice_get xs k
 slice_get-take xs zero k h = absurd (omega (arith, h))
 slice_get-take [] (suc n) k h = refl
 slice_get-take (x ∷ xs) (suc n) zero h = refl
 slice_get-take (x ∷ xs) (suc n) (suc k) h = slice_get-take xs n k (omega (arith, h))
 
--- an element of two lists end to end is one of the first, or of the second
+-- an element of a concatenation is one of the first list, or of the second
 pub slice_get_parts : {X : Type 0} (xs ys : List X) (i : ℕ) (x : X) → slice_get (xs ++ ys) i ≡ Some x →
     (slice_get xs i ≡ Some x) ⊎ ((k : ℕ) × (i ≡ length xs + k) × (slice_get ys k ≡ Some x))
 slice_get_parts [] ys i x e = inr (i, omega arith, e)
@@ -44,7 +44,7 @@ slice_get_parts (z ∷ xs) ys zero x e = inl e
 slice_get_parts (z ∷ xs) ys (suc i) x e =
     elim (slice_get_parts xs ys i x e) [ inl a ↦ inl a | inr b ↦ inr (b.0, omega (arith, b.1), b.2) ]
 
--- a place in two lists end to end is in the first, or what stands there is of the second
+-- an index into a concatenation is inside the first list, or its element is of the second
 pub in_either : {X : Type 0} (xs ys : List X) (p : ℕ) (d : X) → p < length (xs ++ ys) → (p < length xs) ⊎ Contains ys (slice_index_or (xs ++ ys) p d)
 in_either {X} xs ys p d l =
     elim (cases_lt p (length xs)) [
@@ -58,7 +58,7 @@ in_either {X} xs ys p d l =
           inr (subst (λ (x : X). Contains ys x) (sym e) (Contains-get_or ys k d inside))
     ]
 
--- one element more is numbered by how many stand before it
+-- an appended element's number is the number of elements before it, plus the start
 pub enumerate_from-push : {X : Type 0} (n : ℕ) (xs : List X) (x : X) → enumerate_from n (xs ++ x ∷ []) ≡ enumerate_from n xs ++ (n + length xs, x) ∷ []
 enumerate_from-push n [] x = let e : n ≡ n + 0 = omega arith in ap (λ k. (k, x) ∷ []) e
 enumerate_from-push n (y ∷ xs) x =

@@ -1,4 +1,4 @@
--- A stable sort by a key gives the elements of each key in turn, as they were.
+-- A stable sort by a key keeps the order of the elements of each key.
 use Rattle.std.proofs.Common.{ℕ, ◌≡◌, ◌<◌, ◌≤◌, ◌==◌, ◌∙◌, ◌&&◌, true, false, not, List, filter, nat_lt, refl, sym, ap, inl, inr, arith, subst}
 use Rattle.std.specs.List.{All, AllPairs}
 use Rattle.std.specs.Prelude.{slice_index_or}
@@ -11,7 +11,7 @@ use Rattle.cqf_lists.specs.Lists.{each_below}
 use Rattle.cqf_lists.proofs.EachBelow.{same_below}
 use Rattle.cqf_lists.proofs.Keys.{by_key}
 
--- what ascends, or stays, from each earlier element to each later one doesn't go down
+-- if no later element has a lower key than an earlier one, the keys don't decrease
 pub up_by_pairs : {X : Type 0} (key : X → ℕ) (xs : List X) → AllPairs (λ (x y : X). key x ≤ key y) xs → IsNonDecreasingBy key xs
 up_by_pairs {X} key xs pairs i j d le inside =
     elim (cases_eq i j) [
@@ -21,7 +21,7 @@ up_by_pairs {X} key xs pairs i j d le inside =
       | inr differ ↦ pairs i j d (omega (arith, le, differ)) inside
     ]
 
--- neither number is below the other just where they are equal
+-- neither number is below the other if and only if they are equal
 ties_equal : (a b : ℕ) → (not (is_lt (nat_cmp a b)) && not (is_lt (nat_cmp b a))) ≡ (b == a)
 ties_equal a b = elim (cases_order a b) [
   | inl same ↦
@@ -40,14 +40,14 @@ ties_equal a b = elim (cases_order a b) [
 ]
 
 module _ {X : Type 0} (key : X → ℕ) (probe : ℕ → X) (probes : (t : ℕ) → key (probe t) ≡ t) where
-  -- a stable sort keeps the elements of each key as they were
+  -- a stable sort keeps the elements of each key in their order
   pub stable_at : (xs ys : List X) (t : ℕ) → IsStableByKey key nat_cmp xs ys → filter (λ x. key x == t) ys ≡ filter (λ x. key x == t) xs
   stable_at xs ys t stable =
       let tied = ties (λ (x y : X). is_lt (nat_cmp (key x) (key y))) (probe t) in
       let same : (x : X) → tied x ≡ (key x == t) = λ x. ties_equal (key (probe t)) (key x) ∙ ap (λ n. key x == n) (probes t) in
       sym (filter_agree tied (λ x. key x == t) same ys) ∙ stable (probe t) ∙ filter_agree tied (λ x. key x == t) same xs
 
-  -- so what it gives is, key by key, what there was
+  -- so the sorted list is the concatenation, key by key, of the elements with that key
   pub sorted_by_key : (n : ℕ) (xs ys : List X) → IsPermutation xs ys → IsNonDecreasingBy key ys → IsStableByKey key nat_cmp xs ys → All (λ x. key x < n) xs
       → ys ≡ each_below (λ t. filter (λ x. key x == t) xs) n
   sorted_by_key n xs ys moved ascends stable early =

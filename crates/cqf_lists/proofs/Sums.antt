@@ -10,43 +10,43 @@ use Rattle.cqf_lists.specs.Lists.{each_below}
 use Rattle.cqf_lists.proofs.Members.{contains_here, contains_later}
 use Rattle.cqf_lists.proofs.Pairs.{pairs_head, pairs_tail}
 
--- term by term over the members
+-- a sum whose terms are at most those of another is at most that sum
 pub sum_le_members : {X : Type 0} (f g : X → ℕ) (xs : List X) → ((x : X) → Contains xs x → f x ≤ g x) → sum_by f xs ≤ sum_by g xs
 sum_le_members f g [] each = omega arith
 sum_le_members f g (x ∷ xs) each =
     omega (arith, sum_by-cons f x xs, sum_by-cons g x xs, each x (contains_here x xs), sum_le_members f g xs (λ y c. each y (contains_later x xs y c)))
 
--- a sum of nothing but 0
+-- a sum of zeros is 0
 pub sum_none : {X : Type 0} (f : X → ℕ) (xs : List X) → ((x : X) → Contains xs x → f x ≡ 0) → sum_by f xs ≡ 0
 sum_none f [] each = refl
 sum_none f (x ∷ xs) each = omega (arith, sum_by-cons f x xs, each x (contains_here x xs), sum_none f xs (λ y c. each y (contains_later x xs y c)))
 
--- each term is within the sum
+-- each term is at most the sum
 pub sum_member : {X : Type 0} (f : X → ℕ) (xs : List X) (x : X) → Contains xs x → f x ≤ sum_by f xs
 sum_member f xs x c = subst (λ z. f z ≤ sum_by f xs) c.2 (get_or-le-sum_by f xs c.0 x c.1)
 
--- a sum over a list that is made of another
+-- the sum over a mapped list
 pub sum_map : {X Y : Type 0} (f : Y → ℕ) (g : X → Y) (xs : List X) → sum_by f (map g xs) ≡ sum_by (λ x. f (g x)) xs
 sum_map f g [] = refl
 sum_map f g (x ∷ xs) = sum_by-cons f (g x) (map g xs) ∙ ap (λ z. f (g x) + z) (sum_map f g xs) ∙ sym (sum_by-cons (λ x. f (g x)) x xs)
 
--- the sum over lists end to end is the sum of their sums
+-- the sum over a concatenation is the sum of the sums
 pub sum_flat : {X Y : Type 0} (f : Y → ℕ) (g : X → List Y) (xs : List X) → sum_by f (flat_map g xs) ≡ sum_by (λ x. sum_by f (g x)) xs
 sum_flat f g [] = refl
 sum_flat f g (x ∷ xs) = sum_by-append f (g x) (flat_map g xs) ∙ ap (λ z. sum_by f (g x) + z) (sum_flat f g xs) ∙ sym (sum_by-cons (λ x. sum_by f (g x)) x xs)
 
--- places change no sum
+-- numbering the elements doesn't change the sum
 pub sum_places : {X : Type 0} (f : X → ℕ) (n : ℕ) (xs : List X) → sum_by (λ (x : ℕ × X). f x.1) (enumerate_from n xs) ≡ sum_by f xs
 sum_places f n [] = refl
 sum_places {X} f n (x ∷ xs) = sum_by-cons (λ (x : ℕ × X). f x.1) (n, x) (enumerate_from (n + 1) xs) ∙ ap (λ z. f x + z) (sum_places f (n + 1) xs)
     ∙ sym (sum_by-cons f x xs)
 
--- the sum of two terms each
+-- the sum of sums of two terms
 pub sum_plus : {X : Type 0} (f g : X → ℕ) (xs : List X) → sum_by (λ x. f x + g x) xs ≡ sum_by f xs + sum_by g xs
 sum_plus f g [] = refl
 sum_plus f g (x ∷ xs) = omega (arith, sum_by-cons (λ x. f x + g x) x xs, sum_by-cons f x xs, sum_by-cons g x xs, sum_plus f g xs)
 
--- a sum of sums, in either order
+-- a double sum, in either order
 pub double : {X Y : Type 0} (h : X → Y → ℕ) (xs : List X) (ys : List Y) → sum_by (λ x. sum_by (λ y. h x y) ys) xs ≡ sum_by (λ y. sum_by (λ x. h x y) xs) ys
 double h [] ys = sym (sum_none (λ y. 0) ys (λ y c. refl))
 double {X} {Y} h (x ∷ xs) ys =
@@ -55,7 +55,7 @@ double {X} {Y} h (x ∷ xs) ys =
     ∙ sym (sum_plus (λ y. h x y) (λ y. sum_by (λ x. h x y) xs) ys)
     ∙ ap (λ (f : Y → ℕ). sum_by f ys) (λ i. λ y. sym (sum_by-cons (λ x. h x y) x xs) i)
 
--- of elements that exclude one another, one counts
+-- if at most one element passes the test, the sum is at most one term
 pub sum_at_most_one : {X : Type 0} (test : X → Bool) (v : ℕ) (xs : List X) → AllPairs (λ x y. test x ≡ true → test y ≡ true → ⊥) xs →
     sum_by (λ x. if test x then v else 0) xs ≤ v
 sum_at_most_one test v [] apart = omega arith
@@ -78,7 +78,7 @@ sum_at_most_one {X} test v (x ∷ xs) apart =
           )
     ]
 
--- each element that counts has one of the other list to itself that is as large
+-- if each term of one sum is covered by matching terms of the other, and none of these matches twice, the first sum is at most the second
 pub sum_matched : {X Y : Type 0} (f : X → ℕ) (g : Y → ℕ) (match : X → Y → Bool) (xs : List X) (ys : List Y) →
     ((x : X) → Contains xs x → f x ≤ sum_by (λ y. if match x y then g y else 0) ys) →
     ((y : Y) → AllPairs (λ x z. match x y ≡ true → match z y ≡ true → ⊥) xs) → sum_by f xs ≤ sum_by g ys
@@ -87,7 +87,7 @@ sum_matched f g match xs ys has apart =
     let outer = sum_le_members (λ y. sum_by (λ x. if match x y then g y else 0) xs) g ys (λ y c. sum_at_most_one (λ x. match x y) (g y) xs (apart y)) in
     le_trans inner (subst (λ z. z ≤ sum_by g ys) (sym (double (λ x y. if match x y then g y else 0) xs ys)) outer)
 
--- each element is of groups, each of which is within its bound
+-- each element that counts is in a group, and each group is within its bound
 pub sum_grouped : {X Y : Type 0} (f : X → ℕ) (h : X → Y → ℕ) (bound : Y → ℕ) (xs : List X) (ys : List Y) →
     ((x : X) → Contains xs x → ((y : Y) × Contains ys y × (f x ≤ h x y)) ⊎ (f x ≡ 0)) →
     ((y : Y) → Contains ys y → sum_by (λ x. h x y) xs ≤ bound y) → sum_by f xs ≤ sum_by bound ys
@@ -99,11 +99,11 @@ sum_grouped f h bound xs ys has within =
     let outer = sum_le_members (λ y. sum_by (λ x. h x y) xs) bound ys within in
     le_trans inner (subst (λ z. z ≤ sum_by bound ys) (sym (double h xs ys)) outer)
 
--- lists end to end
+-- one more list in a concatenation
 pub sum_below : {X : Type 0} (f : X → ℕ) (g : ℕ → List X) (n : ℕ) → sum_by f (each_below g (suc n)) ≡ sum_by f (each_below g n) + sum_by f (g n)
 sum_below f g n = sum_by-append f (each_below g n) (g n)
 
--- of lists end to end, one counts
+-- if only one list counts, the sum over the concatenation is at most the sum over that list
 pub sum_one_below : {X : Type 0} (f : X → ℕ) (g : ℕ → List X) (m n : ℕ) → ((k : ℕ) → (k ≡ m → ⊥) → sum_by f (g k) ≡ 0) →
     sum_by f (each_below g n) ≤ sum_by f (g m)
 sum_one_below f g m zero others = omega arith
@@ -114,12 +114,12 @@ sum_one_below f g m (suc n) others = elim (cases_eq n m) [
   | inr differ ↦ omega (arith, sum_below f g n, others n differ, sum_one_below f g m n others)
 ]
   where
-    -- what stands below the one number sums to nothing
+    -- the lists before the one that counts sum to 0
     none_before : (k : ℕ) → k ≤ m → sum_by f (each_below g k) ≡ 0
     none_before zero l = refl
     none_before (suc k) l = omega (arith, sum_below f g k, none_before k (omega (arith, l)), others k (λ e. absurd (omega (arith, e, l))))
 
--- what a filter keeps
+-- the sum over what a filter keeps
 pub sum_filter : {X : Type 0} (f : X → ℕ) (p : X → Bool) (xs : List X) → sum_by f (filter p xs) ≡ sum_by (λ x. if p x then f x else 0) xs
 sum_filter f p [] = refl
 sum_filter f p (x ∷ xs) = elim (cases_Bool (p x)) [
@@ -130,7 +130,7 @@ sum_filter f p (x ∷ xs) = elim (cases_Bool (p x)) [
       ∙ zero-add (sum_by (λ x. if p x then f x else 0) xs))
 ]
 
--- the elements by their keys, each once
+-- the sum over the elements key by key counts each element with a key below the bound once
 pub sum_by_keys : {X : Type 0} (f : X → ℕ) (key : X → ℕ) (xs : List X) (n : ℕ) →
     sum_by f (each_below (λ t. filter (λ x. key x == t) xs) n) ≡ sum_by (λ x. if nat_lt (key x) n then f x else 0) xs
 sum_by_keys f key xs zero = sym (sum_none (λ x. if nat_lt (key x) 0 then f x else 0) xs
@@ -141,7 +141,7 @@ sum_by_keys {X} f key xs (suc n) =
     ∙ sym (sum_plus (λ x. if nat_lt (key x) n then f x else 0) (λ x. if key x == n then f x else 0) xs)
     ∙ ap (λ (h : X → ℕ). sum_by h xs) (λ i. λ x. one (key x) (f x) i)
   where
-    -- what has a key below a number, or the number as its key, has one below the next
+    -- a key is below the next number if it is below this one or equal to it
     one : (k v : ℕ) → (if nat_lt k n then v else 0) + (if k == n then v else 0) ≡ (if nat_lt k (suc n) then v else 0)
     one k v = elim (cases_order k n) [
       | inl e ↦ omega (
@@ -169,7 +169,7 @@ sum_by_keys {X} f key xs (suc n) =
       ]
     ]
 
--- a sum that isn't 0 has a member that counts
+-- a nonzero sum has a member that counts
 pub sum_some : {X : Type 0} (f : X → ℕ) (xs : List X) → (sum_by f xs ≡ 0) ⊎ ((x : X) × Contains xs x × (0 < f x))
 sum_some f [] = inl refl
 sum_some f (x ∷ xs) = elim (cases_lt 0 (f x)) [
@@ -180,14 +180,14 @@ sum_some f (x ∷ xs) = elim (cases_lt 0 (f x)) [
   ]
 ]
 
--- two elements are within the sum
+-- the terms of two different members add up to at most the sum
 pub sum_two : {X : Type 0} (f : X → ℕ) (xs : List X) (i j : ℕ) (e : X) → i < j → j < length xs → f (get_or xs i e) + f (get_or xs j e) ≤ sum_by f xs
 sum_two f xs i j e less inside =
     let first = get_or-le-sum_by f (take j xs) i e (omega (arith, length-take-le j xs (omega (arith, inside)), less)) in
     let same : f (get_or (take j xs) i e) ≡ f (get_or xs i e) = ap f (get_or-take j xs i e less) in
     omega (arith, first, same, sum_by_more_le f xs j e inside)
 
--- termwise over lists end to end
+-- a sum over a concatenation, compared list by list
 pub sum_le_below : {X Y : Type 0} (f : X → ℕ) (g : Y → ℕ) (a : ℕ → List X) (b : ℕ → List Y) (n : ℕ) → ((k : ℕ) → sum_by f (a k) ≤ sum_by g (b k)) →
     sum_by f (each_below a n) ≤ sum_by g (each_below b n)
 sum_le_below f g a b zero each = omega arith

@@ -1,18 +1,18 @@
--- Lists side by side, one for each number below one.
+-- Lists side by side: one list for each number below a bound.
 use Rattle.std.specs.Prelude.{ℕ, ◌≡◌, ◌<◌, ◌++◌, List, [], ◌∷◌, length, map, slice_index_or}
 use Rattle.std.specs.Global.{Global}
 use Rattle.std.specs.declared.vec.Vec.{Vec}
 
--- what some lists hold
+-- the contents of the lists
 abbrev pub lists_of : {A : Type 0} → List (Vec A Global) → List (List A)
 lists_of {A} lists = map (λ (list : Vec A Global). list.items) lists
 
--- the list of each number is what is told of it
+-- there are `count` lists, and the list at each index k below `count` is `told k`
 pub record AreListsBy {A : Type 0} (told : ℕ → List A) (count : ℕ) (lists : List (List A)) : Type 0 where
   pub one_each : length lists ≡ count
   pub each : (k : ℕ) (none : List A) → k < count → slice_index_or lists k none ≡ told k
 
--- the lists with an element more behind those of a number
+-- list k with one more element at its end; the other lists, and the number of lists, are unchanged
 pub record AddsTo {A : Type 0} (before after : List (List A)) (k : ℕ) (x : A) : Type 0 where
   pub as_many : length after ≡ length before
   pub own : (none : List A) → slice_index_or after k none ≡ slice_index_or before k none ++ x ∷ []

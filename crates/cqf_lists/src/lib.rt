@@ -1,5 +1,6 @@
-//! Words and lemmas about lists, options and results, with no subject of their own.
+//! General definitions and lemmas about lists, options and results.
 //!
-//! `specs/Lists.antt` has the words that definitions elsewhere are said with, `specs/Results.antt` those for steps that may
-//! fail. `proofs/` has the lemmas about lists that more than one crate needs, one module a topic. There is no code here.
+//! `specs/Lists.antt` has the list functions that definitions of other crates use, and `specs/Results.antt` those for
+//! steps that may fail. `proofs/` has the lemmas about lists that more than one crate needs, one module per topic. This
+//! crate has no code.
 #![tactic(auto)]
