@@ -37,15 +37,15 @@ zero_from_unset n k unset = elim (cases_eq (bit_at n k) 0) [
   | inr some ↦ absurd (set_from_one n k (omega (arith, bit_at-lt n k)) unset)
 ]
 
--- the test of a bit by a power that was shifted passes
+-- if the bit's value in the mask isn't 0, the bit's test passes
 pub has_from_nonzero : (mask bit power : ℕ) → power ≡ 2 ^ bit → bit_and mask power ≢ 0 → has_bit mask bit ≡ true
 has_from_nonzero mask bit power is some = subst (λ p. not (eqb (bit_and mask p) 0) ≡ true) is (ap not (ne_eqb (bit_and mask power) 0 some))
 
--- or fails
+-- if it is 0, the test fails
 pub lacks_from_zero : (mask bit power : ℕ) → power ≡ 2 ^ bit → bit_and mask power ≡ 0 → has_bit mask bit ≡ false
 lacks_from_zero mask bit power is none = subst (λ p. not (eqb (bit_and mask p) 0) ≡ false) is (ap not (eq-eqb (bit_and mask power) 0 none))
 
--- the bit of a test's value is set where the test passes
+-- the bit of a test's value is set if and only if the test passes
 pub bit_of_test : (t : Bool) (bit m n : ℕ) → bit ≡ cond t 1 0 → ((t ≡ true) × (m ≤ n)) ⊎ ((t ≡ false) × (n < m)) → (bit ≡ 1) ↔ (m ≤ n)
 bit_of_test t bit m n is (inl passes) = (λ one. passes.1, λ le. is ∙ ap (λ b. cond b 1 0) passes.0)
 bit_of_test t bit m n is (inr fails) = (
@@ -54,7 +54,7 @@ bit_of_test t bit m n is (inr fails) = (
       absurd (omega (arith, fails.1)),
 )
 
--- bit k of the mask of eight comparisons stands for those in lane k
+-- bit k of the mask of eight comparisons is the comparison in lane k
 pub compared_bit : (need left : List ℕ) (class : ℕ) → length need ≡ 8 → length left ≡ 8 → class < 8 →
     (bit_at (mask_l (zip2 leb need left)) class ≡ 1) ↔ (get_or need class 0 ≤ get_or left class 0)
 compared_bit need left class long wide low =
@@ -63,7 +63,7 @@ compared_bit need left class long wide low =
     bit_of_test (leb (get_or need class 0) (get_or left class 0)) _ (get_or need class 0) (get_or left class 0) lane
     (leb_tells (get_or need class 0) (get_or left class 0))
 
--- the mask of eight comparisons, as a vector gives it
+-- the mask of eight comparisons, as vectors compute it
 pub compared_mask : (need left : List ℕ) → length need ≡ 8 → length left ≡ 8 →
     mask_l (map (top 31) (zip2 (λ a b. cond (leb a b) (2 ^ 32 - 1) 0) need left)) % 2 ^ 64 ≡ mask_l (zip2 leb need left)
 compared_mask need left long wide =
@@ -95,7 +95,7 @@ eligible_from_mask gates mask need left long wide is class low =
           set_from_one (bit_and gates mask) class (omega arith),
     )
 
--- of the gates those classes are left that have been looked at and are in time, or haven't been looked at
+-- the remaining classes are those with an open gate that are in time or haven't been tested yet
 abbrev pub AreLeft : ℕ → List ℕ → List ℕ → ℕ → ℕ → Type 0
 AreLeft gates need left seen classes = (class : ℕ) → class < 8 →
     IsBitSet classes class ↔ (IsBitSet gates class × (class < seen → get_or need class 0 ≤ get_or left class 0))
@@ -119,7 +119,7 @@ left_cleared gates seen classes need left low so_far short class in_range = elim
       )
 ]
 
--- a class that is in time stays
+-- a class that is in time remains
 pub left_kept : (gates seen classes : ℕ) (need left : List ℕ) → AreLeft gates need left seen classes → get_or need seen 0 ≤ get_or left seen 0
     → AreLeft gates need left (seen + 1) classes
 left_kept gates seen classes need left so_far fits class in_range = (
@@ -135,7 +135,7 @@ left_kept gates seen classes need left so_far fits class in_range = (
   λ in_time. (so_far class in_range).1 (in_time.0, λ looked. in_time.1 (omega arith)),
 )
 
--- the place of the greatest bit, from how many bits above it are 0
+-- the greatest bit, from the powers of two around the mask
 pub highest_from_leading : (mask bit : ℕ) → bit < 8 → 2 ^ bit ≤ mask → mask < 2 ^ suc bit → IsHighest mask bit
 highest_from_leading mask bit low from below = record {
   low = low;
@@ -145,14 +145,14 @@ highest_from_leading mask bit low from below = record {
   none_above = λ above higher is_set. unset_from_zero mask above (bit_at_above mask (suc bit) above below (omega arith)) is_set;
 }
 
--- the greatest bit of a number that isn't 0
+-- the greatest bit of a nonzero mask, from its leading zeros
 pub highest_by_leading : (mask zeros : ℕ) → mask ≢ 0 → mask < 256 → zeros ≡ count_leading_zeros 8 mask → IsHighest mask (7 - zeros)
 highest_by_leading mask zeros some small is =
     let top_bit = leading_top 8 mask (omega arith) small in
     subst (λ bit. IsHighest mask bit) (let same : top_bit.0 ≡ 7 - zeros = omega (arith, top_bit.1) in same)
     (highest_from_leading mask top_bit.0 (omega (arith, top_bit.1)) top_bit.2 top_bit.3)
 
--- the greatest bit, where those above it were looked at
+-- the greatest bit, if no bit above it is set
 pub highest_by_search : (mask seen power : ℕ) → mask < 256 → seen < 8 → ((bit : ℕ) → 8 - seen ≤ bit → bit < 8 → bit_and mask (2 ^ bit) ≡ 0)
     → power ≡ 2 ^ (7 - seen) → bit_and mask power ≢ 0 → IsHighest mask (7 - seen)
 highest_by_search mask seen power small low looked is some = record {
@@ -164,12 +164,12 @@ highest_by_search mask seen power small low looked is some = record {
   ];
 }
 
--- no bit is set
+-- if no bit was found, the mask is 0
 pub none_by_search : (mask seen : ℕ) → mask < 256 → 8 ≤ seen → ((bit : ℕ) → 8 - seen ≤ bit → bit < 8 → bit_and mask (2 ^ bit) ≡ 0) → mask ≡ 0
 none_by_search mask seen small all looked = same_from_bits_below 8 mask 0 small (omega arith)
     (λ bit inside. zero_from_unset mask bit (looked bit (omega arith) inside) ∙ sym (bit_at-zero bit))
 
--- one more bit that isn't set
+-- one more bit isn't set
 pub search_goes_on : (mask seen power : ℕ) → seen < 8 → ((bit : ℕ) → 8 - seen ≤ bit → bit < 8 → bit_and mask (2 ^ bit) ≡ 0) → power
     ≡ 2 ^ (7 - seen) → bit_and mask power ≡ 0 → (bit : ℕ) → 8 - (seen + 1) ≤ bit → bit < 8 → bit_and mask (2 ^ bit) ≡ 0
 search_goes_on mask seen power low looked is none bit from below = elim (cases_eq bit (7 - seen)) [

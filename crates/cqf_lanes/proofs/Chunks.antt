@@ -1,4 +1,4 @@
--- Vectors that are loaded from a list, and sums of their lanes.
+-- Vectors loaded from a list, and sums of their lanes.
 use Rattle.std.proofs.Common.{ℕ, ◌≡◌, ◌+◌, ◌-◌, ◌*◌, ◌^◌, ◌<◌, ◌≤◌, List, [], ◌∷◌, length, take, drop, map, get_or}
 use Rattle.std.proofs.Common.{Fits, w32, w64, sum, refl, sym, ap, ap₂, ◌∙◌, arith}
 use Rattle.std.specs.List.{sum_by}
@@ -19,11 +19,11 @@ pub sum_of_vector : (xs : List ℕ) → sum_l xs ≡ sum_by (λ x. x) xs
 sum_of_vector [] = refl
 sum_of_vector (x ∷ xs) = ap (λ n. x + n) (sum_of_vector xs) ∙ sym (sum_by-cons (λ y. y) x xs)
 
--- eight more of a list add their terms
+-- the next n elements of a list add their terms
 pub sum_by-chunk : {X : Type 0} (f : X → ℕ) (xs : List X) (done n : ℕ) → sum_by f (take (done + n) xs) ≡ sum_by f (take done xs) + sum_by f (chunk done n xs)
 sum_by-chunk f xs done n = ap (sum_by f) (take-add done n xs) ∙ sum_by-append f (take done xs) (chunk done n xs)
 
--- eight numbers of 32 bits don't sum to much
+-- the sum of eight numbers of 32 bits is small
 pub chunk_small : (values : List ℕ) (place : ℕ) → place + 8 ≤ length values → ((k : ℕ) → Fits w32 (get_or values k 0)) →
     sum_l (chunk place 8 values) ≤ 8 * (2 ^ 32 - 1)
 chunk_small values place inside fits =
@@ -38,23 +38,23 @@ pub sum_eight_more : (values lanes more : List ℕ) (done : ℕ) → length lane
 sum_eight_more values lanes more done long is so_far =
     sum-zip2 lanes more long ∙ ap₂ (λ m n. m + n) so_far (ap sum_l is ∙ sum_of_vector (chunk done 8 values)) ∙ sym (sum_by-chunk (λ x. x) values done 8)
 
--- the sums before and behind a place are the whole sum
+-- the sum of the part before an index and that of the rest add up to the whole sum
 pub sum_rest : (values : List ℕ) (done front rest : ℕ) → front ≡ sum (take done values) → rest ≡ sum (drop done values) → front + rest ≡ sum values
 sum_rest values done front rest before behind = ap₂ (λ m n. m + n) before behind ∙ sum_by-take-drop (λ x. x) values done
 
--- numbers of 32 bits sum to less than 2^32 each
+-- an upper bound of a sum of numbers of 32 bits
 pub sum_short : (values : List ℕ) → ((k : ℕ) → Fits w32 (get_or values k 0)) → sum values ≤ length values * (2 ^ 32 - 1)
 sum_short values fits = sum_by-le (λ x. x) (2 ^ 32 - 1) values (All-from_get_or (λ x. x ≤ 2 ^ 32 - 1) values 0 (λ k inside. let small =
     (fits k).fits in omega arith))
 
--- the sum of lanes, and of what is left behind the last full vector
+-- the sum of the lanes and of what remains after the last full vector
 pub sum_of_all : (values lanes : List ℕ) (done rest : ℕ) → sum_l lanes ≡ sum (take done values) → rest
     ≡ sum (take (length values - done) (drop done values)) → fold_l (λ a b. a + b) 0 lanes + rest ≡ sum values
 sum_of_all values lanes done rest before behind =
     let folded : fold_l (λ a b. a + b) 0 lanes ≡ sum (take done values) = fold-sum 0 lanes ∙ omega (arith, before) in
     sum_rest values done _ rest folded (behind ∙ ap sum (take_rest values done))
 
--- it isn't large
+-- that sum fits 64 bits
 pub sum_of_all_fits : (values lanes : List ℕ) (done rest : ℕ) → length values < 2 ^ 32 → ((k : ℕ) → Fits w32 (get_or values k 0)) →
     sum_l lanes ≡ sum (take done values) → rest ≡ sum (take (length values - done) (drop done values)) → Fits w64 (fold_l (λ a b. a + b) 0 lanes + rest)
 sum_of_all_fits values lanes done rest few fits before behind =

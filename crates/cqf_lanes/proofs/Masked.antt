@@ -1,4 +1,4 @@
--- Costs that are summed where a mask has a bit.
+-- Sums of the costs whose mask has a bit.
 use Rattle.std.proofs.Common.{ℕ, ◌≡◌, ◌+◌, ◌-◌, ◌*◌, ◌%◌, ◌^◌, ◌<◌, ◌≤◌, suc, zero, List, [], ◌∷◌, Bool, true, false}
 use Rattle.std.proofs.Common.{not, cond, eqb, length, get_or, take, drop, map, bit_and, replicate, Fits, w32, w64, refl}
 use Rattle.std.proofs.Common.{sym, ap, ap₂, ◌∙◌, subst, arith}
@@ -11,16 +11,16 @@ use Rattle.std.proofs.lemmas.Simd.{tops_compared, sum-zip2, fold-sum, length-chu
 use Rattle.cqf_lanes.specs.Kernels.{has_bit, masked_total}
 use Rattle.cqf_lanes.proofs.Chunks.{sum_of_lanes, sum_of_vector, sum_short, sum_by-chunk}
 
--- what a place adds to the sum
+-- what one index adds to the sum
 abbrev pub masked_cost : ℕ → ℕ × ℕ → ℕ
 masked_cost bit place = cond (has_bit place.1 bit) place.0 0
 
--- of two, the other one of the test turned round
+-- a choice, with its test negated
 turned : (b : Bool) (cost : ℕ) → cond b 0 cost ≡ cond (not b) cost 0
 turned true cost = refl
 turned false cost = refl
 
--- the costs where the masks haven't the bit are left out
+-- the costs whose mask doesn't have the bit are left out
 selected : (bit n : ℕ) (costs masks : List ℕ) → length costs ≡ n → length masks ≡ n →
     sel_l (zip2 eqb (zip2 bit_and masks (replicate n (2 ^ bit))) (replicate n 0)) (replicate n 0) costs ≡ map (masked_cost bit) (zip costs masks)
 selected bit zero [] [] long wide = refl
@@ -31,7 +31,7 @@ selected bit (suc n) (cost ∷ costs) [] long wide = absurd (omega arith)
 selected bit (suc n) (cost ∷ costs) (mask ∷ masks) long wide =
     ap₂ (λ x xs. x ∷ xs) (turned (eqb (bit_and mask (2 ^ bit)) 0) cost) (selected bit n costs masks (omega arith) (omega arith))
 
--- the same of eight lanes, as vectors give it
+-- the same for eight lanes, as vectors compute it
 pub selected_lanes : (bit power : ℕ) (costs masks : List ℕ) → power ≡ 2 ^ bit → length costs ≡ 8 → length masks ≡ 8 →
     sel_l (map (top 63) (zip2 (λ a b. cond (eqb a b) (2 ^ 64 - 1) 0) (zip2 bit_and masks (replicate 8 power)) (replicate 8 0))) (replicate 8 0) costs
     ≡ map (masked_cost bit) (zip costs masks)
@@ -40,12 +40,12 @@ selected_lanes bit power costs masks is long wide =
     ∙ ap (λ p. sel_l (zip2 eqb (zip2 bit_and masks (replicate 8 p)) (replicate 8 0)) (replicate 8 0) costs) is
     ∙ selected bit 8 costs masks long wide
 
--- what a place adds is at most its cost
+-- an index adds at most its cost
 cost_le : (b : Bool) (cost : ℕ) → cond b cost 0 ≤ cost
 cost_le true cost = omega arith
 cost_le false cost = omega arith
 
--- and so are the sums
+-- and the sum is at most the sum of the costs
 masked_sum_le : (bit : ℕ) (costs masks : List ℕ) → sum_l (map (masked_cost bit) (zip costs masks)) ≤ sum_l costs
 masked_sum_le bit [] masks = omega arith
 masked_sum_le bit (cost ∷ costs) [] = omega arith
@@ -58,32 +58,32 @@ masked_sum_le bit (cost ∷ costs) (mask ∷ masks) =
 pub masked_small : (bit most : ℕ) (costs masks : List ℕ) → sum_l costs ≤ most → sum_l (map (masked_cost bit) (zip costs masks)) ≤ most
 masked_small bit most costs masks small = omega (arith, masked_sum_le bit costs masks)
 
--- the first places of two lists side by side
+-- the first elements of two zipped lists
 pub take-zip : (n : ℕ) (costs masks : List ℕ) → zip (take n costs) (take n masks) ≡ take n (zip costs masks)
 take-zip zero costs masks = refl
 take-zip (suc n) [] masks = refl
 take-zip (suc n) (cost ∷ costs) [] = refl
 take-zip (suc n) (cost ∷ costs) (mask ∷ masks) = ap (λ rest. (cost, mask) ∷ rest) (take-zip n costs masks)
 
--- a list beside none
+-- a list zipped with the empty list
 zip-none : (costs : List ℕ) → zip {K = ℕ} {X = ℕ} costs [] ≡ []
 zip-none [] = refl
 zip-none (cost ∷ costs) = refl
 
--- the places of two lists side by side behind the first ones
+-- the remaining elements of two zipped lists
 pub drop-zip : (n : ℕ) (costs masks : List ℕ) → zip (drop n costs) (drop n masks) ≡ drop n (zip costs masks)
 drop-zip zero costs masks = refl
 drop-zip (suc n) [] masks = refl
 drop-zip (suc n) (cost ∷ costs) [] = zip-none (drop n costs)
 drop-zip (suc n) (cost ∷ costs) (mask ∷ masks) = drop-zip n costs masks
 
--- how many places two lists have side by side
+-- the length of two zipped lists
 length-zip : (costs masks : List ℕ) → length costs ≡ length masks → length (zip costs masks) ≡ length costs
 length-zip [] masks long = refl
 length-zip (cost ∷ costs) [] long = absurd (omega arith)
 length-zip (cost ∷ costs) (mask ∷ masks) long = ap suc (length-zip costs masks (omega arith))
 
--- what stands at a place of two lists side by side
+-- the element at an index of two zipped lists
 get_or-zip : (place : ℕ) (costs masks : List ℕ) → length costs ≡ length masks → get_or (zip costs masks) place (0, 0)
     ≡ (get_or costs place 0, get_or masks place 0)
 get_or-zip place [] [] long = refl
@@ -92,11 +92,11 @@ get_or-zip place (cost ∷ costs) [] long = absurd (omega arith)
 get_or-zip zero (cost ∷ costs) (mask ∷ masks) long = refl
 get_or-zip (suc place) (cost ∷ costs) (mask ∷ masks) long = get_or-zip place costs masks (omega arith)
 
--- eight places of two lists side by side
+-- a chunk of two zipped lists
 pub chunk-zip : (n done : ℕ) (costs masks : List ℕ) → zip (chunk done n costs) (chunk done n masks) ≡ chunk done n (zip costs masks)
 chunk-zip n done costs masks = take-zip n (drop done costs) (drop done masks) ∙ ap (take n) (drop-zip done costs masks)
 
--- one more place adds its cost, or nothing
+-- one more index adds its cost, or nothing
 pub masked_more : (bit : ℕ) (costs masks : List ℕ) (place total after : ℕ) → length costs ≡ length masks → place < length costs → total
     ≡ sum_by (masked_cost bit) (take place (zip costs masks)) → after ≡ total + cond (has_bit (get_or masks place 0) bit) (get_or costs place 0) 0
     → after ≡ sum_by (masked_cost bit) (take (place + 1) (zip costs masks))
@@ -106,13 +106,13 @@ masked_more bit costs masks place total after long inside so_far more =
     more ∙ ap (λ n. n + cond (has_bit (get_or masks place 0) bit) (get_or costs place 0) 0) so_far
     ∙ sym (step ∙ ap (λ x. sum_by (masked_cost bit) (take place (zip costs masks)) + masked_cost bit x) here)
 
--- all places
+-- all indices
 pub masked_all : (bit : ℕ) (costs masks : List ℕ) (place total : ℕ) → length costs ≡ length masks → length costs ≤ place → total
     ≡ sum_by (masked_cost bit) (take place (zip costs masks)) → total ≡ masked_total bit costs masks
 masked_all bit costs masks place total long past so_far =
     so_far ∙ ap (sum_by (masked_cost bit)) (take_all place (zip costs masks) (omega (arith, length-zip costs masks long)))
 
--- how many lanes some places fill
+-- the length of a chunk's terms
 pub length-masked_chunk : (bit n done : ℕ) (costs masks : List ℕ) → length costs ≡ length masks → done + n ≤ length costs →
     length (map (masked_cost bit) (zip (chunk done n costs) (chunk done n masks))) ≡ n
 length-masked_chunk bit n done costs masks long inside =
@@ -120,7 +120,7 @@ length-masked_chunk bit n done costs masks long inside =
     ∙ length-zip (chunk done n costs) (chunk done n masks) (length-chunk done n costs inside ∙ sym (length-chunk done n masks (omega arith)))
     ∙ length-chunk done n costs inside
 
--- eight more places, summed lane by lane
+-- eight more indices, summed lane by lane
 pub masked_eight_more : (bit : ℕ) (costs masks lanes more : List ℕ) (done : ℕ) → length lanes ≡ length more → more
     ≡ map (masked_cost bit) (zip (chunk done 8 costs) (chunk done 8 masks)) → sum_l lanes ≡ sum_by (masked_cost bit) (take done (zip costs masks))
     → sum_l (zip2 (λ a b. a + b) lanes more) ≡ sum_by (masked_cost bit) (take (done + 8) (zip costs masks))
@@ -129,13 +129,13 @@ masked_eight_more bit costs masks lanes more done long is so_far =
     ap sum_l (is ∙ ap (map (masked_cost bit)) (chunk-zip 8 done costs masks)) ∙ sum_of_lanes (masked_cost bit) (chunk done 8 (zip costs masks)) in
     sum-zip2 lanes more long ∙ ap₂ (λ m n. m + n) so_far added ∙ sym (sum_by-chunk (masked_cost bit) (zip costs masks) done 8)
 
--- the sums before and behind a place are the whole sum
+-- the sum of the part before an index and that of the rest add up to the whole sum
 pub masked_rest : (bit : ℕ) (costs masks : List ℕ) (done front rest : ℕ) → front ≡ sum_by (masked_cost bit) (take done (zip costs masks)) →
     rest ≡ masked_total bit (drop done costs) (drop done masks) → front + rest ≡ masked_total bit costs masks
 masked_rest bit costs masks done front rest before behind =
     ap₂ (λ m n. m + n) before (behind ∙ ap (sum_by (masked_cost bit)) (drop-zip done costs masks)) ∙ sum_by-take-drop (masked_cost bit) (zip costs masks) done
 
--- the sum of lanes, and of what is left behind the last full vector
+-- the sum of the lanes and of what remains after the last full vector
 pub masked_of_all : (bit : ℕ) (costs masks lanes : List ℕ) (done rest : ℕ) → sum_l lanes ≡ sum_by (masked_cost bit) (take done (zip costs masks))
     → rest ≡ masked_total bit (take (length costs - done) (drop done costs)) (take (length masks - done) (drop done masks)) →
     fold_l (λ a b. a + b) 0 lanes + rest ≡ masked_total bit costs masks
@@ -143,7 +143,7 @@ masked_of_all bit costs masks lanes done rest before behind =
     let folded : fold_l (λ a b. a + b) 0 lanes ≡ sum_by (masked_cost bit) (take done (zip costs masks)) = fold-sum 0 lanes ∙ omega (arith, before) in
     masked_rest bit costs masks done _ rest folded (behind ∙ ap₂ (masked_total bit) (take_rest costs done) (take_rest masks done))
 
--- it isn't large
+-- that sum fits 64 bits
 pub masked_of_all_fits : (bit : ℕ) (costs masks lanes : List ℕ) (done rest : ℕ) → length costs < 2 ^ 32 → ((k : ℕ) → Fits w32 (get_or costs k 0))
     → sum_l lanes ≡ sum_by (masked_cost bit) (take done (zip costs masks)) → rest
     ≡ masked_total bit (take (length costs - done) (drop done costs)) (take (length masks - done) (drop done masks)) →
@@ -155,19 +155,19 @@ masked_of_all_fits bit costs masks lanes done rest few fits before behind =
 
 module _ (bit place : ℕ) (costs masks loaded : List ℕ) (low : bit < 64) (inside : place + 8 ≤ length costs) (long : length costs ≡ length masks)
     (is : loaded ≡ chunk place 8 costs) where
-  -- eight lanes of costs, 0 where the mask hasn't the bit
+  -- eight lanes of costs, with 0 for each whose mask doesn't have the bit
   abbrev pub selection : List ℕ
   selection = sel_l (map (top 63) (zip2 (λ a b. cond (eqb a b) (2 ^ 64 - 1) 0) (zip2 bit_and (chunk place 8 masks) (replicate 8 (1 * 2 ^ bit % 2 ^ 64)))
       (replicate 8 0))) (replicate 8 0) loaded
 
-  -- are those of the places
+  -- they are the terms of the eight indices
   pub selected_in : selection ≡ map (masked_cost bit) (zip (chunk place 8 costs) (chunk place 8 masks))
   selected_in =
       selected_lanes bit (1 * 2 ^ bit % 2 ^ 64) loaded (chunk place 8 masks) (one_shl bit 64 low) (ap length is ∙ length-chunk place 8 costs inside)
       (length-chunk place 8 masks (omega arith))
       ∙ ap (λ xs. map (masked_cost bit) (zip xs (chunk place 8 masks))) is
 
-  -- and sum to no more than the costs
+  -- and their sum is at most that of eight costs
   pub selected_small : sum_l loaded ≤ 8 * (2 ^ 32 - 1) → sum_l selection ≤ 8 * (2 ^ 32 - 1)
   selected_small small = subst (λ xs. sum_l xs ≤ 8 * (2 ^ 32 - 1)) (sym selected_in)
       (masked_small bit (8 * (2 ^ 32 - 1)) (chunk place 8 costs) (chunk place 8 masks) (subst (λ xs. sum_l xs ≤ 8 * (2 ^ 32 - 1)) is small))

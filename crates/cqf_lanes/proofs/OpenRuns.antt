@@ -14,16 +14,16 @@ use Rattle.std.proofs.lemmas.Simd.{trailing_mask_l, run_in_chunk_le, run_in_chun
 use Rattle.std.proofs.lemmas.Simd.{none_from_empty_mask}
 use Rattle.cqf_lanes.specs.Kernels.{has_bit, open_run_of}
 
--- these gates close the class
+-- the gates close the class
 abbrev pub closes : ℕ → ℕ → Bool
 closes class gates = not (has_bit gates class)
 
--- a test twice turned round
+-- a double negation
 twice : (b : Bool) → not (not b) ≡ b
 twice true = refl
 twice false = refl
 
--- the mask of sixteen entries, as vectors give it
+-- the mask of sixteen entries, as vectors compute it
 pub closed_mask : (class power : ℕ) (states : List ℕ) → power ≡ 2 ^ class → length states ≡ 16 →
     mask_l (map (top 7) (zip2 (λ a b. cond (eqb a b) (2 ^ 8 - 1) 0) (zip2 bit_and states (replicate 16 power)) (replicate 16 0))) % 2 ^ 64
     ≡ mask_l (map (closes class) states)
@@ -35,12 +35,12 @@ closed_mask class power states is long =
     ∙ ap (λ p. mask_l (map (λ gates. eqb (bit_and gates p) 0) states)) is
     ∙ (λ i. mask_l (map (λ gates. sym (twice (eqb (bit_and gates (2 ^ class)) 0)) i) states))
 
--- entries that open the class, and then one that doesn't, or the end
+-- if the first entries open the class and the next one doesn't or is past the end, they are the run
 pub run_ends : (class run : ℕ) (states : List ℕ) → run ≤ length states → ((k : ℕ) → k < run → has_bit (get_or states k 0) class ≡ true) →
     (run < length states → has_bit (get_or states run 0) class ≡ false) → run ≡ open_run_of class states
 run_ends class run states inside opened ended = sym (prefix_len_is (λ gates. has_bit gates class) states run 0 inside opened ended)
 
--- the lowest bit of a mask of sixteen that isn't 0
+-- the lowest bit of a nonzero mask of sixteen is below 16
 within_chunk : (marks : List Bool) (mask : ℕ) → length marks ≡ 16 → mask ≡ mask_l marks → 0 < mask → count_trailing_zeros 64 mask < 16
 within_chunk marks mask long is some =
     let small : mask_l marks < 2 ^ 16 = subst (λ n. mask_l marks < 2 ^ n) long (mask_l-lt marks) in
@@ -72,7 +72,7 @@ run_ends_in_chunk class done mask states inside opened is some =
     (λ more. not-true _ (run_in_chunk_stops (closes class) states done 16 run 0 inside counted
     (within_chunk (map (closes class) (chunk done 16 states)) mask (length-map (chunk done 16 states) (closes class) ∙ long) is some)))
 
--- none of sixteen closes the class
+-- if none of sixteen closes the class, the run continues
 pub run_goes_on : (class done mask : ℕ) (states : List ℕ) → done + 16 ≤ length states → ((k : ℕ) → k < done → has_bit (get_or states k 0) class ≡ true)
     → mask ≡ mask_l (map (closes class) (chunk done 16 states)) → mask ≡ 0 → (k : ℕ) → k < done + 16 → has_bit (get_or states k 0) class ≡ true
 run_goes_on class done mask states inside opened is none k below = elim (cases_lt k done) [
@@ -80,7 +80,7 @@ run_goes_on class done mask states inside opened is none k below = elim (cases_l
   | inr later ↦ not-false _ (none_from_empty_mask (closes class) states done 16 0 inside (sym is ∙ none) k (omega arith) below)
 ]
 
--- behind entries that open the class, the run of the rest goes on
+-- after entries that open the class, the run continues with that of the rest
 pub run_of_rest : (class done run : ℕ) (states rest : List ℕ) → done ≤ length states → rest ≡ take (length states - done) (drop done states)
     → ((k : ℕ) → k < done → has_bit (get_or states k 0) class ≡ true) → run ≡ open_run_of class rest → done + run ≡ open_run_of class states
 run_of_rest class done run states rest inside behind opened counted =

@@ -1,4 +1,4 @@
--- What the kernels compute, with no lane in it.
+-- The kernels' results, defined without lanes.
 use Rattle.std.specs.Prelude.{ℕ, ◌≤◌, ◌<◌, ◌==◌, ◌^◌, ◌↔◌, List, Bool, not, if◌then◌else◌, bit_and, IsBitSet, slice_index, sum_by}
 use Rattle.std.specs.List.{prefix_len, zip}
 
@@ -6,20 +6,20 @@ use Rattle.std.specs.List.{prefix_len, zip}
 abbrev pub has_bit : ℕ → ℕ → Bool
 has_bit mask bit = not (bit_and mask (2 ^ bit) == 0)
 
--- the sum of the costs at the places whose mask has the bit
+-- the sum of the costs at the indices whose mask has the bit
 abbrev pub masked_total : ℕ → List ℕ → List ℕ → ℕ
 masked_total bit costs masks = sum_by (λ (place : ℕ × ℕ). if has_bit place.1 bit then place.0 else 0) (zip costs masks)
 
--- how many entries, from the first on, open the class: the length of the longest beginning all of whose states have its bit
+-- the number of entries, from the first on, that open the class: the length of the longest prefix of states that all have its bit
 abbrev pub open_run_of : ℕ → List ℕ → ℕ
 open_run_of class states = prefix_len (λ gates. has_bit gates class) states
 
--- of eight classes these are eligible: those whose gate is open and that need no longer than is left
+-- of eight classes, those are eligible that have an open gate and need no more time than is left
 abbrev pub AreEligible : ℕ → List ℕ → List ℕ → ℕ → Type 0
 AreEligible gates need left classes =
     (class : ℕ) → class < 8 → IsBitSet classes class ↔ (IsBitSet gates class × (slice_index need class ≤ slice_index left class))
 
--- it is the greatest bit of the mask of eight
+-- `bit` is the greatest bit of a mask of eight bits
 pub record IsHighest (mask bit : ℕ) : Type 0 where
   pub low : bit < 8
   pub is_set : IsBitSet mask bit

@@ -1,11 +1,11 @@
-//! Which classes are eligible, and which is the highest.
+//! Which classes are eligible, and which of them is the highest.
 ghost use Rattle.std.specs.Prelude.{◌≡◌, ◌<◌, MatchOption};
 ghost use Rattle.cqf_lanes.specs.Kernels.{AreEligible, IsHighest};
 
 use std::simd::prelude::*;
 
-/// The classes that are eligible, class 7 in the highest bit: those whose bit is set in the gates and that need at most
-/// what is left to them.
+/// Returns the mask of eligible classes, with class 7 in the highest bit: those classes whose bit is set in `gates` and
+/// that need at most what is left to them.
 pub fn eligible(gates: u8, need: &[u32; 8], left: &[u32; 8]) -> u8
     ensures { AreEligible gates need.now left.now result }
 {
@@ -13,7 +13,7 @@ pub fn eligible(gates: u8, need: &[u32; 8], left: &[u32; 8]) -> u8
     gates & in_time.to_bitmask() as u8
 }
 
-/// [`eligible`], one class after the other.
+/// Does the same as [`eligible`], one class after the other.
 pub fn eligible_plain(gates: u8, need: &[u32; 8], left: &[u32; 8]) -> u8
     ensures { AreEligible gates need.now left.now result }
 {
@@ -26,7 +26,7 @@ pub fn eligible_plain(gates: u8, need: &[u32; 8], left: &[u32; 8]) -> u8
     classes
 }
 
-/// The greatest bit that is set, none of 0.
+/// Returns the greatest bit that is set, or `None` if the mask is 0.
 pub fn highest(mask: u8) -> Option<u8>
     ensures { MatchOption result (mask ≡ 0) (IsHighest mask) }
 {
@@ -36,7 +36,7 @@ pub fn highest(mask: u8) -> Option<u8>
     Some(7 - mask.leading_zeros() as u8)
 }
 
-/// [`highest`], one bit after the other.
+/// Does the same as [`highest`], one bit after the other.
 pub fn highest_plain(mask: u8) -> Option<u8>
     ensures { MatchOption result (mask ≡ 0) (IsHighest mask) }
 {

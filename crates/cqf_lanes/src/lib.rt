@@ -1,11 +1,11 @@
-//! Sums and masks by lanes (`std::simd`), for budgets of links and for the choice of a port.
+//! Sums and masks by lanes (`std::simd`), for the budgets of links and for a port's choice of class.
 //!
 //! - [`octet_sum`] and [`masked_sum`] add octets and costs, eight lanes of 64 bits at a time.
-//! - [`open_run`] looks at the gate states of sixteen entries at a time; [`eligible`] at the eight classes of a port at
-//!   once; [`highest`] gives the class that strict priority selects.
+//! - [`open_run`] tests the gate states of sixteen entries at a time, and [`eligible`] the eight classes of a port at
+//!   once. [`highest`] returns the class that strict priority selects.
 //!
-//! Each stands beside its plain form, as [`octet_sum_plain`], under the same contract: what is computed is said in
-//! `specs/` with no lane in it, and holds for every length, whatever is left behind the last full vector.
+//! Each has a plain form with the same contract, such as [`octet_sum_plain`]. The results are defined in `specs/`
+//! without lanes, and the contracts hold for every length, including one that isn't a multiple of the lanes.
 //!
 //! ```text
 //! octet_sum([1522; 17]) = 25874

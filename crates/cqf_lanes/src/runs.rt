@@ -1,14 +1,14 @@
-//! How many entries open a class.
+//! Runs of entries that open a class.
 ghost use Rattle.std.specs.Prelude.{◌≡◌, ◌+◌, ◌<◌, ◌≤◌, length, map, not};
 ghost use Rattle.std.specs.Simd.Lanes.{chunk, mask_l};
 ghost use Rattle.cqf_lanes.specs.Kernels.{has_bit, open_run_of};
 
 use std::simd::prelude::*;
 
-/// How many gate states are looked at at a time.
+/// The number of gate states that are tested at a time.
 const LANES: usize = 16;
 
-/// How many of the gate states, from the first on, open the class, 0 to 7; class 7 has the highest bit.
+/// Returns the number of gate states, from the first on, that open the class, which is 0 to 7; class 7 has the highest bit.
 pub fn open_run(states: &[u8], class: u8) -> usize
     requires { class < 8 }
     ensures { result ≡ open_run_of class states.now }
@@ -24,7 +24,7 @@ pub fn open_run(states: &[u8], class: u8) -> usize
     done + open_run_plain(&states[done..], class)
 }
 
-/// [`open_run`], one after the other.
+/// Does the same as [`open_run`], one gate state after the other.
 pub fn open_run_plain(states: &[u8], class: u8) -> usize
     requires { class < 8 }
     ensures { result ≡ open_run_of class states.now }
@@ -37,7 +37,7 @@ pub fn open_run_plain(states: &[u8], class: u8) -> usize
     states.len()
 }
 
-/// Of sixteen entries, those that close the class: bit 0 stands for the first.
+/// Returns the mask of those of sixteen entries that close the class; bit 0 is the first entry's.
 fn closed_from(states: &[u8], place: usize, class: u8) -> u64
     requires inside { place + 16 ≤ length states.now }
     requires gate { class < 8 }

@@ -6,10 +6,10 @@ ghost use Rattle.cqf_lanes.specs.Kernels.{has_bit, masked_total};
 
 use std::simd::prelude::*;
 
-/// How many lanes are added at a time.
+/// The number of lanes that are added at a time.
 const LANES: usize = 8;
 
-/// The sum of the octets, of at most 4,294,967,295 frames.
+/// Returns the sum of the octets of at most 4,294,967,295 frames.
 pub fn octet_sum(octets: &[u32]) -> u64
     requires { length octets.now < 2 ^ 32 }
     ensures { result ≡ sum octets.now }
@@ -23,7 +23,7 @@ pub fn octet_sum(octets: &[u32]) -> u64
     lanes.strict_reduce_sum() + octet_sum_plain(&octets[done..])
 }
 
-/// [`octet_sum`], one after the other.
+/// Does the same as [`octet_sum`], one frame after the other.
 pub fn octet_sum_plain(octets: &[u32]) -> u64
     requires { length octets.now < 2 ^ 32 }
     ensures { result ≡ sum octets.now }
@@ -35,8 +35,8 @@ pub fn octet_sum_plain(octets: &[u32]) -> u64
     total
 }
 
-/// The sum of the costs at the places whose mask has the bit, 0 to 63, the lowest being bit 0. Costs and masks stand
-/// side by side, at most 4,294,967,295 of them.
+/// Returns the sum of the costs at the indices whose mask has the bit, which is 0 to 63, the lowest being bit 0. The
+/// two lists have the same length, at most 4,294,967,295.
 pub fn masked_sum(costs: &[u32], masks: &[u64], bit: u32) -> u64
     requires side_by_side { length costs.now ≡ length masks.now }
     requires few { length costs.now < 2 ^ 32 }
@@ -52,7 +52,7 @@ pub fn masked_sum(costs: &[u32], masks: &[u64], bit: u32) -> u64
     lanes.strict_reduce_sum() + masked_sum_plain(&costs[done..], &masks[done..], bit)
 }
 
-/// [`masked_sum`], one after the other.
+/// Does the same as [`masked_sum`], one index after the other.
 pub fn masked_sum_plain(costs: &[u32], masks: &[u64], bit: u32) -> u64
     requires side_by_side { length costs.now ≡ length masks.now }
     requires few { length costs.now < 2 ^ 32 }
@@ -68,7 +68,7 @@ pub fn masked_sum_plain(costs: &[u32], masks: &[u64], bit: u32) -> u64
     total
 }
 
-/// The values at eight places, each in a lane of 64 bits.
+/// Returns the values at eight indices, each in a lane of 64 bits.
 fn eight_from(values: &[u32], place: usize) -> u64x8
     requires { place + 8 ≤ length values.now }
     ensures lanes { result ≡ chunk place 8 values.now }
@@ -77,7 +77,7 @@ fn eight_from(values: &[u32], place: usize) -> u64x8
     u32x8::from_slice(&values[place..]).cast::<u64>()
 }
 
-/// The costs at eight places, each in a lane of 64 bits, and 0 where the mask hasn't the bit.
+/// Returns the costs at eight indices, each in a lane of 64 bits, with 0 for each whose mask doesn't have the bit.
 fn eight_masked(costs: &[u32], masks: &[u64], bit: u32, place: usize) -> u64x8
     requires inside { place + 8 ≤ length costs.now }
     requires side_by_side { length costs.now ≡ length masks.now }

@@ -9,7 +9,7 @@ overflow_cast-result c = record {
       (compared_small c.args.need.now c.args.left.now c.told-need c.told-left);
 }
 
--- those of the gates stay whose comparison holds
+-- the classes with an open gate whose comparison holds remain
 pub returns : goal.returns
 returns c = eligible_from_mask c.args.gates _ c.args.need.now c.args.left.now c.told-need c.told-left
     (compared_mask c.args.need.now c.args.left.now c.told-need c.told-left)

@@ -1,4 +1,4 @@
--- The classes that have been looked at are in time.
+-- The remaining classes among those tested so far are in time.
 use Rattle.cqf_lanes.proofs.Bits.{AreLeft}
 use Rattle.cqf_lanes.proofs.choice.eligible_plain.Given as goal
 

@@ -1,4 +1,4 @@
--- The bits that have been looked at aren't set.
+-- The bits tested so far aren't set.
 use Rattle.std.proofs.Common.{ℕ, ◌≡◌, ◌<◌, ◌≤◌, ◌-◌, ◌^◌, bit_and}
 use Rattle.cqf_lanes.proofs.choice.highest_plain.Given as goal
 

@@ -9,11 +9,11 @@ pub returns-then-gates-class-eq0 : goal.returns-then-gates-class-eq0
 returns-then-gates-class-eq0 c = run_ends c.args.class c.loop-place.place c.args.states.now (omega arith) c.loop-place.invariant
     (λ more. lacks_from_zero _ c.args.class (1 * 2 ^ c.args.class % 256) (one_shl c.args.class 8 (omega arith)) c.if-gates-class-eq0.true)
 
--- one more entry opens it
+-- one more entry opens the class
 pub loop-place-preserved : goal.loop-place-preserved
 loop-place-preserved c = run_goes_on_by_one c.args.class c.loop-place.place c.args.states.now c.loop-place.invariant
     (has_from_nonzero _ c.args.class (1 * 2 ^ c.args.class % 256) (one_shl c.args.class 8 (omega arith)) c.if-gates-class-eq0.false)
 
--- all do
+-- all entries open the class
 pub returns : goal.returns
 returns c = run_ends c.args.class _ c.args.states.now (omega arith) (λ k below. c.loop-place.invariant k (omega arith)) (λ more. absurd (omega arith))

@@ -1,4 +1,4 @@
--- The lanes have summed the places so far.
+-- The lanes have the sum over the indices so far.
 use Rattle.std.proofs.Common.{◌≡◌, ◌≤◌, ◌*◌, ◌-◌, ◌^◌, take, length, sum_by}
 use Rattle.std.specs.List.{zip}
 use Rattle.std.specs.Simd.Lanes.{sum_l}

@@ -5,7 +5,7 @@ use Rattle.cqf_lanes.proofs.Masked.{masked_more, masked_all}
 use Rattle.cqf_lanes.proofs.sums.masked_sum_plain.Goals as goal
 use Rattle.cqf_lanes.proofs.sums.masked_sum_plain.Goals.{then-masks-place-ne0, else-masks-place-ne0}
 
--- one more place
+-- one more index
 pub loop-place-preserved : goal.loop-place-preserved
 loop-place-preserved c = elim c.if-masks-place-ne0.branch [
   | then-masks-place-ne0 w ↦
@@ -30,7 +30,7 @@ loop-place-preserved c = elim c.if-masks-place-ne0.branch [
       }
 ]
 
--- all places
+-- all indices are summed
 pub returns : goal.returns
 returns c = masked_all c.args.bit c.args.costs.now c.args.masks.now c.loop-place.place c.loop-place.total c.requires.side_by_side (omega arith)
     c.loop-place.invariant.value

@@ -1,4 +1,4 @@
--- The sum is that of the places so far.
+-- The total is the sum over the indices so far.
 use Rattle.std.proofs.Common.{◌≡◌, ◌≤◌, ◌*◌, ◌^◌, take, sum_by}
 use Rattle.std.specs.List.{zip}
 use Rattle.cqf_lanes.proofs.Masked.{masked_cost}

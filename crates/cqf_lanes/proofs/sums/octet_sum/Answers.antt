@@ -3,7 +3,7 @@ use Rattle.std.proofs.lemmas.Simd.{adds_fit, sum_fits, sum-zip2, length-chunk}
 use Rattle.cqf_lanes.proofs.Chunks.{sum_eight_more, sum_of_all, sum_of_all_fits}
 use Rattle.cqf_lanes.proofs.sums.octet_sum.Goals as goal
 
--- the sums of the lanes stay small
+-- the sums of the lanes fit
 pub overflow_add-lanes : goal.overflow_add-lanes
 overflow_add-lanes c = adds_fit w64 c.loop-done.lanes c.eight_from-lanes.result (omega arith)
 
@@ -19,11 +19,11 @@ loop-done-preserved c =
       short = omega (arith, sum-zip2 c.loop-done.lanes c.eight_from-lanes.result long);
     }
 
--- and so does their sum
+-- the sum over the lanes fits
 pub overflow_add-result : goal.overflow_add-result
 overflow_add-result c = sum_fits w64 0 c.loop-done.lanes (omega arith)
 
--- with the rest
+-- with the rest it fits too
 pub overflow_add-result-2 : goal.overflow_add-result-2
 overflow_add-result-2 c = sum_of_all_fits c.args.octets.now c.loop-done.lanes c.loop-done.done c.octet_sum_plain.result c.requires
     c.type_inv.octets c.loop-done.invariant.value c.octet_sum_plain.ensures

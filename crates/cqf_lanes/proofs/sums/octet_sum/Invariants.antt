@@ -1,4 +1,4 @@
--- The lanes have summed the frames so far.
+-- The lanes have the sum over the frames so far.
 use Rattle.std.proofs.Common.{◌≡◌, ◌≤◌, ◌*◌, ◌-◌, ◌^◌, take, length, sum}
 use Rattle.std.specs.Simd.Lanes.{sum_l}
 use Rattle.cqf_lanes.proofs.sums.octet_sum.Given as goal

@@ -1,4 +1,4 @@
--- The sum is that of the frames so far.
+-- The total is the sum over the frames so far.
 use Rattle.std.proofs.Common.{◌≡◌, ◌≤◌, ◌*◌, ◌^◌, take, sum}
 use Rattle.cqf_lanes.proofs.sums.octet_sum_plain.Given as goal
 
