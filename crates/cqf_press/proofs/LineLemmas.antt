@@ -4,7 +4,7 @@ use Rattle.std.specs.Prelude.{IfSome}
 use Rattle.std.specs.Fmt.{◌++?◌}
 use Rattle.cqf_press.specs.Stops.{fault_line}
 
--- what is printed with a line feed behind it is the line
+-- what is printed, with a line feed at its end, is the line
 pub fault_line-printed : (part line : List ℕ) (text : Option (List ℕ)) →
     IfSome (Some (codes "cqf: ") ++? (Some part ++? (Some (codes ": ") ++? (text ++? Some (10 ∷ []))))) (λ bytes. line ≡ bytes) →
     IfSome text (λ fault. line ≡ fault_line part fault)

@@ -1,4 +1,4 @@
--- What is told in parts, and what a press was given.
+-- Text written in parts, and what a press was given.
 use Rattle.std.proofs.Common.{◌≡◌, ◌++◌, ◌∙◌, ℕ, List, [], Bool, true, false, Option, Some, Result, Ok, Err, IfOk, Vec, Global, refl, sym, ap, append_assoc, subst}
 use Rattle.std.proofs.KnownBytes.{Appends-nil, Appends-trans}
 use Rattle.std.proofs.lemmas.List.{append-nil}
@@ -10,7 +10,7 @@ use Rattle.cqf_press.specs.Edge.{HasTold, Writing, TellsOn, since, writing}
 use Rattle.cqf_press.specs.Press.{ClosesSheet, HasPressed, Opens, Puts}
 use Rattle.cqf_press.proofs.EdgeLemmas.{Appends-whole}
 
--- two tellings are one, where the first wasn't refused
+-- two writes in a row are one of both texts, if the first wasn't refused
 pub HasTold-joined : (before now after : Option (List ℕ)) (first refused : Bool) (a b : List ℕ) → first ≡ false
     → HasTold (record { before = before; after = now; refused = first }) a → HasTold (record { before = now; after = after; refused = refused }) b
     → HasTold (record { before = before; after = after; refused = refused }) (a ++ b)
@@ -22,7 +22,7 @@ HasTold-joined before now after first refused a b accepted one two = record {
   all = two.all;
 }
 
--- what is refused stays a front, whatever stands behind it
+-- after a refusal, what was written is a front of the text, regardless of what follows
 pub HasTold-refused : (output : Writing) (a b : List ℕ) → output.refused ≡ true → HasTold output a → HasTold output (a ++ b)
 HasTold-refused output a b refused one = record {
   front = one.front;
@@ -32,7 +32,7 @@ HasTold-refused output a b refused one = record {
   all = λ accepted. cc;
 }
 
--- nothing was told of no text
+-- an empty text was written by doing nothing
 pub HasTold-nothing : (known : Option (List ℕ)) (refused : Bool) → HasTold (record { before = known; after = known; refused = refused }) []
 HasTold-nothing known refused = record { front = []; behind = []; cut = refl; written = Appends-nil known; all = λ _. refl }
 
@@ -44,7 +44,7 @@ module _ {W : Type 0} {s : sink.Ghosts W} {w : write.Ghosts W} (contents : W →
     behind = λ before given has. subst (λ (x : List ℕ). HasPressed contents before press x) (sym (append-nil given)) has;
   }
 
-  -- one text was put behind another
+  -- two texts were put in a row
   pub Puts-trans : (old mid new : Press W s w) (a b : List ℕ) → Puts contents old mid a → Puts contents mid new b → Puts contents old new (a ++ b)
   Puts-trans old mid new a b one two = record {
     same = two.same ∙ one.same;
@@ -52,7 +52,7 @@ module _ {W : Type 0} {s : sink.Ghosts W} {w : write.Ghosts W} (contents : W →
         (two.behind before (given ++ a) (one.behind before given has));
   }
 
-  -- the same text by another word
+  -- the same text in another form
   pub Puts-of : (old new : Press W s w) (a b : List ℕ) → a ≡ b → Puts contents old new a → Puts contents old new b
   Puts-of old new a b same puts = subst (λ (x : List ℕ). Puts contents old new x) same puts
 
@@ -68,7 +68,7 @@ module _ {W : Type 0} {s : sink.Ghosts W} {w : write.Ghosts W} (contents : W →
     };
   }
 
-  -- the sheet was told behind what was told before
+  -- the sheet was written after what was written before
   pub Puts-turned : (old new : Press W s w) (sheet : List ℕ) → new.told.ghost_name ≡ old.told.ghost_name → sheet ≡ old.sheet
       → TellsOn contents old.told.now new.told.now sheet → new.sheet ≡ [] → Puts contents old new []
   Puts-turned old new sheet same is on empty = record {
@@ -81,7 +81,7 @@ module _ {W : Type 0} {s : sink.Ghosts W} {w : write.Ghosts W} (contents : W →
     };
   }
 
-  -- bytes were told past an empty sheet
+  -- bytes were written directly, with an empty sheet
   pub Puts-past : (old new : Press W s w) (bytes : List ℕ) → new.told.ghost_name ≡ old.told.ghost_name → old.sheet ≡ [] → new.sheet ≡ old.sheet
       → TellsOn contents old.told.now new.told.now bytes → Puts contents old new bytes
   Puts-past old new bytes same empty kept on = record {
@@ -95,13 +95,13 @@ module _ {W : Type 0} {s : sink.Ghosts W} {w : write.Ghosts W} (contents : W →
         };
   }
 
-  -- what was left on the sheet was told
+  -- the rest of the text on the sheet was written
   pub Closes-told : (old : Press W s w) (told : Told W s w) (sheet : List ℕ) → sheet ≡ old.sheet → TellsOn contents old.told.now told sheet
       → ClosesSheet contents old told
   Closes-told old told sheet is on = λ before text has.
       subst (λ (x : List ℕ). HasTold (since contents before told) x) (sym (has.cut ∙ ap (λ x. has.part ++ x) (sym is))) (on before has.part has.has_told)
 
-  -- a text that was put between opening and closing was told
+  -- a text that was put between opening and closing was written
   pub HasTold-pressed : (old : Told W s w) (first last : Press W s w) (new : Told W s w) (text : List ℕ) → Opens old first → Puts contents first last text
       → ClosesSheet contents last new → HasTold (writing contents old new) text
   HasTold-pressed old first last new text opens puts closes =
@@ -112,23 +112,23 @@ module _ {W : Type 0} {s : sink.Ghosts W} {w : write.Ghosts W} (contents : W →
       } in
       closes (contents old.writer) text (puts.behind (contents old.writer) [] start)
 
--- one text was put behind another, as answers cite it
+-- two texts were put in a row, in the form that answers use
 pub Puts-then : {W : Type 0} {s : sink.Ghosts W} {w : write.Ghosts W} {contents : W → Option (List ℕ)}
     {old mid new : Press W s w} (a b : List ℕ) → Puts contents old mid a → Puts contents mid new b
     → Puts contents old new (a ++ b)
 Puts-then {contents = contents} {old = old} {mid = mid} {new = new} a b one two = Puts-trans contents old mid new a b one two
 
--- nothing was put, by whatever word
+-- nothing was put, in any form of the empty text
 pub Puts-nothing : {W : Type 0} {s : sink.Ghosts W} {w : write.Ghosts W} {contents : W → Option (List ℕ)}
     {press : Press W s w} (text : List ℕ) → text ≡ [] → Puts contents press press text
 Puts-nothing {contents = contents} {press = press} text none = Puts-of contents press press [] text (sym none) (Puts-nil contents press)
 
--- a text was put behind another, where the two are known by one more word
+-- a text was put, in another form
 pub Puts-as : {W : Type 0} {s : sink.Ghosts W} {w : write.Ghosts W} {contents : W → Option (List ℕ)}
     {old new : Press W s w} (a b : List ℕ) → a ≡ b → Puts contents old new a → Puts contents old new b
 Puts-as {contents = contents} {old = old} {new = new} a b same puts = Puts-of contents old new a b same puts
 
--- a text that was put on a press over an empty list was told, and is what is handed out of the list
+-- a text that was put on a press on an empty list was written, and is the text that is returned from the list
 pub text-pressed : {s : sink.Ghosts (Vec ℕ Global)} {w : write.Ghosts (Vec ℕ Global)} {E : Type 0} {old : Told (Vec ℕ Global) s w}
     {first last : Press (Vec ℕ Global) s w} {list : List ℕ} {refused : Bool} (closed : Told (Vec ℕ Global) s w) (text : List ℕ)
     (result : Result (Vec ℕ Global) E) → old.writer.items ≡ [] → Opens old first → Puts (λ list. Some list.items) first last text

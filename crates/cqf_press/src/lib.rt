@@ -1,18 +1,20 @@
-//! How the program tells its output, a sheet at a time with no memory asked for meanwhile, and how a run of it ends before its work is done.
+//! How the program writes its output, a sheet at a time and without asking for memory meanwhile, and how a run ends
+//! before its work is done.
 //!
-//! - **Writers.** A [`Sink`] is one of which is known for which kinds of error it may refuse. [`Told`] is such a writer that remembers whether it
-//!   refused anything. [`write_out`] tells it a text, `tell_on` a text behind what it was told before, and `flush_out` lets it hand on what
-//!   it holds.
-//! - **Sheets.** A [`Sheet`] has all the memory that a text needs on its way, however long it is. It alone asks for some. A [`Press`] gathers
-//!   text on it, piece by piece, and tells each full sheet. Behind a refusal it tells nothing more. [`told_text`] gives the text that was told
-//!   into a list: there what is told asks for memory, for the list alone.
-//! - **Ends.** A [`Stop`] is an end with an exit status, [`DONE`], [`REFUSED`], [`USAGE`], [`NO_MEMORY`] or [`FAULT`], and a text that tells why.
-//!   [`Stop::with_line`] has a line of its own, [`Stop::refused`] that of a fault of one part of the input, and [`Stop::memory`] none, since
-//!   there may be no memory for it.
+//! - **Writers.** A [`Sink`] is a writer for which the kinds of error are known that it may refuse for. A [`Told`] is a
+//!   sink that remembers whether it refused anything. [`write_out`] writes a text to it and flushes it, `tell_on`
+//!   writes a text after what was written before, and `flush_out` flushes it.
+//! - **Sheets.** A [`Sheet`] has all the memory that a text of any length needs on its way to the writer; only its
+//!   creation asks for memory. A [`Press`] gathers text on a sheet, piece by piece, and writes each full sheet to the
+//!   writer. After a refusal it writes nothing more. [`told_text`] returns the text that was written to a list; only
+//!   the list itself asks for memory there.
+//! - **Ends.** A [`Stop`] is an end with an exit status ([`DONE`], [`REFUSED`], [`USAGE`], [`NO_MEMORY`] or [`FAULT`])
+//!   and a text that says why. [`Stop::with_line`] has the given line, [`Stop::refused`] the line of a fault in one
+//!   part of the input, and [`Stop::memory`] no text, since there may be no memory for it.
 //!
-//! In `specs/`, `Kinds.antt` has the words on kinds of error, `Edge.antt` says what became of a writer (`Writing`, `HasTold`), and `Press.antt`
-//! what a press was given (`HasPressed`, `Puts`); what an end has is `EndsWith`, how a fault is told `fault_line`, and that an input is refused
-//! `IsRefused`.
+//! In `specs/`, `Kinds.antt` is about kinds of error, `Edge.antt` defines the effect of writes on a writer (`Writing`,
+//! `HasTold`), `Press.antt` defines what a press was given (`HasPressed`, `Puts`), and `Stops.antt` defines ends
+//! (`EndsWith`), the line of a fault (`fault_line`) and the refusal of an input (`IsRefused`).
 //!
 //! ```text
 //! let mut press = Press::new(&mut told, Sheet::new(alloc)?);

@@ -1,4 +1,4 @@
-//! A press: text is put on a sheet, and each full sheet is told.
+//! A press: text is put on a sheet, and each full sheet is written out.
 ghost use Rattle.std.specs.Prelude.{◌≡◌, ◌≤◌, ◌∷◌, [], length};
 ghost use Rattle.cqf_press.specs.Press.{ClosesSheet, Opens, Puts};
 
@@ -8,7 +8,7 @@ use crate::sinks::Sink;
 use crate::told::Told;
 use itoa::{Buffer, Integer};
 
-/// A sheet of text, and the writer that it's told to.
+/// A sheet of text, and the writer that it is written to.
 #[derive(Drop)]
 pub struct Press<'o, W: Sink> {
     told: &'o mut Told<W>,
@@ -16,7 +16,7 @@ pub struct Press<'o, W: Sink> {
 }
 
 impl<'o, W: Sink> Press<'o, W> {
-    /// The sheet before the writer: what stood on it is taken away.
+    /// Returns a press on this writer with this sheet, which is emptied first.
     pub fn new(told: &'o mut Told<W>, sheet: Sheet) -> Press<'o, W>
         ensures same { result.told.ghost_name ≡ told.entry.ghost_name }
         ensures opens { Opens told.old result }
@@ -26,7 +26,7 @@ impl<'o, W: Sink> Press<'o, W> {
         Press { told, sheet }
     }
 
-    /// Tells the sheet, and takes an empty one.
+    /// Writes the sheet to the writer, and empties it.
     fn turn(&mut self)
         ensures puts { Puts W.contents self.old self.new [] }
         ensures empty { self.new.sheet ≡ [] }
@@ -35,7 +35,7 @@ impl<'o, W: Sink> Press<'o, W> {
         self.sheet.clear();
     }
 
-    /// Tells the sheet where it's full.
+    /// Writes the sheet to the writer and empties it if it is full.
     fn make_room(&mut self)
         ensures puts { Puts W.contents self.old self.new [] }
         ensures room { length self.new.sheet ≤ 65536 }
@@ -45,7 +45,7 @@ impl<'o, W: Sink> Press<'o, W> {
         }
     }
 
-    /// Puts bytes behind the text that fit on a sheet with room.
+    /// Appends at most 512 bytes to the text, on a sheet with room for them.
     fn put_few(&mut self, bytes: &[u8])
         requires { length bytes.now ≤ 512 }
         ensures { Puts W.contents self.old self.new bytes.now }
@@ -54,7 +54,7 @@ impl<'o, W: Sink> Press<'o, W> {
         self.sheet.put(bytes);
     }
 
-    /// Tells the sheet, and then bytes that are too many for one.
+    /// Writes the sheet to the writer, and then bytes that are too many for a sheet.
     fn put_many(&mut self, bytes: &[u8])
         ensures { Puts W.contents self.old self.new bytes.now }
     {
@@ -62,7 +62,7 @@ impl<'o, W: Sink> Press<'o, W> {
         self.tell_past(bytes);
     }
 
-    /// Tells bytes past an empty sheet.
+    /// Writes bytes directly to the writer. The sheet is empty.
     fn tell_past(&mut self, bytes: &[u8])
         requires { self.old.sheet ≡ [] }
         ensures { Puts W.contents self.old self.new bytes.now }
@@ -70,7 +70,7 @@ impl<'o, W: Sink> Press<'o, W> {
         tell_on(self.told, bytes);
     }
 
-    /// Puts bytes behind the text, however many.
+    /// Appends any number of bytes to the text.
     pub fn put(&mut self, bytes: &[u8])
         ensures { Puts W.contents self.old self.new bytes.now }
     {
@@ -81,7 +81,7 @@ impl<'o, W: Sink> Press<'o, W> {
         }
     }
 
-    /// Puts a byte behind the text.
+    /// Appends a byte to the text.
     pub fn put_byte(&mut self, byte: u8)
         ensures { Puts W.contents self.old self.new (byte ∷ []) }
     {
@@ -89,7 +89,7 @@ impl<'o, W: Sink> Press<'o, W> {
         self.sheet.put_byte(byte);
     }
 
-    /// Puts a number behind the text.
+    /// Appends a number to the text, in decimal.
     pub fn put_number<I: Integer>(&mut self, number: I)
         ensures { Puts W.contents self.old self.new (I.text number) }
     {
@@ -97,7 +97,7 @@ impl<'o, W: Sink> Press<'o, W> {
         self.put(buffer.format(number).as_bytes());
     }
 
-    /// Tells what is left, flushes the writer, and gives it back.
+    /// Writes the rest of the text, flushes the writer unless it refused something, and gives it back.
     pub fn close(self) -> &'o mut Told<W>
         ensures same { result.ghost_name ≡ self.entry.told.ghost_name }
         ensures closes { ClosesSheet W.contents self.entry result.now }

@@ -1,5 +1,5 @@
-//! Writes that a signal interrupts (EINTR) are made again. Any other failure stands, that of a writer which would have to wait (EAGAIN)
-//! among them. What is interrupted each of 2^64 - 1 times has failed too.
+//! Writes and flushes that a signal interrupts (EINTR) are repeated. Any other failure is final, including that of a
+//! writer that would have to wait (EAGAIN). An operation that is interrupted 2^64 - 1 times in a row fails too.
 ghost use Rattle.std.specs.Prelude.{◌≡◌, ◌≢◌, ◌<◌, IfErr, IfOk, OnErr, length};
 ghost use Rattle.std.specs.IoError.{error_kind};
 ghost use Rattle.std.specs.Io.{WritesAtMost};
@@ -10,7 +10,7 @@ use crate::sinks::Sink;
 use std::io;
 use std::io::ErrorKind;
 
-/// One write, made again where a signal interrupts it.
+/// Writes once, and repeats the write if a signal interrupts it.
 pub(crate) fn write_again<W: Sink>(writer: &mut W, bytes: &[u8]) -> io::Result<usize>
     ensures bound { WritesAtMost result bytes.now }
     ensures bytes { WriteAppends (W.contents writer.old) (W.contents writer.new) result bytes.now }
@@ -31,7 +31,7 @@ pub(crate) fn write_again<W: Sink>(writer: &mut W, bytes: &[u8]) -> io::Result<u
     Err(io::Error::from(ErrorKind::TimedOut))
 }
 
-/// One flush, made again where a signal interrupts it.
+/// Flushes once, and repeats the flush if a signal interrupts it.
 pub(crate) fn flush_again<W: Sink>(writer: &mut W) -> io::Result<()>
     ensures bytes { Keeps (W.contents writer.old) (W.contents writer.new) }
     ensures made_again { IfErr result (λ error. error_kind error ≢ ErrorKind.Interrupted) }

@@ -1,16 +1,16 @@
-//! A place for text that is told a sheet at a time.
+//! A buffer for text that is written out a sheet at a time.
 ghost use Rattle.std.specs.Prelude.{ℕ, ◌≡◌, ◌≤◌, ◌++◌, ◌∷◌, List, [], IfOk, length, vec_capacity};
 
 use std::alloc::{AllocError, Global};
 use std::marker::Model;
 
-/// The bytes of a sheet: where more stand on it, it's told before anything is put.
+/// The size of a sheet, in bytes. If there are more bytes on it, they are written out before anything is put.
 pub(crate) const SHEET: usize = 65_536;
 
-/// The most bytes that are put at once.
+/// The largest number of bytes that are put at once.
 pub(crate) const MOST_PUT: usize = 512;
 
-/// Text that wasn't told yet, with room for a sheet and one piece more.
+/// Text that hasn't been written out yet, with room for a sheet and one more piece.
 #[derive(Drop)]
 pub struct Sheet {
     bytes: Vec<u8>,
@@ -25,7 +25,7 @@ impl Model for Sheet {
 }
 
 impl Sheet {
-    /// An empty sheet. This alone asks for memory.
+    /// Returns an empty sheet. Only this asks for memory.
     pub fn new(alloc: Global) -> Result<Sheet, AllocError>
         ensures { IfOk result (λ sheet. sheet ≡ []) }
     {
@@ -33,28 +33,28 @@ impl Sheet {
         Ok(Sheet { bytes })
     }
 
-    /// How many bytes stand on it.
+    /// Returns the number of bytes on the sheet.
     pub(crate) fn len(&self) -> usize
         ensures { result ≡ length self.now }
     {
         self.bytes.len()
     }
 
-    /// What stands on it.
+    /// Returns the text on the sheet.
     pub(crate) fn text(&self) -> &[u8]
         ensures { result.now ≡ self.now }
     {
         self.bytes.as_slice()
     }
 
-    /// Takes everything away.
+    /// Removes all text.
     pub(crate) fn clear(&mut self)
         ensures { self.new ≡ [] }
     {
         self.bytes.clear();
     }
 
-    /// Puts bytes behind what stands on it.
+    /// Appends bytes to the text. There is room for them.
     pub(crate) fn put(&mut self, bytes: &[u8])
         requires room { length self.old ≤ 65536 }
         requires few { length bytes.now ≤ 512 }
@@ -63,7 +63,7 @@ impl Sheet {
         let _within = self.bytes.extend_from_slice(bytes);
     }
 
-    /// Puts a byte behind what stands on it.
+    /// Appends a byte to the text. There is room for it.
     pub(crate) fn put_byte(&mut self, byte: u8)
         requires { length self.old ≤ 65536 }
         ensures { self.new ≡ self.old ++ byte ∷ [] }

@@ -1,4 +1,4 @@
-//! Writers, by what they may refuse for.
+//! Writers for which it is known what they may refuse for.
 ghost use Rattle.std.specs.Prelude.{◌≡◌, ◌<◌, IfErr, IfOk, length, ⊤};
 ghost use Rattle.std.specs.IoError.{error_kind};
 ghost use Rattle.std.specs.Io.{WritesAtMost};
@@ -8,25 +8,25 @@ ghost use Rattle.std.specs.declared.io.ErrorKind.{ErrorKind};
 use std::io;
 use std::io::{ErrorKind, Stderr, Stdout, Write};
 
-/// A writer of which is known for which kinds of error it may refuse.
+/// A writer for which the kinds of error are known that it may refuse for.
 pub trait Sink: Write {
-    // The kinds of error that a write or a flush may end with; `WriteZero` is that of a write which takes none of some bytes.
+    // The kinds of error that a write or a flush may end with. `WriteZero` is for a write that takes none of some bytes.
     ghost refuses: { ErrorKind → Type 0 };
 
-    /// One write, as [`Write::write`] makes it.
+    /// Writes once, as [`Write::write`] does.
     fn write_some(&mut self, bytes: &[u8]) -> io::Result<usize>
         ensures bound { WritesAtMost result bytes.now }
         ensures bytes { WriteAppends (Self.contents self.old) (Self.contents self.new) result bytes.now }
         ensures none { IfOk result (λ count. count ≡ 0 → 0 < length bytes.now → refuses ErrorKind.WriteZero) }
         ensures err { IfErr result (λ error. refuses (error_kind error)) };
 
-    /// One flush, as [`Write::flush`] makes it.
+    /// Flushes once, as [`Write::flush`] does.
     fn hand_on(&mut self) -> io::Result<()>
         ensures bytes { Keeps (Self.contents self.old) (Self.contents self.new) }
         ensures err { IfErr result (λ error. refuses (error_kind error)) };
 }
 
-/// A list of bytes refuses only what it has no memory for.
+/// A list of bytes refuses only for want of memory.
 impl Sink for Vec<u8> {
     ghost refuses = { λ kind. kind ≡ ErrorKind.OutOfMemory };
 
@@ -39,7 +39,7 @@ impl Sink for Vec<u8> {
     }
 }
 
-/// Standard output may refuse for anything.
+/// Standard output may refuse for any reason.
 impl Sink for Stdout {
     ghost refuses = { λ _. ⊤ };
 
@@ -52,7 +52,7 @@ impl Sink for Stdout {
     }
 }
 
-/// Standard error may refuse for anything.
+/// Standard error may refuse for any reason.
 impl Sink for Stderr {
     ghost refuses = { λ _. ⊤ };
 

@@ -6,27 +6,27 @@ use std::alloc::{AllocError, Global};
 use std::fmt::Display;
 use std::io;
 
-/// What was asked for is done.
+/// The request is done.
 pub const DONE: u8 = 0;
 /// The input is refused.
 pub const REFUSED: u8 = 1;
-/// The words mean no command.
+/// The arguments aren't a command.
 pub const USAGE: u8 = 2;
-/// A growth was refused.
+/// An allocation failed.
 pub const NO_MEMORY: u8 = 3;
 /// A read, a write or a run on threads failed.
 pub const FAULT: u8 = 4;
 
-/// An end before the work is done: the exit status, and the text that tells why. With status 3 the text is empty,
-/// since there may be no memory for it. With status 0, a request for help, the text goes to standard output, else
-/// to standard error.
+/// An end before the work is done: the exit status, and the text that says why. With status 3 the text is empty, since
+/// there may be no memory for it. With status 0, a request for help, the text goes to standard output, otherwise to
+/// standard error.
 #[derive(Debug, Drop)]
 pub struct Stop {
     pub status: u8,
     pub text: Vec<u8>,
 }
 
-/// The line of a fault of a part of the input.
+/// Returns the line of a fault in a part of the input. Fails only for want of memory.
 fn line_of_fault<F: Display>(alloc: Global, part: &str, fault: &F) -> Result<String, AllocError>
     ensures { IfOk result (λ line. IfSome (F.output fault.now) (λ text. string_bytes line ≡ fault_line part.now text)) }
 {
@@ -35,7 +35,7 @@ fn line_of_fault<F: Display>(alloc: Global, part: &str, fault: &F) -> Result<Str
 }
 
 impl Stop {
-    /// The end for want of memory.
+    /// Returns the end for want of memory.
     pub fn memory(alloc: Global) -> Stop
         ensures status { result.status ≡ 3 }
         ensures text { result.text.items ≡ [] }
@@ -46,7 +46,7 @@ impl Stop {
         }
     }
 
-    /// The end with a line, or for want of memory for it.
+    /// Returns the end with this status and line, or the end for want of memory if there is none for the line.
     pub fn with_line(alloc: Global, status: u8, line: &str) -> Stop
         requires { status ≢ 3 }
         ensures { EndsWith status line.now result }
@@ -57,7 +57,7 @@ impl Stop {
         }
     }
 
-    /// The end where the process's words can't be had: they aren't text, or memory lacks.
+    /// Returns the end for arguments that can't be read because they aren't text, or because memory lacks.
     pub fn without_words(alloc: Global, error: &io::Error) -> Stop
         ensures { EndsWith 2 (line_of (codes "cqf: words")) result }
     {
@@ -68,7 +68,7 @@ impl Stop {
         }
     }
 
-    /// The end with a text that was made, or, only where there was no memory for it, for want of memory.
+    /// Returns the end with this status and text, or the end for want of memory if the text couldn't be made.
     pub fn with_text(alloc: Global, status: u8, text: Result<String, AllocError>) -> Stop
         requires { status ≢ 3 }
         ensures told { IfOk text (λ line. EndsJustWith status (string_bytes line) result) }
@@ -84,8 +84,8 @@ impl Stop {
         }
     }
 
-    /// The end where a part of the input is refused for a fault: status 1, and the line `cqf: PART: FAULT` with the
-    /// fault as it prints; or for want of memory for it.
+    /// Returns the end for a part of the input that is refused for a fault: status 1, and the line `cqf: PART: FAULT`
+    /// with the fault as it prints; or the end for want of memory if there is none for the line.
     pub fn refused<F: Display>(alloc: Global, part: &str, fault: &F) -> Stop
         ensures { IfSome (F.output fault.now) (λ text. EndsWith 1 (fault_line part.now text) result) }
     {

@@ -1,14 +1,14 @@
-//! A text that was told into a list.
+//! Text that was written to a list.
 ghost use Rattle.std.specs.Prelude.{ℕ, ◌≡◌, [], List, IfOk, OnErr, Some, true};
 ghost use Rattle.cqf_press.specs.Edge.{HasTold, since};
 
 use crate::told::Told;
 use std::alloc::AllocError;
 
-/// The text that a list was told that was empty before: all of it.
+/// Returns the text that was written to a list that was empty before: all of it.
 ///
 /// # Errors
-/// Where the list refused a part, which it does only for want of memory.
+/// Returns `AllocError` if the list refused a part, which it does only for want of memory.
 pub fn told_text(told: Told<Vec<u8>>) -> Result<Vec<u8>, AllocError>
     ensures ok { IfOk result (λ list. (text : List ℕ) → HasTold (since (λ list. Some list.items) (Some []) told) text → list.items ≡ text) }
     ensures err { OnErr result (told.refused ≡ true) }

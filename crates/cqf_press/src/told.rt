@@ -9,8 +9,9 @@ use crate::sinks::Sink;
 use std::io;
 use std::io::Write;
 
-/// A writer, and whether it refused a write or a flush. Nothing but its own writes and flushes sets that, and only for a
-/// kind of error for which the writer may refuse. A signal that interrupts one of these isn't a refusal: it is made again.
+/// A writer, and whether it refused a write or a flush. Only its own writes and flushes set that, and only if there is
+/// a kind of error for which the writer may refuse. An interruption by a signal isn't a refusal: the operation is
+/// repeated.
 #[derive(Drop)]
 pub struct Told<W: Sink> {
     writer: W,
@@ -19,7 +20,7 @@ pub struct Told<W: Sink> {
 }
 
 impl<W: Sink> Told<W> {
-    /// A writer that was asked for nothing yet.
+    /// Returns the writer with no refusal recorded.
     pub fn new(writer: W) -> Told<W>
         ensures writer { result.writer ≡ writer }
         ensures refused { result.refused ≡ false }
@@ -30,21 +31,21 @@ impl<W: Sink> Told<W> {
         }
     }
 
-    /// The writer itself.
+    /// Returns the writer itself.
     pub fn writer(&self) -> &W
         ensures { result.now ≡ self.now.writer }
     {
         &self.writer
     }
 
-    /// The writer itself, taken out.
+    /// Returns the writer itself, by value.
     pub fn into_writer(self) -> W
         ensures { result ≡ self.writer }
     {
         self.writer
     }
 
-    /// Whether the writer refused a write or a flush.
+    /// Returns whether the writer refused a write or a flush.
     pub fn is_refused(&self) -> bool
         ensures { result ≡ self.now.refused }
     {
@@ -55,7 +56,7 @@ impl<W: Sink> Told<W> {
 impl<W: Sink> Write for Told<W> {
     ghost contents = { λ told. W.contents told.writer };
 
-    /// Writes some of the bytes. Where there are some, and none is taken, they are refused.
+    /// Writes some of the bytes. If there are some and none is taken, this is recorded as a refusal.
     fn write(&mut self, buf: &[u8]) -> io::Result<usize>
         ensures bound { WritesAtMost result buf.now }
         ensures bytes { WriteAppends (W.contents self.old.writer) (W.contents self.new.writer) result buf.now }

@@ -1,4 +1,4 @@
--- Nothing was taken yet, and once it was tried, there is a kind of error for which the writer may refuse.
+-- Nothing was taken yet; after the first attempt, there is a kind of error for which the writer may refuse.
 use Rattle.std.proofs.Common.{◌<◌}
 use Rattle.std.specs.Io.KnownBytes.{Keeps}
 use Rattle.cqf_press.specs.Kinds.{SomeKind}
