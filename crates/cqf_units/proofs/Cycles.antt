@@ -3,21 +3,21 @@ use Rattle.std.proofs.Common.{◌≡◌, ℕ, ◌+◌, ◌-◌, ◌*◌, ◌/◌
 use Rattle.std.proofs.lemmas.Bool.{cases_lt}
 use Rattle.std.proofs.lemmas.Nat.{div-mul-add, le-div, mod-mul-add}
 
--- an instant of a cycle is in that cycle alone
+-- an instant from a cycle's beginning to before its end is in that cycle
 pub cycle_is : (n c t : ℕ) → c * n ≤ t → t < c * n + n → t / n ≡ c
 cycle_is n c t from upto =
     let parts : t ≡ c * n + (t - c * n) = omega arith in
     ap (λ x. x / n) parts ∙ div-mul-add c n (t - c * n) (omega arith)
 
--- a cycle's instants
+-- a cycle begins no later than its instants
 pub cycle_from : (n t : ℕ) → t / n * n ≤ t
 cycle_from n t = omega (arith, div-add-mod' t n)
 
--- and they end where the next one begins
+-- and ends after them
 pub cycle_upto : (n t : ℕ) → 0 < n → t < t / n * n + n
 cycle_upto n t some = omega (arith, div-add-mod' t n, mod-lt t some)
 
--- where an instant lies in the round of two cycles
+-- the position of an instant in a round of two cycles
 pub in_round : (n c t : ℕ) → c * n ≤ t → t < c * n + n → t % (n + n) ≡ (c % 2) * n + (t - c * n)
 in_round n c t from upto =
     let halves = div-add-mod' c 2 in
@@ -26,11 +26,11 @@ in_round n c t from upto =
     let below : (c % 2) * n ≤ n = two n (c % 2) bit in
     ap (λ x. x % (n + n)) parts ∙ mod-mul-add (c / 2) (n + n) ((c % 2) * n + (t - c * n)) (omega arith)
   where
-    -- a length taken once or not at all is at most the length
+    -- a duration taken once or not at all is at most the duration
     two : (n b : ℕ) → b < 2 → b * n ≤ n
     two n b h = grind arith
 
--- which round of two cycles it lies in
+-- the round of two cycles that contains the instant
 pub round_is : (n c t : ℕ) → c * n ≤ t → t < c * n + n → t / (n + n) ≡ c / 2
 round_is n c t from upto =
     let halves = div-add-mod' c 2 in
@@ -39,15 +39,15 @@ round_is n c t from upto =
     let below : (c % 2) * n ≤ n = two n (c % 2) bit in
     ap (λ x. x / (n + n)) parts ∙ div-mul-add (c / 2) (n + n) ((c % 2) * n + (t - c * n)) (omega arith)
   where
-    -- a length taken once or not at all is at most the length
+    -- a duration taken once or not at all is at most the duration
     two : (n b : ℕ) → b < 2 → b * n ≤ n
     two n b h = grind arith
 
--- the two bits
+-- a cycle is even or odd
 pub parity : (c : ℕ) → (c % 2 ≡ 0) ⊎ (c % 2 ≡ 1)
 parity c = two (c % 2) (mod-lt c (omega arith))
   where
-    -- what is below 2 is 0 or 1
+    -- a number below 2 is 0 or 1
     two : (b : ℕ) → b < 2 → (b ≡ 0) ⊎ (b ≡ 1)
     two b h = grind arith
 
@@ -62,18 +62,18 @@ cycle_below n t cycles early = elim (cases_lt (t / n) cycles) [
 pub cycles_ordered : (n s t : ℕ) → 0 < n → s ≤ t → s / n ≤ t / n
 cycles_ordered n s t some order = le-div (s / n) t n some (omega (arith, cycle_from n s, order))
 
--- what is no earlier than a later cycle's beginning is no earlier than the next cycle's
+-- an instant that is no earlier than a later cycle's beginning is no earlier than the next cycle's
 pub from_next : (n c k t : ℕ) → c < k → k * n ≤ t → (c + 1) * n ≤ t
 from_next n c k t less from = let more : c + 1 ≤ k = omega (arith, less) in omega (arith, mul-le-mul_right n more, from)
 
--- cycles take time where anything happens before the end of some
+-- if an instant is before the end of some cycles, cycles have a positive duration
 pub takes_time : (n t cycles : ℕ) → t < cycles * n → 0 < n
 takes_time n t cycles l = elim (cases_lt 0 n) [
   | inl h ↦ h
   | inr g ↦ (let e : n ≡ 0 = omega (arith, g) in absurd (omega (arith, l, ap (λ x. cycles * x) e)))
 ]
 
--- and what happens in a cycle before one happens before that one begins
+-- an instant in a cycle of the run is before the run's end
 pub before_cycle : (n t cycle cycles : ℕ) → 0 < n → t / n ≡ cycle → cycle < cycles → t < cycles * n
 before_cycle n t cycle cycles some is l =
     let next : (cycle + 1) * n ≤ cycles * n = mul-le-mul_right n (omega (arith, l)) in

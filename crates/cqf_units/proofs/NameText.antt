@@ -12,7 +12,7 @@ use Rattle.cqf_units.specs.Name.{is_name, is_name_byte}
 name_byte-ascii : (b : ℕ) → is_name_byte b ≡ true → b < 128
 name_byte-ascii b e = grind (arith, nat_tests)
 
--- bytes that may stand in a name are UTF-8
+-- bytes that may occur in a name are UTF-8
 pub name_bytes-utf8 : (bs : List ℕ) → list_all is_name_byte bs ≡ true → IsUtf8 bs
 name_bytes-utf8 bs e = IsUtf8-from_ascii bs (IsAscii-from_all bs
     (λ k d h. name_byte-ascii (slice_index_or bs k d) (AllPass-from_list_all is_name_byte bs e k d h)))

@@ -1,11 +1,10 @@
--- Frames on a link (IEEE Std 802.3), cycles, and what a reservation takes of a link.
--- Instants and lengths of time are in nanoseconds, and whole ones. How long an octet takes is in ticks of 40 picoseconds, of
--- which a nanosecond has 25.
+-- Frames on a link (IEEE Std 802.3), cycles, and the share of a link that a reservation takes. Instants and durations are in whole
+-- nanoseconds. The time of an octet is in ticks of 40 picoseconds; a nanosecond has 25 of them.
 use Rattle.std.specs.Prelude.{ℕ, ◌+◌, ◌-◌, ◌*◌, ◌/◌, ◌%◌, ◌==◌, if◌then◌else◌}
 use Rattle.cqf_units.specs.declared.timing.Rate.{Rate}
 use Rattle.cqf_units.specs.declared.timing.Rate.TheVariants.{Mb10, Mb100, Mb1000, Mb2500, Mb5000, Mb10000, Mb25000, Mb40000, Mb100000}
 
--- how long an octet takes at a rate, in ticks (IEEE 802.3)
+-- the time of an octet at a rate, in ticks (IEEE 802.3)
 abbrev pub ticks_of_octet : Rate → ℕ
 ticks_of_octet Mb10 = 20000
 ticks_of_octet Mb100 = 2000
@@ -17,49 +16,50 @@ ticks_of_octet Mb25000 = 8
 ticks_of_octet Mb40000 = 5
 ticks_of_octet Mb100000 = 2
 
--- how long so many octets take, in nanoseconds: one that has begun counts as a whole one, since ports start at whole
--- nanoseconds. Up to 1,000 Mb/s nothing is rounded
+-- the time that `octets` octets take, in nanoseconds, rounded up to a whole one, since ports start frames at whole nanoseconds. Up to 1,000
+-- Mb/s nothing is rounded
 abbrev pub time_of : ℕ → ℕ → ℕ
 time_of octets octet_time = (octets * octet_time + 24) / 25
 
--- what a frame takes of the wire, in octets: 8 of preamble and start delimiter, and 12 of least gap (IEEE 802.3)
+-- the octets of the wire that a frame takes: its own, 8 of preamble and start delimiter, and 12 of minimum gap (IEEE 802.3)
 abbrev pub wire_of : ℕ → ℕ
 wire_of octets = octets + 20
 
--- and in nanoseconds
+-- the time that they take, in nanoseconds: the frame's slot
 abbrev pub slot_of : ℕ → ℕ → ℕ
 slot_of octets octet_time = time_of (wire_of octets) octet_time
 
--- the instant at which a frame is over that starts at an instant: preamble, start delimiter and frame are sent
+-- the instant at which a frame that starts at `start` has ended: preamble, start delimiter and frame have been sent
 abbrev pub ending_of : ℕ → ℕ → ℕ → ℕ
 ending_of start octets octet_time = start + time_of (octets + 8) octet_time
 
--- the instant from which the port may start again: the least gap is over too
+-- the instant from which the port may start the next frame: the minimum gap has passed too
 abbrev pub idle_after : ℕ → ℕ → ℕ → ℕ
 idle_after start octets octet_time = start + slot_of octets octet_time
 
--- what a reservation costs once, of each link of its tree, in octets a cycle: as many frames of the shortest
--- size as it can hold have preamble and gap
+-- what a reservation costs once on each link of its tree, in octets a cycle: the reserved octets, and 20 octets of preamble, start
+-- delimiter and gap for each frame of the shortest size (64 octets) that fits in them
 abbrev pub cost_of : ℕ → ℕ
 cost_of reserved = reserved + 20 * (reserved / 64)
 
--- by how many ticks a slot is rounded up at most
+-- an upper bound of the ticks that rounding a time up to whole nanoseconds adds
 abbrev pub rounding_of : ℕ → ℕ
 rounding_of octet_time = if octet_time % 25 == 0 then 0 else (if octet_time % 5 == 0 then 20 else 24)
 
--- the most ticks that a frame of the shortest size takes, which has 84 octets of the wire. No frame takes more for its octets
+-- an upper bound of the ticks that a frame of the shortest size takes on the wire (84 octets), rounded up to whole nanoseconds. No larger
+-- frame takes more than 1/84 of it for each of its octets on the wire
 abbrev pub shortest_of : ℕ → ℕ
 shortest_of octet_time = 84 * octet_time + rounding_of octet_time
 
--- the nanoseconds in which frames are sent that cost so many octets, whatever their sizes: 84 of these octets take no longer
--- than a frame of the shortest size
+-- an upper bound of the time, in nanoseconds, that frames with this total cost take to send, regardless of their sizes: `shortest_of` ticks
+-- for each 84 octets of cost
 abbrev pub span_of : ℕ → ℕ → ℕ
 span_of cost octet_time = cost * shortest_of octet_time / 2100
 
--- what reservations may cost on a link, in octets a cycle: frames that cost so much are sent before the guard time
+-- what reservations may cost on a link, in octets a cycle: frames with this total cost are sent in the cycle time less the guard band
 abbrev pub budget_of : ℕ → ℕ → ℕ → ℕ
 budget_of cycle_time guard octet_time = (cycle_time - guard) * 2100 / shortest_of octet_time
 
--- the cycle that an instant lies in
+-- the cycle that contains an instant; cycle 0 begins at instant 0
 abbrev pub cycle_at : ℕ → ℕ → ℕ
 cycle_at cycle_time t = t / cycle_time

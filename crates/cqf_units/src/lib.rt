@@ -1,9 +1,9 @@
-//! Quantities of cyclic queuing and forwarding: instants, octets, rates, cycles and names, and how long a frame
+//! Quantities of cyclic queuing and forwarding: instants, octets, rates, cycles and names, and the time that a frame
 //! takes on a link.
 //!
 //! - [`Nanos`], [`Octets`], [`Rate`] and [`Cycle`] are plain quantities, each with its unit.
 //! - [`octet_ticks`], [`time_of`], [`wire`], [`slot`], [`end_of`] and [`idle_from`] time a frame on an IEEE 802.3 link.
-//! - [`cost`], [`span`], [`budget`] and [`cycle_of`] are the profile's arithmetic of reservations and cycles.
+//! - [`cost`], [`span`], [`budget`] and [`cycle_of`] are the arithmetic of reservations and cycles.
 //! - [`Name`] is the name of a bridge, a station or a stream.
 //!
 //! ```text
@@ -24,6 +24,6 @@ pub use timing::{
     Nanos, Octets, Rate, end_of, idle_from, octet_ticks, slot, time_in_ticks, time_of, wire,
 };
 
-/// The one answer for want of memory, throughout: a growth was refused. What a call changed before that is put
-/// back, unless the call says otherwise.
+/// The error for want of memory, throughout: an allocation failed. What a call changed before that is restored, unless
+/// the call says otherwise.
 pub type Memory = AllocError;

@@ -8,8 +8,8 @@ use std::alloc::AllocError;
 use std::fmt;
 use std::marker::Model;
 
-/// The name of a bridge, a station or a stream: 1 to 32 bytes of `a` to `z`, `0` to `9`, `-` and `_`. Names are ordered as
-/// their bytes are.
+/// The name of a bridge, a station or a stream: 1 to 32 bytes of `a` to `z`, `0` to `9`, `-` and `_`. Names are ordered
+/// by their bytes.
 #[derive(PartialEq, Eq, PartialOrd, Ord, Hash, Drop)]
 pub struct Name {
     bytes: ArrayVec<u8, 32>,
@@ -28,21 +28,21 @@ impl Model for Name {
     ghost inverse = { λ bytes. record { bytes = record { items = bytes } } };
 }
 
-/// Whether the byte may stand in a name.
+/// Returns whether the byte may occur in a name.
 fn is_byte_of_name(byte: u8) -> bool
     ensures { result ≡ is_name_byte byte }
 {
     byte.is_ascii_lowercase() || byte.is_ascii_digit() || byte == b'-' || byte == b'_'
 }
 
-/// Whether each of the bytes may stand in a name.
+/// Returns whether each of the bytes may occur in a name.
 fn are_bytes_of_name(bytes: &[u8]) -> bool
     ensures { result ≡ list_all is_name_byte bytes.now }
 {
     bytes.iter().all(|byte| is_byte_of_name(*byte))
 }
 
-/// Whether the bytes have the form of a name.
+/// Returns whether the bytes have the form of a name.
 fn has_form(bytes: &[u8]) -> bool
     ensures { result ≡ is_name bytes.now }
 {
@@ -51,7 +51,7 @@ fn has_form(bytes: &[u8]) -> bool
     not_empty && not_too_long && are_bytes_of_name(bytes)
 }
 
-/// The bytes, kept in place.
+/// Returns a copy of the bytes, at most 32, that needs no allocation.
 fn kept(bytes: &[u8]) -> ArrayVec<u8, 32>
     requires { length bytes.now ≤ 32 }
     ensures { result.items ≡ bytes.now }
@@ -64,7 +64,7 @@ fn kept(bytes: &[u8]) -> ArrayVec<u8, 32>
 }
 
 impl Name {
-    /// The name of these bytes, or `None` where they don't have the form of a name.
+    /// Returns the name with these bytes, or `None` if they don't have the form of a name.
     pub fn new(bytes: &[u8]) -> Option<Name>
         ensures form { IsSome result ↔ IsTrue (is_name bytes.now) }
         ensures value { IfSome result (λ name. name ≡ bytes.now) }
@@ -75,7 +75,7 @@ impl Name {
         Some(Name { bytes: kept(bytes) })
     }
 
-    /// The same name once more. A name lies in place and needs no memory, so this can't fail.
+    /// Returns a copy of the name. A name needs no allocation, so this can't fail.
     pub fn copied(&self) -> Name
         ensures { result ≡ self.now }
     {
@@ -84,7 +84,7 @@ impl Name {
         }
     }
 
-    /// The name's bytes.
+    /// Returns the name's bytes.
     pub fn as_bytes(&self) -> &[u8]
         ensures value { result.now ≡ self.now }
         ensures form { IsTrue (is_name self.now) }
@@ -92,7 +92,7 @@ impl Name {
         self.bytes.as_slice()
     }
 
-    /// The name as text: its bytes are ASCII.
+    /// Returns the name as text; its bytes are ASCII.
     pub fn as_str(&self) -> &str
         ensures value { result.now ≡ self.now }
         ensures form { IsTrue (is_name self.now) }

@@ -1,4 +1,4 @@
-//! Cycles, and what a reservation takes of a link.
+//! Cycles, and the share of a link that a reservation takes.
 ghost use Rattle.std.specs.Prelude.{◌≡◌, ◌-◌, ◌*◌, ◌/◌, ◌^◌, ◌<◌, ◌≤◌};
 ghost use Rattle.cqf_units.specs.Timing.{ticks_of_octet, shortest_of, span_of, cost_of, budget_of, cycle_at};
 
@@ -8,9 +8,9 @@ use crate::{Nanos, Octets, Rate, octet_ticks};
 #[derive(Clone, Copy, Debug, PartialEq, Eq, PartialOrd, Ord, Hash)]
 pub struct Cycle(pub u32);
 
-/// What a reservation of so many octets a cycle costs once, on each link of its tree, in octets: the reservation, and 20
-/// octets of preamble, start delimiter and gap for each shortest frame of 64 octets that it can hold. The
-/// caller keeps the cost below 2^32.
+/// Returns what a reservation of this many octets a cycle costs once on each link of its tree, in octets: the reserved
+/// octets, and 20 octets of preamble, start delimiter and gap for each frame of the shortest size (64 octets) that fits
+/// in them. The caller keeps the cost below 2^32.
 pub fn cost(reserved: Octets) -> Octets
     requires { cost_of reserved.0 < 2 ^ 32 }
     ensures { result.0 ≡ cost_of reserved.0 }
@@ -18,7 +18,8 @@ pub fn cost(reserved: Octets) -> Octets
     Octets(reserved.0 + 20 * (reserved.0 / 64))
 }
 
-/// The most ticks that a frame of the shortest size takes, of 84 octets of the wire: no frame takes more for its octets.
+/// Returns an upper bound of the ticks that a frame of the shortest size takes on the wire (84 octets), rounded up to
+/// whole nanoseconds. No larger frame takes more than 1/84 of it for each of its octets on the wire.
 fn shortest(rate: Rate) -> u64
     ensures value { result ≡ shortest_of (ticks_of_octet rate) }
     ensures range { result ≤ 1680024 }
@@ -35,7 +36,8 @@ fn shortest(rate: Rate) -> u64
     84 * ticks + rounding
 }
 
-/// The nanoseconds in which frames are sent that cost so many octets, whatever their sizes.
+/// Returns an upper bound of the time, in nanoseconds, that frames with this total cost in octets take to send,
+/// regardless of their sizes. The cost is below 2^50.
 pub fn span(cost: u64, rate: Rate) -> u64
     requires { cost < 2 ^ 50 }
     ensures value { result ≡ span_of cost (ticks_of_octet rate) }
@@ -45,7 +47,8 @@ pub fn span(cost: u64, rate: Rate) -> u64
     (ticks / 2100) as u64
 }
 
-/// What reservations may cost on a link in a cycle, as [`budget`] has it, also where it is 2^32 or more.
+/// Returns what reservations may cost on a link in a cycle, in octets, as [`budget`] does, for results of 2^32 and more
+/// as well. The guard band is no longer than the cycle time, which is below 2^48 ns.
 pub fn budget_octets(cycle_time: Nanos, guard: Nanos, rate: Rate) -> u64
     requires shorter { guard.0 ≤ cycle_time.0 }
     requires short { cycle_time.0 < 2 ^ 48 }
@@ -57,8 +60,8 @@ pub fn budget_octets(cycle_time: Nanos, guard: Nanos, rate: Rate) -> u64
     open * 2100 / shortest
 }
 
-/// What reservations may cost on a link in a cycle, in octets: frames that cost so much are sent in the cycle time without the guard
-/// time. The guard time is no longer than the cycle time, which is below 2^28 ns.
+/// Returns what reservations may cost on a link in a cycle, in octets: frames with this total cost are sent in the
+/// cycle time less the guard band. The guard band is no longer than the cycle time, which is below 2^28 ns.
 pub fn budget(cycle_time: Nanos, guard: Nanos, rate: Rate) -> Octets
     requires shorter { guard.0 ≤ cycle_time.0 }
     requires short { cycle_time.0 < 2 ^ 28 }
@@ -68,8 +71,8 @@ pub fn budget(cycle_time: Nanos, guard: Nanos, rate: Rate) -> Octets
     Octets(octets as u32)
 }
 
-/// The cycle that the instant lies in, where cycle 0 begins at instant 0, and a cycle's first instant is its own
-///. The cycle time is positive, and the cycle's number is below 2^32.
+/// Returns the cycle that contains the instant. Cycle 0 begins at instant 0, and a cycle contains its first instant.
+/// The cycle time is positive, and the cycle's number is below 2^32.
 pub fn cycle_of(t: Nanos, cycle_time: Nanos) -> Cycle
     requires positive { 0 < cycle_time.0 }
     requires fits { cycle_at cycle_time.0 t.0 < 2 ^ 32 }

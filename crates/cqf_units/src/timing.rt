@@ -2,7 +2,7 @@
 ghost use Rattle.std.specs.Prelude.{◌≡◌, ◌+◌, ◌*◌, ◌^◌, ◌<◌, ◌≤◌};
 ghost use Rattle.cqf_units.specs.Timing.{ticks_of_octet, time_of, wire_of, slot_of, ending_of, idle_after};
 
-/// An instant, or a length of time, in nanoseconds.
+/// An instant or a duration, in nanoseconds.
 #[derive(Clone, Copy, Debug, PartialEq, Eq, PartialOrd, Ord, Hash)]
 pub struct Nanos(pub u64);
 
@@ -33,7 +33,7 @@ pub enum Rate {
     Mb100000,
 }
 
-/// How long one octet takes at the rate, in ticks of 40 picoseconds, of which a nanosecond has 25 (IEEE 802.3).
+/// Returns the time of one octet at the rate, in ticks of 40 picoseconds; a nanosecond has 25 of them (IEEE 802.3).
 pub fn octet_ticks(rate: Rate) -> u64
     ensures value { result ≡ ticks_of_octet rate }
     ensures range { result ≤ 20000 }
@@ -52,7 +52,7 @@ pub fn octet_ticks(rate: Rate) -> u64
     }
 }
 
-/// How long so many octets take at the rate, in nanoseconds: one that has begun counts as a whole one.
+/// Returns the time that `octets` octets take at the rate, in nanoseconds, rounded up to a whole one.
 pub fn time_of(octets: u64, rate: Rate) -> u64
     requires { octets ≤ 2 ^ 33 }
     ensures value { result ≡ time_of octets (ticks_of_octet rate) }
@@ -62,7 +62,8 @@ pub fn time_of(octets: u64, rate: Rate) -> u64
     (octets * octet_ticks(rate)).div_ceil(25)
 }
 
-/// The same where an octet takes so many ticks. The caller keeps the ticks of all octets below 2^63.
+/// Returns the same as [`time_of`] for octets that take `octet_ticks` ticks each. The caller keeps their total below
+/// 2^63 ticks.
 pub fn time_in_ticks(octets: u64, octet_ticks: u64) -> u64
     requires { octets * octet_ticks < 2 ^ 63 }
     ensures { result ≡ time_of octets octet_ticks }
@@ -70,8 +71,8 @@ pub fn time_in_ticks(octets: u64, octet_ticks: u64) -> u64
     (octets * octet_ticks).div_ceil(25)
 }
 
-/// What a frame takes of the wire, in octets: preamble and start delimiter take 8, the least gap 12 (IEEE 802.3).
-/// The caller keeps the sum below 2^32.
+/// Returns the octets of the wire that a frame takes: its own, 8 of preamble and start delimiter, and 12 of minimum gap
+/// (IEEE 802.3). The caller keeps the sum below 2^32.
 pub fn wire(frame: Octets) -> Octets
     requires { frame.0 + 20 < 2 ^ 32 }
     ensures { result.0 ≡ wire_of frame.0 }
@@ -79,7 +80,7 @@ pub fn wire(frame: Octets) -> Octets
     Octets(frame.0 + 20)
 }
 
-/// What it takes of the wire in nanoseconds: its slot.
+/// Returns a frame's slot: the time that its octets of the wire take, in nanoseconds.
 pub fn slot(frame: Octets, rate: Rate) -> u64
     ensures value { result ≡ slot_of frame.0 (ticks_of_octet rate) }
     ensures range { result ≤ 800 * (frame.0 + 20) }
@@ -87,8 +88,8 @@ pub fn slot(frame: Octets, rate: Rate) -> u64
     time_of(u64::from(frame.0) + 20, rate)
 }
 
-/// The instant at which a frame that starts at `start` is over: preamble, start delimiter and frame have been sent
-/// (IEEE 802.3). The caller keeps it below 2^64 ns.
+/// Returns the instant at which a frame that starts at `start` has ended: preamble, start delimiter and frame have been
+/// sent (IEEE 802.3). The caller keeps it below 2^64 ns.
 pub fn end_of(start: Nanos, frame: Octets, rate: Rate) -> Nanos
     requires { ending_of start.0 frame.0 (ticks_of_octet rate) < 2 ^ 64 }
     ensures { result.0 ≡ ending_of start.0 frame.0 (ticks_of_octet rate) }
@@ -96,8 +97,8 @@ pub fn end_of(start: Nanos, frame: Octets, rate: Rate) -> Nanos
     Nanos(start.0 + time_of(u64::from(frame.0) + 8, rate))
 }
 
-/// The instant from which the port may start again after a frame that starts at `start`: the least gap behind the
-/// frame is over too (IEEE 802.3). The caller keeps it below 2^64 ns.
+/// Returns the instant from which the port may start the next frame after one that starts at `start`: the minimum gap
+/// after the frame has passed too (IEEE 802.3). The caller keeps it below 2^64 ns.
 pub fn idle_from(start: Nanos, frame: Octets, rate: Rate) -> Nanos
     requires { idle_after start.0 frame.0 (ticks_of_octet rate) < 2 ^ 64 }
     ensures { result.0 ≡ idle_after start.0 frame.0 (ticks_of_octet rate) }
