@@ -7,18 +7,18 @@ use Rattle.std.proofs.lemmas.Bool.{cases_Bool, cases_lt}
 use Rattle.std.proofs.lemmas.Grind.{common_steps}
 use Rattle.cqf_text.specs.Lines.{is_line_feed, without_empty_last, lines_of}
 
--- where no element passes, the list is the one part
+-- if no element passes, the list is the only piece
 pub slice_split-alone : (p : ℕ → Bool) (xs : List ℕ) → length xs ≤ position_or_len p xs → slice_split p xs ≡ xs ∷ []
 slice_split-alone p [] h = refl
 slice_split-alone p (x ∷ xs) h = grind (arith, common_steps, slice_split-alone p xs)
 
--- a piece that others follow is a line
+-- a piece that isn't the last one is a line
 pub without_empty_last-cons : (piece : List ℕ) (pieces : List (List ℕ)) → 0 < length pieces →
     without_empty_last (piece ∷ pieces) ≡ piece ∷ without_empty_last pieces
 without_empty_last-cons piece [] h = absurd (omega arith)
 without_empty_last-cons piece (next ∷ more) h = refl
 
--- there is a piece
+-- there is at least one piece
 pub slice_split-some : (text : List ℕ) → 0 < length (slice_split is_line_feed text)
 slice_split-some text = omega (arith, length-slice_split is_line_feed text)
 
@@ -42,14 +42,14 @@ lines_of-at_end text some h =
     let none : lines_of (after_first is_line_feed text) ≡ [] = ap lines_of back in
     cc
 
--- a text that isn't empty has its first line first
+-- the first line of a nonempty text is first among its lines
 pub lines_of-first : (text : List ℕ) → 0 < length text → lines_of text ≡ before_first is_line_feed text ∷ lines_of (after_first is_line_feed text)
 lines_of-first text some = elim (cases_lt (position_or_len is_line_feed text) (length text)) [
   | inl h ↦ lines_of-at_feed text h
   | inr h ↦ lines_of-at_end text some h
 ]
 
--- the first line ends at the place before which there is no line feed, where one stands there, or the text ends
+-- the first line ends at the first line feed, or at the end of the text
 pub first_feed : (text : List ℕ) (end : ℕ) → end ≤ length text → ((k : ℕ) → k < end → is_line_feed (slice_index text k) ≡ true → ⊥) →
     (end < length text → is_line_feed (slice_index text end) ≡ true) → end ≡ position_or_len is_line_feed text
 first_feed text end inside none here = sym (position_or_len_is is_line_feed text end 0 inside

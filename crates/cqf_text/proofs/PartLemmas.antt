@@ -18,72 +18,72 @@ use Rattle.cqf_text.specs.Lines.{is_line_feed}
 use Rattle.cqf_text.specs.Parts.{is_divider, with_line_feeds, whole_lines, parts_of}
 use Rattle.cqf_text.proofs.LineLemmas.{slice_split-alone, slice_split-some}
 
--- the first line with its line feed, and what stands behind it
+-- the first line with its line feed
 abbrev pub first_line : List ℕ → List ℕ
 first_line text = take (position_or_len is_line_feed text + 1) text
 
--- what stands behind the first line
+-- the text after the first line
 abbrev pub behind_first_line : List ℕ → List ℕ
 behind_first_line text = drop (position_or_len is_line_feed text + 1) text
 
--- more in front of the first part
+-- the parts, with more text at the front of the first one
 abbrev pub prepend : List ℕ → List (List ℕ) → List (List ℕ)
 prepend front [] = (front ++ []) ∷ []
 prepend front (part ∷ parts) = (front ++ part) ∷ parts
 
--- to put two texts before the first part, one after the other
+-- prepending two texts is prepending their concatenation
 prepend-append : (a b : List ℕ) (parts : List (List ℕ)) → prepend a (prepend b parts) ≡ prepend (a ++ b) parts
 prepend-append a b [] = ap (λ x. x ∷ []) (sym (append_assoc a b []))
 prepend-append a b (part ∷ parts) = ap (λ x. x ∷ parts) (sym (append_assoc a b part))
 
--- a line onto the first group is a text before the first part
+-- adding a line to the first group prepends it to the first part
 prepend-onto_first : (line : List ℕ) (groups : List (List (List ℕ))) → map concat (onto_first line groups) ≡ prepend line (map concat groups)
 prepend-onto_first line [] = refl
 prepend-onto_first line (group ∷ groups) = refl
 
--- a piece that others follow has a line feed
+-- a piece that isn't the last one has a line feed
 with_line_feeds-cons : (piece : List ℕ) (pieces : List (List ℕ)) → 0 < length pieces →
     with_line_feeds (piece ∷ pieces) ≡ (piece ++ 10 ∷ []) ∷ with_line_feeds pieces
 with_line_feeds-cons piece [] h = absurd (omega arith)
 with_line_feeds-cons piece (next ∷ more) h = refl
 
--- the line with the line feed at which the text is cut
+-- the first line is the text before its line feed, with the line feed
 first_line-feed : (text : List ℕ) → position_or_len is_line_feed text < length text → first_line text ≡ before_first is_line_feed text ++ 10 ∷ []
 first_line-feed text h =
     let feed : is_line_feed (get_or text (position_or_len is_line_feed text) 0) ≡ true = passes_at_first is_line_feed text 0 h in
     let byte : get_or text (position_or_len is_line_feed text) 0 ≡ 10 = grind (arith, common_steps) in
     take_more text (position_or_len is_line_feed text) 0 h ∙ ap (λ b. before_first is_line_feed text ++ b ∷ []) byte
 
--- the first whole line, where it has a line feed
+-- the first line and the other ones, if it has a line feed
 whole_lines-first : (text : List ℕ) → position_or_len is_line_feed text < length text →
     whole_lines text ≡ first_line text ∷ whole_lines (behind_first_line text)
 whole_lines-first text h = ap with_line_feeds (slice_split_first is_line_feed text 0 h)
     ∙ with_line_feeds-cons _ _ (slice_split-some (after_first is_line_feed text))
     ∙ ap (λ line. line ∷ whole_lines (behind_first_line text)) (sym (first_line-feed text h))
 
--- what lines make of a divider, and of another line
+-- a divider line begins a new part
 groups-divider : (line : List ℕ) (lines : List (List ℕ)) → is_divider line ≡ true →
     map concat (slice_split is_divider (line ∷ lines)) ≡ [] ∷ map concat (slice_split is_divider lines)
 groups-divider line lines h = ap (map concat) (slice_split-cons_yes is_divider line lines h)
 
--- a line that divides nothing belongs to the first part
+-- a line that isn't a divider belongs to the first part
 groups-other : (line : List ℕ) (lines : List (List ℕ)) → is_divider line ≡ false →
     map concat (slice_split is_divider (line ∷ lines)) ≡ prepend line (map concat (slice_split is_divider lines))
 groups-other line lines h = ap (map concat) (slice_split-cons_no is_divider line lines h) ∙ prepend-onto_first line _
 
--- a text with no line feed is one line, and nothing stands behind it
+-- a text without a line feed is one line
 first_line-alone : (text : List ℕ) → length text ≤ position_or_len is_line_feed text → first_line text ≡ text
 first_line-alone text h = grind (arith, common_steps)
 
--- behind the only line nothing stands
+-- no text follows the only line
 behind-alone : (text : List ℕ) → length text ≤ position_or_len is_line_feed text → behind_first_line text ≡ []
 behind-alone text h = grind (arith, common_steps)
 
--- a single line is cut as one line
+-- the parts of a single line
 parts_of-alone : (text : List ℕ) → length text ≤ position_or_len is_line_feed text → parts_of text ≡ map concat (slice_split is_divider (text ∷ []))
 parts_of-alone text h = ap (λ pieces. map concat (slice_split is_divider (with_line_feeds pieces))) (slice_split-alone is_line_feed text h)
 
--- the parts, where the first line is a divider
+-- the parts, if the first line is a divider
 pub parts_of-divider : (text : List ℕ) → is_divider (first_line text) ≡ true → parts_of text ≡ [] ∷ parts_of (behind_first_line text)
 parts_of-divider text h = elim (cases_lt (position_or_len is_line_feed text) (length text)) [
   | inl feed ↦ ap (λ lines. map concat (slice_split is_divider lines)) (whole_lines-first text feed)
@@ -94,7 +94,7 @@ parts_of-divider text h = elim (cases_lt (position_or_len is_line_feed text) (le
       ∙ ap (λ rest. [] ∷ parts_of rest) (sym (behind-alone text alone))
 ]
 
--- the parts, where it is none
+-- the parts, if the first line isn't a divider
 pub parts_of-other : (text : List ℕ) → is_divider (first_line text) ≡ false → parts_of text ≡ prepend (first_line text) (parts_of (behind_first_line text))
 parts_of-other text h = elim (cases_lt (position_or_len is_line_feed text) (length text)) [
   | inl feed ↦ ap (λ lines. map concat (slice_split is_divider lines)) (whole_lines-first text feed)
@@ -106,11 +106,11 @@ parts_of-other text h = elim (cases_lt (position_or_len is_line_feed text) (leng
       ∙ ap (λ front. prepend front (parts_of (behind_first_line text))) (sym (first_line-alone text alone))
 ]
 
--- no byte of the text is a percent sign
+-- the text has no percent sign
 abbrev pub HasNoSign : List ℕ → Type 0
 HasNoSign text = All (λ byte. byte ≢ 37) text
 
--- a line with no percent sign is no divider
+-- a line without a percent sign isn't a divider
 other-line : (line : List ℕ) → HasNoSign line → is_divider line ≡ false
 other-line [] none = refl
 other-line (a ∷ []) none = refl
@@ -118,7 +118,7 @@ other-line (a ∷ b ∷ []) none = rw (ne_eqb a 37 (All-head (λ byte. byte ≢ 
 other-line (a ∷ b ∷ c ∷ []) none = rw (ne_eqb a 37 (All-head (λ byte. byte ≢ 37) a (b ∷ c ∷ []) none)) refl
 other-line (a ∷ b ∷ c ∷ d ∷ more) none = refl
 
--- a text of at most so many bytes with no percent sign is one part
+-- a text of limited length without a percent sign is one part
 one_part-within : (most : ℕ) (text : List ℕ) → length text ≤ most → HasNoSign text → parts_of text ≡ text ∷ []
 one_part-within most [] short none = refl
 one_part-within zero (byte ∷ text) short none = absurd (omega arith)
@@ -130,49 +130,49 @@ one_part-within (suc most) (byte ∷ text) short none =
     ∙ ap (prepend (take cut whole)) (one_part-within most (drop cut whole) shorter (All-drop (λ byte. byte ≢ 37) cut whole none))
     ∙ ap (λ part. part ∷ []) (take-append-drop cut whole)
 
--- a text with no percent sign is one part
+-- a text without a percent sign is one part
 pub one_part : (text : List ℕ) → HasNoSign text → parts_of text ≡ text ∷ []
 one_part text none = one_part-within (length text) text (omega arith) none
 
--- so is a text in which no percent sign is found
+-- so is a text in which no percent sign was found
 pub one_part-unfound : (text : List ℕ) (found : Option ℕ) (unfound : Bool) → IsFirstByte (is_byte 37) text found → is_some found ≡ not unfound
     → IsTrue unfound → parts_of text ≡ text ∷ []
 one_part-unfound text None unfound nowhere is none_there =
     one_part text (λ k d below same. nowhere k (omega arith) below (eq-eqb (get_or text k 0) 37 (get_or_default text k 0 d below ∙ same)))
 one_part-unfound text (Some k) unfound there is none_there = absurd (cc)
 
--- so far, what stands in front of the rest has no divider
+-- the text before the rest has no divider
 pub record Passed (input front rest : List ℕ) : Type 0 where
   pub cut : input ≡ front ++ rest
   pub parts : parts_of input ≡ prepend front (parts_of rest)
 
--- what stands in front of the rest
+-- the text before the rest
 abbrev pub front_of : List ℕ → List ℕ → List ℕ
 front_of input rest = take (length input - length rest) input
 
--- there is a part
+-- prepending nothing
 prepend-nil : (parts : List (List ℕ)) → 0 < length parts → prepend [] parts ≡ parts
 prepend-nil [] h = absurd (omega arith)
 prepend-nil (part ∷ parts) h = refl
 
--- a text has a part
+-- a text has at least one part
 some_part : (input : List ℕ) → 0 < length (parts_of input)
 some_part input = omega (arith, length-map (slice_split is_divider (whole_lines input)) concat, length-slice_split is_divider (whole_lines input))
 
--- what was passed is the front
+-- the passed text is the front
 front_is : (input front rest : List ℕ) → Passed input front rest → front_of input rest ≡ front
 front_is input front rest p =
     let long : length input ≡ length front + length rest = ap length p.cut ∙ length-append front rest in
     let count : length front ≡ length input - length rest = omega arith in
     ap (take (length input - length rest)) p.cut ∙ take_at front rest (length input - length rest) count
 
--- before the first line nothing was passed
+-- nothing has been passed before the first line
 pub Passed-start : (input : List ℕ) → Passed input (front_of input input) input
 Passed-start input =
     let whole : Passed input [] input = record { cut = refl; parts = sym (prepend-nil (parts_of input) (some_part input)) } in
     subst (λ (front : List ℕ). Passed input front input) (sym (front_is input [] input whole)) whole
 
--- a line that divides nothing is passed
+-- a line that isn't a divider is passed
 line-passed : (input rest : List ℕ) → Passed input (front_of input rest) rest → is_divider (first_line rest) ≡ false →
     Passed input (front_of input (behind_first_line rest)) (behind_first_line rest)
 line-passed input rest p h =
@@ -186,14 +186,14 @@ line-passed input rest p h =
     } in
     subst (λ (x : List ℕ). Passed input x behind) (sym (front_is input (front ++ line) behind further)) further
 
--- at a line that divides, the front is a part
+-- at a divider, the front is a part
 divider-passed : (input rest : List ℕ) → Passed input (front_of input rest) rest → is_divider (first_line rest) ≡ true →
     parts_of input ≡ front_of input rest ∷ parts_of (behind_first_line rest)
 divider-passed input rest p h =
     p.parts ∙ ap (prepend (front_of input rest)) (parts_of-divider rest h)
     ∙ ap (λ x. x ∷ parts_of (behind_first_line rest)) (append-nil (front_of input rest))
 
--- another line is passed
+-- the next line is passed if it isn't a divider
 pub Passed-line : (input rest line behind : List ℕ) → Passed input (front_of input rest) rest → line ≡ first_line rest → behind ≡ behind_first_line rest →
     false ≡ is_divider line → Passed input (front_of input behind) behind
 Passed-line input rest line behind p line_is behind_is h =
@@ -213,12 +213,12 @@ Passed-end input p =
     let front : front_of input [] ++ [] ≡ input = sym p.cut in
     p.parts ∙ ap (λ x. x ∷ []) front
 
--- how much is left
+-- the length of the text that is left
 abbrev pub size_of : Option (Bor (List ℕ)) → ℕ
 size_of None = 0
 size_of (Some rest) = suc (length rest.now)
 
--- the parts that are left
+-- the parts of the text that is left
 abbrev pub parts_left : Option (Bor (List ℕ)) → List (List ℕ)
 parts_left None = []
 parts_left (Some rest) = parts_of rest.now

@@ -1,14 +1,14 @@
-//! Decimal numbers in texts.
+//! Decimal numbers in text.
 ghost use Rattle.std.specs.Prelude.{◌≡◌, ◌+◌, ◌*◌, ◌^◌, ◌≤◌, ◌<◌, length, MatchOption};
 ghost use Rattle.cqf_text.specs.Decimal.{decimal_in, in_range};
 
-/// How many digits a number has at most, leading zeros included.
+/// The largest number of digits of a number, including leading zeros.
 const MOST_DIGITS: usize = 20;
 
-/// So many digits write no number that is too large for 64 bits.
+/// The largest number of digits that always denote a number of 64 bits.
 const SAFE_DIGITS: usize = 19;
 
-/// The number that a digit more makes of a number, where 64 bits hold it.
+/// Returns the number with one more digit, or `None` if it doesn't fit 64 bits.
 fn with_digit(number: u64, digit: u8) -> Option<u64>
     requires { digit < 10 }
     ensures { MatchOption result (2 ^ 64 ≤ number * 10 + digit) (λ more. more ≡ number * 10 + digit) }
@@ -16,7 +16,7 @@ fn with_digit(number: u64, digit: u8) -> Option<u64>
     number.checked_mul(10)?.checked_add(u64::from(digit))
 }
 
-/// The number, where it lies in the range.
+/// Returns the number if it is in the range.
 fn ranged(number: u64, least: u64, most: u64) -> Option<u64>
     ensures { result ≡ in_range least most number }
 {
@@ -27,7 +27,7 @@ fn ranged(number: u64, least: u64, most: u64) -> Option<u64>
     }
 }
 
-/// The number that few bytes write, in the range: so few digits that 64 bits hold what they write.
+/// Returns the number that the bytes denote, if it is in the range. There are at most 19 bytes, so no step overflows 64 bits.
 fn read_short(bytes: &[u8], least: u64, most: u64) -> Option<u64>
     requires some { 0 < length bytes.now }
     requires few { length bytes.now ≤ 19 }
@@ -43,7 +43,8 @@ fn read_short(bytes: &[u8], least: u64, most: u64) -> Option<u64>
     ranged(number, least, most)
 }
 
-/// The number that the bytes write, in the range, where each step is seen to fit 64 bits.
+/// Returns the number that the bytes denote, if it is in the range. There are at most 20 bytes, and each step is
+/// checked to fit 64 bits.
 fn read_long(bytes: &[u8], least: u64, most: u64) -> Option<u64>
     requires some { 0 < length bytes.now }
     requires few { length bytes.now ≤ 20 }
@@ -62,8 +63,8 @@ fn read_long(bytes: &[u8], least: u64, most: u64) -> Option<u64>
     ranged(number, least, most)
 }
 
-/// The decimal number that the bytes write: one to twenty ASCII digits, leading zeros allowed, and in the range
-/// from `least` to `most`. `None` where the bytes are anything else.
+/// Returns the decimal number that the bytes denote: one to twenty ASCII digits, leading zeros allowed, with a value
+/// from `least` to `most`. Returns `None` for anything else.
 pub fn read_decimal(bytes: &[u8], least: u64, most: u64) -> Option<u64>
     ensures { result ≡ decimal_in least most bytes.now }
 {

@@ -9,21 +9,21 @@ use cqf_units::Memory;
 use memchr::memchr;
 use std::alloc::Global;
 
-/// Whether the line is a divider: `%%`, with its line feed or without.
+/// Returns whether the line is a divider: `%%`, with or without a line feed.
 fn divides(line: &[u8]) -> bool
     ensures { result ≡ is_divider line.now }
 {
     matches!(line, [b'%', b'%'] | [b'%', b'%', b'\n'])
 }
 
-/// Whether the text has no percent sign: it is then one part, and its lines needn't be looked at.
+/// Returns whether the text has no percent sign. If so, it is a single part, and its lines needn't be examined.
 fn has_no_sign(text: &[u8]) -> bool
     ensures { IsTrue result → parts_of text.now ≡ text.now ∷ [] }
 {
     memchr(b'%', text).is_none()
 }
 
-/// The first line with its line feed, and what stands behind it.
+/// Returns the first line with its line feed, and the text after it.
 fn split_whole_line(text: &[u8]) -> (&[u8], &[u8])
     ensures line { result.0.now ≡ take (position_or_len is_line_feed text.now + 1) text.now }
     ensures rest { result.1.now ≡ drop (position_or_len is_line_feed text.now + 1) text.now }
@@ -38,8 +38,7 @@ fn split_whole_line(text: &[u8]) -> (&[u8], &[u8])
     }
 }
 
-/// The first part of the input, and what stands behind the divider that ends it, or `None` where the part is the
-/// last.
+/// Returns the first part of the input, and the text after the divider that ends it, or `None` if the part is the last one.
 fn split_part(input: &[u8]) -> (&[u8], Option<&[u8]>)
     ensures parts { MatchOption result.1 (parts_of input.now ≡ result.0.now ∷ []) (λ rest. parts_of input.now ≡ result.0.now ∷ parts_of rest.now) }
     ensures shorter { MatchOption result.1 ⊤ (λ rest. length rest.now < length input.now) }
@@ -58,9 +57,10 @@ fn split_part(input: &[u8]) -> (&[u8], Option<&[u8]>)
     (input, None)
 }
 
-/// The parts of an input: what stands before, between and behind the lines that are exactly `%%`. The last `%%` may
-/// lack its line feed, and an empty part follows it all the same. An empty input is one empty part. The line feed
-/// before a divider belongs to the part before it.
+/// Returns the parts of an input: the text before the first line that is exactly `%%`, between two such lines, and
+/// after the last one. The last `%%` may lack its line feed; an empty part follows it all the same. An empty input is
+/// one empty part. The line feed before a divider belongs to the part before it. Returns `Memory` if an allocation
+/// fails.
 pub fn parts(alloc: Global, input: &[u8]) -> Result<Vec<&[u8]>, Memory>
     ensures { IfOk result (λ parts. map (λ part. part.now) parts.items ≡ parts_of input.now) }
 {

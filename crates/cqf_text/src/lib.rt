@@ -1,7 +1,7 @@
-//! The forms that every text of this repository shares: decimal numbers, lines, and the parts of an input.
+//! Basic forms of text: decimal numbers, lines, and the parts of an input.
 //!
 //! - [`read_decimal`] reads a number in a range.
-//! - [`split_line`] gives a text's first line and what stands behind it.
+//! - [`split_line`] returns a text's first line and the text after it.
 //! - [`parts`] divides an input at the lines that are `%%`.
 //!
 //! ```text
@@ -10,7 +10,7 @@
 //! parts(alloc, b"a\n%%\nb")       is Ok([b"a\n", b"b"])
 //! ```
 //!
-//! A reader of lines is a loop `while let Some((line, rest)) = split_line(text)` that goes on with `text = rest`.
+//! To read lines, loop with `while let Some((line, rest)) = split_line(text)` and continue with `text = rest`.
 #![tactic(auto)]
 
 mod decimals;

@@ -5,7 +5,7 @@ ghost use Rattle.cqf_text.specs.Lines.{is_line_feed, lines_of};
 
 use memchr::memchr;
 
-/// Where the first line ends: before its line feed, or at the end of the text.
+/// Returns the index at which the first line ends: that of its line feed, or the length of the text.
 pub(crate) fn line_end(text: &[u8]) -> usize
     ensures end { result ≡ position_or_len is_line_feed text.now }
     ensures inside { result ≤ length text.now }
@@ -16,8 +16,8 @@ pub(crate) fn line_end(text: &[u8]) -> usize
     }
 }
 
-/// The first line of the text, and what stands behind its line feed. `None` exactly where the text is empty: it has
-/// no line. The last line may lack its line feed, and an empty piece behind the last line feed is no line.
+/// Returns the first line of the text, and the text after its line feed. Returns `None` if and only if the text is
+/// empty. The last line may lack its line feed, and an empty piece after the last line feed is not a line.
 pub fn split_line(text: &[u8]) -> Option<(&[u8], &[u8])>
     ensures any { IsSome result ↔ (0 < length text.now) }
     ensures line { IfSome result (λ p. p.0.now ≡ before_first is_line_feed text.now) }

@@ -10,7 +10,7 @@ loop-byte-preserved c =
     read_more c.args.bytes.now c.loop-byte.byte-index c.loop-byte.number _ c.loop-byte-test.true (search rules)
     c.loop-byte.invariant (omega (arith, c.in-Some.ensures))
 
--- 64 bits can't hold the digits so far
+-- the number so far doesn't fit 64 bits
 pub returns-in-None : goal.returns-in-None
 returns-in-None c =
     let bytes = c.args.bytes.now in

@@ -8,7 +8,7 @@ loop-byte-preserved c =
     read_more c.args.bytes.now c.loop-byte.byte-index c.loop-byte.number _ c.loop-byte-test.true (search rules)
     c.loop-byte.invariant (omega (arith, c.from.ensures))
 
--- fewer digits than nineteen write less than 10 ^ 18
+-- fewer than nineteen digits denote less than 10 ^ 18
 pub overflow_mul-number : goal.overflow_mul-number
 overflow_mul-number c =
     let small = read_few c.args.bytes.now c.loop-byte.byte-index c.loop-byte.number c.loop-byte-test.true c.requires.few c.loop-byte.invariant in
