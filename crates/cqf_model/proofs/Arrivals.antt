@@ -1,4 +1,4 @@
--- Arrivals that stand behind the others, of classes that are closed from when they come: the starts are legal with them where they are without.
+-- Further arrivals whose classes are closed from their instants on: starts are legal with them if and only if they are legal without.
 use Rattle.std.proofs.Common.{ℕ, ◌≡◌, ◌≤◌, ◌<◌, inl, inr, List, [], ◌∷◌, ◌++◌, length, ap, sym, subst, ◌∙◌, arith, length-append}
 use Rattle.std.specs.Prelude.{Contains, slice_index_or}
 use Rattle.std.proofs.lemmas.List.{get_or_append_left}
@@ -10,17 +10,17 @@ use Rattle.cqf_model.specs.GateList.{IsOpen}
 use Rattle.cqf_model.specs.Port.{AreLegal, IsEligible, IsFirst, IsIdle, PortRules, Transmission, Waits, no_arrival, octets_of}
 use Rattle.cqf_model.proofs.Legal.{eligible_alike, ends_later}
 
--- the gate of an arrival is closed from when it comes up to the end
+-- the gate of an arrival is closed from the arrival's instant up to the end
 abbrev pub IsClosedUntil : PortRules → ℕ → Arrival → Type 0
 IsClosedUntil rules end x = (t : ℕ) → x.at.0 ≤ t → t < end → IsOpen rules.entries x.class t → ⊥
 
--- an arrival of the front stands at its place
+-- an arrival of the front has the same index with further arrivals
 kept : (xs ys : List Arrival) (p : ℕ) → p < length xs → slice_index_or xs p no_arrival ≡ slice_index_or (xs ++ ys) p no_arrival
 kept xs ys p l = sym (get_or_append_left xs ys no_arrival p l)
 
 module _ (rules : PortRules) (xs ys : List Arrival) (end : ℕ) (positive : 0 < rules.octet_time)
     (closed : (x : Arrival) → Contains ys x → IsClosedUntil rules end x) where
-  -- so what is eligible is of the front
+  -- so an eligible first arrival is of the front
   in_front : (starts : List Transmission) (p t : ℕ) → t < end → IsFirst (xs ++ ys) starts p t → IsEligible rules (xs ++ ys) p t → p < length xs
   in_front starts p t l f e =
       elim (in_either xs ys p no_arrival f.waits.inside) [
@@ -29,12 +29,12 @@ module _ (rules : PortRules) (xs ys : List Arrival) (end : ℕ) (positive : 0 < 
             (e t (omega arith) (ends_later t (octets_of (xs ++ ys) p) rules.octet_time positive)))
       ]
 
-  -- what waits in the front waits alone
+  -- an arrival of the front that waits among all waits in the front alone
   waits_fewer : (starts : List Transmission) (p t : ℕ) → p < length xs → Waits (xs ++ ys) starts p t → Waits xs starts p t
   waits_fewer starts p t l w =
       record { inside = l; come = omega (arith, w.come, ap (λ (y : Arrival). y.at.0) (kept xs ys p l)); not_started = w.not_started }
 
-  -- and beside the others
+  -- and the other way round
   waits_more : (starts : List Transmission) (p t : ℕ) → Waits xs starts p t → Waits (xs ++ ys) starts p t
   waits_more starts p t w =
       record {
@@ -43,7 +43,7 @@ module _ (rules : PortRules) (xs ys : List Arrival) (end : ℕ) (positive : 0 < 
         not_started = w.not_started;
       }
 
-  -- what is first is first in the front alone
+  -- the first of a class among all is the first in the front alone
   first_fewer : (starts : List Transmission) (p t : ℕ) → p < length xs → IsFirst (xs ++ ys) starts p t → IsFirst xs starts p t
   first_fewer starts p t l f =
       let class = λ (y : Arrival). y.class in
@@ -53,7 +53,7 @@ module _ (rules : PortRules) (xs ys : List Arrival) (end : ℕ) (positive : 0 < 
         none_before = λ other m c w. f.none_before other m (sym (ap class (kept xs ys other w.inside)) ∙ c ∙ own) (waits_more starts other t w);
       }
 
-  -- and beside the others
+  -- and the other way round
   first_more : (starts : List Transmission) (p t : ℕ) → IsFirst xs starts p t → IsFirst (xs ++ ys) starts p t
   first_more starts p t f =
       let class = λ (y : Arrival). y.class in
@@ -65,7 +65,7 @@ module _ (rules : PortRules) (xs ys : List Arrival) (end : ℕ) (positive : 0 < 
             f.none_before other m (ap class (kept xs ys other inside) ∙ c ∙ sym own) (waits_fewer starts other t inside w);
       }
 
-  -- where the starts are of the front, the port is idle for the front alone when it is for all
+  -- if the starts are of the front and the port is idle for all arrivals, it is idle for the front alone
   idle_fewer : (starts : List Transmission) → ((p s : ℕ) → Contains starts (p, s) → p < length xs) → (t : ℕ) → IsIdle rules (xs ++ ys) starts t →
       IsIdle rules xs starts t
   idle_fewer starts inside t idle p s h l =
@@ -77,7 +77,7 @@ module _ (rules : PortRules) (xs ys : List Arrival) (end : ℕ) (positive : 0 < 
   idle_more starts inside t idle p s h l =
       omega (arith, idle p s h l, ap (λ (y : Arrival). idle_after s y.octets rules.octet_time) (kept xs ys p (inside p s h)))
 
-  -- what is eligible in the front alone is eligible beside the others
+  -- an arrival that is eligible in the front alone is eligible among all
   eligible_more : (p t : ℕ) → p < length xs → IsEligible rules xs p t → IsEligible rules (xs ++ ys) p t
   eligible_more p t l = eligible_alike rules xs (xs ++ ys) p t (kept xs ys p l)
 
@@ -85,7 +85,7 @@ module _ (rules : PortRules) (xs ys : List Arrival) (end : ℕ) (positive : 0 < 
   eligible_fewer : (p t : ℕ) → p < length xs → IsEligible rules (xs ++ ys) p t → IsEligible rules xs p t
   eligible_fewer p t l = eligible_alike rules (xs ++ ys) xs p t (sym (kept xs ys p l))
 
-  -- starts that are legal with them are legal for the front alone
+  -- starts that are legal with further arrivals are legal for the front alone
   pub front_legal : (starts : List Transmission) → AreLegal rules (xs ++ ys) end starts → AreLegal rules xs end starts
   front_legal starts legal =
       let inside : (p s : ℕ) → Contains starts (p, s) → p < length xs =
@@ -105,7 +105,7 @@ module _ (rules : PortRules) (xs ys : List Arrival) (end : ℕ) (positive : 0 < 
             legal.work_conserving t other k (idle_more starts inside t i) (first_more starts other t f) (eligible_more other t f.waits.inside e);
       }
 
-  -- and those that are legal for the front alone are legal with them
+  -- and the other way round
   pub more_legal : (starts : List Transmission) → AreLegal rules xs end starts → AreLegal rules (xs ++ ys) end starts
   more_legal starts legal =
       let inside : (p s : ℕ) → Contains starts (p, s) → p < length xs = λ p s h. (legal.first p s h).waits.inside in
@@ -126,7 +126,7 @@ module _ (rules : PortRules) (xs ys : List Arrival) (end : ℕ) (positive : 0 < 
             legal.work_conserving t other k (idle_fewer starts inside t i) (first_fewer starts other t l f) (eligible_fewer other t l e);
       }
 
--- so is it with one arrival more
+-- so are they with one further arrival
 pub one_more_legal : (rules : PortRules) (xs : List Arrival) (late : Arrival) (end : ℕ) (starts : List Transmission) → 0 < rules.octet_time →
     IsClosedUntil rules end late → AreLegal rules xs end starts → AreLegal rules (xs ++ late ∷ []) end starts
 one_more_legal rules xs late end starts positive closed legal =

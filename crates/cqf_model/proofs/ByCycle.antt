@@ -12,7 +12,7 @@ use Rattle.cqf_model.proofs.Policing.{police_member}
 use Rattle.cqf_model.proofs.Coming.{before_when, queued_front, queued_when}
 
 module _ (run : Run) (carried : Carried) (l : ℕ) where
-  -- what is queued before an instant is earlier
+  -- what is queued before an instant has an earlier instant
   pub queued_early : (end : ℕ) (q : QueuedFrame) → Contains (queued_before run carried l end) q → q.arrival.at.0 < end
   queued_early end q h =
       let d = run.domain in
@@ -21,7 +21,7 @@ module _ (run : Run) (carried : Carried) (l : ℕ) where
       let came = police_member d run.tables bridge [] (received_before run carried bridge end) w.0 w.1 in
       omega (arith, queued_when d l w.0.received w.0.verdict q w.2, before_when run carried bridge end w.0.received came)
 
-  -- what is queued before a cycle's end is what is queued before its beginning, and then what is queued in it
+  -- what is queued before a cycle's end is what is queued before its beginning, followed by what is queued in it
   pub queue_goes_on : (cycle : ℕ) →
       queued_before run carried l ((cycle + 1) * run.domain.cycle_time) ≡ queued_before run carried l (cycle * run.domain.cycle_time)
       ++ queued_in run carried l cycle

@@ -1,4 +1,4 @@
--- What comes to a bridge and to its ports bears its instant, and what comes later stands behind.
+-- What arrives at a bridge and to its ports has its instant, and later arrivals follow earlier ones.
 use Rattle.std.proofs.Common.{◌≡◌, ℕ, ◌+◌, ◌*◌, ◌<◌, ◌≤◌, List, length, sym, ap, ◌∙◌, inl, inr, arith, eqb-true, Contains}
 use Rattle.std.specs.Prelude.{[], ◌∷◌, map, filter, ◌==◌}
 use Rattle.std.proofs.lemmas.Bool.{and_parts}
@@ -50,7 +50,7 @@ queued_when d l x LacksRow q h = absurd (contains_none q h)
 queued_when d l x ExceedsGate q h = absurd (contains_none q h)
 
 module _ (run : Run) (carried : Carried) (bridge : ℕ) where
-  -- what comes at an instant bears it
+  -- what comes at an instant has that instant
   pub received_when : (t : ℕ) (x : Received) → Contains (received_at run carried bridge t) x → x.at ≡ t
   received_when t x h =
       let relayed = relayed_at run.domain carried bridge t in
@@ -81,7 +81,7 @@ module _ (run : Run) (carried : Carried) (bridge : ℕ) where
             (omega (arith, k.1, at), omega (arith, k.2, at));
       }
 
--- what a port's queue holds before an instant is the front of what it holds later, and the rest comes later
+-- a port's queue before an instant is the front of its queue before a later one, and the rest comes later
 pub queued_front : (run : Run) (carried : Carried) (l n m : ℕ) → n ≤ m →
     Front (queued_before run carried l m) (queued_before run carried l n) (λ q. n ≤ q.arrival.at.0)
 queued_front run carried l n m le =
@@ -123,7 +123,7 @@ queued_in_late run carried l cycle q h =
     eqb-true (cycle_of d at) cycle (contains_from_filter of_cycle (queued_before run carried l ((cycle + 1) * d.cycle_time)) q h).1 in
     omega (arith, cycle_from d.cycle_time at, ap (λ (c : ℕ). c * d.cycle_time) is)
 
--- so what comes to a port in a cycle comes from its beginning on
+-- so what arrives at a port in a cycle comes from its beginning on
 pub comes_in_late : (run : Run) (carried : Carried) (l cycle : ℕ) (q : QueuedFrame) → Contains (comes_in run carried l cycle) q →
     cycle * run.domain.cycle_time ≤ q.arrival.at.0
 comes_in_late run carried l cycle q h =

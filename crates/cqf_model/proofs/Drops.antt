@@ -1,4 +1,4 @@
--- Whence the drops at a bridge in a cycle come.
+-- The origins of the drops at a bridge in a cycle.
 use Rattle.std.proofs.Common.{◌≡◌, ℕ, List, true, refl, filter}
 use Rattle.std.specs.Prelude.{Contains}
 use Rattle.std.specs.List.{flat_map}
@@ -22,12 +22,12 @@ dropped_for cycle bridge x (Queued row) drop h = absurd (contains_none drop h)
 dropped_for cycle bridge x LacksRow drop h = absurd (contains_none drop h)
 dropped_for cycle bridge x ExceedsGate drop h = absurd (contains_none drop h)
 
--- the drops at a bridge in a cycle of the offer at a place
+-- the drops at a bridge in a cycle of the offer at an index
 abbrev pub drops_at : Domain → (ℕ → List Policed) → ℕ → ℕ → ℕ → List Dropped
 drops_at d policed cycle bridge place =
     flat_map (λ (p : Policed). drop_by cycle bridge p.received p.verdict) (filter (is_of_place d cycle place) (policed bridge))
 
--- whence a drop at a bridge in a cycle comes
+-- the origin of a drop at a bridge in a cycle
 pub record IsDroppedAt (d : Domain) (policed : ℕ → List Policed) (cycle bridge : ℕ) (drop : Dropped) : Type 0 where
   pub p : Policed
   pub inside : Contains (policed bridge) p
@@ -37,7 +37,7 @@ pub record IsDroppedAt (d : Domain) (policed : ℕ → List Policed) (cycle brid
   pub verdict : p.verdict ≡ DroppedFor reason
   pub is : drop_for cycle bridge p.received reason ≡ drop
 
--- each comes so
+-- each drop has such an origin
 pub dropped_at : (d : Domain) (places : ℕ) (policed : ℕ → List Policed) (cycle bridge : ℕ) (drop : Dropped) →
     Contains (drops_in d places policed cycle bridge) drop → IsDroppedAt d policed cycle bridge drop
 dropped_at d places policed cycle bridge drop h =

@@ -1,4 +1,4 @@
--- What a stream that is offered in each cycle reserves and costs: the same in each.
+-- The reservation and the costs of a stream that is offered in each cycle: the same in each.
 use Rattle.std.proofs.Common.{◌≡◌, ℕ, ◌+◌, ◌-◌, ◌<◌, ◌%◌, zero, suc, Bool, true, false, List, sym, refl, ap, ap₂, ◌∙◌, Some, arith, max, fold}
 use Rattle.std.specs.Prelude.{[], ◌∷◌, ◌==◌, ◌&&◌, ◌||◌, if◌then◌else◌, sum_by, Contains}
 use Rattle.std.specs.List.{list_any}
@@ -23,7 +23,7 @@ use Rattle.cqf_model.specs.Table.{cost_on, crosses, link_cost, links_in, reserve
 pub each_turn : (depth cycle : ℕ) → is_turn each_cycle depth cycle ≡ true
 each_turn depth cycle = eq-eqb ((0 + depth) % 1) (cycle % 1) (mod-one (0 + depth) ∙ sym (mod-one cycle))
 
--- its gate has two entries, at each depth
+-- its gate has two entries, at each hop number
 pub gate_same : (cycle_time reserved depth : ℕ) →
     stream_list cycle_time reserved each_cycle depth
     ≡ record { ipv = 6; interval = cycle_time; octet_max = Some reserved } ∷ record { ipv = 7; interval = cycle_time; octet_max = Some reserved } ∷ []
@@ -32,12 +32,12 @@ gate_same cycle_time reserved depth = ap₂ (λ (a b : Bool). entry 6 a ∷ entr
     entry : ℕ → Bool → StreamEntry
     entry ipv b = record { ipv = ipv; interval = cycle_time; octet_max = Some (if b then reserved else 0) }
 
--- it reserves its octets, at each depth
+-- it reserves its octets, at each hop number
 pub reserved_same : (row : Row) (depth cycle : ℕ) → row.pace ≡ each_cycle → reserved_in row depth cycle ≡ row.octets
 reserved_same row depth cycle paced =
     ap (λ (b : Bool). if b then row.octets else 0) (ap (λ (p : Pace). is_turn p depth cycle) paced ∙ each_turn depth cycle)
 
--- it goes in each cycle by just the links of its tree
+-- it goes in each cycle by exactly the links of its tree
 pub uses_same : (tree : List Hop) (l cycle : ℕ) → uses tree each_cycle l cycle ≡ list_any (λ k. k == l) (links_in tree)
 uses_same [] l cycle = refl
 uses_same (hop ∷ tree) l cycle =
@@ -49,7 +49,7 @@ uses_same (hop ∷ tree) l cycle =
     and_true true b = refl
     and_true false b = refl
 
--- what it costs of a link in each cycle
+-- its cost on a link in each cycle
 abbrev pub plain_cost : Row → ℕ → ℕ
 plain_cost row l = if crosses row l then cost_of row.octets else 0
 
@@ -58,7 +58,7 @@ cost_same row l cycle paced =
     ap (λ (b : Bool). if b then cost_of row.octets else 0)
     (ap (λ (p : Pace). uses row.tree.items p l cycle) paced ∙ uses_same row.tree.items l cycle)
 
--- and so the sum of such streams
+-- the costs of such streams on a link
 pub costs_same : (rows : List Row) (l cycle : ℕ) → ((row : Row) → Contains rows row → row.pace ≡ each_cycle) →
     link_cost rows l cycle ≡ sum_by (λ (row : Row). plain_cost row l) rows
 costs_same [] l cycle paced = refl
@@ -77,7 +77,7 @@ most_same x (suc n) = fold_push max 0 (each_below (λ k. x ∷ []) (suc n)) x �
     itself : max x x ≡ x
     itself = omega arith
 
--- and what they leave of a link that another such stream goes by
+-- what they leave of a link that another such stream goes by
 pub left_same : (d : Domain) (rows : List Row) (tree : List Hop) (l : ℕ) → ((row : Row) → Contains rows row → row.pace ≡ each_cycle) →
     list_any (λ k. k == l) (links_in tree) ≡ true → left_on d rows tree each_cycle l ≡ budget d l - sum_by (λ (row : Row). plain_cost row l) rows
 left_same d rows tree l paced crossed =

@@ -13,7 +13,7 @@ use Rattle.cqf_model.specs.Domain.{Domain}
 use Rattle.cqf_model.specs.History.{Branch, node_at, tree_of, hop_to, hops_along, link_before, link_at}
 use Rattle.cqf_model.specs.Table.{links_in}
 
--- a hop that is made of a link of the domain is by one
+-- a hop by a link of the domain is inside the domain
 hop_inside : (d : Domain) (depth : ℕ) (from o : Option ℕ) → ((l : ℕ) → o ≡ Some l → l < length d.links) →
     All (λ (hop : Hop). hop.link < length d.links) (hop_to depth from o)
 hop_inside d depth from None h = All-nil (λ (hop : Hop). hop.link < length d.links)
@@ -44,7 +44,7 @@ hops_inside d paths k e h =
     let there = once_from (λ (a b : Hop). a.link == b.link) (flat_map (hops_along d) paths) (get_or tree k e) (Contains-get_or tree k e h) in
     All-contains (λ (hop : Hop). hop.link < length d.links) (flat_map (hops_along d) paths) (get_or tree k e) (all_inside d paths) there
 
--- and each is there once
+-- and each occurs once
 pub hops_apart : (d : Domain) (paths : List Branch) → AllPairs (λ (a b : ℕ). a ≢ b) (links_in (tree_of d paths))
 hops_apart d paths =
     let tree = tree_of d paths in

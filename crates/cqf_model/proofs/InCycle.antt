@@ -1,4 +1,4 @@
--- What comes to a bridge at the instants of a cycle is of the cycle.
+-- What arrives at a bridge at the instants of a cycle is of the cycle.
 use Rattle.std.proofs.Common.{◌≡◌, ℕ, ◌+◌, ◌*◌, arith, Contains}
 use Rattle.cqf_lists.specs.Lists.{each_below}
 use Rattle.cqf_lists.proofs.EachBelow.{contains_from_below}

@@ -8,11 +8,11 @@ use Rattle.cqf_model.specs.declared.ports.Arrival.{Arrival}
 use Rattle.cqf_model.specs.GateList.{IsOpenThrough}
 use Rattle.cqf_model.specs.Port.{AreLegal, IsEligible, PortRules, Transmission, no_arrival}
 
--- a frame ends after it began, where an octet takes time
+-- a frame ends after it began, if an octet takes time
 pub ends_later : (t octets octet_time : ℕ) → 0 < octet_time → t < ending_of t octets octet_time
 ends_later t octets octet_time h = omega (arith, time_some (octets + 8) octet_time (omega arith) h)
 
--- one arrival is eligible wherever it stands
+-- eligibility depends on the arrival, not on its index
 pub eligible_alike : (rules : PortRules) (xs ys : List Arrival) (p t : ℕ) → slice_index_or xs p no_arrival ≡ slice_index_or ys p no_arrival →
     IsEligible rules xs p t → IsEligible rules ys p t
 eligible_alike rules xs ys p t e h =

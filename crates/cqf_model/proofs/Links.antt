@@ -1,4 +1,4 @@
--- What a domain has of each of its links; nodes, ways and links that are found.
+-- Properties of a domain's links; nodes, ways and links that are found.
 use Rattle.std.proofs.Common.{◌≡◌, ℕ, ◌+◌, ◌-◌, ◌/◌, ◌*◌, ◌<◌, ◌≤◌, true, length, sym, refl, ap, ◌∙◌, inl, inr, arith, subst, eqb-true, eq-eqb}
 use Rattle.std.specs.Prelude.{Option, Some, None, false, ◌==◌, ◌&&◌}
 use Rattle.std.specs.Option.{option_map_or}
@@ -36,7 +36,7 @@ octet_positive d l h =
       | inr w ↦ absurd (omega (arith, h, w.0))
     ]
 
--- in an accepted domain each guard time is shorter than the cycle
+-- in an accepted domain each guard band is shorter than the cycle
 pub guard_within : (d : Domain) (m : ℕ) → IsAccepted d → guard_of d m < d.cycle_time
 guard_within d m accepted =
     elim (slice_get_cases d.links m).1 [
@@ -44,7 +44,7 @@ guard_within d m accepted =
       | inr w ↦ subst (λ (o : Option Link). option_map_or (guard_by d.guard) o d.guard < d.cycle_time) (sym (slice_get_past d.links m w.0)) accepted.guard_short
     ]
 
--- and a link's greatest delay and the clocks' difference are within its guard time
+-- and a link's greatest delay and the clocks' difference together are within its guard band
 pub sync_within : (d : Domain) (m : ℕ) → IsAccepted d → m < length d.links → delay_of d m + d.sync < guard_of d m
 sync_within d m accepted h =
     elim (slice_get_cases d.links m).1 [
@@ -54,7 +54,7 @@ sync_within d m accepted h =
       | inr w ↦ absurd (omega (arith, h, w.0))
     ]
 
--- so the delay alone is
+-- so the delay alone is within it too
 pub delay_within : (d : Domain) (m : ℕ) → IsAccepted d → m < length d.links → delay_of d m < guard_of d m
 delay_within d m accepted h = omega (arith, sync_within d m accepted h)
 
@@ -70,7 +70,7 @@ least_within d m accepted =
           (sym (slice_get_past d.links m w.0)) (omega arith)
     ]
 
--- and with the shortest frame no less than the clocks' difference
+-- the least delay and the time of a frame of the shortest size are together at least the clocks' difference
 pub least_long : (d : Domain) (m : ℕ) → IsAccepted d → m < length d.links → d.sync ≤ time_of 72 (octet_time_of d m) + least_delay_of d m
 least_long d m accepted h =
     elim (slice_get_cases d.links m).1 [
@@ -86,7 +86,7 @@ least_long d m accepted h =
 pub accepted_with : (d : Domain) → IsAccepted d → IsAcceptedWith d (slack_of d)
 accepted_with d accepted = record { accepted = accepted; most_short = λ l h. sync_within d l accepted h; least_long = λ l h. least_long d l accepted h }
 
--- and so is the least gap behind a frame
+-- and the minimum gap after a frame is within the guard band
 pub gap_within : (d : Domain) (m : ℕ) → IsAccepted d → m < length d.links → time_of 12 (octet_time_of d m) ≤ guard_of d m
 gap_within d m accepted h =
     elim (slice_get_cases d.links m).1 [
@@ -115,7 +115,7 @@ bridge_within d l accepted h =
       | inr w ↦ absurd (omega (arith, h, w.0))
     ]
 
--- two nodes that the test calls the same are
+-- two nodes that the test calls the same are equal
 pub same_node_true : (a b : Node) → same_node a b ≡ true → a ≡ b
 same_node_true (Bridge a) (Bridge b) e = ap (λ (k : ℕ). Bridge k) (eqb-true a b e)
 same_node_true (Bridge a) (Station b) e = absurd cc
@@ -127,7 +127,7 @@ pub same_node_itself : (a : Node) → same_node a a ≡ true
 same_node_itself (Bridge a) = eq-eqb a a refl
 same_node_itself (Station a) = eq-eqb a a refl
 
--- two ways that the test calls the same are
+-- two ways that the test calls the same are equal
 pub same_way_true : (a b : Option ℕ) → same_way a b ≡ true → a ≡ b
 same_way_true None None e = refl
 same_way_true None (Some m) e = absurd cc
@@ -143,7 +143,7 @@ link_inside d (Some (Station s)) (Some to) l e = absurd cc
 link_inside d (Some (Bridge b)) (Some to) l e =
     (position-Some (λ (link : Link). (link.from == b) && same_node link.to to) d.links l (record { from = 0; to = to; rate = Mb10; delay = 0; least = 0; guard = None }) e).0
 
--- a shortest frame takes some ticks at each rate
+-- the bound of a shortest frame's time is at least 192 ticks at each rate
 pub shortest_least : (rate : Rate) → 192 ≤ shortest_of (ticks_of_octet rate)
 shortest_least Mb10 = omega arith
 shortest_least Mb100 = omega arith
@@ -155,11 +155,11 @@ shortest_least Mb25000 = omega arith
 shortest_least Mb40000 = omega arith
 shortest_least Mb100000 = omega arith
 
--- so a link's budget is no more than 11 octets for each nanosecond
+-- so a link's budget is at most 11 octets for each nanosecond
 pub budget_within : (d : Domain) (l : ℕ) → budget d l ≤ 11 * (d.cycle_time - guard_of d l)
 budget_within d l = over (d.cycle_time - guard_of d l)
   where
-    -- a link that the domain lacks has no budget
+    -- a link that the domain doesn't have has no budget
     none : (x : ℕ) → x * 2100 / 0 ≤ 11 * x
     none x = omega arith
 

@@ -8,7 +8,7 @@ use Rattle.cqf_model.specs.Table.{goes_on, table_of}
 use Rattle.cqf_model.specs.Traffic.{DroppedFor, ExceedsGate, LacksRow, Policed, Queued, Received, inside_verdict, police, police_all, verdict_by, within_gate}
 use Rattle.cqf_lists.proofs.Members.{contains_cases, contains_here, contains_later, contains_none}
 
--- a verdict is the one behind the frames before it
+-- a verdict is the one after the frames before it
 pub record IsBehind (d : Domain) (tables : List (List Row)) (bridge : ℕ) (earlier : List Policed) (xs : List Received) (p : Policed) : Type 0 where
   pub before : List Received
   pub x : Received
@@ -17,7 +17,7 @@ pub record IsBehind (d : Domain) (tables : List (List Row)) (bridge : ℕ) (earl
   pub is : p ≡ police d tables bridge (earlier ++ police_all d tables bridge earlier before) x
 
 module _ (d : Domain) (tables : List (List Row)) (bridge : ℕ) where
-  -- the verdicts on more frames stand behind those on the first
+  -- the verdicts on further frames follow those on the first
   pub police_more : (earlier : List Policed) (xs ys : List Received) →
       police_all d tables bridge earlier (xs ++ ys) ≡ police_all d tables bridge earlier xs ++ police_all d tables bridge
       (earlier ++ police_all d tables bridge earlier xs) ys
@@ -39,7 +39,7 @@ module _ (d : Domain) (tables : List (List Row)) (bridge : ℕ) where
         | inr k ↦ contains_later x xs p.received (police_member (earlier ++ q ∷ []) xs p k)
       ]
 
-  -- and is the one behind the frames before it
+  -- and is the one after the frames before it
   pub behind_those_before : (earlier : List Policed) (xs : List Received) (p : Policed) → Contains (police_all d tables bridge earlier xs) p →
       IsBehind d tables bridge earlier xs p
   behind_those_before earlier [] p c = absurd (contains_none p c)
@@ -59,7 +59,7 @@ module _ (d : Domain) (tables : List (List Row)) (bridge : ℕ) where
             }
       ]
 
-  -- tables that agree where frames come give the same verdicts
+  -- tables that agree in the cycles in which frames come give the same verdicts
   pub police_same : (others : List (List Row)) (earlier : List Policed) (xs : List Received) →
       ((x : Received) → Contains xs x → table_of tables (cycle_of d x.at) ≡ table_of others (cycle_of d x.at)) →
       police_all d tables bridge earlier xs ≡ police_all d others bridge earlier xs
@@ -78,7 +78,7 @@ pub inside_drops_none : (d : Domain) (bridge m : ℕ) (fits : Row → Bool) (fou
 inside_drops_none d bridge m fits None reason e = cc
 inside_drops_none d bridge m fits (Some r) reason e = choice (goes_on d r (Some m) bridge) (fits r) e
   where
-    -- whether the row leads on or not, and the frame fits or not, there is no reason for a drop
+    -- whether or not the row leads on and the frame fits, there is no reason for a drop
     choice : (here fits : Bool) → (if not here then LacksRow else (if not fits then ExceedsGate else Queued r)) ≡ DroppedFor reason → ⊥
     choice true true e = cc
     choice true false e = cc

@@ -1,4 +1,4 @@
--- Whatever is set for it, an accepted domain has no more than is represented.
+-- An accepted domain has no more than can be represented, regardless of the limits that are set.
 use Rattle.std.proofs.Common.{◌≤◌, length, arith}
 use Rattle.std.proofs.Math.Nat.{min-le_right}
 use Rattle.cqf_model.specs.Domain.{Domain, IsAccepted}

@@ -17,7 +17,7 @@ use Rattle.cqf_model.specs.declared.topology.Pace.{Pace}
 use Rattle.cqf_model.specs.Paces.{is_turn}
 use Rattle.cqf_model.specs.StreamGate.{gate_cycles, gate_round, place_at, place_in, round_at, stream_entry, stream_list, within}
 
--- of entries that all take so long the one in force is told by a division
+-- the index of the entry in force, by a division, if all entries are equally long
 equal_place : (n : ℕ) (e : ℕ → StreamEntry) (count offset : ℕ) → 0 < n → ((k : ℕ) → (e k).interval ≡ n) → offset < count * n →
     place_in (each_below (λ k. e k ∷ []) count) offset ≡ offset / n
 equal_place n e zero offset some same inside = absurd (omega (arith, inside))
@@ -34,7 +34,7 @@ equal_place n e (suc count) offset some same inside =
           ∙ omega (arith, div-eq-sub-div some later)
     ]
 
--- and they take so long together
+-- the time after which such a list repeats
 equal_round : (n : ℕ) (e : ℕ → StreamEntry) (count : ℕ) → ((k : ℕ) → (e k).interval ≡ n) → gate_round (each_below (λ k. e k ∷ []) count) ≡ count * n
 equal_round n e zero same = omega arith
 equal_round n e (suc count) same =
@@ -43,12 +43,12 @@ equal_round n e (suc count) same =
     let pushed = sum_by_push (λ (entry : StreamEntry). entry.interval) (each_below (λ k. e k ∷ []) count) (e count) in
     omega (arith, before, last, pushed)
 
--- the round of a list of two numbers' product, in the second
+-- the index in a round of `count` intervals of length n
 turn_of : (n count t : ℕ) → 0 < n → 0 < count → t % (count * n) / n ≡ t / n % count
 turn_of n count t some more =
     ap (λ z. z / n) (mod-mul t more some) ∙ div-mul-add (t / n % count) n (t % n) (mod-lt t some)
 
--- a reservation's list repeats behind a number of cycles that is a multiple of the pace's
+-- a reservation's list repeats after a multiple of the pace's period
 of_pace : (pace : Pace) → gate_cycles pace % (pace.pause + 1) ≡ 0
 of_pace pace = by_test ((pace.pause + 1) % 2 == 0)
   where
@@ -57,7 +57,7 @@ of_pace pace = by_test ((pace.pause + 1) % 2 == 0)
     by_test true = mod_self (pace.pause + 1)
     by_test false = mul-mod_left 2 (pace.pause + 1)
 
--- and of two
+-- and after an even number of cycles
 of_two : (pace : Pace) → gate_cycles pace % 2 ≡ 0
 of_two pace = by_test ((pace.pause + 1) % 2 == 0) refl
   where
@@ -66,7 +66,7 @@ of_two pace = by_test ((pace.pause + 1) % 2 == 0) refl
     by_test true e = eqb-true ((pace.pause + 1) % 2) 0 e
     by_test false e = mul-mod_right 2 (pace.pause + 1)
 
--- there are some
+-- after at least one
 pub some_cycles : (pace : Pace) → 0 < gate_cycles pace
 some_cycles pace = by_test ((pace.pause + 1) % 2 == 0)
   where
@@ -74,23 +74,23 @@ some_cycles pace = by_test ((pace.pause + 1) % 2 == 0)
     by_test true = omega arith
     by_test false = omega arith
 
--- a stream's turn comes again with the list's round
+-- a stream's turns repeat with the list's round
 pub turn_again : (pace : Pace) (depth cycle : ℕ) → is_turn pace depth (cycle % gate_cycles pace) ≡ is_turn pace depth cycle
 turn_again pace depth cycle =
     ap (λ z. (pace.phase + depth) % (pace.pause + 1) == z)
     (mod-mod_of_dvd (pace.pause + 1) cycle (dvd_of_mod-eq-zero (pace.pause + 1) (of_pace pace)))
 
--- and so do even cycles and odd ones
+-- and so do even and odd cycles
 pub parity_again : (pace : Pace) (cycle : ℕ) → cycle % gate_cycles pace % 2 ≡ cycle % 2
 parity_again pace cycle = mod-mod_of_dvd 2 cycle (dvd_of_mod-eq-zero 2 (of_two pace))
 
 -- at an instant
 module _ (n reserved : ℕ) (pace : Pace) (depth t : ℕ) (some : 0 < n) where
-  -- how long it takes
+  -- the time after which the list repeats
   round_is : gate_round (stream_list n reserved pace depth) ≡ gate_cycles pace * n
   round_is = equal_round n (stream_entry n reserved pace depth) (gate_cycles pace) (λ k. refl)
 
-  -- the place of the entry in force
+  -- the index of the entry in force
   pub gate_place : place_at (stream_list n reserved pace depth) t ≡ t / n % gate_cycles pace
   gate_place =
       let rounds = gate_cycles pace * n in
@@ -99,7 +99,7 @@ module _ (n reserved : ℕ) (pace : Pace) (depth t : ℕ) (some : 0 < n) where
       ∙ equal_place n (stream_entry n reserved pace depth) (gate_cycles pace) (t % rounds) some (λ k. refl) (mod-lt t positive)
       ∙ turn_of n (gate_cycles pace) t some (some_cycles pace)
 
-  -- its round
+  -- the number of its round
   pub gate_round_at : round_at (stream_list n reserved pace depth) t ≡ t / n / gate_cycles pace
   gate_round_at = ap (λ z. t / z) (round_is ∙ mul_comm (gate_cycles pace) n) ∙ sym (div-div-eq-div-mul t n (gate_cycles pace))
 
@@ -119,7 +119,7 @@ module _ (n reserved : ℕ) (pace : Pace) (depth t : ℕ) (some : 0 < n) where
       ap (λ (z : Option StreamEntry). option_and_then (λ (entry : StreamEntry). entry.octet_max) z) gate_entry
       ∙ ap (λ (b : Bool). Some (if b then reserved else 0)) (turn_again pace depth (t / n))
 
-  -- what it lets pass is within what the stream reserves in the cycle
+  -- what it passes is within what the stream reserves in the cycle
   pub within_reservation : (sum : ℕ) →
       option_map_or (λ (entry : StreamEntry). within entry.octet_max sum) (slice_get (stream_list n reserved pace depth) (place_at (stream_list n reserved pace depth) t)) false
       ≡ nat_le sum (if is_turn pace depth (t / n) then reserved else 0)

@@ -1,4 +1,4 @@
--- The depths of a tree's links, and the greatest of them.
+-- The hop numbers of a tree, and the greatest of them.
 use Rattle.std.proofs.Common.{◌≡◌, ℕ, ◌<◌, ◌≤◌, ◌⊎◌, List, Option, Some, None, max, fold, length, refl, sym, ap, ◌∙◌, inl, inr, arith}
 use Rattle.std.proofs.lemmas.Bool.{cases_lt}
 use Rattle.std.specs.Prelude.{[], ◌∷◌, Contains}
@@ -8,12 +8,12 @@ use Rattle.cqf_model.specs.declared.topology.Row.{Row}
 use Rattle.cqf_model.specs.Domain.{Domain}
 use Rattle.cqf_model.specs.Table.{IsHop, IsTree, residence}
 
--- no link is deeper than a stream's frames may be under way
+-- the greatest hop number is at least the start value
 most_from : (tree : List Hop) (least : ℕ) → least ≤ fold (λ most (hop : Hop). max most hop.depth) least tree
 most_from [] least = omega arith
 most_from (hop ∷ tree) least = omega (arith, most_from tree (max least hop.depth))
 
--- no hop is deeper than the greatest depth
+-- no hop number is above the greatest
 most_of : (tree : List Hop) (least : ℕ) (hop : Hop) → Contains tree hop → hop.depth ≤ fold (λ most (hop : Hop). max most hop.depth) least tree
 most_of [] least hop c = absurd (contains_none hop c)
 most_of (x ∷ tree) least hop c = elim (contains_cases x tree hop c) [
@@ -21,15 +21,15 @@ most_of (x ∷ tree) least hop c = elim (contains_cases x tree hop c) [
   | inr k ↦ most_of tree (max least x.depth) hop k
 ]
 
--- no hop is deeper than the residence
+-- no hop number is above the residence
 pub depth_within_residence : (row : Row) (hop : Hop) → Contains row.tree.items hop → hop.depth ≤ residence row
 depth_within_residence row hop c = most_of row.tree.items 0 hop c
 
--- a link stands at depth 1 at least
+-- a hop number is at least 1
 pub depth_some : (d : Domain) (tree : List Hop) (hop : Hop) → IsTree d tree → Contains tree hop → 0 < hop.depth
 depth_some d tree hop good c = by_from hop.from refl
   where
-    -- a hop stands at depth 1 at least, whether it follows a link or not
+    -- whether or not the hop follows a link
     by_from : (from : Option ℕ) → hop.from ≡ from → 0 < hop.depth
     by_from None e = omega (arith, (good.begins hop c e).0)
     by_from (Some m) e = let place = place_of_member tree hop c in omega (arith, (good.follows place.0 m hop place.1 e).2.deeper)
@@ -39,13 +39,13 @@ first_of : (tree : List Hop) → 0 < length tree → (hop : Hop) × Contains tre
 first_of [] h = absurd (omega (arith, h))
 first_of (hop ∷ tree) h = (hop, contains_here hop tree)
 
--- so a stream's frames are under way for some cycle
+-- so a stream's frames are under way for at least one cycle
 pub residence_some : (d : Domain) (row : Row) → IsTree d row.tree.items → 0 < residence row
 residence_some d row good =
     let first = first_of row.tree.items good.some in
     omega (arith, depth_some d row.tree.items first.0 good first.1, depth_within_residence row first.0 first.1)
 
--- some link is so deep
+-- some hop has the greatest hop number
 most_met : (tree : List Hop) (least : ℕ) →
     (fold (λ most (hop : Hop). max most hop.depth) least tree ≡ least) ⊎
     ((hop : Hop) × Contains tree hop × (hop.depth ≡ fold (λ most (hop : Hop). max most hop.depth) least tree))
@@ -58,7 +58,7 @@ most_met (x ∷ tree) least = elim (most_met tree (max least x.depth)) [
   ]
 ]
 
--- and some hop is as deep as the residence
+-- some hop's number is the residence
 pub residence_met : (row : Row) → 0 < length row.tree.items → (link : ℕ) × IsHop row (residence row) link
 residence_met row some = elim (most_met row.tree.items 0) [
   | inr w ↦ (w.0.link, record { hop = w.0; of_tree = w.1; is_depth = w.2; is_link = refl })

@@ -1,4 +1,4 @@
--- What the transmissions of a port send, of either kind.
+-- The streams' frames and background frames that a port's transmissions send.
 use Rattle.std.proofs.Common.{◌≡◌, ℕ, ◌*◌, ◌<◌, Bool, List, Option, Some, None, sym, ap, arith, inl, inr, length, subst, AllPairs, Contains}
 use Rattle.std.specs.Prelude.{filter, slice_index_or}
 use Rattle.std.specs.List.{flat_map}
@@ -29,7 +29,7 @@ backed_when t x None start h =
     sym (ap (λ (y : Start). y.start.0) (contains_one own start h))
 backed_when t x (Some stream) start h = absurd (contains_none start h)
 
--- it bears its transmission's instant
+-- a stream's frame has its transmission's instant
 pub sent_of_when : (queued : List QueuedFrame) (x : Transmission) (sent : Sent) → Contains (sent_of queued x) sent → sent.start.0 ≡ x.1
 sent_of_when queued x sent h =
     let q = slice_index_or queued x.0 no_frame in sent_when x.1 q.arrival q.stream sent h
@@ -39,14 +39,14 @@ pub backed_of_when : (queued : List QueuedFrame) (x : Transmission) (start : Sta
 backed_of_when queued x start h =
     let q = slice_index_or queued x.0 no_frame in backed_when x.1 q.arrival q.stream start h
 
--- it has the octets of the frame that was queued
+-- a stream's frame has the octets of the queued frame
 sent_octets : (t : ℕ) (x : Arrival) (stream : Option ℕ) (sent : Sent) → Contains (sent_by t x stream) sent → sent.octets ≡ x.octets
 sent_octets t x None sent h = absurd (contains_none sent h)
 sent_octets t x (Some stream) sent h =
     let own : Sent = record { start = record { 0 = t }; frame = x.frame; stream = stream; octets = x.octets } in
     sym (ap (λ (y : Sent). y.octets) (contains_one own sent h))
 
--- so what a transmission sends has those of the frame at its place
+-- so what a transmission sends has the octets of the frame at its index
 pub sent_of_octets : (queued : List QueuedFrame) (x : Transmission) (sent : Sent) → Contains (sent_of queued x) sent →
     sent.octets ≡ (slice_index_or queued x.0 no_frame).arrival.octets
 sent_of_octets queued x sent h =
@@ -96,7 +96,7 @@ backed_in_run run lists cycles net legal l x h =
       | inr g ↦ absurd (contains_none x (subst (λ (xs : List Start). Contains xs x) (legal.no_others l g).1 h))
     ]
 
--- of what is sent, that at the instants of a test is what the transmissions of these instants send
+-- the frames that are sent at the instants of a test are those of the transmissions at these instants
 pub sent_then : (test : ℕ → Bool) (queued : List QueuedFrame) (starts : List Transmission) →
     filter (λ (sent : Sent). test sent.start.0) (flat_map (sent_of queued) starts) ≡ flat_map (sent_of queued) (filter (λ (x : Transmission). test x.1) starts)
 sent_then test queued starts =
@@ -111,7 +111,7 @@ backed_then test queued starts =
     filter_made (backed_of queued) (λ (x : Transmission). test x.1) (λ (start : Start). test start.start.0) starts
     (λ x start h k. ap test (backed_of_when queued x start k))
 
--- two lists with the same frames at the places of the transmissions: the same is sent of both
+-- queues with the same frames at the transmissions' indices send the same
 pub sent_same : (queued others : List QueuedFrame) (starts : List Transmission) →
     ((x : Transmission) → Contains starts x → slice_index_or queued x.0 no_frame ≡ slice_index_or others x.0 no_frame) →
     flat_map (sent_of queued) starts ≡ flat_map (sent_of others) starts

@@ -1,4 +1,4 @@
--- How long the streams' frames of a cycle take, against what they take of the wire.
+-- The time that the streams' frames of a cycle take, compared with their octets of the wire.
 use Rattle.std.proofs.Common.{◌≡◌, ℕ, ◌+◌, ◌*◌, ◌≤◌, ◌∷◌, [], List, Bool, true, false, if◌then◌else◌, ◌==◌, ap, arith, Contains, sum_by}
 use Rattle.std.proofs.lemmas.List.Sums.{sum_by-cons}
 use Rattle.cqf_lists.proofs.Members.{contains_here, contains_later}
@@ -7,7 +7,7 @@ use Rattle.cqf_units.proofs.Times.{slot_within}
 use Rattle.cqf_model.specs.declared.ports.Arrival.{Arrival}
 use Rattle.cqf_model.specs.Turn.{busy, is_streams, load, slot_in, wire_in}
 
--- what is so much of another number term by term is so in sum
+-- an inequality of scaled terms holds for the scaled sums
 pub sum_scaled : {X : Type 0} (f g : X → ℕ) (a b : ℕ) (xs : List X) → ((x : X) → Contains xs x → a * f x ≤ g x * b) → a * sum_by f xs ≤ sum_by g xs * b
 sum_scaled f g a b [] each = omega arith
 sum_scaled f g a b (x ∷ xs) each =
@@ -18,7 +18,7 @@ sum_scaled f g a b (x ∷ xs) each =
     joined one rest all other more whole first second here there =
         omega (arith, ap (λ z. a * z) first, ap (λ z. z * b) second, here, there)
 
--- where none is shorter than the shortest frame, they take no more than frames of that size for as many octets
+-- if no frame is below the shortest size, they take no longer than frames of that size would for as many octets
 pub busy_within : (octet_time cycle_time cycle : ℕ) (arrivals : List Arrival) → ((a : Arrival) → Contains arrivals a → 64 ≤ a.octets) →
     2100 * busy octet_time cycle_time cycle arrivals ≤ load cycle_time cycle arrivals * shortest_of octet_time
 busy_within octet_time cycle_time cycle arrivals least =

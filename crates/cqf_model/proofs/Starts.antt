@@ -1,4 +1,4 @@
--- What legal starts become when an instant passes or a frame starts.
+-- Legal starts after an instant passes or a frame starts.
 use Rattle.std.proofs.Common.{ℕ, ◌≡◌, ◌+◌, ◌≤◌, ◌<◌, ◌⊎◌, inl, inr, List, [], ◌∷◌, ◌++◌, get_or, ap, sym, subst, ◌∙◌, arith}
 use Rattle.std.specs.Prelude.{Contains}
 use Rattle.std.proofs.lemmas.Bool.{cases_lt}
@@ -7,7 +7,7 @@ use Rattle.std.proofs.lemmas.List.Quantifiers.{all_pairs_push}
 use Rattle.cqf_model.specs.declared.ports.Arrival.{Arrival}
 use Rattle.cqf_model.specs.Port.{Transmission, PortRules, AreLegal, Waits, IsFirst, IsIdle, IsEligible, class_of}
 
--- no frame is due from a up to and without b, so what is legal up to a is legal up to b
+-- if no frame is due from a up to but excluding b, what is legal up to a is legal up to b
 pub legal_skip : (rules : PortRules) (arrivals : List Arrival) (a b : ℕ) (starts : List Transmission) → AreLegal rules arrivals a starts → a ≤ b →
     ((t other : ℕ) → a ≤ t → t < b → IsIdle rules arrivals starts t → IsFirst arrivals starts other t → ¬ IsEligible rules arrivals other t) →
     AreLegal rules arrivals b starts
@@ -78,7 +78,7 @@ module _ (arrivals : List Arrival) (starts : List Transmission) (place t : ℕ) 
   pub idle_before : (rules : PortRules) (s : ℕ) → IsIdle rules arrivals (starts ++ (place, t) ∷ []) s → IsIdle rules arrivals starts s
   idle_before rules s idle other u started earlier = idle other u (Contains-append_left starts ((place, t) ∷ []) (other, u) started) earlier
 
--- a fact on a start holds of each start of the longer list, where it holds of the shorter and of the last
+-- a property of starts holds of each start of the longer list if it holds of those of the shorter one and of the last
 each_start : (starts : List Transmission) (place t : ℕ) (P : ℕ → ℕ → Type 0) → ((other s : ℕ) → Contains starts (other, s) → P other s) →
     P place t → (other s : ℕ) → Contains (starts ++ (place, t) ∷ []) (other, s) → P other s
 each_start starts place t P before last other s started = elim (start_cases starts place t other s started) [
@@ -86,13 +86,13 @@ each_start starts place t P before last other s started = elim (start_cases star
   | inr same ↦ subst (λ (n : ℕ). P n s) same.0 (subst (λ (n : ℕ). P place n) same.1 last)
 ]
 
--- what starts at t: the first of its class, eligible, and no first of a higher class is
+-- what may start at t: an arrival that is the first of its class and eligible, with no eligible first of a higher class
 pub record IsDue (rules : PortRules) (arrivals : List Arrival) (starts : List Transmission) (place t : ℕ) : Type 0 where
   pub first : IsFirst arrivals starts place t
   pub eligible : IsEligible rules arrivals place t
   pub above : (other : ℕ) → class_of arrivals place < class_of arrivals other → IsFirst arrivals starts other t → ¬ IsEligible rules arrivals other t
 
--- the frame that is due at the end of legal starts starts then, so they are legal one instant further
+-- if the frame that is due at the end of legal starts starts then, they are legal one instant further
 pub legal_start : (rules : PortRules) (arrivals : List Arrival) (t : ℕ) (starts : List Transmission) (place : ℕ) → AreLegal rules arrivals t starts →
     IsIdle rules arrivals starts t → IsDue rules arrivals starts place t → AreLegal rules arrivals (t + 1) (starts ++ (place, t) ∷ [])
 legal_start rules arrivals t starts place legal idle due =

@@ -1,4 +1,4 @@
--- Texts that are the same, and the names of nodes.
+-- Equal texts, and the names of nodes.
 use Rattle.std.proofs.Common.{◌≡◌, ℕ, true, List, Option, Some, None, get_or, refl, sym, ap, ◌∙◌, arith}
 use Rattle.std.specs.Prelude.{[], ◌∷◌, ◌==◌, ◌&&◌, nat_eq, position, slice_get}
 use Rattle.std.specs.Cmp.Lexicographic.{pointwise}
@@ -10,12 +10,12 @@ use Rattle.cqf_model.specs.declared.topology.Node.{Node}
 use Rattle.cqf_model.specs.declared.topology.Node.TheVariants.{Bridge, Station}
 use Rattle.cqf_model.specs.Domain.{Domain, is_text, node_named, node_or}
 
--- a text is the same as itself
+-- a text is the same as itself by the test
 pub is_text_itself : (xs : List ℕ) → is_text xs xs ≡ true
 is_text_itself [] = refl
 is_text_itself (x ∷ xs) = and_from (x == x) (is_text xs xs) (eq-eqb x x refl) (is_text_itself xs)
 
--- and as no other
+-- two texts that the test calls the same are equal
 pub is_text_same : (xs ys : List ℕ) → is_text xs ys ≡ true → xs ≡ ys
 is_text_same [] [] h = refl
 is_text_same [] (y ∷ ys) h = absurd cc
@@ -24,23 +24,23 @@ is_text_same (x ∷ xs) (y ∷ ys) h =
     let parts = and_parts (x == y) (is_text xs ys) h in
     (λ i. eqb-true x y parts.0 i ∷ is_text_same xs ys parts.1 i)
 
--- two numbers are compared alike in either order
+-- the comparison of two numbers is symmetric
 nat_eq-sym : (x y : ℕ) → nat_eq x y ≡ (y == x)
 nat_eq-sym x y = grind (arith, nat_tests)
 
--- the comparison that a set of names makes is that of their texts
+-- the comparison of two names is that of their texts
 pub pointwise-is_text : (n m : List ℕ) → pointwise nat_eq n m ≡ is_text m n
 pointwise-is_text [] [] = refl
 pointwise-is_text [] (y ∷ ys) = refl
 pointwise-is_text (x ∷ xs) [] = refl
 pointwise-is_text (x ∷ xs) (y ∷ ys) = (λ i. nat_eq-sym x y i && pointwise-is_text xs ys i)
 
--- the name of a node stands at its number
+-- the name of a node is at its number
 abbrev pub HasName : Domain → Node → List ℕ → Type 0
 HasName d (Bridge b) name = slice_get d.bridges b ≡ Some name
 HasName d (Station s) name = slice_get d.stations s ≡ Some name
 
--- a name that is found stands at its place
+-- a name that is found is at its index
 name_found : (names : List (List ℕ)) (name : List ℕ) (i : ℕ) → position (λ other. is_text other name) names ≡ Some i → slice_get names i ≡ Some name
 name_found names name i e =
     let found = position-Some (λ other. is_text other name) names i [] e in

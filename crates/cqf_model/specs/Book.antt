@@ -1,4 +1,4 @@
--- The book of a run: every transmission, and every offer that is dropped.
+-- The book of a run: every transmission, and every dropped offer.
 use Rattle.std.specs.Prelude.{ℕ, ◌≡◌, ◌+◌, ◌*◌, ◌&&◌, ◌==◌, List, [], ◌∷◌, Bool, filter, map, length}
 use Rattle.std.specs.List.{flat_map}
 use Rattle.cqf_lists.specs.Lists.{each_below}
@@ -13,35 +13,39 @@ use Rattle.cqf_model.specs.Run.{Run}
 use Rattle.cqf_model.specs.Traffic.{Carried, Received, Policed, Verdict, Queued, DroppedFor, LacksRow, ExceedsGate, policed_before}
 use Rattle.cqf_model.specs.Network.{IsLegalNetwork, Network, compiled_lists}
 
--- what a link sends in a cycle, in order of start: the batch of streams' frames, and the background frames
+-- the streams' frames that a link sends in a cycle (its batch), in the link's order, which is that of starts
 abbrev pub batch : Domain → Carried → ℕ → ℕ → List Sent
 batch d carried link cycle = filter (λ (sent : Sent). cycle_of d sent.start.0 == cycle) (carried link)
 
+-- the background frames that a link sends in a cycle, in the same order
 abbrev pub backed_batch : Domain → (ℕ → List Start) → ℕ → ℕ → List Start
 backed_batch d backed link cycle = filter (λ (start : Start). cycle_of d start.start.0 == cycle) (backed link)
 
--- as a book has them
+-- a streams' frame as an entry of a book
 abbrev pub started : ℕ → ℕ → Sent → Started
 started cycle link sent = record { cycle = record { 0 = cycle }; link = link; frame = sent.frame; octets = sent.octets; start = sent.start }
 
+-- a background frame as an entry of a book
 abbrev pub started_backed : ℕ → ℕ → Start → Started
 started_backed cycle link start = record { cycle = record { 0 = cycle }; link = link; frame = start.frame; octets = start.octets; start = start.start }
 
--- the starts of streams' frames, by cycle, then link, then instant
+-- the starts of streams' frames on a link in a cycle, in order of start
 abbrev pub starts_in : Domain → Carried → ℕ → ℕ → List Started
 starts_in d carried cycle link = map (started cycle link) (batch d carried link cycle)
 
+-- the starts of streams' frames in a run, by cycle, then link, then instant
 abbrev pub starts_of : Domain → ℕ → Carried → List Started
 starts_of d cycles carried = each_below (λ cycle. each_below (starts_in d carried cycle) (length d.links)) cycles
 
--- the background list: the starts of background frames, likewise
+-- the starts of background frames on a link in a cycle, in order of start
 abbrev pub background_in : Domain → (ℕ → List Start) → ℕ → ℕ → List Started
 background_in d backed cycle link = map (started_backed cycle link) (backed_batch d backed link cycle)
 
+-- the starts of background frames in a run, in the same order
 abbrev pub background_of : Domain → ℕ → (ℕ → List Start) → List Started
 background_of d cycles backed = each_below (λ cycle. each_below (background_in d backed cycle) (length d.links)) cycles
 
--- the drops, by cycle, then bridge, then frame
+-- the drop of a frame in a cycle at a bridge, if its verdict is a drop
 abbrev pub drop_by : ℕ → ℕ → Received → Verdict → List Dropped
 drop_by cycle bridge x (DroppedFor reason) =
     record { cycle = record { 0 = cycle }; bridge = bridge; frame = x.frame; octets = x.octets; reason = reason } ∷ []
@@ -50,10 +54,11 @@ drop_by cycle bridge x LacksRow = []
 drop_by cycle bridge x ExceedsGate = []
 
 -- the frame came in the cycle, and its offer has this place
+-- the frame came in the cycle, and its offer has this index
 abbrev pub is_of_place : Domain → ℕ → ℕ → Policed → Bool
 is_of_place d cycle place p = (cycle_of d p.received.at == cycle) && (p.received.frame == place + 1)
 
--- the drops at a bridge in a cycle, by frame, of so many offers
+-- the drops at a bridge in a cycle, by frame, of the first `places` offers
 abbrev pub drops_in : Domain → ℕ → (ℕ → List Policed) → ℕ → ℕ → List Dropped
 drops_in d places policed cycle bridge = each_below
     (λ place. flat_map (λ (p : Policed). drop_by cycle bridge p.received p.verdict) (filter (is_of_place d cycle place) (policed bridge)))
@@ -63,17 +68,17 @@ drops_in d places policed cycle bridge = each_below
 abbrev pub drops_of : Domain → ℕ → ℕ → (ℕ → List Policed) → List Dropped
 drops_of d cycles places policed = each_below (λ cycle. each_below (drops_in d places policed cycle) (length d.bridges)) cycles
 
--- what a book has, and what a page of it has
+-- the contents of a book, and of a page of it
 pub record Contents : Type 0 where
   pub starts : List Started
   pub background : List Started
   pub drops : List Dropped
 
--- what the program's book has
+-- the contents of the program's book
 abbrev pub contents_of : Book → Contents
 contents_of book = record { starts = book.starts.items; background = book.background.items; drops = book.drops.items }
 
--- the book of the legal network, over so many cycles
+-- the book of the legal network under these gate lists, over `cycles` cycles
 pub record IsBook (run : Run) (lists : ℕ → List Entry) (cycles : ℕ) (book : Contents) : Type 0 where
   pub net : Network
   pub legal : IsLegalNetwork run lists cycles net
@@ -82,17 +87,19 @@ pub record IsBook (run : Run) (lists : ℕ → List Entry) (cycles : ℕ) (book 
   pub are_drops : book.drops ≡ drops_of run.domain cycles (length run.offers)
       (λ bridge. policed_before run net.carried bridge (cycles * run.domain.cycle_time))
 
--- the one-thread book of a run: that of the compiled gate lists, over as many cycles as there are tables
+-- the one-thread book of a run: the book under the compiled gate lists, over as many cycles as there are tables
 abbrev pub IsOneThreadBook : Run → Contents → Type 0
 IsOneThreadBook run book = IsBook run (compiled_lists run.domain) (length run.tables) book
 
--- a bridge's page of a cycle: what of the book is on links that leave it, and on offers at it
+-- the starts on a bridge's page of a cycle: those in that cycle on links that leave the bridge
 abbrev pub page_starts : Domain → ℕ → ℕ → List Started → List Started
 page_starts d bridge cycle starts = filter (λ (s : Started). leaves d s.link bridge && (s.cycle.0 == cycle)) starts
 
+-- the drops on a bridge's page of a cycle: those of offers at the bridge in that cycle
 abbrev pub page_drops : ℕ → ℕ → List Dropped → List Dropped
 page_drops bridge cycle drops = filter (λ (x : Dropped). (x.bridge == bridge) && (x.cycle.0 == cycle)) drops
 
+-- a bridge's page of a cycle
 abbrev pub page_of : Domain → ℕ → ℕ → Contents → Contents
 page_of d bridge cycle book = record {
   starts = page_starts d bridge cycle book.starts;

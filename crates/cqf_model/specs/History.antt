@@ -1,5 +1,5 @@
--- The history of admission control: calls with the answers that they got, the streams that it accepted, and the table of
--- each cycle. All of it is said of the whole list of entries, with no running state.
+-- The history of admission control: calls with their answers, the streams that were accepted, and the table of each cycle. All definitions
+-- are of the whole list of entries, without a running state.
 use Rattle.std.specs.Prelude.{ℕ, ◌≡◌, ◌+◌, ◌-◌, ◌≤◌, List, [], ◌∷◌, Bool, true, false, not, ◌==◌, ◌&&◌, ◌||◌, ◌%◌, if◌then◌else◌, fold, max, nat_le, nat_lt, filter, find}
 use Rattle.std.specs.Prelude.{length, take, Option, Some, None, is_none, option_map, slice_get, slice_index_or, count_by, position, suc, zero}
 use Rattle.std.specs.Option.{option_map_or}
@@ -27,8 +27,8 @@ use Rattle.cqf_model.specs.Limits.{hops_within, nodes_within, streams_within}
 abbrev pub Branch : Type 0
 Branch = List (List ℕ)
 
--- a stream that is asked for: its name, its octets in each cycle of its own, in one of how many cycles its frames are offered and
--- which is the first of these, and the branches of its tree
+-- a requested stream: its name; its octets in each of its own cycles; its period `every`: its frames are offered in one cycle of
+-- `every`, the first of them being `phase`; and the branches of its tree
 pub record Asked : Type 0 where
   pub name : List ℕ
   pub octets : ℕ
@@ -36,13 +36,13 @@ pub record Asked : Type 0 where
   pub phase : ℕ
   pub paths : List Branch
 
--- what is called for: to admit a stream, to withdraw the one of a name, or to close the next cycle to changes
+-- what a call is for: to admit a stream, to withdraw the stream with a name, or to close the next cycle to changes
 pub data Act : Type 0 where
   Admits : Asked → Act
   Withdraws : List ℕ → Act
   Seals : Act
 
--- an entry: whose call it was, what was called for, and the answer
+-- an entry: the seat that called, what the call was for, and the answer
 pub record Recorded : Type 0 where
   pub seat : ℕ
   pub act : Act
@@ -54,47 +54,49 @@ is_seal (Admits asked) = false
 is_seal (Withdraws name) = false
 is_seal Seals = true
 
--- the number of Seals among the entries: the effect cycle of a call behind them
+-- the number of Seals among the entries: the effect cycle of a call after them
 abbrev pub seals : List Recorded → ℕ
 seals entries = count_by (λ (e : Recorded). is_seal e.act) entries
 
--- the node of a branch at a place
+-- the node at an index of a branch
 abbrev pub node_at : Domain → Branch → ℕ → Option Node
 node_at d branch place = option_map_or (λ name. node_named d name) (slice_get branch place) None
 
--- the link between two nodes, where both are there
+-- the link between two nodes, if both exist and the first is a bridge
 abbrev pub link_from : Domain → Option Node → Option Node → Option ℕ
 link_from d None to = None
 link_from d (Some from) None = None
 link_from d (Some (Station s)) (Some to) = None
 link_from d (Some (Bridge b)) (Some to) = link_between d b to
 
--- the link from the node at a place to the next one, and the link before it
+-- the link from the node at an index to the next one
 abbrev pub link_at : Domain → Branch → ℕ → Option ℕ
 link_at d branch place = link_from d (node_at d branch place) (node_at d branch (place + 1))
 
+-- the link to the node at an index
 abbrev pub link_before : Domain → Branch → ℕ → Option ℕ
 link_before d branch zero = None
 link_before d branch (suc place) = link_at d branch place
 
--- the hops of a branch
+-- the hop by a link, if there is one
 abbrev pub hop_to : ℕ → Option ℕ → Option ℕ → List Hop
 hop_to depth from None = []
 hop_to depth from (Some l) = record { link = l; depth = depth; from = from } ∷ []
 
+-- the hops of a branch: its k-th link has hop number k
 abbrev pub hops_along : Domain → Branch → List Hop
 hops_along d branch =
     each_below (λ place. hop_to (place + 1) (link_before d branch place) (link_at d branch place)) (length branch - 1)
 
--- the tree of some branches: their hops, each link once, where it first stands. That is the tree's order
+-- the tree of the branches: their hops in order, each link once, at its first occurrence
 abbrev pub tree_of : Domain → List Branch → List Hop
 tree_of d paths = each_once (λ (a b : Hop). a.link == b.link) (flat_map (hops_along d) paths)
 
--- what each entry gives by its place and itself, in order
+-- what each entry gives, from its index and itself, in order
 abbrev pub each_entry : {X : Type 0} → (ℕ → Recorded → List X) → List Recorded → List X
 each_entry gives entries = each_below (λ place. option_map_or (λ (e : Recorded). gives place e) (slice_get entries place) []) (length entries)
 
--- the effect of an entry that withdraws the stream of a number, where so many Seals stand before it
+-- the effect of an entry that withdraws the stream with this number; `effect` is the number of Seals before the entry
 abbrev pub withdrawal_by : ℕ → ℕ → Act → Reply → List Cycle
 withdrawal_by effect number (Admits asked) reply = []
 withdrawal_by effect number Seals reply = []
@@ -106,12 +108,12 @@ withdrawal_by effect number (Withdraws name) Sealed = []
 abbrev pub withdrawals : List Recorded → ℕ → List Cycle
 withdrawals entries number = each_entry (λ place e. withdrawal_by (seals (take place entries)) number e.act e.reply) entries
 
--- the pace of a stream that is asked for
+-- the pace of a requested stream
 abbrev pub pace_of : Asked → Pace
 pace_of asked = record { pause = asked.every - 1; phase = asked.phase }
 
--- the stream of an entry that admits one, where so many Seals stand before it. It is withdrawn from the effect of the
--- first accepted withdrawal of its number on
+-- the stream of an entry that admits one; `effect` is the number of Seals before the entry. It is withdrawn from the effect of the first
+-- accepted withdrawal of its number on
 abbrev pub stream_by : Domain → List Recorded → ℕ → Act → Reply → List Row
 stream_by d entries effect (Withdraws name) reply = []
 stream_by d entries effect Seals reply = []
@@ -127,110 +129,109 @@ stream_by d entries effect (Admits asked) (Accepted receipt) = record {
   withdrawn = slice_get (withdrawals entries receipt.no) 0;
 } ∷ []
 
--- the streams that were accepted, by number
+-- the accepted streams, by number
 abbrev pub streams_of : Domain → List Recorded → List Row
 streams_of d entries = each_entry (λ place e. stream_by d entries (seals (take place entries)) e.act e.reply) entries
 
--- those that are held in a cycle
+-- the streams that are held in a cycle
 abbrev pub held_in : Domain → List Recorded → ℕ → List Row
 held_in d entries cycle = filter (λ (row : Row). is_held row cycle) (streams_of d entries)
 
--- whether there is a node, and it is a bridge
+-- whether there is a node and it is a bridge
 abbrev pub is_bridge : Option Node → Bool
 is_bridge None = false
 is_bridge (Some (Bridge b)) = true
 is_bridge (Some (Station s)) = false
 
--- whether a branch begins elsewhere than at a bridge
+-- whether a branch doesn't begin at a bridge (tested at index 0)
 abbrev pub begins_elsewhere : Domain → Branch → ℕ → Bool
 begins_elsewhere d branch place = (place == 0) && not (is_bridge (node_at d branch 0))
 
--- whether no link leads to the node at a place from the one before
+-- whether no link leads to the node at an index from the one before
 abbrev pub lacks_link : Domain → Branch → ℕ → Bool
 lacks_link d branch place = nat_le 1 place && nat_lt place (length branch) && is_none (link_at d branch (place - 1))
 
--- whether a branch has its last node at a place, and that is a bridge
+-- whether the index is that of the branch's last node, and this node is a bridge
 abbrev pub ends_at_bridge : Domain → Branch → ℕ → Bool
 ends_at_bridge d branch place = (place + 1 == length branch) && is_bridge (node_at d branch place)
 
--- whether a place is that of the first node behind the most that a branch may have
+-- whether the index is that of the first node beyond the largest number of nodes of a branch
 abbrev pub is_beyond_most : Domain → Branch → ℕ → Bool
 is_beyond_most d branch place = (place == nodes_within d.limits) && nat_lt place (length branch)
 
--- where a branch is broken: it is empty or begins with no bridge; no link goes from the node before to this one; its last
--- node is a bridge; or as many nodes stand before the place as a branch may have
+-- whether a branch is broken at an index: it is empty or doesn't begin at a bridge; or no link goes from the node before to this one; or
+-- its last node is a bridge; or as many nodes precede the index as a branch may have
 abbrev pub is_broken_at : Domain → Branch → ℕ → Bool
 is_broken_at d branch place =
     begins_elsewhere d branch place || lacks_link d branch place || ends_at_bridge d branch place || is_beyond_most d branch place
 
--- whether both nodes are there and the same
+-- whether both nodes exist and are the same
 abbrev pub is_same : Option Node → Option Node → Bool
 is_same None b = false
 is_same (Some a) None = false
 is_same (Some a) (Some b) = same_node a b
 
--- whether the node at a place stood earlier in the branch
+-- whether the node at an index occurred earlier in the branch
 abbrev pub is_loop_at : Domain → Branch → ℕ → Bool
 is_loop_at d branch place = list_any (λ name. is_same (node_named d name) (node_at d branch place)) (take place branch)
 
--- the first place at which a branch fails a test, where places count through the branches as one list. An empty branch is
--- asked at place 0 too
+-- the first position at which a branch fails a test, where positions count through the branches as one list. Each branch is tested up to
+-- the index after its last node, so an empty branch is tested at index 0
 abbrev pub first_place : (Branch → ℕ → Bool) → List Branch → Option ℕ
 first_place fails [] = None
 first_place fails (branch ∷ paths) =
     or_else (least (fails branch) (length branch + 1)) (option_map (λ place. length branch + place) (first_place fails paths))
 
--- the first place at which a branch is broken. Without any branch it is place 0
+-- the first position at which a branch is broken; 0 if there is no branch
 abbrev pub broken_place : Domain → List Branch → Option ℕ
 broken_place d [] = Some 0
 broken_place d (branch ∷ paths) = first_place (is_broken_at d) (branch ∷ paths)
 
--- whether no node of one part of a branch is in a part of another
+-- whether no node is in both parts of branches
 abbrev pub are_apart : Branch → Branch → Bool
 are_apart xs ys = not (list_any (λ x. list_any (λ y. is_text x y) ys) xs)
 
--- whether they part for good: after the beginning that they have in common both go on, and no node of what follows is in
--- both
+-- whether two branches part for good: both continue after the beginning that they have in common, and no node of the two remainders is in both
 abbrev pub part : Branch → Branch → Bool
 part [] ys = false
 part (x ∷ xs) [] = false
 part (x ∷ xs) (y ∷ ys) = if is_text x y then part xs ys else are_apart (x ∷ xs) (y ∷ ys)
 
--- whether two branches make one tree: they begin at one bridge, and part for good. This is asked of branches that are paths
--- without loops and end in a station; of those it says that neither is the other, and that each node which stands in both
--- has the same nodes before it in both
+-- whether two branches form one tree: they begin at the same bridge and part for good. For branches that are paths without loops and end in
+-- stations this means that the two differ, and that each node in both has the same nodes before it in both
 abbrev pub make_a_tree : Branch → Branch → Bool
 make_a_tree [] ys = false
 make_a_tree (x ∷ xs) [] = false
 make_a_tree (x ∷ xs) (y ∷ ys) = is_text x y && part xs ys
 
--- whether a branch makes no tree with one before it
+-- whether a branch doesn't form a tree with one before it
 abbrev pub is_stray : List Branch → ℕ → Bool
 is_stray paths place =
     option_map_or (λ branch. list_any (λ before. not (make_a_tree before branch)) (take place paths)) (slice_get paths place) false
 
--- whether frames may be offered in one of so many cycles: a divisor of 80, and the first cycle is one of so many
+-- whether a stream may be offered in one of every `every` cycles: `every` divides 80, and the phase is less than `every`
 abbrev pub is_pace : ℕ → ℕ → Bool
 is_pace every phase = (most_every % every == 0) && nat_lt phase every
 
--- the most that these streams cost of a link in a cycle in which another's frames go by it
+-- the most that these streams cost on a link in a cycle in which the frames of another stream use the link
 abbrev pub most_beside : List Row → List Hop → Pace → ℕ → ℕ
 most_beside rows tree pace l =
     fold max 0 (each_below (λ cycle. if uses tree pace l cycle then link_cost rows l cycle ∷ [] else []) most_every)
 
--- what a link has left of its budget for that other, in octets, beside these streams: the least in a cycle of its own
+-- what a link has left of its budget for that other stream, in octets, beside these streams: the least over the cycles in which it uses the link
 abbrev pub left_on : Domain → List Row → List Hop → Pace → ℕ → ℕ
 left_on d rows tree pace l = budget d l - most_beside rows tree pace l
 
--- the first link of a tree, in its order, that has less left than a stream costs
+-- the first link of a tree, in its order, that has less left than the stream costs
 abbrev pub short_link : Domain → List Row → ℕ → Pace → List Hop → Option ℕ
 short_link d rows cost pace tree = find (λ l. nat_lt (left_on d rows tree pace l) cost) (links_in tree)
 
--- a refusal that is due, for a cause and for a number
+-- the refusal, if its cause holds
 abbrev pub refused_if : Bool → Refused → Option Refused
 refused_if true refused = Some refused
 refused_if false refused = None
 
+-- the refusal for a number, if there is one
 abbrev pub refused_at : (ℕ → Refused) → Option ℕ → Option Refused
 refused_at refused None = None
 refused_at refused (Some place) = Some (refused place)
@@ -261,33 +262,34 @@ abbrev pub admit_reply : ℕ → ℕ → Option Refused → Reply
 admit_reply number effect None = Accepted (record { no = number; effect = record { 0 = effect } })
 admit_reply number effect (Some refused) = RefusedFor refused
 
--- the answer to a withdrawal of a name: its held stream, where it wasn't withdrawn before
+-- the answer to a withdrawal of a held stream: it is refused if the stream has been withdrawn before
 abbrev pub withdraw_row : ℕ → ℕ → Option Cycle → Reply
 withdraw_row effect number None = Accepted (record { no = number; effect = record { 0 = effect } })
 withdraw_row effect number (Some before) = RefusedFor AlreadyWithdrawn
 
+-- the answer to a withdrawal, by the held stream with the name
 abbrev pub withdraw_reply : ℕ → Option Row → Reply
 withdraw_reply effect None = RefusedFor NotHeld
 withdraw_reply effect (Some row) = withdraw_row effect row.no row.withdrawn
 
--- the answer to a call behind these entries
+-- the answer that is due to a call after these entries
 abbrev pub reply_to : Domain → List Recorded → Act → Reply
 reply_to d entries (Admits asked) = admit_reply (next_number d entries) (seals entries) (refusal_of d (held_in d entries (seals entries)) asked)
 reply_to d entries (Withdraws name) = withdraw_reply (seals entries) (row_named (held_in d entries (seals entries)) name)
 reply_to d entries Seals = Sealed
 
--- a legal history: each answer is the one that is due behind the entries before it, and there are not too many entries
+-- a legal history: each answer is the one that is due after the entries before it, and there are not too many entries
 pub record IsLegalHistory (d : Domain) (entries : List Recorded) : Type 0 where
   pub replies : (place : ℕ) (e : Recorded) → slice_get entries place ≡ Some e → e.reply ≡ reply_to d (take place entries) e.act
   pub few_seals : seals entries ≤ most_cycles
   pub few_calls : length entries - seals entries ≤ most_calls
 
--- the places of the Seals
+-- the indices of the Seals
 abbrev pub seal_places : List Recorded → List ℕ
 seal_places entries = each_entry (λ place e. if is_seal e.act then place ∷ [] else []) entries
 
--- the table of a cycle: the streams that are held in it by the entries before the Seal that closes it, by number. Of the
--- cycle that the next Seal would close it is the table by all entries; of later cycles there is none to speak of
+-- the table of a cycle: the streams that are held in it according to the entries before the Seal that closes it, by number. For the cycle
+-- that the next Seal would close, all entries count; for later cycles the value has no meaning
 abbrev pub table_at : Domain → List Recorded → ℕ → List Row
 table_at d entries cycle = held_in d (take (slice_index_or (seal_places entries) cycle (length entries)) entries) cycle
 

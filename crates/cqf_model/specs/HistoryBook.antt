@@ -12,7 +12,7 @@ abbrev pub run_of_history : Domain → List Recorded → List Offer → List Bac
 run_of_history d entries offers background cycles =
     record { domain = d; tables = tables_of d entries cycles; offers = offers; background = background }
 
--- the book over the first cycles of the history, all of them sealed
+-- the book over the first cycles of the history, which are all sealed
 pub record IsBookOfHistory (d : Domain) (entries : List Recorded) (offers : List Offer) (background : List Background) (cycles : ℕ)
     (book : Contents) : Type 0 where
   pub sealed : cycles ≤ seals entries

@@ -1,7 +1,7 @@
--- A network whose bridges' clocks differ, and whose links delay by more and less: the loose network of a run.
--- All that is defined of what comes to a bridge goes by starts and a link's stated delay (`whole_at` of `Traffic`). So of each frame
--- that a link sends the node at its end has a start too: the one from which, after the stated delay, the frame is whole at the instant
--- at which it is whole there by the node's own clock. What links send as the nodes at their ends have it is what is heard.
+-- Loose networks: networks of a run whose bridges' clocks differ, and whose links' delays vary. What arrives at a bridge is defined from
+-- starts and a link's stated delay (`whole_at` of `Traffic`). So each frame that a link sends has a second start, as the node at the link's
+-- end has it: the start from which, after the stated delay, the frame is whole at the instant at which it is whole there by that node's
+-- clock. The frames with these starts are what is heard.
 use Rattle.std.specs.Prelude.{ℕ, ◌≡◌, ◌+◌, ◌<◌, ◌≤◌, map, length, Contains}
 use Rattle.cqf_units.specs.Timing.{ending_of, time_of}
 use Rattle.cqf_model.specs.declared.frames.Sent.{Sent}
@@ -10,8 +10,8 @@ use Rattle.cqf_model.specs.Network.{IsNetworkBy, Network, compiled_lists}
 use Rattle.cqf_model.specs.Run.{Run}
 use Rattle.cqf_model.specs.Traffic.{Carried, whole_at}
 
--- how far the clocks of two nodes at a link's ends can be apart, and how short each link's delay can be, in nanoseconds. How long it
--- can be is the delay that the domain states
+-- the greatest difference between the clocks of the nodes at a link's two ends, and the least delay of each link, in nanoseconds. The
+-- greatest delay is the one that the domain states
 pub record Slack : Type 0 where
   pub sync : ℕ
   pub least : ℕ → ℕ
@@ -20,15 +20,16 @@ pub record Slack : Type 0 where
 abbrev pub slack_of : Domain → Slack
 slack_of d = record { sync = d.sync; least = least_delay_of d }
 
--- a domain that is accepted with it: what is sent in a cycle is received in it by either clock. The greatest delay and the clocks'
--- difference are within the link's guard time, and no shortest frame is whole, by the receiver's clock, before it began by the sender's
+-- a domain that is accepted with this slack. A frame sent in a cycle is received in that cycle by either clock: the greatest delay and the
+-- clocks' difference together are below the link's guard band. No frame of the shortest size is received, by the receiver's clock, before
+-- it started by the sender's
 pub record IsAcceptedWith (d : Domain) (slack : Slack) : Type 0 where
   pub accepted : IsAccepted d
   pub most_short : (l : ℕ) → l < length d.links → delay_of d l + slack.sync < guard_of d l
   pub least_long : (l : ℕ) → l < length d.links → slack.sync ≤ time_of 72 (octet_time_of d l) + slack.least l
 
--- what comes of a frame that a link sent: by the receiver's clock it is whole within the least and the greatest delay after its end by
--- the sender's, but for the clocks' difference. No frame is on a link for a shorter time than Ethernet's shortest (IEEE 802.3)
+-- how a frame that a link sent is heard: by the receiver's clock it is whole within the least and the greatest delay after its end by the
+-- sender's clock, give or take the clocks' difference. No frame is on a link for a shorter time than one of the shortest size (IEEE 802.3)
 pub record ComesWithin (d : Domain) (slack : Slack) (l : ℕ) (sent heard : Sent) : Type 0 where
   pub frame : heard.frame ≡ sent.frame
   pub stream : heard.stream ≡ sent.stream
@@ -37,8 +38,8 @@ pub record ComesWithin (d : Domain) (slack : Slack) (l : ℕ) (sent heard : Sent
   pub shortest : ending_of sent.start.0 64 (octet_time_of d l) + slack.least l ≤ whole_at d l heard + slack.sync
   pub most : whole_at d l heard ≤ ending_of sent.start.0 sent.octets (octet_time_of d l) + delay_of d l + slack.sync
 
--- a loose network: each port starts what its compiled gate list demands, by its own bridge's clock, of what comes to it by that clock;
--- and each frame comes to the node at its link's end as soon or as late as may be
+-- a loose network: each port starts what its compiled gate list demands, by its own bridge's clock, given what arrives at it by that clock;
+-- and each frame is heard at the link's end within these bounds
 pub record IsLooseNetwork (run : Run) (slack : Slack) (net : Network) (heard : Carried) : Type 0 where
   pub goes : IsNetworkBy run (compiled_lists run.domain) (length run.tables) net heard
   pub noted : ℕ → Sent → Sent

@@ -1,5 +1,4 @@
--- All ports of a domain at once: the legal network. Each port is that of IEEE Std 802.1Q-2018, 8.6.8; what joins them is
--- the profile's.
+-- All ports of a domain at once: the legal network. Each port follows IEEE Std 802.1Q-2018, 8.6.8; what connects them is this project's own.
 use Rattle.std.specs.Prelude.{ℕ, ◌≡◌, ◌+◌, ◌*◌, ◌<◌, ◌≤◌, ◌++◌, List, [], ◌∷◌, Bool, ◌==◌, ◌&&◌, if◌then◌else◌, Option, Some, None, filter, map, length}
 use Rattle.std.specs.Prelude.{slice_index_or, Contains}
 use Rattle.std.specs.List.{enumerate_from, flat_map, list_any}
@@ -18,20 +17,20 @@ use Rattle.cqf_model.specs.Run.{Run}
 use Rattle.cqf_model.specs.Table.{goes_to}
 use Rattle.cqf_model.specs.Traffic.{Carried, Policed, Received, Verdict, Queued, DroppedFor, LacksRow, ExceedsGate, came_by, gate_behind, policed_before}
 
--- a frame that waits at a port: the arrival that the port sees, with the frame's number as its label, and the number of
--- its stream, none for a background frame
+-- a frame in a port's queues: the arrival that the port sees, labelled with the frame's number, and the number of its stream, none for a
+-- background frame
 pub record QueuedFrame : Type 0 where
   pub arrival : Arrival
   pub stream : Option ℕ
 
--- a stream's frame, with the class that its stream's gate gives it
+-- a stream's frame, with the class that its stream's gate assigns
 abbrev pub queued_frame : Domain → Received → Row → QueuedFrame
 queued_frame d x row = record {
   arrival = record { at = record { 0 = x.at }; class = gate_class (gate_behind d row (came_by x.way)) x.at; octets = x.octets; frame = x.frame };
   stream = Some row.no;
 }
 
--- it is queued to each port by whose link its stream goes on
+-- a frame is queued to each port that sends on a link on which its stream continues
 abbrev pub queued_by : Domain → ℕ → Received → Verdict → List QueuedFrame
 queued_by d l x (Queued row) =
     if list_any (λ next. next == l) (goes_to row (came_by x.way)) then queued_frame d x row ∷ [] else []
@@ -39,7 +38,7 @@ queued_by d l x (DroppedFor reason) = []
 queued_by d l x LacksRow = []
 queued_by d l x ExceedsGate = []
 
--- of what came to its bridge, the frames that are queued to a port
+-- the frames that are queued to a port, of those that arrived at its bridge
 abbrev pub queued_to : Domain → ℕ → List Policed → List QueuedFrame
 queued_to d l policed = flat_map (λ (p : Policed). queued_by d l p.received p.verdict) policed
 
@@ -47,25 +46,27 @@ queued_to d l policed = flat_map (λ (p : Policed). queued_by d l p.received p.v
 abbrev pub queued_before : Run → Carried → ℕ → ℕ → List QueuedFrame
 queued_before run carried l end = queued_to run.domain l (policed_before run carried (bridge_of run.domain l) end)
 
--- the background frames by place, each with its number, from 1
+-- the background frames in order, each with its number, from 1
 abbrev pub numbered_background : List Background → List Backed
 numbered_background background =
     map (λ (x : ℕ × Background). record { frame = x.0; background = x.1 }) (enumerate_from 1 background)
 
--- those of a link at an instant, by place: each waits with its own class, and no stream gate polices it
+-- a background frame in a port's queues: it waits with its own class, and no stream gate polices it
 abbrev pub backed_frame : Backed → QueuedFrame
 backed_frame x = record {
   arrival = record { at = x.background.at; class = x.background.class; octets = x.background.octets; frame = x.frame };
   stream = None;
 }
 
+-- whether a background frame is for the link and waits from the instant
 abbrev pub is_backed_at : ℕ → ℕ → Backed → Bool
 is_backed_at l t x = (x.background.link == l) && (x.background.at.0 == t)
 
+-- the background frames of a link at an instant, in order of number
 abbrev pub backed_at : List Background → ℕ → ℕ → List QueuedFrame
 backed_at background l t = map backed_frame (filter (is_backed_at l t) (numbered_background background))
 
--- those of a cycle, in order of instant, then place
+-- the background frames of a link in a cycle, in order of instant, then number
 abbrev pub backed_in : Domain → List Background → ℕ → ℕ → List QueuedFrame
 backed_in d background l cycle = each_below (λ offset. backed_at background l (cycle * d.cycle_time + offset)) d.cycle_time
 
@@ -74,12 +75,13 @@ abbrev pub queued_in : Run → Carried → ℕ → ℕ → List QueuedFrame
 queued_in run carried l cycle = filter (λ (x : QueuedFrame). cycle_of run.domain x.arrival.at.0 == cycle)
     (queued_before run carried l ((cycle + 1) * run.domain.cycle_time))
 
--- what comes to a port in the first cycles, cycle by cycle, as a bridge hands it on: in each the link's background frames, then
--- the streams' frames. Which of the two kinds stands first is no matter: they have no class in common, and only frames of
--- one class go by their places, which are in order of instant
+-- what arrives at a port in a cycle, in the order in which a bridge hands it over: the link's background frames, then the streams' frames.
+-- The order of the two kinds doesn't matter: they have no class in common, and the order of arrivals matters only within a class, where it
+-- is that of instants
 abbrev pub comes_in : Run → Carried → ℕ → ℕ → List QueuedFrame
 comes_in run carried l cycle = backed_in run.domain run.background l cycle ++ queued_in run carried l cycle
 
+-- what arrives at a port in the first cycles, cycle by cycle
 abbrev pub comes_before : Run → Carried → ℕ → ℕ → List QueuedFrame
 comes_before run carried l cycles = each_below (comes_in run carried l) cycles
 
@@ -87,27 +89,30 @@ comes_before run carried l cycles = each_below (comes_in run carried l) cycles
 abbrev pub arrivals_of : List QueuedFrame → List Arrival
 arrivals_of queued = map (λ (x : QueuedFrame). x.arrival) queued
 
--- what stands past the end of a list of queued frames
+-- the value past the end of a list of queued frames
 abbrev pub no_frame : QueuedFrame
 no_frame = record { arrival = no_arrival; stream = None }
 
--- what a transmission sends: a stream's frame, or a background frame
+-- the stream's frame that a transmission sends, if it sends one
 abbrev pub sent_by : ℕ → Arrival → Option ℕ → List Sent
 sent_by t x None = []
 sent_by t x (Some stream) = record { start = record { 0 = t }; frame = x.frame; stream = stream; octets = x.octets } ∷ []
 
+-- the background frame that a transmission sends, if it sends one
 abbrev pub backed_by : ℕ → Arrival → Option ℕ → List Start
 backed_by t x None = record { start = record { 0 = t }; class = x.class; octets = x.octets; frame = x.frame } ∷ []
 backed_by t x (Some stream) = []
 
+-- the stream's frame of a transmission of a queue
 abbrev pub sent_of : List QueuedFrame → Transmission → List Sent
 sent_of queued start = let x = slice_index_or queued start.0 no_frame in sent_by start.1 x.arrival x.stream
 
+-- the background frame of a transmission of a queue
 abbrev pub backed_of : List QueuedFrame → Transmission → List Start
 backed_of queued start = let x = slice_index_or queued start.0 no_frame in backed_by start.1 x.arrival x.stream
 
--- a port's transmissions are legal for what comes to it; those of streams' frames are what its link carries to the next
--- node, and those of background frames end there
+-- a port's transmissions are legal for what arrives at it. Its link carries those of streams' frames to the next node; those of background
+-- frames end there
 pub record Sends (d : Domain) (entries : List Entry) (end l : ℕ) (queued : List QueuedFrame) (sents : List Sent) (backed : List Start) :
     Type 0 where
   pub starts : List Transmission
@@ -115,37 +120,38 @@ pub record Sends (d : Domain) (entries : List Entry) (end l : ℕ) (queued : Lis
   pub are_sent : sents ≡ flat_map (sent_of queued) starts
   pub are_backed : backed ≡ flat_map (backed_of queued) starts
 
--- what each link sends, in order of start: streams' frames, and background frames
+-- what each link sends, in order of start: the streams' frames, and the background frames
 pub record Network : Type 0 where
   pub carried : Carried
   pub backed : ℕ → List Start
 
--- each link sends what its gate list demands for what is heard of the others, what is offered and its background frames, up to
--- the end of the run. A link that the domain lacks sends nothing
+-- each link sends what its gate list demands, given what is heard of the other links, what is offered, and its background frames, up to the
+-- end of the run. A link that the domain doesn't have sends nothing
 pub record IsNetworkBy (run : Run) (lists : ℕ → List Entry) (cycles : ℕ) (net : Network) (heard : Carried) : Type 0 where
   pub sends : (l : ℕ) → l < length run.domain.links →
       Sends run.domain (lists l) (cycles * run.domain.cycle_time) l (comes_before run heard l cycles) (net.carried l) (net.backed l)
   pub no_others : (l : ℕ) → length run.domain.links ≤ l → (net.carried l ≡ []) × (net.backed l ≡ [])
 
--- where all count one clock and each link delays as it is stated, what they send is what is heard
+-- the network in which all nodes have the same clock and each link has its stated delay, so that what is heard is what is sent
 abbrev pub IsLegalNetwork : Run → (ℕ → List Entry) → ℕ → Network → Type 0
 IsLegalNetwork run lists cycles net = IsNetworkBy run lists cycles net net.carried
 
--- the gate lists that a domain is compiled to: for each port by its link's guard time
+-- the gate lists that a domain is compiled to: each port's list has its link's guard band
 abbrev pub compiled_lists : Domain → ℕ → List Entry
 compiled_lists d l = port_list d.cycle_time (guard_of d l)
 
--- a frame is lost inside: it came to a bridge by a link within the run and goes on to no port there
+-- a frame with this verdict is lost inside: it arrived at a bridge by a link, and goes on to no port there
 abbrev pub IsLoss : Verdict → Type 0
 IsLoss (Queued row) = ⊥
 IsLoss (DroppedFor reason) = ⊥
 IsLoss LacksRow = Unit {0}
 IsLoss ExceedsGate = Unit {0}
 
+-- the frame arrived at the bridge within the run, and is lost there
 pub record IsLost (run : Run) (carried : Carried) (cycles bridge : ℕ) (policed : Policed) : Type 0 where
   pub came : Contains (policed_before run carried bridge (cycles * run.domain.cycle_time)) policed
   pub lost : IsLoss policed.verdict
 
--- nothing is lost inside in so many cycles
+-- nothing is lost inside in the first cycles
 abbrev pub LosesNothing : Run → ℕ → Network → Type 0
 LosesNothing run cycles net = (bridge : ℕ) (policed : Policed) → ¬ IsLost run net.carried cycles bridge policed

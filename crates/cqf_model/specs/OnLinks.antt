@@ -1,11 +1,11 @@
--- How many of some starts are on a link, and their octets.
+-- The number of starts on a link, and their octets.
 use Rattle.std.specs.Prelude.{ℕ, ◌==◌, List, count_by, if◌then◌else◌, sum_by}
 use Rattle.cqf_model.specs.declared.frames.Started.{Started}
 
--- how many of some starts are on a link
+-- the number of the starts that are on the link
 abbrev pub frames_on : ℕ → List Started → ℕ
 frames_on link starts = count_by (λ (start : Started). start.link == link) starts
 
--- how many octets these have together
+-- their total octets
 abbrev pub octets_on : ℕ → List Started → ℕ
 octets_on link starts = sum_by (λ (start : Started). if start.link == link then start.octets else 0) starts

@@ -1,4 +1,4 @@
--- In which cycles a stream's frames are on their way.
+-- The cycles in which a stream's frames are on their way.
 use Rattle.std.specs.Prelude.{ℕ, ◌+◌, ◌%◌, ◌==◌, Bool}
 use Rattle.cqf_model.specs.declared.topology.Pace.{Pace}
 
@@ -6,7 +6,7 @@ use Rattle.cqf_model.specs.declared.topology.Pace.{Pace}
 abbrev pub each_cycle : Pace
 each_cycle = record { pause = 0; phase = 0 }
 
--- whether a stream's frames are so deep on their way in the cycle: offered in the cycles of the stream's phase, they are on a
--- link as many cycles later as the link is deep
+-- whether a stream's frames are at this hop number in the cycle: they are offered in the cycles of the stream's phase, and leave on a link
+-- as many cycles later as its hop number says
 abbrev pub is_turn : Pace → ℕ → ℕ → Bool
 is_turn pace depth cycle = (pace.phase + depth) % (pace.pause + 1) == cycle % (pace.pause + 1)

@@ -1,4 +1,4 @@
--- What the network of a run and its book promise, cycle by cycle.
+-- What is promised of the network of a run and of its book, cycle by cycle.
 use Rattle.std.specs.Prelude.{None, ℕ, ◌≡◌, ◌≢◌, ◌+◌, ◌*◌, ◌<◌, ◌≤◌, List, length, sum_by, AllPairs, Contains, if◌then◌else◌, ◌==◌}
 use Rattle.cqf_units.specs.Timing.{wire_of}
 use Rattle.cqf_model.specs.declared.frames.Dropped.{Dropped}
@@ -15,15 +15,15 @@ use Rattle.cqf_model.specs.Traffic.{Carried, Policed, Verdict, Queued, DroppedFo
 use Rattle.cqf_model.specs.Traffic.{policed_before, whole_at}
 use Rattle.cqf_model.specs.Turn.{due, cycle_of_place}
 
--- what a verdict on an offer has to be: it goes on where it is covered, with the row that covers it, and else it is dropped
--- for the first reason that fits
+-- the verdict that an offer must get: if it is covered, it goes on with the row that covers it; otherwise it is dropped for the first
+-- reason that applies
 abbrev pub IsDecided : Run → Offered → Verdict → Type 0
 IsDecided run x (Queued row) = IsCovered run x row
 IsDecided run x (DroppedFor reason) = IsUncovered run x reason
 IsDecided run x LacksRow = ⊥
 IsDecided run x ExceedsGate = ⊥
 
--- an offer comes to its bridge before the end, and the gates there give it this verdict, which is so
+-- the offer arrives at its bridge before the end, the gates there give it this verdict, and the verdict is the one it must get
 pub record IsPolicedAs (run : Run) (carried : Carried) (end : ℕ) (x : Offered) (verdict : Verdict) : Type 0 where
   pub come : Contains (policed_before run carried x.offer.bridge end) (record { received = offer_received x; verdict = verdict })
   pub decided : IsDecided run x verdict
@@ -35,8 +35,8 @@ pub record LeavesIn (d : Domain) (carried : Carried) (frame link cycle : ℕ) : 
   pub is_frame : sent.frame ≡ frame
   pub is_cycle : cycle_of d sent.start.0 ≡ cycle
 
--- the frame leaves on the link as the one at this place of all streams' frames that were queued to it: in the cycle after
--- that one's, when those that came before it in its own cycle have left
+-- the frame leaves on the link as one of the streams' frames that were queued to it, in its turn: in the cycle after the one in which it
+-- was queued, when those that came before it in that cycle have left
 pub record LeavesInTurn (d : Domain) (link : ℕ) (queued : List QueuedFrame) (sent : Sent) : Type 0 where
   pub place : ℕ
   pub in_queue : place < length queued
@@ -44,50 +44,50 @@ pub record LeavesInTurn (d : Domain) (link : ℕ) (queued : List QueuedFrame) (s
   pub is : Contains (sent_of queued (place, sent.start.0)) sent
   pub cycle : cycle_of d sent.start.0 ≡ cycle_of_place d.cycle_time (arrivals_of queued) place + 1
 
--- what a link sends of streams' frames in a cycle, in octets of the wire
+-- the octets of the wire that a link's streams' frames take in a cycle
 abbrev pub wire_in_cycle : Domain → Carried → ℕ → ℕ → ℕ
 wire_in_cycle d carried link cycle = sum_by (λ (sent : Sent). if cycle_of d sent.start.0 == cycle then wire_of sent.octets else 0) (carried link)
 
--- what a run's links carry of streams' frames is what its shift says, whatever is heard of it: what comes to a node comes by the
--- node's own clock (`Loose`)
+-- a run's links carry the streams' frames of its shift. `heard` is what the nodes at the links' ends hear, each by its own clock (see `Loose`)
 pub record MeansTheShiftAs (run : Run) (carried heard : Carried) : Type 0 where
-  -- what passes the gates at the edge is what the reservations cover, and each other offer has the same reason
+  -- the gates at the edge pass exactly the offers that are covered, and drop each other offer for the reason that applies
   pub edge : (x : Offered) → Contains (numbered run.offers) x → offer_cycle run.domain x < length run.tables →
       (verdict : Verdict) × IsPolicedAs run heard (end_of_run run) x verdict
-  -- and nothing else is offered there: each frame that came by no link is one of the offers at this bridge, with its verdict
+  -- nothing else arrives at the edge: each frame that came by no link is one of the offers at this bridge, with its verdict
   pub edge_only : (bridge : ℕ) (p : Policed) → Contains (policed_before run heard bridge (end_of_run run)) p → came_by p.received.way ≡ None →
       (x : Offered) × (x.offer.bridge ≡ bridge) × (offer_received x ≡ p.received) × IsDecided run x p.verdict
   -- the frames leave as the shift says, each once
   pub only : (frame link cycle : ℕ) → LeavesIn run.domain carried frame link cycle → InShift run (length run.tables) frame link cycle
   pub each : (frame link cycle : ℕ) → InShift run (length run.tables) frame link cycle → LeavesIn run.domain carried frame link cycle
   pub once : (link : ℕ) (a b : Sent) → Contains (carried link) a → Contains (carried link) b → a.frame ≡ b.frame → a ≡ b
-  -- so no frame is on a link twice: of any two that it carries, one behind the other, the numbers differ
+  -- so no frame is on a link twice: the numbers of any two frames that a link carries differ
   pub apart : (link : ℕ) → AllPairs (λ (a b : Sent). a.frame ≢ b.frame) (carried link)
-  -- and each has the octets of the offer of its number
+  -- and each frame has the octets of the offer with its number
   pub octets : (link : ℕ) (sent : Sent) (x : Offered) → Contains (carried link) sent → Contains (numbered run.offers) x →
       sent.frame ≡ x.frame → sent.octets ≡ x.offer.octets
   -- nothing is lost inside
   pub none_lost : (bridge : ℕ) (policed : Policed) → ¬ IsLost run heard (length run.tables) bridge policed
-  -- what a link sends of streams' frames in a cycle is within what the streams held in it cost, and that is within its budget
+  -- a link's streams' frames take no more in a cycle than the streams held in it cost, and that is within the link's budget
   pub loads : (link cycle : ℕ) → link < length run.domain.links → cycle < length run.tables →
       wire_in_cycle run.domain carried link cycle ≤ link_cost (table_of run.tables cycle) link cycle
   pub costs : (link cycle turn : ℕ) → link < length run.domain.links → link_cost (table_of run.tables cycle) link turn ≤ budget run.domain link
-  -- each frame starts behind those that came before it in their cycle, and is whole in the next node, by its clock, in its cycle
+  -- each frame starts after those that came before it in their cycle, and is whole in the next node, by that node's clock, in the cycle of
+  -- its start
   pub in_turn : (link : ℕ) (sent : Sent) → Contains (carried link) sent →
       LeavesInTurn run.domain link (queued_before run heard link (end_of_run run)) sent
   pub whole : (link : ℕ) (sent h : Sent) → Contains (carried link) sent → Contains (heard link) h → h.frame ≡ sent.frame →
       cycle_of run.domain (whole_at run.domain link h) ≡ cycle_of run.domain sent.start.0
-  -- behind a link of a depth that is more than one cycle time less than so many after its offer, and less than one more
+  -- after a link with hop number k, a frame is whole in the next node more than k - 1 and less than k + 1 cycle times after its offer's instant
   pub latency : (link : ℕ) (sent h : Sent) → Contains (carried link) sent → Contains (heard link) h → h.frame ≡ sent.frame →
       (shift : InShift run (length run.tables) sent.frame link (cycle_of run.domain sent.start.0)) →
       (shift.x.offer.at.0 + shift.depth * run.domain.cycle_time < whole_at run.domain link h + run.domain.cycle_time)
       × (whole_at run.domain link h < shift.x.offer.at.0 + (shift.depth + 1) * run.domain.cycle_time)
 
--- where all count one clock and each link delays as it is stated, what is sent is what is heard
+-- the same if all nodes have the same clock and each link has its stated delay, so that what is heard is what is sent
 abbrev pub MeansTheShift : Run → Carried → Type 0
 MeansTheShift run carried = MeansTheShiftAs run carried carried
 
--- the drop is of an offer of the run that isn't covered, at its bridge, in its cycle, with the first reason that fits
+-- the drop is of an offer of the run that isn't covered, at its bridge, in its cycle, for the first reason that applies
 pub record IsOfUncovered (run : Run) (dropped : Dropped) : Type 0 where
   pub x : Offered
   pub uncovered : IsUncovered run x dropped.reason
@@ -97,17 +97,17 @@ pub record IsOfUncovered (run : Run) (dropped : Dropped) : Type 0 where
   pub frame : dropped.frame ≡ x.frame
   pub octets : dropped.octets ≡ x.offer.octets
 
--- the starts are exactly the shift, each once, and the drops exactly the offers that aren't covered, each once
+-- the starts are exactly those of the shift, each once, and the drops are exactly the offers that aren't covered, each once
 pub record SaysTheShift (run : Run) (book : Contents) : Type 0 where
   pub only : (s : Started) → Contains book.starts s → InShift run (length run.tables) s.frame s.link s.cycle.0
   pub each : (frame link cycle : ℕ) → InShift run (length run.tables) frame link cycle →
       (s : Started) × Contains book.starts s × (s.frame ≡ frame) × (s.link ≡ link) × (s.cycle.0 ≡ cycle)
   pub only_drops : (x : Dropped) → Contains book.drops x → IsOfUncovered run x
   pub each_drop : (x : Dropped) → IsOfUncovered run x → Contains book.drops x
-  -- no frame is on a link twice: any two starts, one behind the other, are of two frames or on two links
+  -- no frame is on a link twice: any two starts are of different frames or on different links
   pub once_each : AllPairs (λ (a b : Started). a.frame ≡ b.frame → a.link ≢ b.link) book.starts
-  -- and each start has the octets of the offer of its number
+  -- and each start has the octets of the offer with its number
   pub octets : (s : Started) (x : Offered) → Contains book.starts s → Contains (numbered run.offers) x → s.frame ≡ x.frame →
       s.octets ≡ x.offer.octets
-  -- nor is an offer dropped twice: any two drops are of two frames
+  -- no offer is dropped twice: any two drops are of different frames
   pub once_dropped : AllPairs (λ (a b : Dropped). a.frame ≢ b.frame) book.drops

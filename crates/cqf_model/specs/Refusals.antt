@@ -1,4 +1,4 @@
--- Refusals of an admission as texts have them: the refusal's name, and then its values, each after a space.
+-- Refusals of an admission as text: the refusal's name, followed by its values, each after a space.
 use Rattle.std.specs.Prelude.{ℕ, ◌++◌, List, codes, decimal}
 use Rattle.cqf_model.specs.declared.history.Refused.{Refused}
 use Rattle.cqf_model.specs.declared.history.Refused.TheVariants.{BadName, BadOctets, BadPace, UnknownNode, BrokenPath, LoopingPath, NotATree, TooManyHops}

@@ -1,4 +1,4 @@
--- The streams that are held in a cycle, and where they go.
+-- The streams that are held in a cycle, and their trees.
 use Rattle.std.specs.Prelude.{ℕ, ◌≡◌, ◌≢◌, ◌+◌, ◌≤◌, ◌<◌, List, [], Bool, true, false, ◌==◌, ◌&&◌, if◌then◌else◌, nat_le, nat_lt, max, fold, map, filter, take}
 use Rattle.std.specs.Prelude.{length, All, Option, Some, None, AllPairs, Contains, slice_get, slice_index_or, sum_by, find}
 use Rattle.std.specs.Option.{option_map_or}
@@ -16,14 +16,15 @@ use Rattle.cqf_model.specs.Paces.{is_turn}
 abbrev pub links_in : List Hop → List ℕ
 links_in tree = map (λ (hop : Hop). hop.link) tree
 
--- the links that a stream goes by, and whether it goes by one
+-- the links of a stream's tree
 abbrev pub links_of : Row → List ℕ
 links_of row = links_in row.tree.items
 
+-- whether a stream's tree has the link
 abbrev pub crosses : Row → ℕ → Bool
 crosses row l = list_any (λ k. k == l) (links_of row)
 
--- the bridges at which it has a gate, in the order in which its tree leaves them
+-- the bridges at which a stream has a gate, in the order in which its tree leaves them
 abbrev pub bridges_of : Domain → Row → List ℕ
 bridges_of d row = each_once (λ a b. a == b) (map (bridge_of d) (links_of row))
 
@@ -31,59 +32,60 @@ bridges_of d row = each_once (λ a b. a == b) (map (bridge_of d) (links_of row))
 abbrev pub uses : List Hop → Pace → ℕ → ℕ → Bool
 uses tree pace l cycle = list_any (λ (hop : Hop). (hop.link == l) && is_turn pace hop.depth cycle) tree
 
--- what it costs of a link in a cycle, in octets: its reservation's cost once, however many listeners are behind the link, where its
+-- what a stream costs on a link in a cycle, in octets: the reservation's cost, once regardless of how many listeners are downstream of the
+-- link, if its frames go by the link in that cycle
 -- frames go by the link in that cycle
 abbrev pub cost_on : Row → ℕ → ℕ → ℕ
 cost_on row l cycle = if uses row.tree.items row.pace l cycle then cost_of row.octets else 0
 
--- how deep a frame is on its way: not at all at the edge, and behind a link as deep as the link
+-- the hop number of a frame on its way: 0 at the edge, and after a link the link's hop number
 abbrev pub depth_behind : Row → Option ℕ → ℕ
 depth_behind row None = 0
 depth_behind row (Some m) = option_map_or (λ (hop : Hop). hop.depth) (find (λ (hop : Hop). hop.link == m) row.tree.items) 0
 
--- what it reserves in a cycle for frames that are so deep, in octets: in the cycles that aren't its own, nothing
+-- the octets that a stream reserves in a cycle for frames at this hop number: nothing in the cycles in which none are there
 abbrev pub reserved_in : Row → ℕ → ℕ → ℕ
 reserved_in row depth cycle = if is_turn row.pace depth cycle then row.octets else 0
 
--- for how many cycles after its own a frame of it may be under way: the depth of the deepest link
+-- the number of cycles after its own for which a frame of the stream may be under way: the greatest hop number
 abbrev pub residence : Row → ℕ
 residence row = fold (λ most (hop : Hop). max most hop.depth) 0 row.tree.items
 
--- the link stands at this depth, from 1: it is that many links from the first bridge to its end
+-- the link has this hop number, from 1: the number of links from the first bridge to the link's end
 pub record IsHop (row : Row) (depth link : ℕ) : Type 0 where
   pub hop : Hop
   pub of_tree : Contains row.tree.items hop
   pub is_depth : hop.depth ≡ depth
   pub is_link : hop.link ≡ link
 
--- whether a frame comes the same way: from the edge, where there is no link, or by the same link
+-- whether two ways are the same: both from the edge, or both by the same link
 abbrev pub same_way : Option ℕ → Option ℕ → Bool
 same_way None None = true
 same_way None (Some m) = false
 same_way (Some l) None = false
 same_way (Some l) (Some m) = l == m
 
--- the links by which a frame goes on, from the edge or from the link that it came by
+-- the links on which a frame goes on, from the edge or from the link that it came by
 abbrev pub goes_to : Row → Option ℕ → List ℕ
 goes_to row way = links_in (filter (λ (hop : Hop). same_way hop.from way) row.tree.items)
 
--- whether a frame that came that way goes on from this very bridge
+-- whether a frame that came that way goes on from this bridge
 abbrev pub goes_on : Domain → Row → Option ℕ → ℕ → Bool
 goes_on d row way bridge = list_any (λ l. leaves d l bridge) (goes_to row way)
 
--- whether the bridge is the stream's first: a link of depth 1, which has none before it, leaves the bridge
+-- whether the bridge is the stream's first: a link with no link before it leaves the bridge
 abbrev pub begins_at : Domain → Row → ℕ → Bool
 begins_at d row bridge = goes_on d row None bridge
 
--- a hop follows another: it leaves the bridge in which the other ends, one deeper
+-- a hop follows another: it leaves the bridge in which the other ends, and its hop number is one more
 pub record Follows (d : Domain) (before hop : Hop) : Type 0 where
   pub from : hop.from ≡ Some before.link
   pub joined : joins d before.link hop.link ≡ true
   pub deeper : hop.depth ≡ before.depth + 1
 
--- a tree of at most 64 links in a row: from one first bridge, each hop stands behind the one that it follows, no node is
--- reached twice (so no link stands twice), and what nothing follows ends in a station. The order may be any such one; a
--- request's is that of its branches (`tree_of`)
+-- a tree with hop numbers of at most 64: it begins at one first bridge, each hop occurs after the one that it follows, no node is reached
+-- twice (so no link occurs twice), and a hop that no other follows ends in a station. Any such order is allowed; that of a request's tree
+-- is the order of its branches (`tree_of`)
 pub record IsTree (d : Domain) (tree : List Hop) : Type 0 where
   pub first : ℕ
   pub some : 0 < length tree
@@ -102,16 +104,17 @@ abbrev pub is_live : Row → ℕ → Bool
 is_live row cycle =
     nat_le row.admitted.0 cycle && option_map_or (λ (w : Cycle). nat_lt cycle w.0) row.withdrawn true
 
--- the row's stream is held in the cycle: a withdrawn stream is, with its costs, gates and name, until its last frame
--- has left the last bridge of its deepest branch
+-- the row's stream is held in the cycle, with its costs, gates and name: admitted and, if it was withdrawn, not yet past the cycle in which
+-- its last frame leaves the last bridge of its deepest branch
 abbrev pub is_held : Row → ℕ → Bool
 is_held row cycle =
     nat_le row.admitted.0 cycle && option_map_or (λ (w : Cycle). nat_lt cycle (w.0 + residence row)) row.withdrawn true
 
--- the row of a name, and of a number
+-- the row with a name
 abbrev pub row_named : List Row → List ℕ → Option Row
 row_named rows name = find (λ (row : Row). is_text row.name name) rows
 
+-- the row with a number
 abbrev pub row_of : List Row → ℕ → Option Row
 row_of rows number = find (λ (row : Row). row.no == number) rows
 
@@ -119,21 +122,21 @@ row_of rows number = find (λ (row : Row). row.no == number) rows
 abbrev pub table_of : List (List Row) → ℕ → List Row
 table_of tables cycle = slice_index_or tables cycle []
 
--- what the streams of a table cost of a link in a cycle, in octets
+-- what the streams of a table cost on a link in a cycle, in octets
 abbrev pub link_cost : List Row → ℕ → ℕ → ℕ
 link_cost rows l cycle = sum_by (λ (row : Row). cost_on row l cycle) rows
 
--- one stream in two tables: it may have been withdrawn between them
+-- one stream in two tables, between which it may have been withdrawn
 pub record SameStream (early late : Row) : Type 0 where
   pub name : early.name ≡ late.name
   pub octets : early.octets ≡ late.octets
   pub pace : early.pace ≡ late.pace
   pub tree : early.tree.items ≡ late.tree.items
 
--- what the tables of a history have: each row goes along a tree; no two rows of one table have one number or one name; a
--- number means one stream in all tables, while a name may be used again later; a live stream stays until its last frame has
--- left the last bridge of its deepest branch; and what the streams of a table cost of a link, in whatever cycle, is within the
--- link's budget
+-- what holds of the tables of a history: each row has a tree; no two rows of one table have the same number or the same name; a number
+-- means the same stream in all tables, while a name may be used again later; a stream that is live in a cycle stays in the tables of the
+-- run until its last frame has left the last bridge of its deepest branch; and what the streams of a table cost on a link, in any cycle, is
+-- within the link's budget
 pub record AreOrderly (d : Domain) (tables : List (List Row)) : Type 0 where
   pub trees : (cycle : ℕ) (row : Row) → Contains (table_of tables cycle) row → IsTree d row.tree.items
   pub numbers : (cycle : ℕ) → AllPairs (λ (a b : Row). a.no ≢ b.no) (table_of tables cycle)

@@ -1,4 +1,5 @@
--- What comes to a bridge, and what becomes of it there: per-stream filtering and policing at the edge and inside (after IEEE Std 802.1Q-2018, 8.6.5.1).
+-- What arrives at a bridge, and what becomes of it there: per-stream filtering and policing at the edge and inside (after IEEE Std
+-- 802.1Q-2018, 8.6.5.1).
 use Rattle.std.specs.Prelude.{ℕ, ◌+◌, List, [], ◌∷◌, ◌++◌, Bool, false, not, ◌==◌, ◌&&◌, if◌then◌else◌, map, filter, length, Option, Some, None}
 use Rattle.std.specs.List.{enumerate_from}
 use Rattle.cqf_lists.specs.Lists.{each_below}
@@ -15,35 +16,33 @@ use Rattle.cqf_model.specs.Table.{begins_at, depth_behind, goes_on, is_live, row
 use Rattle.cqf_model.specs.declared.gates.StreamEntry.{StreamEntry}
 use Rattle.cqf_model.specs.StreamGate.{Call, gate_passes, stream_list}
 
--- how a frame comes to a bridge: offered at the edge with the name of the stream that it claims, or relayed by a link
--- with its stream's number
+-- how a frame arrives at a bridge: offered at the edge with the name of the stream that it claims, or relayed by a link with its stream's number
 pub data Way : Type 0 where
   AtEdge : List ℕ → Way
   Relayed : ℕ → ℕ → Way
 
--- a frame that comes to a bridge: when it is whole there, its size, its number (its offer's place among the offers,
--- from 1), and how it came
+-- a frame that arrives at a bridge: the instant at which it is whole there, its size, its number (its offer's index among the offers, from
+-- 1), and how it came
 pub record Received : Type 0 where
   pub at : ℕ
   pub octets : ℕ
   pub frame : ℕ
   pub way : Way
 
--- the link by which it came, none at the edge
+-- the link by which the frame came, none at the edge
 abbrev pub came_by : Way → Option ℕ
 came_by (AtEdge name) = None
 came_by (Relayed m number) = Some m
 
--- what becomes of it: it goes on with its stream's row, to each port of this bridge whose hop follows; its offer is
--- dropped at the edge; or it came by a link and is lost inside, for want of a row that leads on from here or because it
--- exceeds its stream's gate
+-- what becomes of the frame: it goes on with its stream's row, to each port of this bridge whose hop follows; or its offer is dropped at
+-- the edge; or it came by a link and is lost inside, because no row leads on from here or because it exceeds its stream's gate
 pub data Verdict : Type 0 where
   Queued : Row → Verdict
   DroppedFor : Reason → Verdict
   LacksRow : Verdict
   ExceedsGate : Verdict
 
--- a frame that came to a bridge, and what becomes of it
+-- a frame that arrived at a bridge, and what becomes of it
 pub record Policed : Type 0 where
   pub received : Received
   pub verdict : Verdict
@@ -55,21 +54,21 @@ is_queued_of number (DroppedFor reason) = false
 is_queued_of number LacksRow = false
 is_queued_of number ExceedsGate = false
 
--- the calls of a stream's gate that passed, among the frames before: one for each frame, to however many ports it went
+-- the calls of a stream's gate that passed, among the earlier frames: one for each frame, regardless of the number of ports to which it went
 abbrev pub calls_of : ℕ → List Policed → List Call
 calls_of number earlier =
     map (λ (p : Policed). (p.received.at, p.received.octets)) (filter (λ (p : Policed). is_queued_of number p.verdict) earlier)
 
--- the gate that a stream's frames meet behind a link, or at the edge
+-- the gate that a stream's frames meet after a link, or at the edge
 abbrev pub gate_behind : Domain → Row → Option ℕ → List StreamEntry
 gate_behind d row way = stream_list d.cycle_time row.octets row.pace (depth_behind row way)
 
--- whether the stream's gate at this bridge lets a frame pass, behind the frames before it
+-- whether the stream's gate at this bridge lets a frame pass, after the earlier frames
 abbrev pub within_gate : Domain → List Policed → Row → Received → Bool
 within_gate d earlier row x = gate_passes (gate_behind d row (came_by x.way)) (calls_of row.no earlier) x.at x.octets
 
--- a frame at the edge, by the row of its name: the first reason that fits, of no row, a row that is not live, a tree that
--- begins at another bridge, and more octets than are left
+-- the verdict on a frame at the edge, by the row of its name: it is dropped for the first reason that applies of no row, a row that isn't
+-- live, a tree that begins at another bridge, and more octets than are left
 abbrev pub edge_verdict : Domain → ℕ → ℕ → (Row → Bool) → Option Row → Verdict
 edge_verdict d bridge cycle passes None = DroppedFor Unknown
 edge_verdict d bridge cycle passes (Some row) =
@@ -78,8 +77,8 @@ edge_verdict d bridge cycle passes (Some row) =
     else (if not (passes row) then DroppedFor Octets
     else Queued row))
 
--- a frame that came by a link, by the row of its number: it goes on where a link behind that one leaves this bridge, and
--- the stream's gate lets it pass
+-- the verdict on a frame that came by a link, by the row of its number: it goes on if a link after that one leaves this bridge and the
+-- stream's gate lets it pass
 abbrev pub inside_verdict : Domain → ℕ → ℕ → (Row → Bool) → Option Row → Verdict
 inside_verdict d bridge m passes None = LacksRow
 inside_verdict d bridge m passes (Some row) =
@@ -87,65 +86,66 @@ inside_verdict d bridge m passes (Some row) =
     else (if not (passes row) then ExceedsGate
     else Queued row)
 
--- the verdict on a frame at a bridge, by the table of its cycle there
+-- the verdict on a frame at a bridge, by the table of the frame's cycle there
 abbrev pub verdict_by : Domain → List Row → ℕ → ℕ → (Row → Bool) → Way → Verdict
 verdict_by d table bridge cycle passes (AtEdge name) = edge_verdict d bridge cycle passes (row_named table name)
 verdict_by d table bridge cycle passes (Relayed m number) = inside_verdict d bridge m passes (row_of table number)
 
--- a frame with the verdict on it, behind those that came earlier
+-- a frame with its verdict, after the earlier frames
 abbrev pub police : Domain → List (List Row) → ℕ → List Policed → Received → Policed
 police d tables bridge earlier x = let cycle = cycle_of d x.at in
     record { received = x; verdict = verdict_by d (table_of tables cycle) bridge cycle (λ row. within_gate d earlier row x) x.way }
 
--- one frame after the other: the verdict on each is the one behind those before it
+-- the frames one after the other, each with its verdict after those before it
 abbrev pub police_all : Domain → List (List Row) → ℕ → List Policed → List Received → List Policed
 police_all d tables bridge earlier [] = []
 police_all d tables bridge earlier (x ∷ xs) =
     police d tables bridge earlier x ∷ police_all d tables bridge (earlier ++ police d tables bridge earlier x ∷ []) xs
 
--- the offers by place, each with its number, from 1
+-- the offers in order, each with its number, from 1
 abbrev pub numbered : List Offer → List Offered
 numbered offers = map (λ (x : ℕ × Offer). record { frame = x.0; offer = x.1 }) (enumerate_from 1 offers)
 
--- the frames that are offered at a bridge at an instant, by place
+-- an offer as a frame that arrives at its bridge
 abbrev pub offer_received : Offered → Received
 offer_received x = record { at = x.offer.at.0; octets = x.offer.octets; frame = x.frame; way = AtEdge x.offer.stream }
 
+-- whether an offer is at the bridge and the instant
 abbrev pub is_offered_at : ℕ → ℕ → Offered → Bool
 is_offered_at bridge t x = (x.offer.bridge == bridge) && (x.offer.at.0 == t)
 
+-- the frames that are offered at a bridge at an instant, in order of number
 abbrev pub offered_at : List Offer → ℕ → ℕ → List Received
 offered_at offers bridge t = map offer_received (filter (is_offered_at bridge t) (numbered offers))
 
--- the streams' frames that each link carries, in order of start. Background frames come to no bridge
+-- the streams' frames that each link carries, in order of start. Background frames arrive at no bridge
 abbrev pub Carried : Type 0
 Carried = ℕ → List Sent
 
--- the instant at which a frame that a link sent is whole in the next node: its last octet has come, after the link's
--- delay
+-- the instant at which a frame that a link sent is whole in the next node: its last octet has arrived, after the link's delay
 abbrev pub whole_at : Domain → ℕ → Sent → ℕ
 whole_at d m sent = ending_of sent.start.0 sent.octets (octet_time_of d m) + delay_of d m
 
--- a frame that a link sent, as it comes to the next node
+-- a frame that a link sent, as it arrives at the next node
 abbrev pub sent_received : Domain → ℕ → Sent → Received
 sent_received d m sent = record { at = whole_at d m sent; octets = sent.octets; frame = sent.frame; way = Relayed m sent.stream }
 
--- the frames that are whole in the bridge at an instant by a link
+-- the frames that come by a link and are whole in the bridge at an instant
 abbrev pub relayed_at : Domain → Carried → ℕ → ℕ → ℕ → List Received
 relayed_at d carried bridge t m =
     if enters d m bridge
     then map (sent_received d m) (filter (λ (sent : Sent). whole_at d m sent == t) (carried m))
     else []
 
--- all that comes to a bridge at an instant: by the links in order of number, then the offers by place
+-- all that arrives at a bridge at an instant: by the links in order of number, then the offers in order of number
 abbrev pub received_at : Run → Carried → ℕ → ℕ → List Received
 received_at run carried bridge t =
     each_below (relayed_at run.domain carried bridge t) (length run.domain.links) ++ offered_at run.offers bridge t
 
--- all that comes to a bridge before an instant, in the order in which it is taken
+-- all that arrives at a bridge before an instant, in the order in which the bridge takes it
 abbrev pub received_before : Run → Carried → ℕ → ℕ → List Received
 received_before run carried bridge end = each_below (received_at run carried bridge) end
 
--- what becomes of it, by the stream gates of the bridge
+-- all that arrives at a bridge before an instant, with the verdicts of the bridge's stream gates
 abbrev pub policed_before : Run → Carried → ℕ → ℕ → List Policed
 policed_before run carried bridge end = police_all run.domain run.tables bridge [] (received_before run carried bridge end)

@@ -1,7 +1,7 @@
--- Where a stream goes, as a row has it.
+-- The tree of a row.
 use Rattle.std.specs.Prelude.{List}
 use Rattle.cqf_model.specs.declared.topology.Hop.{Hop}
 
--- the hops of its branches, each link once, in the order in which the links first stand there
+-- the hops of a stream's branches, each link once, in the order in which the links first occur there
 pub record Hops : Type 0 where
   pub items : List Hop

@@ -1,4 +1,4 @@
-//! Frames: as they are offered, as they are sent, and as a book has them.
+//! Frames: as they are offered, as they are sent, and as a book records them.
 
 use cqf_units::{Cycle, Name, Nanos};
 
@@ -17,13 +17,13 @@ pub struct Offer {
 /// An offer with its number among all offers.
 #[derive(Debug, Drop)]
 pub struct Offered {
-    /// The offer's place among the offers, from 1.
+    /// The offer's index among the offers, from 1.
     pub frame: u32,
     pub offer: Offer,
 }
 
-/// A frame of a class that no stream has, for one hop: no stream gate polices it, it is never dropped, and it ends at the
-/// far end of its link.
+/// A frame of a class that no stream has, for one hop: no stream gate polices it, it is never dropped, and it ends at
+/// the far end of its link.
 #[derive(Clone, Copy, Debug, PartialEq, Eq)]
 pub struct Background {
     /// The instant from which it waits.
@@ -39,7 +39,7 @@ pub struct Background {
 /// A background frame with its number among all background frames.
 #[derive(Clone, Copy, Debug, PartialEq, Eq)]
 pub struct Backed {
-    /// Its place among the background frames, from 1.
+    /// Its index among the background frames, from 1.
     pub frame: u32,
     pub background: Background,
 }
@@ -54,7 +54,7 @@ pub struct Sent {
     pub octets: u32,
 }
 
-/// A transmission, as a book has it.
+/// A transmission, as a book records it.
 #[derive(Clone, Copy, Debug, PartialEq, Eq)]
 pub struct Started {
     /// The cycle of the start.
@@ -70,15 +70,15 @@ pub struct Started {
 pub enum Reason {
     /// No held stream has the name.
     Unknown,
-    /// The stream is held, and not live.
+    /// The stream is held, but not live.
     Withdrawn,
     /// The bridge is not the first of the stream's tree.
     OtherBridge,
-    /// The stream's gate has fewer octets left.
+    /// The stream's gate has fewer octets left than the frame has.
     Octets,
 }
 
-/// An offer that was dropped at its edge, as a book has it.
+/// An offer that was dropped at its edge, as a book records it.
 #[derive(Clone, Copy, Debug, PartialEq, Eq)]
 pub struct Dropped {
     /// The offer's cycle.
@@ -96,9 +96,9 @@ pub struct Page {
     pub cycle: Cycle,
     /// The starts of streams' frames, by link, then start instant.
     pub starts: Vec<Started>,
-    /// The starts of background frames, ordered likewise.
+    /// The starts of background frames, in the same order.
     pub background: Vec<Started>,
-    /// By frame.
+    /// The drops, by frame.
     pub drops: Vec<Dropped>,
 }
 
@@ -107,8 +107,8 @@ pub struct Page {
 pub struct Book {
     /// The starts of streams' frames, by cycle, then link, then start instant.
     pub starts: Vec<Started>,
-    /// The starts of background frames, ordered likewise.
+    /// The starts of background frames, in the same order.
     pub background: Vec<Started>,
-    /// By cycle, then bridge, then frame.
+    /// The drops, by cycle, then bridge, then frame.
     pub drops: Vec<Dropped>,
 }

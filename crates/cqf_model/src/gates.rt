@@ -1,4 +1,4 @@
-//! What gates say.
+//! The states and entries of gates.
 
 use cqf_units::Nanos;
 
@@ -7,19 +7,19 @@ use cqf_units::Nanos;
 pub enum OpenFor {
     /// The class is closed at the instant.
     Closed,
-    /// Each entry of the list opens the class.
+    /// Every entry of the list opens the class.
     Always,
     /// The first later instant at which the class is closed.
     Until(Nanos),
 }
 
-/// An operation of a stream gate control list (IEEE 802.1Q, 8.6.5.1; open gates alone: profile).
+/// An operation of a stream gate control list (IEEE 802.1Q, 8.6.5.1). The gate is always open.
 #[derive(Clone, Copy, Debug, PartialEq, Eq)]
 pub struct StreamEntry {
     /// The internal priority value that a frame gets, 6 or 7.
     pub ipv: u8,
     /// How long the entry is in force, in nanoseconds.
     pub interval: u32,
-    /// How many octets may pass in one interval; no limit where there is none.
+    /// The number of octets that may pass in one interval, or no limit.
     pub octet_max: Option<u32>,
 }

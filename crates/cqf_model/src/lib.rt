@@ -1,13 +1,13 @@
-//! The definitions that this repository is proved against, and the plain data that they speak of.
+//! The definitions that this repository is proved against, and the plain data that they are about.
 //!
-//! `specs/` says what a gate list opens, which starts of a port are legal, what a stream gate lets pass, what a domain
-//! and a history of admissions are, and what the network of a domain does: one module a subject, each with its clause
-//! of IEEE Std 802.1Q-2018 or IEEE Std 802.3, or the word 'profile' where the rule is this project's own. `src/` has
-//! the data, with public fields; of a [`Row`] it also answers what bodies ask of a stream's life and way, so that none of
-//! them reads a [`Hop`]. The crate that works with a type hands it on to its users.
+//! `specs/` defines what a gate list opens, which starts of a port are legal, what a stream gate lets pass, what a
+//! domain and a history of admissions are, and what the network of a domain does, one module per subject. Definitions
+//! that follow IEEE Std 802.1Q-2018 or IEEE Std 802.3 name the clause; the others are this project's own. `src/` has
+//! the data, with public fields. It also has the functions about the life and the tree of a [`Row`]'s stream, so that
+//! no other code needs to read a [`Hop`]. The crate that works with a type re-exports it.
 //!
-//! Read `specs/Headline.antt` first, which says what all is for and in which order to read the other modules of `specs/`. The value
-//! of a text stands with the crate that reads or writes it.
+//! Read `specs/Headline.antt` first: it says what everything is for, and in which order to read the other modules of
+//! `specs/`. The text form of a value is defined in the crate that reads or writes it.
 #![tactic(auto)]
 
 mod frames;

@@ -1,5 +1,5 @@
-//! The limits of a run and of what it reads, as `specs/Limits.antt` has them: those that are fixed, the bounds up to
-//! which plants are represented, and those that are set for a plant.
+//! The limits of a run and of its input, as in `specs/Limits.antt`: the fixed ones, the bounds up to which plans can be
+//! represented, and those that are set for a plan.
 ghost use Rattle.std.specs.Prelude.{◌≡◌};
 ghost use Rattle.cqf_model.specs.Limits.{
   profile,
@@ -13,52 +13,52 @@ ghost use Rattle.cqf_model.specs.Limits.{
   rows_within,
 };
 
-/// How many cycles a run has at most.
+/// The most cycles of a run.
 pub const MOST_CYCLES: u64 = 100_000;
 
-/// How many entries of a history may be Seals: one for each cycle of a run.
+/// The most Seals among the entries of a history: one for each cycle of a run.
 pub const MOST_SEALS: u32 = 100_000;
 
-/// How many entries of a history, or lines of a script, may be other than Seals.
+/// The most entries of a history, or lines of a script, other than Seals.
 pub const MOST_CALLS: usize = 100_000;
 
-/// The octets that a stream may reserve in a cycle.
+/// The fewest octets that a stream may reserve in a cycle.
 pub const LEAST_OCTETS: u32 = 64;
 
-/// See [`LEAST_OCTETS`].
+/// The most octets that a stream may reserve in a cycle.
 pub const MOST_OCTETS: u32 = 1_000_000;
 
-/// In how many cycles all paces repeat: a stream is offered in one cycle of a number that divides them.
+/// The number of cycles in which all paces repeat: a stream is offered in one of every n cycles, for a divisor n of this.
 pub const MOST_EVERY: u32 = 80;
 
-/// The longest cycle, guard time and link delay, in nanoseconds.
+/// The longest cycle, guard band and link delay, in nanoseconds.
 pub const LONGEST_CYCLE: u32 = 10_000_000;
 
-/// Up to which instant a port runs at most, in nanoseconds, and by which an arrival at one comes.
+/// The instant up to which a port runs at most, in nanoseconds. Its arrivals come by then.
 pub const LAST_UNTIL: u64 = 100_000_000;
 
-/// Up to how many bridges of a domain are represented.
+/// The most bridges of a domain that can be represented.
 pub const MOST_BRIDGES: usize = 1024;
 
-/// Up to how many stations of a domain are represented.
+/// The most stations of a domain that can be represented.
 pub const MOST_STATIONS: usize = 4096;
 
-/// Up to how many links of a domain are represented.
+/// The most links of a domain that can be represented.
 pub const MOST_LINKS: usize = 4096;
 
-/// Up to how many nodes of a branch are represented: its bridges and a station.
+/// The most nodes of a branch that can be represented: its bridges and a station.
 pub const MOST_NODES: usize = 65;
 
-/// Up to how many hops of a tree are represented.
+/// The most hops of a tree that can be represented.
 pub const MOST_HOPS: usize = 200;
 
-/// Up to how many streams are represented that are held at once.
+/// The most streams held at once that can be represented.
 pub const MOST_STREAMS: usize = 16_384;
 
-/// Up to how many rows of a table are represented: arrivals, offers, background frames.
+/// The most rows of a table of arrivals, offers or background frames that can be represented.
 pub const MOST_ROWS: u32 = 16_777_215;
 
-/// What a plant may have at most, as it is set for it.
+/// The limits that are set for a plan.
 #[derive(Clone, Copy, Debug, PartialEq, Eq)]
 pub struct Limits {
     pub bridges: usize,
@@ -74,7 +74,7 @@ pub struct Limits {
     pub rows: u32,
 }
 
-/// The limits that a plant has where none are set.
+/// The limits of a plan for which none are set.
 pub const PROFILE: Limits = Limits {
     bridges: 32,
     stations: 64,
@@ -85,7 +85,7 @@ pub const PROFILE: Limits = Limits {
     rows: 1_000_000,
 };
 
-/// The limits of large plants: what is represented, but of rows.
+/// The limits of large plans: the bounds of representation, except for rows.
 pub const LARGE: Limits = Limits {
     bridges: MOST_BRIDGES,
     stations: MOST_STATIONS,
@@ -97,63 +97,63 @@ pub const LARGE: Limits = Limits {
 };
 
 impl Limits {
-    /// The limits that a plant has where none are set.
+    /// Returns the limits of a plan for which none are set.
     pub fn of_profile() -> Limits
         ensures { result ≡ profile }
     {
         PROFILE
     }
 
-    /// The limits of a plant that is said to be large, or isn't.
+    /// Returns the limits of a plan, by whether it is declared large.
     pub fn where_large(is_large: bool) -> Limits
         ensures { result ≡ limits_where is_large }
     {
         if is_large { LARGE } else { PROFILE }
     }
 
-    /// How many bridges a domain may have: as many as are set, and no more than are represented.
+    /// Returns the number of bridges that a domain may have: the limit that is set, but at most what can be represented.
     pub fn bridges_within(&self) -> usize
         ensures { result ≡ bridges_within self.now }
     {
         self.bridges.min(MOST_BRIDGES)
     }
 
-    /// How many stations, likewise.
+    /// Returns the number of stations that a domain may have, likewise.
     pub fn stations_within(&self) -> usize
         ensures { result ≡ stations_within self.now }
     {
         self.stations.min(MOST_STATIONS)
     }
 
-    /// How many links, likewise.
+    /// Returns the number of links that a domain may have, likewise.
     pub fn links_within(&self) -> usize
         ensures { result ≡ links_within self.now }
     {
         self.links.min(MOST_LINKS)
     }
 
-    /// How many nodes a branch may have.
+    /// Returns the number of nodes that a branch may have, likewise.
     pub fn nodes_within(&self) -> usize
         ensures { result ≡ nodes_within self.now }
     {
         self.nodes.min(MOST_NODES)
     }
 
-    /// How many hops a tree may have.
+    /// Returns the number of hops that a tree may have, likewise.
     pub fn hops_within(&self) -> usize
         ensures { result ≡ hops_within self.now }
     {
         self.hops.min(MOST_HOPS)
     }
 
-    /// How many streams may be held at once.
+    /// Returns the number of streams that may be held at once, likewise.
     pub fn streams_within(&self) -> usize
         ensures { result ≡ streams_within self.now }
     {
         self.streams.min(MOST_STREAMS)
     }
 
-    /// How many rows a table may have.
+    /// Returns the number of rows that a table may have, likewise.
     pub fn rows_within(&self) -> u32
         ensures { result ≡ rows_within self.now }
     {

@@ -1,4 +1,4 @@
-//! In which cycles a stream's frames are on their way, and what it reserves there.
+//! The cycles in which a stream's frames are on their way, and what it reserves there.
 ghost use Rattle.std.specs.Prelude.{◌≡◌, ◌==◌, find, option_copied};
 ghost use Rattle.cqf_model.specs.declared.topology.Hop.{Hop as AHop};
 ghost use Rattle.cqf_model.specs.Paces.{is_turn};
@@ -6,8 +6,8 @@ ghost use Rattle.cqf_model.specs.Table.{depth_behind, reserved_in};
 
 use crate::{Hop, Pace, Row};
 
-/// Whether a stream's frames are so deep on their way in the cycle: offered in the cycles of its phase, they are on a link as many
-/// cycles later as the link is deep.
+/// Returns whether a stream's frames are at this hop number in the cycle: they are offered in the cycles of the
+/// stream's phase, and leave on a link as many cycles later as its hop number says.
 fn is_turn(pace: Pace, depth: u8, cycle: u64) -> bool
     ensures { result ≡ is_turn pace depth cycle }
 {
@@ -15,7 +15,7 @@ fn is_turn(pace: Pace, depth: u8, cycle: u64) -> bool
     (u64::from(pace.phase) + u64::from(depth)) % every == cycle % every
 }
 
-/// Where the hop by this link stands in a row's tree.
+/// Returns the hop by this link in a row's tree.
 fn hop_by(row: &Row, link: u16) -> Option<&Hop>
     ensures { option_copied result ≡ find (λ (hop : AHop). hop.link == link) row.now.tree.items }
 {
@@ -23,7 +23,8 @@ fn hop_by(row: &Row, link: u16) -> Option<&Hop>
 }
 
 impl Row {
-    /// How deep a frame is on its way: not at all at the edge, where `way` is none, and behind a link as deep as the link.
+    /// Returns the hop number of a frame on its way: 0 at the edge, for which `way` is `None`, and after a link the
+    /// link's hop number (0 if the tree doesn't have the link).
     pub fn depth_behind(&self, way: Option<u16>) -> u8
         ensures { result ≡ depth_behind self.now way }
     {
@@ -36,12 +37,12 @@ impl Row {
         }
     }
 
-    /// What the stream reserves in a cycle for frames that came by a link, or at the edge, where `way` is none, in octets: in the cycles
-    /// that aren't its own there, nothing.
+    /// Returns the octets that the stream reserves in a cycle for frames that came by a link, or at the edge, for which
+    /// `way` is `None`: 0 in the cycles in which none of its frames are there.
     pub fn reserved_behind(&self, way: Option<u16>, cycle: u64) -> u32
         ensures { result ≡ reserved_in self.now (depth_behind self.now way) cycle }
     {
-        // a stream that is offered in each cycle reserves in each, however deep its frames are
+        // a stream that is offered in each cycle reserves in each, at every hop number
         if self.pace.pause == 0 {
             return self.octets;
         }

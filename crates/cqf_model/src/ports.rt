@@ -1,8 +1,8 @@
-//! What comes to an output port, and what leaves it.
+//! What arrives at an output port, and what it sends.
 
 use cqf_units::Nanos;
 
-/// A frame that comes to a port's queues.
+/// A frame that arrives at a port's queues.
 #[derive(Clone, Copy, Debug, PartialEq, Eq)]
 pub struct Arrival {
     /// The instant from which it waits.
@@ -11,7 +11,7 @@ pub struct Arrival {
     pub class: u8,
     /// Its size from the destination address to the FCS.
     pub octets: u32,
-    /// A label of the caller's.
+    /// The caller's label.
     pub frame: u32,
 }
 
@@ -24,6 +24,6 @@ pub struct Start {
     pub class: u8,
     /// Its size from the destination address to the FCS.
     pub octets: u32,
-    /// The label that it arrived with.
+    /// The label with which it arrived.
     pub frame: u32,
 }

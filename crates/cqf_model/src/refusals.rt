@@ -1,4 +1,4 @@
-//! Refusals of an admission as texts: the refusal's name, and then its values, each after a space.
+//! Refusals of an admission as text: the refusal's name, followed by its values, each after a space.
 ghost use Rattle.std.specs.Prelude.{Some};
 ghost use Rattle.cqf_model.specs.Refusals.{text_of_refusal};
 

@@ -1,4 +1,4 @@
-//! What a row says of its stream: in which cycles it is live and held, and where it goes.
+//! What a row says about its stream: the cycles in which it is live and held, and its tree.
 ghost use Rattle.std.specs.Prelude.{◌≡◌, ◌<◌, ◌==◌, ◌&&◌, ◌+◌, nat_lt, IfOk};
 ghost use Rattle.std.specs.List.{list_any};
 ghost use Rattle.cqf_model.specs.Table.{crosses, goes_to, is_held, is_live, residence, same_way};
@@ -7,7 +7,7 @@ use crate::{Hop, Row};
 use cqf_units::{Cycle, Memory};
 use std::alloc::Global;
 
-/// Whether a frame comes the same way: from the edge, or by the same link.
+/// Returns whether two ways are the same: both from the edge, or both by the same link.
 fn is_same_way(from: Option<u16>, way: Option<u16>) -> bool
     ensures { result ≡ same_way from way }
 {
@@ -18,14 +18,14 @@ fn is_same_way(from: Option<u16>, way: Option<u16>) -> bool
     }
 }
 
-/// Whether one of some hops is by the link.
+/// Returns whether one of the hops is by the link.
 fn has_link(hops: &[Hop], link: u16) -> bool
     ensures { result ≡ list_any (λ hop. hop.link == link) hops.now }
 {
     hops.iter().any(|hop| hop.link == link)
 }
 
-/// Whether one of some hops leads from that way on by the link.
+/// Returns whether one of the hops leads on by the link from this way.
 fn leads_on(hops: &[Hop], way: Option<u16>, link: u16) -> bool
     ensures { result ≡ list_any (λ hop. same_way hop.from way && (hop.link == link)) hops.now }
 {
@@ -33,7 +33,7 @@ fn leads_on(hops: &[Hop], way: Option<u16>, link: u16) -> bool
         .any(|hop| is_same_way(hop.from, way) && hop.link == link)
 }
 
-/// Whether a cycle is less than so many cycles behind an end.
+/// Returns whether a cycle is before the given number of cycles after an end.
 fn is_under_way(cycle: u32, end: u32, cycles: u8) -> bool
     ensures { result ≡ nat_lt cycle (end + cycles) }
 {
@@ -41,7 +41,7 @@ fn is_under_way(cycle: u32, end: u32, cycles: u8) -> bool
 }
 
 impl Row {
-    /// Whether the stream is live in the cycle: admitted, and not yet withdrawn.
+    /// Returns whether the stream is live in the cycle: admitted, and not yet withdrawn.
     pub fn live(&self, cycle: Cycle) -> bool
         ensures { result ≡ is_live self.now cycle.0 }
     {
@@ -52,8 +52,8 @@ impl Row {
         }
     }
 
-    /// Whether the stream is held in the cycle, with its costs, gates and name: from its admission on, and where it was
-    /// withdrawn until its last frame has left the last bridge of its deepest branch.
+    /// Returns whether the stream is held in the cycle, with its costs, gates and name: admitted and, if it was
+    /// withdrawn, not yet past the cycle in which its last frame leaves the last bridge of its deepest branch.
     pub fn is_held(&self, cycle: Cycle) -> bool
         ensures { result ≡ is_held self.now cycle.0 }
     {
@@ -64,7 +64,7 @@ impl Row {
         }
     }
 
-    /// For how many cycles behind its own a frame of the stream may be under way: the depth of the deepest link.
+    /// Returns the number of cycles after its own for which a frame of the stream may be under way: the greatest hop number.
     pub fn residence(&self) -> u8
         ensures { result ≡ residence self.now }
     {
@@ -75,21 +75,21 @@ impl Row {
         most
     }
 
-    /// Whether the stream goes by the link.
+    /// Returns whether the stream's tree has the link.
     pub fn crosses(&self, link: u16) -> bool
         ensures { result ≡ crosses self.now link }
     {
         has_link(self.tree.as_slice(), link)
     }
 
-    /// Whether a frame goes on by the link: from the edge, where `way` is none, or from the link that it came by.
+    /// Returns whether a frame goes on by the link, from the edge, for which `way` is `None`, or from the link that it came by.
     pub fn goes_on_by(&self, way: Option<u16>, link: u16) -> bool
         ensures { result ≡ list_any (λ next. next == link) (goes_to self.now way) }
     {
         leads_on(self.tree.as_slice(), way, link)
     }
 
-    /// The same row once more, unless memory runs out.
+    /// Returns a copy of the row, or `Memory` if an allocation fails.
     pub fn try_copy(&self, alloc: Global) -> Result<Row, Memory>
         ensures { IfOk result (λ row. row ≡ self.now) }
     {

@@ -20,16 +20,16 @@ pub struct Link {
     /// The node that it ends in.
     pub to: Node,
     pub rate: Rate,
-    /// Propagation and bridge processing together, in nanoseconds: the greatest delay that a frame can have.
+    /// The greatest delay of a frame, in nanoseconds: propagation and bridge processing together.
     pub delay: u32,
     /// The least delay, at most the greatest.
     pub least: u32,
-    /// Its own guard time, in nanoseconds; none where it has the domain's.
+    /// Its own guard band, in nanoseconds; `None` if it has the domain's.
     pub guard: Option<u32>,
 }
 
 impl Link {
-    /// Its guard time, where the domain's is this.
+    /// Returns its guard band, given the domain's.
     pub fn guard_by(&self, guard: u32) -> u32
         ensures { result ≡ guard_by guard self.now }
     {
@@ -42,16 +42,16 @@ impl Link {
 pub struct Hop {
     /// The link's number.
     pub link: u16,
-    /// How many links it is from the stream's first bridge to the link's end, from 1.
+    /// The hop number, from 1: the number of links from the stream's first bridge to the link's end.
     pub depth: u8,
-    /// The link before it, by which frames come to the bridge that this one leaves; none at depth 1.
+    /// The link before it, by which frames arrive at the bridge that this one leaves; `None` for hop number 1.
     pub from: Option<u16>,
 }
 
-/// In which cycles a stream's frames are offered: in one, and then in none for as many as the pause is long.
+/// The cycles in which a stream's frames are offered: one, and then none for as many as the pause says.
 #[derive(Clone, Copy, Debug, Default, PartialEq, Eq)]
 pub struct Pace {
-    /// How many cycles lie between two of its own; 0 where each is.
+    /// The number of cycles between two of its own; 0 if each is its own.
     pub pause: u8,
     /// The first of its own cycles, at most the pause.
     pub phase: u8,
@@ -66,13 +66,13 @@ pub struct Row {
     /// The stream's number, from 0, in the order of accepted admissions.
     pub no: u32,
     pub name: Name,
-    /// The reservation, in octets in each cycle of its own.
+    /// The reservation, in octets in each of the stream's own cycles.
     pub octets: u32,
     pub pace: Pace,
-    /// The hops of its tree, in the order in which their links first stand in the branches.
+    /// The hops of its tree, in the order in which their links first occur in the branches.
     pub tree: Tree,
     /// The first cycle in which the stream is live.
     pub admitted: Cycle,
-    /// The first cycle in which it is live no more, where it was withdrawn.
+    /// The first cycle in which it is no longer live, if it was withdrawn.
     pub withdrawn: Option<Cycle>,
 }

@@ -1,4 +1,4 @@
-//! Where a stream goes.
+//! The trees of streams.
 ghost use Rattle.std.specs.Prelude.{◌≡◌, ◌≤◌, IfOk, length};
 ghost use Rattle.cqf_model.specs.Limits.{most_hops};
 
@@ -7,7 +7,7 @@ use cqf_units::Memory;
 use std::alloc::Global;
 use std::marker::Model;
 
-/// The hops of a stream's branches, at most 200, each link once, in the order in which the links first stand in the branches.
+/// The hops of a stream's branches, at most 200, each link once, in the order in which the links first occur in the branches.
 #[derive(Debug, Drop)]
 pub struct Tree {
     hops: Vec<Hop>,
@@ -26,7 +26,7 @@ impl Model for Tree {
 }
 
 impl Tree {
-    /// A tree of these hops, unless memory runs out.
+    /// Returns a tree of these hops, or `Memory` if an allocation fails.
     pub fn new(alloc: Global, hops: &[Hop]) -> Result<Tree, Memory>
         requires { length hops.now ≤ most_hops }
         ensures { IfOk result (λ tree. tree.items ≡ hops.now) }
@@ -36,7 +36,7 @@ impl Tree {
         })
     }
 
-    /// The hops.
+    /// Returns the hops.
     pub fn as_slice(&self) -> &[Hop]
         ensures value { result.now ≡ self.now.items }
         ensures few { length result.now ≤ most_hops }
@@ -44,7 +44,7 @@ impl Tree {
         self.hops.as_slice()
     }
 
-    /// The same tree once more, unless memory runs out.
+    /// Returns a copy of the tree, or `Memory` if an allocation fails.
     pub fn try_copy(&self, alloc: Global) -> Result<Tree, Memory>
         ensures { IfOk result (λ tree. tree ≡ self.now) }
     {
