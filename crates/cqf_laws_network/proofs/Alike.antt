@@ -1,4 +1,4 @@
--- What a port may do at an instant hangs on what came up to that instant and on what started before it alone.
+-- What a port may do at an instant depends only on what came up to that instant and what started before it.
 use Rattle.std.proofs.Common.{◌≡◌, ℕ, ◌<◌, ◌≤◌, List, length, sym, refl, ap, ◌∙◌, inl, inr, arith}
 use Rattle.std.specs.Prelude.{AllPairs, Contains, slice_index_or}
 use Rattle.std.proofs.lemmas.Bool.{cases_lt}
@@ -7,12 +7,12 @@ use Rattle.cqf_model.specs.declared.ports.Arrival.{Arrival}
 use Rattle.cqf_model.specs.Port.{AreLegal, IsFirst, IsIdle, PortRules, Transmission, Waits, free_from, instant_of, no_arrival}
 use Rattle.cqf_model.proofs.Legal.{eligible_alike}
 
--- what came by t to the one came to the other too, at the same place
+-- each arrival of one list that comes by t is in the other list too, at the same index, and the other way round
 pub record CameAlike (t : ℕ) (xs ys : List Arrival) : Type 0 where
   pub to : (p : ℕ) → p < length xs → instant_of xs p ≤ t → (p < length ys) × (slice_index_or xs p no_arrival ≡ slice_index_or ys p no_arrival)
   pub from : (p : ℕ) → p < length ys → instant_of ys p ≤ t → (p < length xs) × (slice_index_or ys p no_arrival ≡ slice_index_or xs p no_arrival)
 
--- the same started before t
+-- the same transmissions started before t
 pub record StartedAlike (t : ℕ) (a b : List Transmission) : Type 0 where
   pub to : (p s : ℕ) → s < t → Contains a (p, s) → Contains b (p, s)
   pub from : (p s : ℕ) → s < t → Contains b (p, s) → Contains a (p, s)
@@ -25,11 +25,11 @@ came_back x = record { to = x.from; from = x.to }
 pub started_back : {t : ℕ} {a b : List Transmission} → StartedAlike t a b → StartedAlike t b a
 started_back s = record { to = s.from; from = s.to }
 
--- nothing tells a list from itself
+-- a list is alike to itself
 pub came_same : (t : ℕ) (xs : List Arrival) → CameAlike t xs xs
 came_same t xs = record { to = λ p l c. (l, refl); from = λ p l c. (l, refl) }
 
--- what waits for the one waits for the other
+-- what waits in one case waits in the other
 pub waits_alike : (t : ℕ) (xs ys : List Arrival) (a b : List Transmission) → CameAlike t xs ys → StartedAlike t a b → (p : ℕ) → Waits xs a p t → Waits ys b p t
 waits_alike t xs ys a b x s p w =
     let h = x.to p w.inside w.come in
@@ -39,7 +39,7 @@ waits_alike t xs ys a b x s p w =
       not_started = λ u k. elim (cases_lt u t) [ inl l ↦ w.not_started u (s.from p u l k) | inr g ↦ g ];
     }
 
--- what is the first of its class for the one is so for the other
+-- what is the first of its class in one case is so in the other
 pub first_alike : (t : ℕ) (xs ys : List Arrival) (a b : List Transmission) → CameAlike t xs ys → StartedAlike t a b → (p : ℕ) → IsFirst xs a p t →
     IsFirst ys b p t
 first_alike t xs ys a b x s p f =
@@ -52,7 +52,7 @@ first_alike t xs ys a b x s p f =
           f.none_before other l (sym (ap class k.1) ∙ c ∙ sym (ap class h.1)) (waits_alike t ys xs b a (came_back x) (started_back s) other w);
     }
 
--- where the one is idle the other is
+-- if the port is idle in one case, it is in the other
 pub idle_alike : (rules : PortRules) (end t : ℕ) (xs ys : List Arrival) (a b : List Transmission) → AreLegal rules xs end a → CameAlike t xs ys →
     StartedAlike t a b → IsIdle rules xs a t → IsIdle rules ys b t
 idle_alike rules end t xs ys a b legal x s idle p u k l =
@@ -71,7 +71,7 @@ idle_back rules end t xs ys a b legal x s idle p u m l =
     let e : free_from rules xs p u ≡ free_from rules ys p u = ap (λ (y : Arrival). idle_after u y.octets rules.octet_time) h.1 in
     omega (arith, e, idle p u (s.to p u l m) l)
 
--- legal up to the end for what came by then: legal for another list that came alike, with the same starts
+-- starts that are legal up to an end are legal up to an earlier one, for arrivals that are alike up to it and starts that are alike before it
 pub legal_alike : (rules : PortRules) (earlier end : ℕ) (xs ys : List Arrival) (a b : List Transmission) → earlier ≤ end →
     ((t : ℕ) → t < earlier → CameAlike t xs ys) → StartedAlike earlier a b → AllPairs (λ (x y : Transmission). x.1 < y.1) b →
     ((p s : ℕ) → Contains b (p, s) → s < earlier) → AreLegal rules xs end a → AreLegal rules ys earlier b

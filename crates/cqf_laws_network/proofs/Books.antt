@@ -33,7 +33,7 @@ use Rattle.cqf_laws_network.specs.NetworkLaws.{starts_before_cycle, with_tables}
 use Rattle.cqf_laws_network.proofs.Came.{bridges_by_past}
 use Rattle.cqf_laws_network.proofs.Networks.{beginning, sent_before_less}
 
--- the starts of one kind: what a book has of each, which bears its cycle
+-- the starts of one kind, for any form of a book's entries that has the cycle
 module _ {A : Type 0} (at : A → ℕ) (by : ℕ → ℕ → A → Started) (bears : (cycle link : ℕ) (x : A) → (by cycle link x).cycle.0 ≡ cycle) (d : Domain) where
   -- what the links send in a cycle, by link
   abbrev of_cycle : (ℕ → List A) → ℕ → ℕ → List Started
@@ -43,7 +43,7 @@ module _ {A : Type 0} (at : A → ℕ) (by : ℕ → ℕ → A → Started) (bea
   abbrev of_run : ℕ → (ℕ → List A) → List Started
   of_run cycles sends = each_below (λ cycle. each_below (of_cycle sends cycle) (length d.links)) cycles
 
-  -- the starts of a cycle bear it
+  -- the starts of a cycle have that cycle
   start_cycle : (sends : ℕ → List A) (cycle : ℕ) (x : Started) → Contains (each_below (of_cycle sends cycle) (length d.links)) x → x.cycle.0 ≡ cycle
   start_cycle sends cycle x h =
       let w = contains_from_below (of_cycle sends cycle) (length d.links) x h in
@@ -69,7 +69,7 @@ module _ {A : Type 0} (at : A → ℕ) (by : ℕ → ℕ → A → Started) (bea
       let some = takes_time d.cycle_time (at x) longer (within l h x m) in
       lt-ltb (at x) end (before_cycle d.cycle_time (at x) cycle cycles some (eqb-true (cycle_of d (at x)) cycle e) k)))))
 
--- the drops of a cycle bear it
+-- the drops of a cycle have that cycle
 drop_cycle : (d : Domain) (places : ℕ) (policed : ℕ → List Policed) (cycle bridges : ℕ) (x : Dropped) →
     Contains (each_below (drops_in d places policed cycle) bridges) x → x.cycle.0 ≡ cycle
 drop_cycle d places policed cycle bridges x h =

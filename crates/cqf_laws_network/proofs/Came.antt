@@ -1,4 +1,4 @@
--- What comes to a bridge and to its ports before an instant hangs on what was sent before it alone.
+-- What arrives at a bridge and at its ports before an instant depends only on what was sent before it.
 use Rattle.std.proofs.Common.{◌≡◌, ℕ, ◌+◌, ◌*◌, ◌<◌, ◌≤◌, true, cond, List, length, sym, refl, ap, ap₂, ◌∙◌, inl, inr, arith, subst, eqb-true}
 use Rattle.std.specs.Prelude.{[], ◌++◌, map, filter, nat_lt, ◌==◌, zero, suc}
 use Rattle.std.proofs.Math.Nat.{mul-le-mul_right}
@@ -27,7 +27,7 @@ use Rattle.cqf_laws_network.specs.NetworkLaws.{CarryTheSame, HaveOnePast, HaveTh
 abbrev pub Late : ℕ → QueuedFrame → Type 0
 Late n x = n ≤ x.arrival.at.0
 
--- a frame takes time where an octet does
+-- a frame takes some time if an octet does
 frame_takes_time : (start octets octet_time delay : ℕ) → 0 < octet_time → start < ending_of start octets octet_time + delay
 frame_takes_time start octets octet_time delay h = omega (arith, time_some (octets + 8) octet_time (omega arith) h)
 
@@ -46,7 +46,7 @@ tables_until run others cycles same u l =
     same (cycle_of run.domain u) (div_below u run.domain.cycle_time cycles (takes_time run.domain.cycle_time u cycles l) l)
 
 module _ (run : Run) (others : List (List Row)) (carried other : Carried) (t : ℕ) (alike : CarryTheSame run.domain t carried other) where
-  -- what is whole by an instant at which the same was sent is the same
+  -- if the same was sent before an instant, the same is whole by the instant
   relayed_same : (bridge u m : ℕ) → m < length run.domain.links → u ≤ t → relayed_at run.domain carried bridge u m ≡ relayed_at run.domain other bridge u m
   relayed_same bridge u m h le =
       let d = run.domain in
@@ -59,7 +59,7 @@ module _ (run : Run) (others : List (List Row)) (carried other : Carried) (t : �
       ∙ sym (filter_weaker whole before (other m) (λ sent c. sooner sent)) in
       ap (λ (sents : List Sent). cond (enters d m bridge) (map (sent_received d m) sents) []) same
 
-  -- so what comes to a bridge at such an instant is the same
+  -- so what arrives at a bridge at such an instant is the same
   received_same : (bridge u : ℕ) → u ≤ t → received_at run carried bridge u ≡ received_at run other bridge u
   received_same bridge u le =
       ap (λ (xs : List Received). xs ++ offered_at run.offers bridge u)
@@ -79,7 +79,7 @@ module _ (run : Run) (others : List (List Row)) (carried other : Carried) (t : �
   queued_same : (l n : ℕ) → n ≤ suc t → TablesAgree run others n → queued_before run carried l n ≡ queued_before (with_tables run others) other l n
   queued_same l n le same = ap (queued_to run.domain l) (policed_same (bridge_of run.domain l) n le same)
 
-  -- and what comes to it in the cycles that are over by then
+  -- and what arrives at it in the cycles that are over by then
   pub comes_same : (l cycles : ℕ) → cycles * run.domain.cycle_time ≤ suc t → TablesAgree run others (cycles * run.domain.cycle_time) →
       comes_before run carried l cycles ≡ comes_before (with_tables run others) other l cycles
   comes_same l cycles le same =
@@ -90,34 +90,34 @@ module _ (run : Run) (others : List (List Row)) (carried other : Carried) (t : �
       ap (λ (xs : List QueuedFrame). backed_in d run.background l cycle ++ filter (λ (x : QueuedFrame). cycle_of d x.arrival.at.0 == cycle) xs)
       (queued_same l ((cycle + 1) * d.cycle_time) (omega (arith, upto, le)) (λ u h. same u (omega (arith, h, upto)))))
 
--- two runs of one past get the same at their bridges
+-- two runs with one past have the same frames and verdicts at their bridges
 pub bridges_by_past : (run : Run) (others : List (List Row)) (carried other : Carried) (cycles bridge : ℕ) → HaveOnePast run others carried other cycles →
     policed_before run carried bridge (cycles * run.domain.cycle_time) ≡ policed_before (with_tables run others) other bridge (cycles * run.domain.cycle_time)
 bridges_by_past run others carried other cycles bridge past =
     let end = cycles * run.domain.cycle_time in
     policed_same run others carried other end past.links bridge end (omega arith) (tables_until run others cycles past.tables)
 
--- and at their ports
+-- and the same frames at their ports
 pub ports_by_past : (run : Run) (others : List (List Row)) (carried other : Carried) (cycles l : ℕ) → HaveOnePast run others carried other cycles →
     comes_before run carried l cycles ≡ comes_before (with_tables run others) other l cycles
 ports_by_past run others carried other cycles l past =
     comes_same run others carried other (cycles * run.domain.cycle_time) past.links l cycles (omega arith) (tables_until run others cycles past.tables)
 
--- two lists that have one front, and behind it only what comes at an instant or later
+-- two lists have one front, and the rest of each comes at an instant or later
 pub record HaveOneFront (n : ℕ) (xs ys : List QueuedFrame) : Type 0 where
   pub front : List QueuedFrame
   pub first : Front xs front (Late n)
   pub second : Front ys front (Late n)
 
--- what comes to a port in the first cycles up to an instant of the last: what came before that cycle, its background
--- frames, and the streams' frames that are queued in it up to the instant
+-- what arrives at a port in the first cycles up to an instant of the last: what came before that cycle, its background frames, and the
+-- streams' frames that are queued in it up to the instant
 abbrev front_at : Run → Carried → ℕ → ℕ → ℕ → List QueuedFrame
 front_at run carried l cycle n =
     comes_before run carried l cycle
     ++ (backed_in run.domain run.background l cycle ++ filter (λ (x : QueuedFrame). cycle_of run.domain x.arrival.at.0 == cycle)
     (queued_before run carried l n))
 
--- it is the front of what comes in them
+-- it is a front of what arrives in these cycles
 comes_front : (run : Run) (carried : Carried) (l cycle n : ℕ) → n ≤ (cycle + 1) * run.domain.cycle_time →
     Front (comes_before run carried l (suc cycle)) (front_at run carried l cycle n) (Late n)
 comes_front run carried l cycle n le =
@@ -128,7 +128,7 @@ comes_front run carried l cycle n le =
     front_behind (comes_before run carried l cycle) (comes_in run carried l cycle) (own ++ filter of_cycle (queued_before run carried l n)) (Late n)
     (front_behind own (queued_in run carried l cycle) (filter of_cycle (queued_before run carried l n)) (Late n) queued)
 
--- where two networks carry the same before an instant, what comes to a port by them has one front up to it
+-- if two networks carry the same before an instant, the queues of a port have one front up to it
 pub one_front : (run : Run) (carried other : Carried) (t : ℕ) → CarryTheSame run.domain t carried other → (l n cycles : ℕ) → n ≤ suc t →
     HaveOneFront n (comes_before run carried l cycles) (comes_before run other l cycles)
 one_front run carried other t alike l n zero le =

@@ -1,44 +1,44 @@
--- What can be told of finitely many.
+-- Decidable statements about finitely many things.
 use Rattle.std.proofs.Common.{◌≡◌, ℕ, ◌<◌, ◌≤◌, ◌⊎◌, List, length, inl, inr, arith, subst}
 use Rattle.std.specs.Prelude.{Contains, slice_index_or, zero, suc}
 use Rattle.std.proofs.lemmas.Bool.{cases_lt}
 use Rattle.std.proofs.lemmas.List.Elements.{All-contains, All-from_get_or, Contains-get_or}
 
--- it can be told whether a statement holds
+-- it is decided whether a statement holds
 abbrev pub Told : Type 0 → Type 0
 Told P = P ⊎ (P → ⊥)
 
--- of two that are told, both are
+-- a conjunction is decided if both statements are
 pub told_both : {P Q : Type 0} → Told P → Told Q → Told (P × Q)
 told_both (inl p) (inl q) = inl (p, q)
 told_both (inl p) (inr never) = inr (λ w. never w.1)
 told_both (inr never) q = inr (λ w. never w.0)
 
--- and whether the first gives the second
+-- an implication is decided if both statements are
 pub told_if : {P Q : Type 0} → Told P → Told Q → Told (P → Q)
 told_if p (inl q) = inl (λ x. q)
 told_if (inl p) (inr never) = inr (λ f. never (f p))
 told_if (inr other) (inr never) = inl (λ p. absurd (other p))
 
--- what is told is told not to hold
+-- a negation is decided if the statement is
 pub told_not : {P : Type 0} → Told P → Told (P → ⊥)
 told_not (inl p) = inr (λ f. f p)
 told_not (inr never) = inl never
 
--- what is the same as something that is told
+-- a statement is decided if an equivalent one is
 pub told_like : {P Q : Type 0} → (P → Q) → (Q → P) → Told P → Told Q
 told_like to from (inl p) = inl (to p)
 told_like to from (inr never) = inr (λ q. never (from q))
 
--- less is told
+-- a strict inequality is decided
 pub told_lt : (m n : ℕ) → Told (m < n)
 told_lt m n = elim (cases_lt m n) [ inl l ↦ inl l | inr g ↦ inr (λ l. omega (arith, l, g)) ]
 
--- and so is at most
+-- an inequality is decided
 pub told_le : (m n : ℕ) → Told (m ≤ n)
 told_le m n = elim (cases_lt n m) [ inl l ↦ inr (λ g. omega (arith, l, g)) | inr g ↦ inl g ]
 
--- of all numbers below one
+-- a statement about all numbers below a bound is decided if it is for each
 pub told_below : (P : ℕ → Type 0) → ((k : ℕ) → Told (P k)) → (n : ℕ) → Told ((k : ℕ) → k < n → P k)
 told_below P told zero = inl (λ k l. absurd (omega (arith, l)))
 told_below P told (suc n) =
@@ -47,7 +47,7 @@ told_below P told (suc n) =
     (λ f. (λ k l. f k (omega (arith, l)), f n (omega arith)))
     (told_both (told_below P told n) (told n))
 
--- of all members of a list
+-- a statement about all members of a list is decided if it is for each
 pub told_members : {X : Type 0} (P : X → Type 0) → ((x : X) → Told (P x)) → X → (xs : List X) → Told ((x : X) → Contains xs x → P x)
 told_members P told d xs =
     told_like {P = (k : ℕ) → k < length xs → P (slice_index_or xs k d)}
@@ -55,18 +55,18 @@ told_members P told d xs =
     (λ f k l. f (slice_index_or xs k d) (Contains-get_or xs k d l))
     (told_below (λ k. P (slice_index_or xs k d)) (λ k. told (slice_index_or xs k d)) (length xs))
 
--- of the numbers below one for which something holds, one that is the greatest by a measure
+-- of the numbers below a bound with a property, one with the greatest measure
 pub record IsBest (P : ℕ → Type 0) (measure : ℕ → ℕ) (n k : ℕ) : Type 0 where
   pub below : k < n
   pub holds : P k
   pub best : (j : ℕ) → j < n → P j → measure j ≤ measure k
 
--- the best of finitely many, or none of them
+-- among the numbers below a bound, there is a best one with the property, or none has it
 pub best_below : (P : ℕ → Type 0) (measure : ℕ → ℕ) → ((k : ℕ) → Told (P k)) → (n : ℕ) → ((k : ℕ) × IsBest P measure n k) ⊎ ((k : ℕ) → k < n → P k → ⊥)
 best_below P measure told zero = inr (λ k l p. omega (arith, l))
 best_below P measure told (suc n) = further P measure n (best_below P measure told n) (told n)
   where
-    -- with one more number that is told, the best of them, or none of them
+    -- the same with one more number
     further : (P : ℕ → Type 0) (measure : ℕ → ℕ) (n : ℕ) → ((k : ℕ) × IsBest P measure n k) ⊎ ((k : ℕ) → k < n → P k → ⊥) → Told (P n) →
         ((k : ℕ) × IsBest P measure (suc n) k) ⊎ ((k : ℕ) → k < suc n → P k → ⊥)
     further P measure n (inl w) (inr never) =

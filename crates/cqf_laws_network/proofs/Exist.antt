@@ -1,4 +1,4 @@
--- Legal starts exist, for any gate list and arrivals: the port goes from instant to instant, and what it starts can be told.
+-- Legal starts exist for any gate list and arrivals: the port goes from instant to instant, and what it may start is decidable.
 use Rattle.std.proofs.Common.{◌≡◌, ℕ, ◌<◌, ◌≤◌, List, length, add-one, refl, inl, inr, arith, subst}
 use Rattle.std.specs.Prelude.{[], ◌∷◌, ◌++◌, Contains, zero, suc}
 use Rattle.std.proofs.lemmas.Bool.{cases_eq}
@@ -9,18 +9,18 @@ use Rattle.cqf_model.specs.Port.{AreLegal, IsEligible, IsFirst, IsIdle, PortRule
 use Rattle.cqf_model.proofs.Starts.{legal_skip, legal_start}
 use Rattle.cqf_laws_network.proofs.Decide.{IsBest, Told, best_below, told_below, told_both, told_if, told_le, told_like, told_lt, told_members, told_not}
 
--- whether a class is open
+-- whether a class is open is decided
 told_open : (entries : List Entry) (class t : ℕ) → Told (IsOpen entries class t)
 told_open entries class t = told_not (cases_eq _ _)
 
--- whether it stays open
+-- whether it stays open is decided
 told_through : (entries : List Entry) (class first last : ℕ) → Told (IsOpenThrough entries class first last)
 told_through entries class first last =
     told_like {P = (t : ℕ) → t < last → first ≤ t → IsOpen entries class t}
     (λ f t g l. f t l g) (λ f t l g. f t g l)
     (told_below (λ t. first ≤ t → IsOpen entries class t) (λ t. told_if (told_le first t) (told_open entries class t)) last)
 
--- whether an arrival waits
+-- whether an arrival waits is decided
 told_waits : (xs : List Arrival) (starts : List Transmission) (p t : ℕ) → Told (Waits xs starts p t)
 told_waits xs starts p t =
     told_like {P = (p < length xs) × (instant_of xs p ≤ t) × ((x : Transmission) → Contains starts x → x.0 ≡ p → t ≤ x.1)}
@@ -29,11 +29,11 @@ told_waits xs starts p t =
     (told_three (told_lt p (length xs)) (told_le (instant_of xs p) t)
     (told_members (λ (x : Transmission). x.0 ≡ p → t ≤ x.1) (λ x. told_if (cases_eq x.0 p) (told_le t x.1)) (0, 0) starts))
   where
-    -- of three that are told, all of them are
+    -- a conjunction of three is decided if all three are
     told_three : {P Q R : Type 0} → Told P → Told Q → Told R → Told (P × Q × R)
     told_three p q r = told_like (λ w. (w.0, w.1.0, w.1.1)) (λ w. (w.0, (w.1, w.2))) (told_both p (told_both q r))
 
--- whether it is the first that waits
+-- whether it is the first that waits is decided
 told_first : (xs : List Arrival) (starts : List Transmission) (p t : ℕ) → Told (IsFirst xs starts p t)
 told_first xs starts p t =
     told_like {P = Waits xs starts p t × ((other : ℕ) → other < p → class_of xs other ≡ class_of xs p → Waits xs starts other t → ⊥)}
@@ -43,7 +43,7 @@ told_first xs starts p t =
     (told_below (λ other. class_of xs other ≡ class_of xs p → Waits xs starts other t → ⊥)
     (λ other. told_if (cases_eq (class_of xs other) (class_of xs p)) (told_not (told_waits xs starts other t))) p))
 
--- whether the port is idle
+-- whether the port is idle is decided
 told_idle : (rules : PortRules) (xs : List Arrival) (starts : List Transmission) (t : ℕ) → Told (IsIdle rules xs starts t)
 told_idle rules xs starts t =
     told_like {P = (x : Transmission) → Contains starts x → x.1 < t → free_from rules xs x.0 x.1 ≤ t}
@@ -51,16 +51,16 @@ told_idle rules xs starts t =
     (told_members (λ (x : Transmission). x.1 < t → free_from rules xs x.0 x.1 ≤ t) (λ x. told_if (told_lt x.1 t) (told_le (free_from rules xs x.0 x.1) t))
     (0, 0) starts)
 
--- what may start at an instant, but for the other classes
+-- what may start at an instant, if no other class has precedence
 abbrev MayStart : PortRules → List Arrival → List Transmission → ℕ → ℕ → Type 0
 MayStart rules xs starts t p = IsFirst xs starts p t × IsEligible rules xs p t
 
--- whether an arrival may start
+-- whether an arrival may start is decided
 told_may_start : (rules : PortRules) (xs : List Arrival) (starts : List Transmission) (t p : ℕ) → Told (MayStart rules xs starts t p)
 told_may_start rules xs starts t p =
     told_both (told_first xs starts p t) (told_through rules.entries (class_of xs p) t (ending_of t (octets_of xs p) rules.octet_time))
 
--- where nothing may start at the end, the starts are legal one instant longer
+-- if nothing may start at the end, the starts are legal one instant longer
 legal_without : (rules : PortRules) (xs : List Arrival) (end : ℕ) (starts : List Transmission) → AreLegal rules xs end starts →
     (IsIdle rules xs starts end → (p : ℕ) → MayStart rules xs starts end p → ⊥) → AreLegal rules xs (suc end) starts
 legal_without rules xs end starts legal none =
@@ -68,7 +68,7 @@ legal_without rules xs end starts legal none =
     let same : t ≡ end = omega (arith, from, before) in
     none (subst (λ (u : ℕ). IsIdle rules xs starts u) same idle) p (subst (λ (u : ℕ). MayStart rules xs starts u p) same (first, able)))
 
--- and so they are with the best of what may start then
+-- the starts are legal one instant longer with the best of what may start
 legal_with : (rules : PortRules) (xs : List Arrival) (end : ℕ) (starts : List Transmission) (p : ℕ) → AreLegal rules xs end starts →
     IsIdle rules xs starts end → IsBest (MayStart rules xs starts end) (class_of xs) (length xs) p → AreLegal rules xs (suc end) (starts ++ (p, end) ∷ [])
 legal_with rules xs end starts p legal idle best =
@@ -78,7 +78,7 @@ legal_with rules xs end starts p legal idle best =
       above = λ other higher first able. omega (arith, higher, best.best other first.waits.inside (first, able));
     }))
 
--- one instant longer
+-- the starts can be continued for one instant
 legal_longer : (rules : PortRules) (xs : List Arrival) (end : ℕ) (starts : List Transmission) → AreLegal rules xs end starts → (more : List Transmission) ×
     AreLegal rules xs (suc end) more
 legal_longer rules xs end starts legal =
@@ -90,7 +90,7 @@ legal_longer rules xs end starts legal =
       ]
     ]
 
--- at instant 0 it is legal that nothing has started
+-- no starts at all are legal up to instant 0
 nothing_legal : (rules : PortRules) (xs : List Arrival) → AreLegal rules xs 0 []
 nothing_legal rules xs =
     let never : (x : Transmission) → Contains [] x → ⊥ = λ x h. omega (arith, h.1) in

@@ -30,13 +30,13 @@ use Rattle.cqf_laws_network.proofs.Ports.{backed_before_end, port_part, port_pas
 sent_before_0 : (sents : List Sent) → sent_before 0 sents ≡ []
 sent_before_0 sents = filter_none (λ (sent : Sent). nat_lt sent.start.0 0) sents (λ sent h. le-ltb sent.start.0 0 (omega arith))
 
--- what is sent before an instant, of that before a later one
+-- what is sent before an instant, taken from what is sent before a later one
 pub sent_before_less : (t n : ℕ) (sents : List Sent) → t ≤ n → sent_before t (sent_before n sents) ≡ sent_before t sents
 sent_before_less t n sents le =
     sym (filter_weaker (λ (sent : Sent). nat_lt sent.start.0 t) (λ (sent : Sent). nat_lt sent.start.0 n) sents
     (λ sent c h. lt-ltb sent.start.0 n (omega (arith, le, ltb-true sent.start.0 t h))))
 
--- two networks are one where each link sends the same in both, of both kinds
+-- two networks are equal if each link sends the same in both, of both kinds
 one_network : (net other : Network) → ((l : ℕ) → net.carried l ≡ other.carried l) → ((l : ℕ) → net.backed l ≡ other.backed l) → net ≡ other
 one_network net other carried backed =
     let by : Carried → (ℕ → List Start) → Network = λ c b. record { carried = c; backed = b } in
@@ -57,14 +57,14 @@ module _ (run : Run) (lists : ℕ → List Entry) (cycles : ℕ) where
       port_past run.domain (lists l) l (suc t) end (comes_before run net.carried l cycles) (comes_before run other.carried l cycles) f.front (net.carried l)
       (net.backed l) f.first f.second (a l h) past end (other.carried l) (other.backed l) le le (b l h)
 
-  -- of streams' frames
+  -- the links carry the same streams' frames before each instant up to the end
   same_until : OnlyThePastCounts → (end : ℕ) (net other : Network) → IsLegalUntil run lists cycles end net → IsLegalUntil run lists cycles end other → (t : ℕ) →
       t ≤ end → CarryTheSame run.domain t net.carried other.carried
   same_until past end net other a b zero le l h = sent_before_0 (net.carried l) ∙ sym (sent_before_0 (other.carried l))
   same_until past end net other a b (suc t) le l h =
       (both_until past end t net other a b le (same_until past end net other a b t (omega (arith, le))) l h).sent
 
-  -- and before the end of both kinds
+  -- and at the end they send the same of both kinds
   same_at_end : OnlyThePastCounts → (end : ℕ) (net other : Network) → IsLegalUntil run lists cycles end net → IsLegalUntil run lists cycles end other →
       (l : ℕ) → l < length run.domain.links → SendTheSame end (net.carried l) (other.carried l) (net.backed l) (other.backed l)
   same_at_end past end net other a b l h =
@@ -95,7 +95,7 @@ module _ (run : Run) (lists : ℕ → List Entry) (cycles : ℕ) where
         | inr g ↦ (a.no_others l g).1 ∙ sym (b.no_others l g).1
       ])
 
-  -- what a port gets in the run is the front of what it gets in a longer one
+  -- what arrives at a port in the run is the front of what arrives in a longer one
   longer_front : (carried : Carried) (l longer : ℕ) → cycles ≤ longer →
       Front (comes_before run carried l longer) (comes_before run carried l cycles) (Late (cycles * run.domain.cycle_time))
   longer_front carried l longer le =
@@ -129,7 +129,7 @@ module _ (run : Run) (lists : ℕ → List Entry) (cycles : ℕ) where
         no_others = λ l g. (ap (sent_before n) (legal.no_others l g).0, ap (backed_before n) (legal.no_others l g).1);
       }
 
-  -- a network that is legal up to an instant goes on
+  -- a network that is legal up to an instant can be continued
   longer_until : LegalPartIsLegalForTheSamePast → OnlyThePastCounts → LegalStartsExist → (end : ℕ) (net : Network) → IsLegalUntil run lists cycles end net →
       (more : Network) × IsLegalUntil run lists cycles (suc end) more
   longer_until part past exist end net legal =
@@ -175,18 +175,18 @@ module _ (run : Run) (lists : ℕ → List Entry) (cycles : ℕ) where
   some_until part past exist (suc end) =
       let w = some_until part past exist end in longer_until part past exist end w.0 w.1
 
-  -- a network of the domain's links alone
+  -- a network without other links than the domain's
   abbrev only_links : Network → Network
   only_links net = record {
     carried = λ l. cond (nat_lt l (length run.domain.links)) (net.carried l) [];
     backed = λ l. cond (nat_lt l (length run.domain.links)) (net.backed l) [];
   }
 
-  -- a list that is there for the links alone is there for a link
+  -- for a link of the domain the list is kept
   kept : {X : Type 0} (xs : List X) (l : ℕ) → l < length run.domain.links → xs ≡ cond (nat_lt l (length run.domain.links)) xs []
   kept xs l h = sym (ap (λ (b : Bool). cond b xs []) (lt-ltb l (length run.domain.links) h))
 
-  -- and for no other number
+  -- for any other number it is empty
   left_out : {X : Type 0} (xs : List X) (l : ℕ) → length run.domain.links ≤ l → cond (nat_lt l (length run.domain.links)) xs [] ≡ []
   left_out xs l g = ap (λ (b : Bool). cond b xs []) (le-ltb l (length run.domain.links) g)
 
@@ -211,6 +211,6 @@ module _ (run : Run) (lists : ℕ → List Entry) (cycles : ℕ) where
         },
       )
 
--- the first tables alone
+-- the first tables alone are the same
 pub first_tables : (cycles : ℕ) (tables : List (List Row)) → HaveTheSameTables cycles tables (take cycles tables)
 first_tables cycles tables cycle l = sym (get_or-take cycles tables cycle [] l)

@@ -1,4 +1,4 @@
--- What a port of a network sends before an instant hangs on the front of what comes to it alone.
+-- What a port of a network sends before an instant depends only on the front of its queue.
 use Rattle.std.proofs.Common.{◌≡◌, ℕ, ◌<◌, ◌≤◌, List, length, length-append, sym, ap, ◌∙◌, inl, inr, arith, refl}
 use Rattle.std.specs.Prelude.{◌++◌, Contains, nat_lt, slice_index_or}
 use Rattle.std.specs.List.{flat_map}
@@ -20,7 +20,7 @@ use Rattle.cqf_laws_network.specs.PortLaws.{HasAllBefore, LegalPartIsLegalForThe
 use Rattle.cqf_laws_network.specs.NetworkLaws.{PortGoesByThePast, SendTheSame, backed_before, sent_before}
 use Rattle.cqf_laws_network.proofs.Came.{Late}
 
--- a frame that came before the instant stands in the front
+-- a frame that came before the instant is in the front
 in_front : (n : ℕ) (front rest : List QueuedFrame) → ((x : QueuedFrame) → Contains rest x → Late n x) → (p : ℕ) → p < length (front ++ rest) →
     (slice_index_or (front ++ rest) p no_frame).arrival.at.0 < n → p < length front
 in_front n front rest late p l came =
@@ -29,16 +29,16 @@ in_front n front rest late p l came =
       | inr m ↦ absurd (omega (arith, came, late (slice_index_or (front ++ rest) p no_frame) m))
     ]
 
--- the arrival at a place is that of the frame queued there
+-- the arrival at an index is that of the queued frame there
 arrival_at : (queued : List QueuedFrame) (p : ℕ) → p < length queued →
     slice_index_or (arrivals_of queued) p no_arrival ≡ (slice_index_or queued p no_frame).arrival
 arrival_at queued p l = get_or-map (λ (x : QueuedFrame). x.arrival) queued p no_frame no_arrival l
 
--- places of arrivals are places of queued frames
+-- the indices of arrivals are those of queued frames
 place_of : (queued : List QueuedFrame) (p : ℕ) → p < length (arrivals_of queued) → p < length queued
 place_of queued p l = omega (arith, l, length-map queued (λ (x : QueuedFrame). x.arrival))
 
--- an arrival of before the instant is of a frame in the front
+-- an arrival before the instant is of a frame in the front
 arrived_in_front : (n : ℕ) (queued front : List QueuedFrame) → Front queued front (Late n) → (p : ℕ) → p < length (arrivals_of queued) →
     instant_of (arrivals_of queued) p < n → (p < length front) × (slice_index_or queued p no_frame ≡ slice_index_or front p no_frame)
 arrived_in_front n queued front f p l came =
@@ -50,7 +50,7 @@ arrived_in_front n queued front f p l came =
     let k = in_front n front f.rest f.late p inside before in
     (k, at ∙ get_or_append_left front f.rest no_frame p k)
 
--- a place in the front is one of the queue, with the same frame
+-- an index of the front is one of the queue, with the same frame
 front_place : (n : ℕ) (queued front : List QueuedFrame) → Front queued front (Late n) → (p : ℕ) → p < length front → (p < length queued) ×
     (slice_index_or queued p no_frame ≡ slice_index_or front p no_frame)
 front_place n queued front f p l = (
@@ -67,7 +67,7 @@ same_before n xs ys front f g p l came =
       arrival_at xs p (place_of xs p l) ∙ ap (λ (x : QueuedFrame). x.arrival) (h.1 ∙ sym k.1) ∙ sym (arrival_at ys p k.0),
     )
 
--- and a transmission before it is of the same frame in both
+-- a transmission before the instant is of the same frame in both queues
 same_frame : (n end : ℕ) (rules : PortRules) (xs ys front : List QueuedFrame) (starts : List Transmission) → Front xs front (Late n) → Front ys front (Late n) →
     AreLegal rules (arrivals_of xs) end starts → (x : Transmission) → Contains (starts_before n starts) x →
     slice_index_or xs x.0 no_frame ≡ slice_index_or ys x.0 no_frame
@@ -84,13 +84,13 @@ module _ (d : Domain) (entries : List Entry) (l : ℕ) where
   abbrev rules : PortRules
   rules = record { entries = entries; octet_time = octet_time_of d l }
 
-  -- a port sends nothing from its end on
+  -- a port sends no stream's frame from its end on
   pub sends_before_end : (end : ℕ) (queued : List QueuedFrame) (sents : List Sent) (backed : List Start) → Sends d entries end l queued sents backed →
       sent_before end sents ≡ sents
   sends_before_end end queued sents backed s =
       filter_each (λ (sent : Sent). nat_lt sent.start.0 end) sents (λ x h. lt-ltb x.start.0 end (sent_within d entries end l queued sents backed s x h))
 
-  -- no background frame either
+  -- and no background frame
   pub backed_before_end : (end : ℕ) (queued : List QueuedFrame) (sents : List Sent) (backed : List Start) → Sends d entries end l queued sents backed →
       backed_before end backed ≡ backed
   backed_before_end end queued sents backed s =
@@ -98,19 +98,19 @@ module _ (d : Domain) (entries : List Entry) (l : ℕ) where
 
   module _ (n end : ℕ) (xs ys front : List QueuedFrame) (sents : List Sent) (backed : List Start) (f : Front xs front (Late n)) (g : Front ys front (Late n))
       (s : Sends d entries end l xs sents backed) where
-    -- what it sends before an instant, of what another port gets with the same front
+    -- what it sends before an instant, from another queue with the same front
     sent_of_other : sent_before n sents ≡ flat_map (sent_of ys) (starts_before n s.starts)
     sent_of_other =
         ap (sent_before n) s.are_sent ∙ sent_then (λ t. nat_lt t n) xs s.starts
         ∙ sent_same xs ys (starts_before n s.starts) (same_frame n end rules xs ys front s.starts f g s.legal)
 
-    -- of background frames too
+    -- the same for background frames
     backed_of_other : backed_before n backed ≡ flat_map (backed_of ys) (starts_before n s.starts)
     backed_of_other =
         ap (backed_before n) s.are_backed ∙ backed_then (λ t. nat_lt t n) xs s.starts
         ∙ backed_same xs ys (starts_before n s.starts) (same_frame n end rules xs ys front s.starts f g s.legal)
 
-    -- that is legal for what the other gets
+    -- that is legal for the other queue
     pub port_part : LegalPartIsLegalForTheSamePast → n ≤ end → Sends d entries n l ys (sent_before n sents) (backed_before n backed)
     port_part part le =
         record {
@@ -120,7 +120,7 @@ module _ (d : Domain) (entries : List Entry) (l : ℕ) where
           are_backed = backed_of_other;
         }
 
-    -- and the other sends the same before the instant
+    -- and for the other queue the same is sent before the instant
     pub port_past : OnlyThePastCounts → (other_end : ℕ) (others : List Sent) (other_backed : List Start) → n ≤ end → n ≤ other_end →
         Sends d entries other_end l ys others other_backed → SendTheSame n sents others backed other_backed
     port_past past other_end others other_backed le other_le t =
@@ -133,7 +133,7 @@ module _ (d : Domain) (entries : List Entry) (l : ℕ) where
               ∙ sym (ap (backed_before n) t.are_backed);
         }
 
--- a port goes by the past
+-- what a port sends depends only on the past
 pub port_by_past : OnlyThePastCounts → PortGoesByThePast
 port_by_past past d entries l end front rest other_rest late other_late one other le other_le =
     let f : Front (front ++ rest) front (Late end) = record { rest = rest; is = refl; late = late } in

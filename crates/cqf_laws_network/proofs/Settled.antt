@@ -1,4 +1,4 @@
--- What a port sends is settled by its gate list, its link and what comes: legal starts are unique.
+-- What a port sends is determined by its gate list, its link and its arrivals: legal starts are unique.
 use Rattle.std.proofs.Common.{◌≡◌, ℕ, ◌<◌, ◌≤◌, List, sym, inl, inr, arith, subst}
 use Rattle.std.specs.Prelude.{Contains, nat_lt, zero, suc}
 use Rattle.std.proofs.lemmas.Bool.{cases_lt, cases_order, ltb-true, lt-ltb}
@@ -10,7 +10,7 @@ use Rattle.cqf_lists.proofs.Members.{contains_filter, contains_from_filter}
 use Rattle.cqf_lists.proofs.Pairs.{same_ordered}
 use Rattle.cqf_laws_network.proofs.Alike.{CameAlike, StartedAlike, came_same, first_alike, idle_alike, legal_alike, started_back}
 
--- at an instant before which the same started, two firsts of which neither yields to the other are one
+-- if the same started before an instant, two firsts are equal unless one has a higher class
 same_choice : (xs : List Arrival) (b : List Transmission) (p q t : ℕ) → IsFirst xs b p t → IsFirst xs b q t → (class_of xs p < class_of xs q → ⊥) →
     (class_of xs q < class_of xs p → ⊥) → p ≡ q
 same_choice xs b p q t f g above below =
@@ -25,7 +25,7 @@ same_choice xs b p q t f g above below =
       | inr other ↦ elim other [ inl l ↦ absurd (above l) | inr l ↦ absurd (below l) ]
     ]
 
--- what starts in the one legal list at an instant starts in the other, if the same started before
+-- what starts at an instant in one legal list starts in the other, if the same started before
 start_same : (rules : PortRules) (xs : List Arrival) (end : ℕ) (a b : List Transmission) → AreLegal rules xs end a → AreLegal rules xs end b → (t : ℕ) →
     StartedAlike t a b → (p : ℕ) → Contains a (p, t) → Contains b (p, t)
 start_same rules xs end a b la lb t s p h =
@@ -92,13 +92,13 @@ part_legal rules xs ys earlier end starts le came legal =
 same_past : (xs ys : List Arrival) (earlier : ℕ) → HasAllBefore earlier xs ys → HasAllBefore earlier ys xs → (t : ℕ) → t < earlier → CameAlike t xs ys
 same_past xs ys earlier to from t l = record { to = λ p h k. to p h (omega (arith, k, l)); from = λ p h k. from p h (omega (arith, k, l)) }
 
--- a legal part stays legal for arrivals that agree before its end
+-- a legal part is legal for arrivals that agree before its end
 pub part_legal_past : (rules : PortRules) (xs ys : List Arrival) (earlier end : ℕ) (starts : List Transmission) → earlier ≤ end → HasAllBefore earlier xs ys →
     HasAllBefore earlier ys xs → AreLegal rules xs end starts → AreLegal rules ys earlier (starts_before earlier starts)
 part_legal_past rules xs ys earlier end starts le to from legal =
     part_legal rules xs ys earlier end starts le (same_past xs ys earlier to from) legal
 
--- what comes before an instant settles what is sent before it
+-- what comes before an instant determines what is sent before it
 pub past_counts : (rules : PortRules) (xs ys : List Arrival) (earlier end other_end : ℕ) (a b : List Transmission) → earlier ≤ end → earlier ≤ other_end →
     HasAllBefore earlier xs ys → HasAllBefore earlier ys xs → AreLegal rules xs end a → AreLegal rules ys other_end b →
     starts_before earlier a ≡ starts_before earlier b

@@ -1,4 +1,4 @@
--- The spans of a gate list's entries: each instant of a round is in just one.
+-- The spans of a gate list's entries: each instant of a round is in exactly one.
 use Rattle.std.proofs.Common.{◌≡◌, ℕ, Bool, cond, ◌+◌, ◌-◌, ◌*◌, ◌/◌, ◌%◌, ◌<◌, ◌≤◌, ◌↔◌, List, length, sym, refl, ap, ◌∙◌, inl, inr, arith, subst}
 use Rattle.std.specs.Prelude.{[], ◌∷◌, All, take, slice_index_or, zero, suc, IsBitSet}
 use Rattle.std.proofs.lemmas.Bool.{cases_lt, lt-ltb, le-ltb}
@@ -9,11 +9,11 @@ use Rattle.cqf_model.specs.declared.gates.OpenFor.TheVariants.{Closed, Always, U
 use Rattle.cqf_model.specs.GateList.{Entry, InForce, IsOpen, IsOpenFor, IsOpenThrough, round_of, states_at, states_in}
 use Rattle.cqf_laws_network.specs.GateLaws.{Fits}
 
--- a round is its first entry's interval and the round of the rest
+-- a round is the first entry's interval followed by the round of the rest
 pub round_cons : (e : Entry) (es : List Entry) → round_of (e ∷ es) ≡ e.1 + round_of es
 round_cons e es = sum_by-cons (λ (x : Entry). x.1) e es
 
--- where the spans of the later entries begin
+-- the beginnings of the later entries' spans
 begins_cons : (e : Entry) (es : List Entry) (place offset : ℕ) → round_of (take (suc place) (e ∷ es)) + offset ≡ e.1 + (round_of (take place es) + offset)
 begins_cons e es place offset = let cons : round_of (take (suc place) (e ∷ es)) ≡ e.1 + round_of (take place es) = round_cons e (take place es) in
     omega (arith, cons)
@@ -22,11 +22,11 @@ begins_cons e es place offset = let cons : round_of (take (suc place) (e ∷ es)
 zero_add : (n : ℕ) → 0 + n ≡ n
 zero_add n = omega arith
 
--- before the first entry's end its states are in force, and then those of the rest
+-- before the first entry's end its states are in force
 states_here : (e : Entry) (es : List Entry) (x : ℕ) → x < e.1 → states_in (e ∷ es) x ≡ e.0
 states_here e es x l = ap (λ (b : Bool). cond b e.0 (states_in es (x - e.1))) (lt-ltb x e.1 l)
 
--- behind the first entry the states are those of the rest
+-- after the first entry's end the states are those of the rest
 states_there : (e : Entry) (es : List Entry) (x y : ℕ) → x ≡ e.1 + y → states_in (e ∷ es) x ≡ states_in es y
 states_there e es x y h =
     let same : x - e.1 ≡ y = omega (arith, h) in
@@ -54,7 +54,7 @@ span_in_round (e ∷ es) zero offset h =
 span_in_round (e ∷ es) (suc place) offset h =
     omega (arith, begins_cons e es place offset, round_cons e es, span_in_round es place offset h)
 
--- an instant of the round as an entry's place and an offset within its span
+-- an instant of the round as an entry's index and an offset within its span
 record At (entries : List Entry) (x place offset : ℕ) : Type 0 where
   inside : place < length entries
   is : x ≡ round_of (take place entries) + offset
@@ -64,7 +64,7 @@ record At (entries : List Entry) (x place offset : ℕ) : Type 0 where
 at_here : (e : Entry) (es : List Entry) (x : ℕ) → x < e.1 → At (e ∷ es) x zero x
 at_here e es x l = record { inside = omega arith; is = sym (zero_add x); within = l }
 
--- and one behind it
+-- an instant after the first entry
 at_there : (e : Entry) (es : List Entry) (x place offset : ℕ) → e.1 ≤ x → At es (x - e.1) place offset → At (e ∷ es) x (suc place) offset
 at_there e es x place offset g a =
     record { inside = omega (arith, a.inside); is = omega (arith, a.is, g, begins_cons e es place offset); within = a.within }
@@ -79,7 +79,7 @@ some_at (e ∷ es) x h =
           (suc r.0, r.1, at_there e es x r.0 r.1 g r.2)
     ]
 
--- and in one alone
+-- and in no other
 one_at : (entries : List Entry) (p o q u : ℕ) → o < (slice_index_or entries p (0, 0)).1 → u < (slice_index_or entries q (0, 0)).1 →
     round_of (take p entries) + o ≡ round_of (take q entries) + u → (p ≡ q) × (o ≡ u)
 one_at [] p o q u h k e = absurd (omega (arith, h))
@@ -119,7 +119,7 @@ some_in_force entries t h =
     let w = some_at entries (t % r) (mod_below t r h) in
     (w.0, w.1, record { inside = w.2.inside; round = t / r; spans = omega (arith, div-add-mod' t r, w.2.is); within = w.2.within })
 
--- just one is
+-- at most one is
 pub one_in_force : (entries : List Entry) (t p o q u : ℕ) → InForce entries t p o → InForce entries t q u → (p ≡ q) × (o ≡ u)
 one_in_force entries t p o q u f g =
     one_at entries p o q u f.within g.within (sym (in_round entries t p o f) ∙ in_round entries t q u g)

@@ -1,18 +1,19 @@
 //! Laws about the legal network of a run and about its book.
 //!
-//! Each law is a function that does nothing: its contract is a statement of `specs/` about the definitions of
-//! `cqf_model`, and its proof shows that the statement holds for each run, whatever its gate lists, tables, offers and
-//! background frames are. A proof elsewhere uses the law by a call of the function.
+//! Each law is a function that does nothing. Its contract is a statement of `specs/` about the definitions of
+//! `cqf_model`, and its proof shows that the statement holds for each run, regardless of gate lists, tables, offers and
+//! background frames. A proof elsewhere uses the law by calling the function.
 //!
-//! - There is a legal network ([`legal_network_exists`]), and no other ([`legal_network_is_unique`]), so what a domain does
-//!   is settled; and so is what a book of it says ([`book_exists`], [`book_is_unique`]).
-//! - The past alone matters: what comes to a bridge or a port, and what a port sends of either kind, hangs on what was sent
-//!   before ([`the_past_alone_matters`]).
-//! - A run of fewer cycles is the beginning of a longer one, and so is its book ([`shorter_run_is_the_beginning`],
-//!   [`shorter_book_is_the_beginning`]): nothing hangs on what is offered, admitted or withdrawn later.
+//! - There is a legal network ([`legal_network_exists`]), and no other ([`legal_network_is_unique`]), so what a domain
+//!   does is determined. So is what its book says ([`book_exists`], [`book_is_unique`]).
+//! - Only the past matters: what arrives at a bridge or a port, and what a port sends of either kind, depends on what
+//!   was sent before ([`the_past_alone_matters`]).
+//! - A run of fewer cycles is the beginning of a longer one, and its book is the beginning of the longer one's
+//!   ([`shorter_run_is_the_beginning`], [`shorter_book_is_the_beginning`]): nothing depends on what is offered,
+//!   admitted or withdrawn later.
 //!
 //! ```
-//! // here on, a proof knows that two legal networks of the same run and gate lists are equal
+//! from here on, a proof knows that two legal networks of the same run and gate lists are equal
 //! cqf_laws_network::legal_network_is_unique();
 //! ```
 
@@ -30,7 +31,7 @@ ghost use Rattle.cqf_laws_network.specs.NetworkLaws.{
   ShorterBookIsTheBeginning,
 };
 
-/// For any run, gate lists and number of cycles some network is legal.
+/// Says that some network is legal, for any run, gate lists and number of cycles.
 pub fn legal_network_exists()
     ensures { LegalNetworkExists }
 {
@@ -39,15 +40,16 @@ pub fn legal_network_exists()
     crate::legal_starts_exist();
 }
 
-/// For the same run, gate lists and number of cycles no two networks are legal.
+/// Says that no two networks are legal for the same run, gate lists and number of cycles.
 pub fn legal_network_is_unique()
     ensures { LegalNetworkIsUnique }
 {
     crate::only_the_past_counts();
 }
 
-/// What a port sends before an instant hangs on what comes to it before the instant; and what comes to the bridges and the
-/// ports before a cycle, on what the links carry before it and on the tables of the cycles before it.
+/// Says that what a port sends before an instant depends on what arrives at it before the instant, and that what
+/// arrives at the bridges and ports before a cycle depends on what the links carry before it and on the tables of the
+/// cycles before it.
 pub fn the_past_alone_matters()
     ensures sends { PortGoesByThePast }
     ensures bridges { BridgesGoByThePast }
@@ -56,8 +58,8 @@ pub fn the_past_alone_matters()
     crate::only_the_past_counts();
 }
 
-/// What a legal network sends before an earlier cycle begins is the legal network of the shorter run, and the tables from
-/// that cycle on don't count for it: the first tables alone give the same.
+/// Says that what a legal network sends before an earlier cycle begins is the legal network of the shorter run, and
+/// that the tables from that cycle on don't matter for it: the first tables alone give the same.
 pub fn shorter_run_is_the_beginning()
     ensures legal { BeginningIsLegal }
     ensures only { ShorterRunIsTheBeginning }
@@ -67,22 +69,22 @@ pub fn shorter_run_is_the_beginning()
     legal_network_is_unique();
 }
 
-/// For the same run, gate lists and number of cycles there are no two books.
+/// Says that no two books are of the same run, gate lists and number of cycles.
 pub fn book_is_unique()
     ensures { BookIsUnique }
 {
     legal_network_is_unique();
 }
 
-/// For any run, gate lists and number of cycles there is a book.
+/// Says that there is a book, for any run, gate lists and number of cycles.
 pub fn book_exists()
     ensures { BookExists }
 {
     legal_network_exists();
 }
 
-/// What the book of a run says of its first cycles is the book of the run of those cycles alone, with the same tables or
-/// with the tables of those cycles alone.
+/// Says that the part of a run's book about its first cycles is the book of the run of those cycles, with the same
+/// tables or only the tables of those cycles.
 pub fn shorter_book_is_the_beginning()
     ensures { ShorterBookIsTheBeginning }
 {
