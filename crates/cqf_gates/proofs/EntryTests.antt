@@ -1,4 +1,4 @@
--- Facts of the entries of a list.
+-- Properties of a list's entries, from tests.
 use Rattle.std.proofs.Common.{◌≡◌, ◌<◌, ◌≤◌, ◌==◌, ◌⊎◌, Bool, List, length, get_or, All, true, false, refl, inl, inr, arith}
 use Rattle.std.specs.List.{list_any}
 use Rattle.std.proofs.lemmas.List.Folds.{list_any_at}
@@ -12,12 +12,12 @@ fails_where_not : (b : Bool) → (b ≡ true → ⊥) → b ≡ false
 fails_where_not true never = absurd (never refl)
 fails_where_not false never = refl
 
--- where no element passes a test, each fails it
+-- if no element passes a test, each fails it
 list_any-false : {X : Type 0} (xs : List X) (p : X → Bool) → list_any p xs ≡ false → All (λ x. p x ≡ false) xs
 list_any-false xs p none k d inside = fails_where_not (p (get_or xs k d)) (λ passes. let some : list_any p xs ≡ true =
     list_any_at p xs k d inside passes in absurd (cc))
 
--- where no interval is 0, each is longer
+-- if no interval is 0, each is positive
 pub lasting-from_test : (entries : List Entry) → list_any (λ (entry : Entry). entry.1 == 0) entries ≡ false → All (λ (entry : Entry). 0 < entry.1) entries
 lasting-from_test entries none k d inside =
     elim (eqb_tells (get_or entries k d).1 0) [
@@ -28,7 +28,7 @@ lasting-from_test entries none k d inside =
       | inr longer ↦ omega arith
     ]
 
--- where no interval of a stream gate is 0, each is longer
+-- if no interval of a stream gate is 0, each is positive
 pub stream_lasting-from_test : (entries : List StreamEntry) → list_any (λ (entry : StreamEntry). entry.interval == 0) entries ≡ false →
     All (λ (entry : StreamEntry). 0 < entry.interval) entries
 stream_lasting-from_test entries none k d inside =
@@ -40,7 +40,7 @@ stream_lasting-from_test entries none k d inside =
       | inr longer ↦ omega arith
     ]
 
--- where no internal priority value is bad, each is 6 or 7
+-- if an internal priority value isn't bad, it is 6 or 7
 valued-from_good : (entry : StreamEntry) → is_bad_ipv entry ≡ false → (entry.ipv ≡ 6) ⊎ (entry.ipv ≡ 7)
 valued-from_good entry good =
     elim (eqb_tells entry.ipv 6) [
@@ -51,12 +51,12 @@ valued-from_good entry good =
       ]
     ]
 
--- where no entry has a bad value, each value is 6 or 7
+-- if no entry has a bad value, each value is 6 or 7
 pub valued-from_test : (entries : List StreamEntry) → list_any is_bad_ipv entries ≡ false →
     All (λ (entry : StreamEntry). (entry.ipv ≡ 6) ⊎ (entry.ipv ≡ 7)) entries
 valued-from_test entries none k d inside = valued-from_good (get_or entries k d) (list_any-false entries is_bad_ipv none k d inside)
 
--- entries that pass the tests are those of a list
+-- entries that pass the tests form a list
 pub IsStreamList-from_tests : (entries : List StreamEntry) → 0 < length entries → length entries ≤ 16 →
     list_any (λ (entry : StreamEntry). entry.interval == 0) entries ≡ false → list_any is_bad_ipv entries ≡ false → IsStreamList entries
 IsStreamList-from_tests entries some few no_zero no_bad = record {

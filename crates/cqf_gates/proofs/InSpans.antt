@@ -1,4 +1,4 @@
--- Lists of spans, each of a number of cycles: which entry is in force in a cycle.
+-- Lists of entries that each last a number of cycles: which entry is in force in a cycle.
 use Rattle.std.proofs.Common.{◌≡◌, ℕ, ◌+◌, ◌-◌, ◌*◌, ◌<◌, ◌≤◌, suc, List, [], ◌∷◌, ◌++◌, length, Bool, false, if◌then◌else◌, Some, inl, inr}
 use Rattle.std.proofs.Common.{refl, ap, sym, ◌∙◌, arith, nat_lt, lt-ltb, le-ltb, ◌==◌, eq-eqb}
 use Rattle.std.specs.Prelude.{slice_get}
@@ -11,7 +11,7 @@ use Rattle.cqf_model.specs.declared.gates.StreamEntry.{StreamEntry}
 use Rattle.cqf_model.specs.StreamGate.{gate_round, place_in}
 use Rattle.cqf_gates.specs.ReservedSpans.{closed_for}
 
--- a round of some entries and of others behind them
+-- the round of a concatenation
 pub round_behind : (front back : List StreamEntry) → gate_round (front ++ back) ≡ gate_round front + gate_round back
 round_behind front back = sum_by-append (λ (entry : StreamEntry). entry.interval) front back
 
@@ -22,7 +22,7 @@ round_first e back = sum_by-cons (λ (entry : StreamEntry). entry.interval) e ba
 place_first : (e : StreamEntry) (back : List StreamEntry) (offset : ℕ) → offset < e.interval → place_in (e ∷ back) offset ≡ 0
 place_first e back offset inside = cond-true (nat_lt offset e.interval) 0 (suc (place_in back (offset - e.interval))) (lt-ltb offset e.interval inside)
 
--- and then one of the others
+-- and after that one of the others
 place_later : (e : StreamEntry) (back : List StreamEntry) (offset : ℕ) → e.interval ≤ offset →
     place_in (e ∷ back) offset ≡ suc (place_in back (offset - e.interval))
 place_later e back offset later = cond-false (nat_lt offset e.interval) 0 (suc (place_in back (offset - e.interval))) (le-ltb offset e.interval later)
@@ -39,7 +39,7 @@ place_front (e ∷ front) back offset inside =
           omega (arith, place_later e (front ++ back) offset later, rest)
     ]
 
--- behind these it is one of the others, so long after their beginning
+-- after these it is one of the others
 pub place_behind : (front back : List StreamEntry) (offset rest : ℕ) → offset ≡ gate_round front + rest →
     place_in (front ++ back) offset ≡ length front + place_in back rest
 place_behind [] back offset rest is =
@@ -52,7 +52,7 @@ place_behind (e ∷ front) back offset rest is =
     let there = place_behind front back (offset - e.interval) rest (omega (arith, is, whole)) in
     omega (arith, place_later e (front ++ back) offset later, there)
 
--- an entry stands behind a number of cycles, and is as long as a cycle
+-- an entry begins after a number of cycles, and lasts one cycle
 pub record StandsAt (entries : List StreamEntry) (n : ℕ) (e : StreamEntry) (cell : ℕ) : Type 0 where
   pub front : List StreamEntry
   pub back : List StreamEntry
@@ -60,7 +60,7 @@ pub record StandsAt (entries : List StreamEntry) (n : ℕ) (e : StreamEntry) (ce
   pub before : gate_round front ≡ cell * n
   pub long : e.interval ≡ n
 
--- in the cycle behind these it is in force
+-- it is in force in the cycle after these
 module _ (n : ℕ) (e : StreamEntry) (front back : List StreamEntry) (q : ℕ) (before : gate_round front ≡ q * n) (long : e.interval ≡ n) where
   -- at its beginning and up to its end
   place_now : (rem : ℕ) → rem < n → place_in (front ++ (e ∷ back)) (q * n + rem) ≡ length front
@@ -88,7 +88,7 @@ module _ (n : ℕ) (e : StreamEntry) (front back : List StreamEntry) (q : ℕ) (
             ]
       ]
 
--- the entry is in force in just that cycle of a round
+-- the entry is in force in exactly that cycle of a round
 pub stands_place : (entries : List StreamEntry) (n : ℕ) (e : StreamEntry) (q : ℕ) (at : StandsAt entries n e q) (cell rem : ℕ) → rem < n →
     (place_in entries (cell * n + rem) == length at.front) ≡ (cell == q)
 stands_place entries n e q at cell rem inside =
@@ -103,7 +103,7 @@ stands_place entries n e q at cell rem inside =
           (λ same. other.1 (place_only n e at.front at.back q at.before at.long cell rem inside same)) ∙ sym other.0
     ]
 
--- there it is found
+-- in that cycle the entry is found
 pub stands_found : (entries : List StreamEntry) (n : ℕ) (e : StreamEntry) (q : ℕ) (at : StandsAt entries n e q) (rem : ℕ) → rem < n →
     (place_in entries (q * n + rem) ≡ length at.front) × (slice_get entries (place_in entries (q * n + rem)) ≡ Some e)
 stands_found entries n e q at rem inside =
@@ -113,13 +113,13 @@ stands_found entries n e q at rem inside =
           ∙ slice_get_behind at.front e at.back (place_in entries (q * n + rem)) place,
     )
 
--- so long after the beginning of a round nothing passes
+-- nothing passes at this offset from the beginning of a round
 pub record IsClosed (entries : List StreamEntry) (offset : ℕ) : Type 0 where
   pub entry : StreamEntry
   pub in_force : slice_get entries (place_in entries offset) ≡ Some entry
   pub shut : entry.octet_max ≡ Some 0
 
--- a closed span takes its cycles
+-- a closed span lasts its number of cycles
 pub round_closed : (n cycles : ℕ) → gate_round (closed_for n cycles) ≡ cycles * n
 round_closed n cycles =
     elim (eqb_tells cycles 0) [
@@ -134,7 +134,7 @@ round_closed n cycles =
     span : Bool → List StreamEntry
     span b = if b then [] else shut ∷ []
 
--- and is in force in these
+-- and is in force in these cycles
 pub closed_within : (entries front back : List StreamEntry) (n first cycles cell rem : ℕ) → entries ≡ front ++ (closed_for n cycles ++ back) →
     gate_round front ≡ first * n → first ≤ cell → cell < first + cycles → rem < n → IsClosed entries (cell * n + rem)
 closed_within entries front back n first cycles cell rem parted before begun inside small =

@@ -11,13 +11,13 @@ use Rattle.cqf_model.specs.declared.gates.StreamEntry.{StreamEntry}
 use Rattle.cqf_model.specs.StreamGate.{Call, gate_round, place_in, place_at, round_at, same_interval, octets_in, within, gate_passes}
 use Rattle.cqf_gates.specs.StreamGate.{Counts, entry_at, passed_after, DecidesByCalls, IsStreamList, Gate, octet_max_at, taken_at, lets_pass, gate_after}
 
--- a round takes some time
+-- a round has a positive duration
 pub gate_round_positive : (entries : List StreamEntry) → IsStreamList entries → 0 < gate_round entries
 gate_round_positive entries f =
     let d : StreamEntry = record { ipv = 6; interval = 1; octet_max = None } in
     omega (arith, f.some, f.lasting 0 d f.some, sum_by_more_le (λ (entry : StreamEntry). entry.interval) entries 0 d f.some)
 
--- later in a round, no earlier entry is in force
+-- later in a round, the entry in force is no earlier one
 place_in-later : (entries : List StreamEntry) (a b : ℕ) → a ≤ b → place_in entries a ≤ place_in entries b
 place_in-later [] a b h = omega arith
 place_in-later (entry ∷ entries) a b h =
@@ -37,18 +37,18 @@ both_true : (a b : Bool) → (a && b) ≡ true → (a ≡ true) × (b ≡ true)
 both_true true b h = (refl, h)
 both_true false b h = absurd (cc)
 
--- numbers that a test finds equal are
+-- numbers that a test finds equal are equal
 equal-from_test : (x y : ℕ) → eqb x y ≡ true → x ≡ y
 equal-from_test x y h = elim (eqb_tells x y) [ inl same ↦ same.1 | inr other ↦ absurd (cc (h, other.0)) ]
 
--- both instants lie in one interval, in equations
+-- two instants in one interval, as equations
 pub same_interval-equations : (entries : List StreamEntry) (s t : ℕ) → same_interval entries s t ≡ true → (round_at entries s ≡ round_at entries t)
     × (place_at entries s ≡ place_at entries t)
 same_interval-equations entries s t same =
     let both = both_true _ _ same in
     (equal-from_test _ _ both.0, equal-from_test _ _ both.1)
 
--- and where the equations hold, both lie in one interval
+-- two instants are in one interval if the equations hold
 pub same_interval-from_equations : (entries : List StreamEntry) (s t : ℕ) → round_at entries s ≡ round_at entries t → place_at entries s
     ≡ place_at entries t → same_interval entries s t ≡ true
 same_interval-from_equations entries s t round place =
@@ -56,18 +56,18 @@ same_interval-from_equations entries s t round place =
     let places : eqb (place_at entries s) (place_at entries t) ≡ true = eq-eqb _ _ place in
     rw (rounds, places)
 
--- rounds come in order
+-- a later instant is in no earlier round
 div-later : (a b n : ℕ) → a ≤ b → a / n ≤ b / n
 div-later a b zero h = omega (arith, div-zero a, div-zero b)
 div-later a b (suc n) h = le-div (a / suc n) b (suc n) (omega arith) (omega (arith, div-mul-le_self a (suc n)))
 
--- and within one the offsets do
+-- within one round, a later instant has no smaller offset
 mod-later : (a b n : ℕ) → a ≤ b → a / n ≡ b / n → a % n ≤ b % n
 mod-later a b n h same =
     let e : a / n * n ≡ b / n * n = ap (λ q. q * n) same in
     omega (arith, mod-add-div' a n, mod-add-div' b n)
 
--- an instant between two of one interval lies in it
+-- an instant between two instants of one interval is in it
 pub same_interval-between : (entries : List StreamEntry) (s r t : ℕ) → s ≤ r → r ≤ t → same_interval entries s t ≡ true → same_interval entries r t ≡ true
 same_interval-between entries s r t before behind same =
     let both = same_interval-equations entries s t same in
@@ -83,7 +83,7 @@ true_or_false : (b : Bool) → (b ≡ true) ⊎ (b ≡ false)
 true_or_false true = inl refl
 true_or_false false = inr refl
 
--- an earlier call is of another interval than a later one, where the one between them is
+-- if a later call is in a new interval, an earlier call is in another interval too
 other_interval : (entries : List StreamEntry) (s last t : ℕ) → s ≤ last → last ≤ t → same_interval entries last t ≡ false → same_interval entries s t ≡ false
 other_interval entries s last t before behind other =
     elim (true_or_false (same_interval entries s t)) [
@@ -91,7 +91,7 @@ other_interval entries s last t before behind other =
       | inr different ↦ different
     ]
 
--- no call of an earlier interval counts in a later one
+-- a call of an earlier interval doesn't count in a later one
 octets_in-later : (entries : List StreamEntry) (passed : List Call) (last t : ℕ) → All (λ (call : Call). call.0 ≤ last) passed → last ≤ t →
     same_interval entries last t ≡ false → octets_in entries passed t ≡ 0
 octets_in-later entries [] last t before behind other = refl
@@ -102,7 +102,7 @@ octets_in-later entries (call ∷ passed) last t before behind other =
     let rest : octets_in entries passed t ≡ 0 = octets_in-later entries passed last t (λ k d inside. before (suc k) d (omega arith)) behind other in
     omega (arith, sum_by-cons count call passed, none, rest)
 
--- the calls of one interval count alike at each of its instants
+-- the calls of one interval count the same at each of its instants
 octets_in-same : (entries : List StreamEntry) (passed : List Call) (s t : ℕ) → same_interval entries s t ≡ true → octets_in entries passed s
     ≡ octets_in entries passed t
 octets_in-same entries passed s t same =
@@ -118,7 +118,7 @@ octets_in-one_more entries passed t octets =
     let one : count (t, octets) ≡ octets = rw same in
     omega (arith, sum_by-append count passed ((t, octets) ∷ []), one)
 
--- what the gate holds as taken is what its calls passed in the interval
+-- what the gate has as taken is the total of its passed calls in the interval
 pub taken_at-counts : (gate : Gate) (passed : List Call) (t most : ℕ) → Counts gate passed → gate.last ≤ t → octet_max_at gate.entries t
     ≡ Some most → taken_at gate t ≡ octets_in gate.entries passed t
 taken_at-counts gate passed t most counts behind has =
@@ -130,7 +130,7 @@ taken_at-counts gate passed t most counts behind has =
       | inr other ↦ rw other (sym (octets_in-later gate.entries passed gate.last t counts.before behind other))
     ]
 
--- where what is taken is the same below an octet maximum, so is the test
+-- if the taken octets are the same, so is the test against an octet maximum
 within-same : (limit : Option ℕ) (a b octets : ℕ) → ((most : ℕ) → limit ≡ Some most → a ≡ b) → within limit (a + octets) ≡ within limit (b + octets)
 within-same None a b octets same = refl
 within-same (Some most) a b octets same = ap (λ taken. within (Some most) (taken + octets)) (same most refl)
@@ -143,7 +143,7 @@ decides gate passed t octets (Some entry) is counts behind =
     let limit : octet_max_at gate.entries t ≡ entry.octet_max = rw is in
     rw is (within-same entry.octet_max _ _ octets (λ most has. taken_at-counts gate passed t most counts behind (limit ∙ has)))
 
--- below an octet maximum the test is that of the octets
+-- with an octet maximum the test is that of the octets
 lets_pass-limited : (gate : Gate) (t octets most : ℕ) (e : Option StreamEntry) → entry_at gate.entries t ≡ e → octet_max_at gate.entries t
     ≡ Some most → lets_pass gate t octets ≡ within (Some most) (taken_at gate t + octets)
 lets_pass-limited gate t octets most None is has =
@@ -153,7 +153,7 @@ lets_pass-limited gate t octets most (Some entry) is has =
     let limit : entry.octet_max ≡ Some most = (let e : entry.octet_max ≡ octet_max_at gate.entries t = rw is in e ∙ has) in
     rw is (ap (λ m. within m (taken_at gate t + octets)) limit)
 
--- one call at an instant isn't later
+-- a single call at an instant isn't later
 one-in_time : (t octets k : ℕ) (d : Call) → k < 1 → (get_or ((t, octets) ∷ []) k d).0 ≤ t
 one-in_time t octets zero d inside = omega arith
 one-in_time t octets (suc k) d inside = absurd (omega arith)
@@ -165,13 +165,13 @@ passed-in_time true passed last t octets before behind = All-append (λ (call : 
     (λ k d inside. omega (arith, before k d inside)) (one-in_time t octets)
 passed-in_time false passed last t octets before behind = λ k d inside. omega (arith, before k d inside)
 
--- what is taken goes on as the list of calls does
+-- the taken octets follow the list of calls
 taken-along : (b : Bool) (entries : List StreamEntry) (passed : List Call) (taken t octets : ℕ) → taken ≡ octets_in entries passed t →
     cond b (taken + octets) taken ≡ octets_in entries (cond b (passed ++ (t, octets) ∷ []) passed) t
 taken-along true entries passed taken t octets same = omega (arith, octets_in-one_more entries passed t octets)
 taken-along false entries passed taken t octets same = same
 
--- the gate goes on counting
+-- the gate continues to count
 counts_on : (gate : Gate) (passed : List Call) (t octets : ℕ) → Counts gate passed → gate.last ≤ t →
     Counts (gate_after gate t octets) (passed_after gate passed t octets)
 counts_on gate passed t octets counts behind = record {

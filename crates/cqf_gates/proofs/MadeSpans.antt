@@ -1,4 +1,4 @@
--- The spans of a reservation make a list.
+-- The entries of a reservation form a list.
 use Rattle.std.proofs.Common.{◌≡◌, ℕ, ◌+◌, ◌-◌, ◌*◌, ◌%◌, ◌<◌, ◌≤◌, List, [], ◌∷◌, ◌++◌, length, Bool, true, false, ◌||◌, if◌then◌else◌, not, ◌&&◌}
 use Rattle.std.proofs.Common.{Some, Ok, refl, ap, ap₂, sym, ◌∙◌, arith, ◌==◌, inl, inr, subst, nat_lt, mod-lt, append_assoc, length-append}
 use Rattle.std.specs.List.{list_any}
@@ -11,11 +11,11 @@ use Rattle.cqf_model.specs.declared.topology.Pace.{Pace}
 use Rattle.cqf_gates.specs.ReservedSpans.{closed_for, first_turn, open_in, reserved_spans, second_turn, spans_from}
 use Rattle.cqf_gates.specs.StreamGate.{is_bad_ipv, stream_list_of}
 
--- an entry is in force for no time
+-- the entry is in force for no time
 abbrev is_zero : StreamEntry → Bool
 is_zero entry = entry.interval == 0
 
--- entries of which none is a fault
+-- entries without a fault
 record AreGood (entries : List StreamEntry) : Type 0 where
   pub lasting : list_any is_zero entries ≡ false
   pub valued : list_any is_bad_ipv entries ≡ false
@@ -32,7 +32,7 @@ good_behind front back one two = record {
 good_one : (e : StreamEntry) → is_zero e ≡ false → is_bad_ipv e ≡ false → AreGood (e ∷ [])
 good_one e some valued = record { lasting = ap (λ (b : Bool). b || false) some; valued = ap (λ (b : Bool). b || false) valued }
 
--- a closed span
+-- a closed span is good
 good_closed : (n cycles : ℕ) → 0 < n → AreGood (closed_for n cycles)
 good_closed n cycles some =
     let shut : StreamEntry = record { ipv = 6; interval = cycles * n; octet_max = Some 0 } in
@@ -44,7 +44,7 @@ good_closed n cycles some =
           subst (λ (b : Bool). AreGood (spans b)) (sym more.0) (good_one shut (ne_eqb (cycles * n) 0 (λ none. absurd (omega (arith, none, least, some)))) refl)
     ]
 
--- an open one
+-- an open one is good
 good_open : (n reserved cycle : ℕ) → 0 < n → AreGood (open_in n reserved cycle ∷ [])
 good_open n reserved cycle some =
     good_one (open_in n reserved cycle) (ne_eqb n 0 (λ none. absurd (omega (arith, none, some)))) (class (cycle % 2) (mod-lt cycle (omega arith)))
@@ -53,7 +53,7 @@ good_open n reserved cycle some =
     class : (x : ℕ) → x < 2 → (not (6 + x == 6) && not (6 + x == 7)) ≡ false
     class x small = grind (arith, nat_tests, small)
 
--- and those of a second period
+-- the entries of a second period are good
 good_second : (n reserved : ℕ) (pace : Pace) (turn : ℕ) → 0 < n → AreGood (second_turn n reserved pace turn)
 good_second n reserved pace turn some = by ((pace.pause + 1) % 2 == 0)
   where
@@ -63,7 +63,7 @@ good_second n reserved pace turn some = by ((pace.pause + 1) % 2 == 0)
         good_behind (closed_for n pace.pause) (open_in n reserved (turn + (pace.pause + 1)) ∷ []) (good_closed n pace.pause some)
         (good_open n reserved (turn + (pace.pause + 1)) some)
 
--- of one span at most where it is closed, and of two in a second period
+-- a closed span is at most one entry, and the rest of two periods at most two
 few_closed : (n cycles : ℕ) → length (closed_for n cycles) ≤ 1
 few_closed n cycles = by (cycles == 0)
   where
@@ -81,14 +81,14 @@ few_second n reserved pace turn = by ((pace.pause + 1) % 2 == 0)
     by true = omega arith
     by false = omega (arith, few_closed n pace.pause, length-append (closed_for n pace.pause) (open_in n reserved (turn + (pace.pause + 1)) ∷ []))
 
--- good entries, one to sixteen, make a list
+-- good entries, one to sixteen, form a list
 good_made : (entries : List StreamEntry) → AreGood entries → 0 < length entries → length entries ≤ 16 → stream_list_of entries ≡ Ok entries
 good_made entries good some few =
     let not_none : (length entries == 0) ≡ false = ne_eqb (length entries) 0 (λ none. absurd (omega (arith, none, some))) in
     let not_many : nat_lt 16 (length entries) ≡ false = le-ltb 16 (length entries) few in
     rw (not_none, not_many, good.lasting, good.valued)
 
--- so do a reservation's
+-- so do a reservation's entries
 pub spans_made : (n reserved : ℕ) (pace : Pace) (depth : ℕ) → 0 < n → stream_list_of (reserved_spans n reserved pace depth) ≡ Ok (reserved_spans n reserved pace depth)
 spans_made n reserved pace depth some =
     let turn = first_turn pace depth in
@@ -104,7 +104,7 @@ spans_made n reserved pace depth some =
     (omega (arith, parts))
     (omega (arith, parts, behind, few_closed n turn, few_second n reserved pace turn, few_closed n (pace.pause - turn)))
 
--- put one behind the other they are the reservation's, in the words of the calls that read the pace
+-- put together one after the other they are the reservation's, in the terms of the calls that read the pace
 pub put_together : (n reserved : ℕ) (pace : Pace) (depth pause phase deep : ℕ) (none closed own again all : List StreamEntry) → pause ≡ pace.pause →
     phase ≡ pace.phase → deep ≡ depth → none ≡ [] → closed ≡ none ++ closed_for n ((phase + deep) % (pause + 1)) →
     own ≡ closed ++ open_in n reserved ((phase + deep) % (pause + 1)) ∷ [] → again ≡ own ++ second_turn n reserved pace ((phase + deep) % (pause + 1)) →

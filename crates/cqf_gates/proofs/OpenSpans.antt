@@ -1,4 +1,4 @@
--- How long a run of entries keeps a class open.
+-- The time for which a run of entries keeps a class open.
 use Rattle.std.proofs.Common.{ℕ, ◌≡◌, ◌+◌, ◌-◌, ◌*◌, ◌%◌, ◌^◌, ◌<◌, ◌≤◌, zero, suc, List, [], ◌∷◌, ◌++◌, All, length}
 use Rattle.std.proofs.Common.{take, drop, map, get_or, bit_and, IsBitSet, inl, inr, sym, ap, ◌∙◌, subst, ltb, eqb, not}
 use Rattle.std.proofs.Common.{true, false, arith}
@@ -39,7 +39,7 @@ first_le_run [] (suc run) some = omega arith
 first_le_run (entry ∷ entries) zero some = absurd (omega arith)
 first_le_run (entry ∷ entries) (suc run) some = omega (arith, sum_by-cons (λ (e : Entry). e.1) entry (take run entries))
 
--- in front of further entries a part of a round goes as before
+-- with further entries after it, a round is the same up to its end
 states_in-front : (front behind : List Entry) (offset : ℕ) → offset < round_of front → states_in (front ++ behind) offset ≡ states_in front offset
 states_in-front [] behind offset within = absurd (omega arith)
 states_in-front (entry ∷ front) behind offset within =
@@ -54,7 +54,7 @@ states_in-front (entry ∷ front) behind offset within =
           rw inside (states_in-front front behind (offset - entry.1) (omega arith))
     ]
 
--- and behind them the further ones are in force
+-- and after its end the further entries are in force
 states_in-append : (front behind : List Entry) (offset : ℕ) → states_in (front ++ behind) (round_of front + offset) ≡ states_in behind offset
 states_in-append [] behind offset = ap (states_in behind) (omega arith)
 states_in-append (entry ∷ front) behind offset =
@@ -62,15 +62,15 @@ states_in-append (entry ∷ front) behind offset =
     let e : round_of (entry ∷ front) + offset ≡ entry.1 + (round_of front + offset) = omega (arith, first) in
     ap (states_in (entry ∷ (front ++ behind))) e ∙ states_in-past entry (front ++ behind) _ ∙ states_in-append front behind offset
 
--- a round takes some time
+-- a round has a positive duration
 pub round_positive : (entries : List Entry) → IsTxList entries → 0 < round_of entries
 round_positive entries f = omega (arith, f.some, in_round entries 0 0 f.some (f.lasting 0 (0, 0) f.some))
 
--- the entries, turned to begin at a place
+-- the entries rotated to begin at an index
 abbrev pub turned_to : ℕ → List Entry → List Entry
 turned_to place entries = drop place entries ++ take place entries
 
--- from the first instant of an entry on, the states of a whole round are those of the list turned to begin there
+-- from the first instant of an entry on, the states of a whole round are those of the list rotated to begin there
 states_at-turned : (entries : List Entry) (round place offset : ℕ) → offset < round_of entries →
     states_at entries (round * round_of entries + round_of (take place entries) + offset) ≡ states_in (turned_to place entries) offset
 states_at-turned entries round place offset within =
@@ -93,7 +93,7 @@ states_at-turned entries round place offset within =
           ∙ sym (states_in-append (drop place entries) (take place entries) rest) ∙ ap (states_in (turned_to place entries)) behind
     ]
 
--- the turned list takes as long
+-- the rotated list lasts as long
 round_of-turned : (entries : List Entry) (place : ℕ) → round_of (turned_to place entries) ≡ round_of entries
 round_of-turned entries place = omega (
   arith,
@@ -106,24 +106,24 @@ round_of-turned entries place = omega (
 pub length-turned : (entries : List Entry) (place : ℕ) → length (turned_to place entries) ≡ length entries
 length-turned entries place = omega (arith, length-append (drop place entries) (take place entries), length-drop place entries, length-take place entries)
 
--- and begins with the one at the place
+-- and begins with the one at the index
 first_of-turned : (entries : List Entry) (place : ℕ) → place < length entries → get_or (turned_to place entries) 0 (0, 0) ≡ get_or entries place (0, 0)
 first_of-turned entries place inside = get_or_append_left (drop place entries) (take place entries) (0, 0) 0 (omega (arith, length-drop place entries))
     ∙ get_or-drop place entries 0 (0, 0) ∙ ap (λ k. get_or entries k (0, 0)) (omega arith)
 
--- states whose bit was tested open the class
+-- states that pass the bit's test open the class
 open_from_test : (states class : ℕ) → has_bit states class ≡ true → IsBitSet states class
 open_from_test states class test none = true≢false (sym test ∙ ap not (eq-eqb (bit_and states (2 ^ class)) 0 none))
 
--- and else close it
+-- states that fail it close the class
 closed_from_test : (states class : ℕ) → has_bit states class ≡ false → ¬ IsBitSet states class
 closed_from_test states class test is_set = is_set (eqb-true (bit_and states (2 ^ class)) 0 (not-false (eqb (bit_and states (2 ^ class)) 0) test))
 
--- what holds of each of some elements holds of each of the first ones
+-- a property of each element holds of each of the first ones
 All-front : {A : Type 0} (P : A → Type 0) (xs ys : List A) → All P (xs ++ ys) → All P xs
 All-front P xs ys all k d inside = subst P (get_or_append_left xs ys d k inside) (all k d (omega (arith, length-append xs ys)))
 
--- and of those behind them
+-- and of each of those after them
 All-behind : {A : Type 0} (P : A → Type 0) (xs ys : List A) → All P (xs ++ ys) → All P ys
 All-behind P xs ys all k d inside = subst P (get_or-append-add xs ys k d) (all (length xs + k) d (omega (arith, length-append xs ys)))
 
@@ -152,7 +152,7 @@ run_inside entries class run is =
           (λ (entry : Entry). entry.0),
     )
 
--- the one behind the run closes it
+-- the entry after the run closes the class
 closed_behind_run : (entries : List Entry) (class run : ℕ) → run ≡ open_run_of class (map (λ (entry : Entry). entry.0) entries) →
     run < length entries → ¬ IsBitSet (get_or entries run (0, 0)).0 class
 closed_behind_run entries class run is inside =
@@ -165,7 +165,7 @@ closed_behind_run entries class run is inside =
 
 module _ (entries : List Entry) (class t place offset run : ℕ) (f : IsTxList entries) (force : InForce entries t place offset)
     (is : run ≡ open_run_of class (map (λ (entry : Entry). entry.0) (turned_to place entries))) where
-  -- a run of all entries: each opens the class
+  -- if the run has all entries, each opens the class
   pub all-open : run ≡ length (turned_to place entries) → All (λ (entry : Entry). IsBitSet entry.0 class) entries
   all-open whole =
       let opened : All (λ (entry : Entry). IsBitSet entry.0 class) (turned_to place entries) =
@@ -176,7 +176,7 @@ module _ (entries : List Entry) (class t place offset run : ℕ) (f : IsTxList e
       subst (All (λ (entry : Entry). IsBitSet entry.0 class)) (take-append-drop place entries)
       (All-append (λ (entry : Entry). IsBitSet entry.0 class) (take place entries) (drop place entries) front behind)
 
-  -- and so it is open at every instant
+  -- and then the class is open at every instant
   pub open-always : run ≡ length (turned_to place entries) → (s : ℕ) → IsOpen entries class s
   open-always whole s =
       let opened = all-open whole in
@@ -184,7 +184,7 @@ module _ (entries : List Entry) (class t place offset run : ℕ) (f : IsTxList e
       run_opens entries class (length entries) (s % round_of entries) (λ k inside. opened k (0, 0) inside)
       (rw (take_all (length entries) entries (omega arith)) within)
 
-  -- no run: the entry in force closes the class
+  -- without a run, the entry in force closes the class
   pub closed-now : run ≡ 0 → ¬ IsOpen entries class t
   closed-now none =
       let first : ¬ IsBitSet (get_or (turned_to place entries) run (0, 0)).0 class =
@@ -193,7 +193,7 @@ module _ (entries : List Entry) (class t place offset run : ℕ) (f : IsTxList e
       ap (λ k. get_or (turned_to place entries) k (0, 0)) none ∙ first_of-turned entries place force.inside in
       subst (λ x. ¬ IsBitSet x class) (ap (λ (entry : Entry). entry.0) here ∙ sym (states_at-in_force entries t place offset force)) first
 
-  -- a run that ends: the class is open up to its end, and closed there
+  -- if the run ends, the class is open up to its end, and closed there
   pub open-to_end : (end : ℕ) → 0 < run → run < length (turned_to place entries) → end ≡ t - offset + round_of (take run (turned_to place entries))
       → (t < end) × IsOpenThrough entries class t end × (¬ IsOpen entries class end)
   open-to_end end some followed end_is =
@@ -220,7 +220,7 @@ module _ (entries : List Entry) (class t place offset run : ℕ) (f : IsTxList e
             subst (λ x. ¬ IsBitSet x class) (sym states) (closed_behind_run list class run is followed)),
       )
 
--- the run was counted among the states of the turned list
+-- the run was counted among the states of the rotated list
 pub run_of_turned : (list given turned seen : List Entry) (states shown : List ℕ) (place class run : ℕ) → given ≡ list → turned
     ≡ turned_to place given → seen ≡ turned → states ≡ map (λ (entry : Entry). entry.0) seen → shown ≡ states → run ≡ open_run_of class shown
     → run ≡ open_run_of class (map (λ (entry : Entry). entry.0) (turned_to place list))

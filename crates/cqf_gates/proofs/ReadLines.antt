@@ -1,4 +1,4 @@
--- How far the lines of a gate list have been read.
+-- The lines of a gate list that have been read so far.
 use Rattle.std.proofs.Common.{ℕ, ◌≡◌, ◌+◌, ◌<◌, ◌≤◌, List, [], ◌∷◌, ◌++◌, length, take, Some, None, Result, Ok, Err}
 use Rattle.std.proofs.Common.{refl, ap, sym, ◌∙◌, append_assoc, arith, length-append, min, inl, inr, ltb, eqb, true}
 use Rattle.std.proofs.Common.{false}
@@ -10,33 +10,33 @@ use Rattle.cqf_gates.specs.GateListText.{entry_of_line, entries_of_lines, entrie
 use Rattle.cqf_gates.specs.TxList.{tx_list_of}
 use Rattle.cqf_gates.specs.TxText.{list_of_text, in_text}
 
--- what has been read, and then the others, if each line writes an entry
+-- the entries that were read, followed by the others if each line denotes an entry
 abbrev pub behind_entries : List Entry → Result (List Entry) ℕ → Result (List Entry) ℕ
 behind_entries read (Ok others) = Ok (read ++ others)
 behind_entries read (Err line) = Err line
 
--- some entries were read, of which the first 17 are kept, and the lines that are left count from a number on
+-- some entries were read, the first 17 of which are kept; the number of the first line that is left is `number`
 pub record IsReadSoFar (text : List ℕ) (kept : List Entry) (number : ℕ) (left : List ℕ) : Type 0 where
   pub read : List Entry
   pub keeps : kept ≡ take 17 read
   pub goes_on : entries_of_text text ≡ behind_entries read (entries_of_lines number (lines_of left))
 
--- behind no entries stand the others
+-- with no entries read, the result is the others
 behind_none : (others : Result (List Entry) ℕ) → others ≡ behind_entries [] others
 behind_none (Ok others) = refl
 behind_none (Err line) = refl
 
--- nothing was read at first
+-- at first nothing has been read
 pub read-none : (text : List ℕ) → IsReadSoFar text [] 1 text
 read-none text = record { read = []; keeps = refl; goes_on = behind_none _ }
 
--- one more entry stands behind those that were read
+-- one more entry after those that were read
 behind_one_more : (read : List Entry) (number : ℕ) (entry : Entry) (others : Result (List Entry) ℕ) →
     behind_entries read (with_gate_line number (Some entry) others) ≡ behind_entries (read ++ entry ∷ []) others
 behind_one_more read number entry (Ok others) = ap Ok (sym (append_assoc read (entry ∷ []) others))
 behind_one_more read number entry (Err line) = refl
 
--- of one more entry the first 17 are kept
+-- the first 17 entries are kept, with one more entry
 keeps-one_more : (kept after read : List Entry) (entry : Entry) → kept ≡ take 17 read → (length kept < 17 → after ≡ kept ++ entry ∷ []) →
     (17 ≤ length kept → after ≡ kept) → after ≡ take 17 (read ++ entry ∷ [])
 keeps-one_more kept after read entry keeps room full =
@@ -64,7 +64,7 @@ read-one_more text kept after number left line behind entry so_far first good ro
       goes_on = so_far.goes_on ∙ ap (behind_entries so_far.read) now_good ∙ behind_one_more so_far.read number entry others;
     }
 
--- the line that writes no entry is the first bad one
+-- a line that doesn't denote an entry is the first bad one
 pub read-bad_line : (text : List ℕ) (kept : List Entry) (number : ℕ) (left line behind : List ℕ) → IsReadSoFar text kept number left →
     lines_of left ≡ line ∷ lines_of behind → entry_of_line line ≡ None → entries_of_text text ≡ Err number
 read-bad_line text kept number left line behind so_far first bad =
@@ -72,7 +72,7 @@ read-bad_line text kept number left line behind so_far first bad =
     let now_bad : entries_of_lines number (lines_of left) ≡ Err number = ap (entries_of_lines number) first ∙ ap (λ e. with_gate_line number e others) bad in
     so_far.goes_on ∙ ap (behind_entries so_far.read) now_bad
 
--- the first 17 entries make what all make
+-- the first 17 entries have the same result as all
 list_of_kept : (entries : List Entry) → tx_list_of (take 17 entries) ≡ tx_list_of entries
 list_of_kept entries =
     elim (leb_tells 18 (length entries)) [
@@ -84,7 +84,7 @@ list_of_kept entries =
       | inr few ↦ ap tx_list_of (take_all 17 entries (omega (arith, few.1)))
     ]
 
--- at the end what is kept makes what the text makes
+-- at the end the kept entries have the text's result
 pub read-all : (text : List ℕ) (kept : List Entry) (number : ℕ) (left : List ℕ) → IsReadSoFar text kept number left → lines_of left ≡ [] →
     list_of_text text ≡ in_text (tx_list_of kept)
 read-all text kept number left so_far none =

@@ -1,4 +1,4 @@
--- What is written is read again.
+-- What is written is read back.
 use Rattle.std.proofs.Common.{ℕ, ◌≡◌, ◌+◌, ◌-◌, ◌*◌, ◌/◌, ◌%◌, ◌^◌, ◌<◌, ◌≤◌, zero, suc, List, [], ◌∷◌, ◌++◌, length}
 use Rattle.std.proofs.Common.{take, drop, get_or, All, true, false, ltb, leb, eqb, Some, Ok, refl, ap, ◌∙◌, arith}
 use Rattle.std.proofs.Common.{length-append}
@@ -25,7 +25,7 @@ use Rattle.cqf_gates.specs.TxText.{list_of_text}
 digit_value-hex : (n : ℕ) → n < 16 → digit_value (hex_digit n) ≡ n
 digit_value-hex n h = grind (arith, nat_tests)
 
--- and is no line feed
+-- and isn't a line feed
 hex-no_feed : (n : ℕ) → n < 16 → is_line_feed (hex_digit n) ≡ false
 hex-no_feed n h = grind (arith, nat_tests)
 
@@ -43,7 +43,7 @@ decimal_in-decimal n most h small =
     let form : is_decimal (decimal n) ≡ true = rw (one, twenty, digits) in
     rw (form, value, least, inside)
 
--- a digit is no line feed
+-- a digit isn't a line feed
 digit-no_feed : (c : ℕ) → is_ascii_digit c ≡ true → is_line_feed c ≡ false
 digit-no_feed c h = grind (arith, nat_tests)
 
@@ -104,7 +104,7 @@ entries_of_lines-text number (entry ∷ entries) ranges =
 longer-test : (n : ℕ) → 0 < n → eqb n 0 ≡ false
 longer-test n h = grind (arith, nat_tests)
 
--- the entries of a list make it
+-- the entries of a list form the list
 tx_list_of-list : (entries : List Entry) → IsTxList entries → tx_list_of entries ≡ Ok entries
 tx_list_of-list entries f =
     let some : eqb (length entries) 0 ≡ false = grind (arith, nat_tests, f.some) in
@@ -113,7 +113,7 @@ tx_list_of-list entries f =
     list_any_none (λ (entry : Entry). eqb entry.1 0) entries (λ k d inside. longer-test (get_or entries k d).1 (f.lasting k d inside)) in
     rw (some, few, none)
 
--- what is written is read as the list again
+-- what is written is read back as the list
 pub list_of_text-text : (entries : List Entry) → IsTxList entries → All (λ (entry : Entry). (entry.0 < 256) × (entry.1 < 2 ^ 32)) entries →
     list_of_text (text_of_entries entries) ≡ Ok entries
 list_of_text-text entries f ranges = rw (entries_of_lines-text 1 entries ranges, tx_list_of-list entries f)

@@ -1,4 +1,4 @@
--- Which entry is in force so long after the beginning of a round, and what it opens.
+-- The entry in force at an offset from the beginning of a round, and its states.
 use Rattle.std.proofs.Common.{ℕ, ◌≡◌, ◌+◌, ◌-◌, ◌*◌, ◌/◌, ◌%◌, ◌<◌, ◌≤◌, zero, suc, List, [], ◌∷◌, length, take, drop}
 use Rattle.std.proofs.Common.{get_or, refl, ap, ◌∙◌, ltb, true, false, arith}
 use Rattle.std.proofs.lemmas.Bool.Decides.{nat_tests}
@@ -8,14 +8,14 @@ use Rattle.std.proofs.Math.Nat.{mod-add-div'}
 use Rattle.std.proofs.lemmas.List.{get_or-drop}
 use Rattle.cqf_model.specs.GateList.{Entry, round_of, states_in, states_at, InForce}
 
--- past its first entry a round goes on with the others
+-- after its first entry a round continues with the others
 pub states_in-past : (entry : Entry) (entries : List Entry) (offset : ℕ) → states_in (entry ∷ entries) (entry.1 + offset) ≡ states_in entries offset
 states_in-past entry entries offset =
     let behind : ltb (entry.1 + offset) entry.1 ≡ false = grind (arith, nat_tests) in
     let rest : entry.1 + offset - entry.1 ≡ offset = omega arith in
     rw (behind, rest)
 
--- behind some entries of a round the others are in force
+-- after the first k entries of a round the others are in force
 pub states_in-behind : (k : ℕ) (entries : List Entry) (offset : ℕ) → states_in entries (round_of (take k entries) + offset) ≡ states_in (drop k entries) offset
 states_in-behind zero entries offset = ap (states_in entries) (omega arith)
 states_in-behind (suc k) [] offset = refl
@@ -24,14 +24,14 @@ states_in-behind (suc k) (entry ∷ entries) offset =
     let e : round_of (take (suc k) (entry ∷ entries)) + offset ≡ entry.1 + (round_of (take k entries) + offset) = omega (arith, first) in
     ap (states_in (entry ∷ entries)) e ∙ states_in-past entry entries _ ∙ states_in-behind k entries offset
 
--- in the interval of an entry, its states are in force
+-- in the interval of the first entry its states are in force
 pub states_in-first : (entries : List Entry) (offset : ℕ) → offset < (get_or entries 0 (0, 0)).1 → states_in entries offset ≡ (get_or entries 0 (0, 0)).0
 states_in-first [] offset within = refl
 states_in-first (entry ∷ entries) offset within =
     let inside : ltb offset entry.1 ≡ true = grind (arith, nat_tests) in
     rw inside
 
--- so long after the first instant of an entry, within its interval, its states are in force
+-- at an offset from the first instant of an entry, within its interval, its states are in force
 pub states_in-at : (entries : List Entry) (place offset : ℕ) → offset < (get_or entries place (0, 0)).1 →
     states_in entries (round_of (take place entries) + offset) ≡ (get_or entries place (0, 0)).0
 states_in-at entries place offset within =
@@ -40,7 +40,7 @@ states_in-at entries place offset within =
     let inside : offset < (get_or (drop place entries) 0 (0, 0)).1 = rw head within in
     states_in-behind place entries offset ∙ states_in-first (drop place entries) offset inside ∙ ap (λ (entry : Entry). entry.0) head
 
--- an instant within the interval of an entry lies in the entry's round
+-- an instant within the interval of an entry is in the entry's round
 pub in_round : (entries : List Entry) (place offset : ℕ) → place < length entries → offset < (get_or entries place (0, 0)).1 →
     round_of (take place entries) + offset < round_of entries
 in_round entries place offset inside within = omega (arith, sum_by_more_le (λ (entry : Entry). entry.1) entries place (0, 0) inside)
@@ -57,7 +57,7 @@ states_at-in_force entries t place offset f =
     ap (states_at entries) e ∙ states_at-in_round entries f.round _ (in_round entries place offset f.inside f.within)
     ∙ states_in-at entries place offset f.within
 
--- what is left of an offset in a round behind the entries before a place says that the place is in force
+-- an index is in force if the offset in the round is the round of the entries before it and what is left
 pub InForce-from_rest : (entries : List Entry) (t place offset : ℕ) → place < length entries → round_of (take place entries) + offset
     ≡ t % round_of entries → offset < (get_or entries place (0, 0)).1 → InForce entries t place offset
 InForce-from_rest entries t place offset inside rest within = record {

@@ -1,4 +1,4 @@
--- The spans of a reservation pass what its list of one entry a cycle does.
+-- The entries of a reservation pass what its list of one entry a cycle passes.
 use Rattle.std.proofs.Common.{◌≡◌, ◌≢◌, ℕ, ◌+◌, ◌-◌, ◌*◌, ◌/◌, ◌%◌, ◌<◌, ◌≤◌, List, [], ◌∷◌, ◌++◌, Bool, true, false, ◌&&◌, if◌then◌else◌}
 use Rattle.std.proofs.Common.{Option, Some, refl, ap, ap₂, sym, ◌∙◌, subst, arith, ◌==◌, eqb-true, eq-eqb, length, inl, inr, mod-lt, append_assoc, append-nil}
 use Rattle.std.specs.Prelude.{nat_le, slice_get, sum_by}
@@ -18,12 +18,12 @@ use Rattle.cqf_gates.proofs.InSpans.{IsClosed, StandsAt, closed_within, round_be
 use Rattle.cqf_gates.specs.ReservedSpans.{closed_for, first_turn, open_in, reserved_spans}
 use Rattle.cqf_gates.specs.SpanLaws.{PassTheSame, SpansPassTheSame}
 
--- a list of one period: so many cycles before its own, and so many behind it
+-- a list of one period: `before` cycles, the stream's own, and `behind` cycles
 module _ (n reserved before behind : ℕ) where
   abbrev one_period : List StreamEntry
   one_period = closed_for n before ++ (open_in n reserved before ∷ ([] ++ closed_for n behind))
 
-  -- it takes its cycles
+  -- it lasts its number of cycles
   one_round : gate_round one_period ≡ (before + 1 + behind) * n
   one_round =
       let own = open_in n reserved before in
@@ -45,7 +45,7 @@ module _ (n reserved before behind : ℕ) where
     long = refl;
   }
 
-  -- and the others
+  -- in the other cycles it is closed
   one_closed : (cell rem : ℕ) → rem < n → cell < before + 1 + behind → cell ≢ before → IsClosed one_period (cell * n + rem)
   one_closed cell rem small inside other =
       let own = open_in n reserved before in
@@ -59,14 +59,14 @@ module _ (n reserved before behind : ℕ) where
             (omega (arith, later, other)) (omega (arith, inside)) small
       ]
 
--- a list of two periods, each of so many cycles before its own and so many behind it
+-- a list of two periods, each with `before` cycles, the stream's own, and `behind` cycles
 module _ (n reserved before behind : ℕ) where
   abbrev two_periods : List StreamEntry
   two_periods =
       closed_for n before
       ++ (open_in n reserved before ∷ ((closed_for n (before + behind) ++ open_in n reserved (before + (before + behind + 1)) ∷ []) ++ closed_for n behind))
 
-  -- it takes their cycles
+  -- it lasts their number of cycles
   two_round : gate_round two_periods ≡ 2 * (before + behind + 1) * n
   two_round =
       let own = open_in n reserved before in
@@ -84,7 +84,7 @@ module _ (n reserved before behind : ℕ) where
         round_closed n behind,
       )
 
-  -- what stands in front of the second of its own cycles
+  -- the entries before the second of its own cycles
   abbrev in_front : List StreamEntry
   in_front = closed_for n before ++ (open_in n reserved before ∷ closed_for n (before + behind))
 
@@ -119,7 +119,7 @@ module _ (n reserved before behind : ℕ) where
     long = refl;
   }
 
-  -- and the others
+  -- in the other cycles it is closed
   two_closed : (cell rem : ℕ) → rem < n → cell < 2 * (before + behind + 1) → cell ≢ before → cell ≢ before + (before + behind + 1) →
       IsClosed two_periods (cell * n + rem)
   two_closed cell rem small inside first second =
@@ -147,18 +147,18 @@ module _ (n reserved before behind : ℕ) where
 
 -- ---- the written gate in the cycles of its round
 
--- a cycle of a round shorter than a period is itself in its period
+-- a cycle before the end of the first period is its own index in the period
 in_period : (cell every : ℕ) → cell < every → cell % every ≡ cell
 in_period cell every inside = mod-eq_of_lt inside
 
--- and one of the second period is so much later than the first
+-- and a cycle of the second period has the index of the same cycle of the first
 in_second : (cell every : ℕ) → 0 < every → every ≤ cell → cell < 2 * every → cell % every ≡ cell - every
 in_second cell every some later inside =
     let rest : ℕ = cell - every in
     let apart : cell ≡ 1 * every + rest = omega (arith, later) in
     ap (λ z. z % every) apart ∙ mod-mul-add 1 every rest (omega (arith, inside, later, some))
 
--- what the written gate is in a cycle of its round: the stream's own, or closed
+-- the written gate in a cycle of its round: the stream's own, or closed
 pub record IsInCell (n reserved : ℕ) (pace : Pace) (depth cell rem : ℕ) : Type 0 where
   pub own : is_turn pace depth cell ≡ true → StandsAt (reserved_spans n reserved pace depth) n (open_in n reserved cell) cell
   pub other : is_turn pace depth cell ≡ false → IsClosed (reserved_spans n reserved pace depth) (cell * n + rem)
@@ -173,7 +173,7 @@ module _ (n reserved : ℕ) (pace : Pace) (depth : ℕ) where
   turn_within : turn < pace.pause + 1
   turn_within = mod-lt (pace.phase + depth) (omega arith)
 
-  -- by whether a period has an even number of cycles
+  -- the written gate, by whether a period has an even number of cycles
   abbrev spans_by : Bool → List StreamEntry
   spans_by b =
       closed_for n turn
@@ -182,13 +182,13 @@ module _ (n reserved : ℕ) (pace : Pace) (depth : ℕ) where
   abbrev cycles_by : Bool → ℕ
   cycles_by b = if b then every else 2 * every
 
-  -- of two periods
+  -- for an odd number it has two periods
   as_two : spans_by false ≡ two_periods n reserved turn (pace.pause - turn)
   as_two =
       let whole : pace.pause ≡ turn + (pace.pause - turn) = omega (arith, turn_within) in
       ap (λ p. closed_for n turn ++ (open_in n reserved turn ∷ ((closed_for n p ++ open_in n reserved (turn + (p + 1)) ∷ []) ++ closed_for n (pace.pause - turn)))) whole
 
-  -- a round takes as long as that of the list of one entry a cycle
+  -- its round lasts as long as that of the list of one entry a cycle
   round_by : (b : Bool) → gate_round (spans_by b) ≡ cycles_by b * n
   round_by true =
       let cycles : turn + 1 + (pace.pause - turn) ≡ pace.pause + 1 = omega (arith, turn_within) in
@@ -197,7 +197,7 @@ module _ (n reserved : ℕ) (pace : Pace) (depth : ℕ) where
       let cycles : 2 * (turn + (pace.pause - turn) + 1) ≡ 2 * (pace.pause + 1) = omega (arith, turn_within) in
       ap gate_round as_two ∙ two_round n reserved turn (pace.pause - turn) ∙ ap (λ z. z * n) cycles
 
-  -- in its turn
+  -- in its turn it is open
   own_by : (b : Bool) (cell : ℕ) → cell < cycles_by b → is_turn pace depth cell ≡ true → StandsAt (spans_by b) n (open_in n reserved cell) cell
   own_by true cell inside is =
       let same : turn ≡ cell = eqb-true turn (cell % every) is ∙ in_period cell every inside in
@@ -215,7 +215,7 @@ module _ (n reserved : ℕ) (pace : Pace) (depth : ℕ) where
             subst (λ z. StandsAt (two_periods n reserved turn (pace.pause - turn)) n (open_in n reserved z) z) same (two_second n reserved turn (pace.pause - turn))
       ])
 
-  -- and in others' turns
+  -- in other cycles it is closed
   other_by : (b : Bool) (cell rem : ℕ) → cell < cycles_by b → rem < n → is_turn pace depth cell ≡ false → IsClosed (spans_by b) (cell * n + rem)
   other_by true cell rem inside small is =
       let apart : cell ≢ turn = λ same. false≢true (sym is ∙ eq-eqb turn (cell % every) (sym same ∙ sym (in_period cell every inside))) in
@@ -242,12 +242,12 @@ module _ (n reserved : ℕ) (pace : Pace) (depth : ℕ) where
 
 -- ---- what passes
 
--- in one interval of the spans that is open in the second of two instants there are just those of one interval of the list
+-- the totals of two intervals with the same instants are equal
 sums_same : (one two : ℕ → Bool) (passed : List Call) → ((s : ℕ) → one s ≡ two s) →
     sum_by (λ (call : Call). if one call.0 then call.1 else 0) passed ≡ sum_by (λ (call : Call). if two call.0 then call.1 else 0) passed
 sums_same one two passed same = ap (λ (f : ℕ → Bool). sum_by (λ (call : Call). if f call.0 then call.1 else 0) passed) (λ i. λ s. same s i)
 
--- nothing of an octet or more is within a maximum of none
+-- no octets are within a maximum of 0
 none_within : (sum octets : ℕ) → 0 < octets → nat_le (sum + octets) 0 ≡ false
 none_within sum octets some = grind (arith, nat_tests, some)
 
@@ -258,14 +258,14 @@ module _ (n reserved : ℕ) (pace : Pace) (depth : ℕ) (some : 0 < n) where
   abbrev each : List StreamEntry
   each = stream_list n reserved pace depth
 
-  -- the cycle of its round in which an instant lies
+  -- the cycle of its round that contains an instant
   abbrev cell_of : ℕ → ℕ
   cell_of t = t / n % gate_cycles pace
 
   cell_within : (t : ℕ) → cell_of t < gate_cycles pace
   cell_within t = mod-lt (t / n) (some_cycles pace)
 
-  -- and how far the instant is in its round
+  -- the offset of the instant in its round
   offset_at : (t : ℕ) → t % gate_round written ≡ cell_of t * n + t % n
   offset_at t = ap (λ z. t % z) (spans_round n reserved pace depth) ∙ mod-mul t (some_cycles pace) some
 
@@ -277,7 +277,7 @@ module _ (n reserved : ℕ) (pace : Pace) (depth : ℕ) (some : 0 < n) where
   in_cell_at : (t : ℕ) → IsInCell n reserved pace depth (cell_of t) (t % n)
   in_cell_at t = in_cell n reserved pace depth (cell_of t) (t % n) (cell_within t) (mod-lt t some)
 
-  -- where the stream's own cycle stands
+  -- the position of the stream's own cycle
   own_at : (t : ℕ) → is_turn pace depth (t / n) ≡ true → StandsAt written n (open_in n reserved (cell_of t)) (cell_of t)
   own_at t turn = (in_cell_at t).own (turn_again pace depth (t / n) ∙ turn)
 
@@ -287,7 +287,7 @@ module _ (n reserved : ℕ) (pace : Pace) (depth : ℕ) (some : 0 < n) where
       ap (λ z. slice_get written (place_in written z)) (offset_at t)
       ∙ (stands_found written n (open_in n reserved (cell_of t)) (cell_of t) (own_at t turn) (t % n) (mod-lt t some)).1
 
-  -- and lasts as long as that of the list
+  -- and its interval is that of the list
   intervals_same : (t : ℕ) → is_turn pace depth (t / n) ≡ true → (s : ℕ) → same_interval written s t ≡ same_interval each s t
   intervals_same t turn s =
       let at = own_at t turn in
@@ -312,7 +312,7 @@ module _ (n reserved : ℕ) (pace : Pace) (depth : ℕ) (some : 0 < n) where
       ∙ sym (ap (λ (b : Bool). nat_le (octets_in each passed t + octets) (if b then reserved else 0)) turn)
       ∙ sym (within_reservation n reserved pace depth t some (octets_in each passed t + octets))
 
-  -- and in the others nothing
+  -- in the others nothing passes
   closed_passes : (passed : List Call) (t octets : ℕ) → is_turn pace depth (t / n) ≡ false → 0 < octets → gate_passes written passed t octets ≡ false
   closed_passes passed t octets turn more =
       let shut = (in_cell_at t).other (turn_again pace depth (t / n) ∙ turn) in
@@ -345,6 +345,6 @@ module _ (n reserved : ℕ) (pace : Pace) (depth : ℕ) (some : 0 < n) where
     ];
   }
 
--- at each pace and each depth
+-- the law, at each pace and each hop number
 pub spans_pass : SpansPassTheSame
 spans_pass cycle_time reserved pace depth some = pass_the_same cycle_time reserved pace depth some

@@ -1,4 +1,4 @@
--- Texts that entries are written as, one entry after another.
+-- The texts of entries, one entry after another.
 use Rattle.std.proofs.Common.{ℕ, ◌≡◌, ◌+◌, ◌<◌, List, [], ◌∷◌, ◌++◌, length, take, get_or, refl, ap, sym, ◌∙◌, append_assoc, codes, decimal}
 use Rattle.std.proofs.lemmas.List.{take_more}
 use Rattle.cqf_model.specs.GateList.{Entry}

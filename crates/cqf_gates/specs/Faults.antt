@@ -1,18 +1,18 @@
--- The texts of a gate list's faults: a fault's name, and then its value, after a space.
+-- The texts of a gate list's faults: a fault's name, followed by its value, if it has one, after a space.
 use Rattle.std.specs.Prelude.{ℕ, ◌++◌, List, codes, decimal}
 use Rattle.cqf_gates.specs.declared.faults.ListFault.{ListFault}
 use Rattle.cqf_gates.specs.declared.faults.ListFault.TheVariants as list_fault
 use Rattle.cqf_gates.specs.declared.faults.TextFault.{TextFault}
 use Rattle.cqf_gates.specs.declared.faults.TextFault.TheVariants as text_fault
 
--- why some entries make no gate list
+-- why a list of entries isn't a gate list
 abbrev pub list_fault_text : ListFault → List ℕ
 list_fault_text list_fault.Empty = codes "Empty"
 list_fault_text list_fault.TooMany = codes "TooMany"
 list_fault_text list_fault.ZeroInterval = codes "ZeroInterval"
 list_fault_text list_fault.BadIpv = codes "BadIpv"
 
--- why a text is no gate list: a line by its number, a list by its own fault alone
+-- why a text isn't a gate list: for a bad line its number, for bad entries their fault alone
 abbrev pub text_fault_text : TextFault → List ℕ
 text_fault_text (text_fault.BadLine line) = codes "BadLine " ++ decimal line
 text_fault_text (text_fault.List fault) = list_fault_text fault

@@ -1,4 +1,4 @@
--- What the text of a port's gate list is read as.
+-- The list that the text of a port's gate list is read as.
 use Rattle.std.specs.Prelude.{ℕ, List, Result, Ok, Err}
 use Rattle.cqf_model.specs.GateList.{Entry}
 use Rattle.cqf_gates.specs.GateListText.{entries_of_text}
@@ -7,7 +7,7 @@ use Rattle.cqf_gates.specs.declared.faults.TextFault.{TextFault}
 use Rattle.cqf_gates.specs.declared.faults.TextFault.TheVariants.{BadLine, List as BadList}
 use Rattle.cqf_gates.specs.TxList.{tx_list_of}
 
--- a fault of the entries is a fault of their text
+-- the result for entries as that for their text: a fault of the entries is a fault of the text
 abbrev pub in_text : Result (List Entry) ListFault → Result (List Entry) TextFault
 in_text (Ok entries) = Ok entries
 in_text (Err fault) = Err (BadList fault)
@@ -17,7 +17,7 @@ abbrev pub list_of_entries : Result (List Entry) ℕ → Result (List Entry) Tex
 list_of_entries (Ok entries) = in_text (tx_list_of entries)
 list_of_entries (Err line) = Err (BadLine line)
 
--- the list that a text writes, one entry a line; or its first bad line, where lines count from 1; or, where each line
--- is good, the first fault of its entries
+-- the list that a text denotes, one entry a line; or the number of its first bad line, counted from 1; or, if every line is good, the first
+-- fault of its entries
 abbrev pub list_of_text : List ℕ → Result (List Entry) TextFault
 list_of_text text = list_of_entries (entries_of_text text)

@@ -1,5 +1,5 @@
-//! The gate lists that a cycle and a reservation are compiled to (IEEE 802.1Q, Annex T; the guard time, the classes and
-//! the octet maximum: profile).
+//! The gate lists that a cycle and a reservation are compiled to (IEEE 802.1Q, Annex T). The guard band, the classes
+//! and the octet maximum are this project's own.
 ghost use Rattle.std.specs.Prelude.{◌≡◌, ◌+◌, ◌*◌, ◌^◌, ◌<◌};
 ghost use Rattle.cqf_model.specs.GateList.{port_list};
 ghost use Rattle.cqf_gates.specs.ReservedSpans.{reserved_spans};
@@ -9,18 +9,18 @@ use crate::spans::Spans;
 use crate::{Pace, StreamList, TxList};
 use cqf_units::{Nanos, Octets};
 
-/// The gate states of a port in even cycles, up to the guard time.
+/// The gate states of a port in even cycles, before the guard band.
 const EVEN_CYCLE: u8 = 0xBF;
 
-/// The gate states of a port in odd cycles, up to the guard time.
+/// The gate states of a port in odd cycles, before the guard band.
 const ODD_CYCLE: u8 = 0x7F;
 
-/// The gate states of a port in the guard time, which ends each cycle.
+/// The gate states of a port in the guard band, which ends each cycle.
 const GUARD_TIME: u8 = 0x00;
 
-/// The gate list of each port, for a cycle time and the guard time that ends each cycle, in nanoseconds: class 7 is open
-/// in even cycles, class 6 in odd ones, classes 0 to 5 in both, and no class in the guard time (IEEE 802.1Q, Annex T;
-/// profile).
+/// Returns the gate list of each port, for a cycle time and the guard band that ends each cycle, in nanoseconds: class
+/// 7 is open in even cycles, class 6 in odd ones, classes 0 to 5 in both, and no class in the guard band (IEEE 802.1Q,
+/// Annex T). The guard band is positive and shorter than the cycle time, which is below 2^32 ns.
 pub fn compiled_list(cycle_time: Nanos, guard: Nanos) -> TxList
     requires short { cycle_time.0 < 2 ^ 32 }
     requires some { 0 < guard.0 }
@@ -41,11 +41,12 @@ pub fn compiled_list(cycle_time: Nanos, guard: Nanos) -> TxList
     }
 }
 
-/// The written gate of a stream where its frames are so deep on their way, for a cycle time in nanoseconds and a reservation in
-/// octets for each cycle of its own: in these as many octets pass as are reserved, and frames get class 6 in even cycles and class 7
-/// in odd ones; in the others none passes. Cycles in a row in which none passes are one entry, so there are one to five, and two open
-/// ones where each cycle is the stream's own (IEEE 802.1Q, Annex T; the classes and the octet maximum: profile). What
-/// [`spans_pass_the_same`] says of them is that they are the gate that the network asks for.
+/// Returns the written gate of a stream for its frames at this hop number, given the cycle time in nanoseconds and the
+/// reservation in octets for each of the stream's own cycles. In these cycles the reserved octets pass, with class 6 in
+/// even cycles and class 7 in odd ones; in the others nothing passes. Consecutive cycles in which nothing passes are
+/// one entry, so there are two to five entries; if every cycle is the stream's own there are two, both open (IEEE
+/// 802.1Q, Annex T). By [`spans_pass_the_same`] this is the gate that the network demands. The cycle time is positive,
+/// and a period of the pace is below 2^32 ns.
 pub fn gate_of_reservation(cycle_time: Nanos, reserved: Octets, pace: Pace, depth: u8) -> StreamList
     requires short { (pace.pause + 1) * cycle_time.0 < 2 ^ 32 }
     requires some { 0 < cycle_time.0 }
@@ -64,8 +65,8 @@ pub fn gate_of_reservation(cycle_time: Nanos, reserved: Octets, pace: Pace, dept
     }
 }
 
-/// The written gate of a reservation passes the same frames of at least one octet as its list of one entry a cycle, with the same
-/// class: at each pace, each depth and each instant, behind whatever passed before.
+/// Says that the written gate of a reservation passes the same frames of at least one octet as its list of one entry a
+/// cycle, with the same class, at each pace, hop number and instant, regardless of what passed before.
 pub fn spans_pass_the_same()
     ensures { SpansPassTheSame }
 {}

@@ -6,7 +6,7 @@ ghost use Rattle.cqf_gates.specs.GateListText.{entry_of_line};
 
 use cqf_text::read_decimal;
 
-/// The value of a hexadecimal digit of either case, or `None` where the byte is none.
+/// Returns the value of a hexadecimal digit of either case, or `None` for any other byte.
 fn hex_value(byte: u8) -> Option<u8>
     ensures { SomeIff result (digit_value byte < 16) (digit_value byte) }
 {
@@ -18,8 +18,8 @@ fn hex_value(byte: u8) -> Option<u8>
     }
 }
 
-/// The entry that the line writes: its gate states as two hexadecimal digits of either case, one space, and its
-/// interval as a decimal number up to 4,294,967,295. `None` where the line has another form.
+/// Returns the entry that the line denotes: its gate states as two hexadecimal digits of either case, one space, and
+/// its interval as a decimal number up to 4,294,967,295. Returns `None` if the line has another form.
 pub(crate) fn read_entry(line: &[u8]) -> Option<(u8, u32)>
     ensures { result ≡ entry_of_line line.now }
 {

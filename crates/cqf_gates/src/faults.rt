@@ -5,7 +5,7 @@ ghost use Rattle.cqf_gates.specs.Faults.{list_fault_text, text_fault_text};
 use std::fmt;
 use thiserror::Error;
 
-/// The most entries that a gate list can have.
+/// The most entries of a gate list.
 pub(crate) const MOST_ENTRIES: usize = 16;
 
 /// Why no gate list can be made of some entries. It prints as its name.
@@ -34,12 +34,12 @@ impl fmt::Display for ListFault {
     }
 }
 
-/// Why a text is no gate list. It prints as its name and the line, or as the list's fault alone.
+/// Why a text isn't a gate list. It prints as its name and the line number, or as the list's fault alone.
 #[derive(Clone, Copy, Debug, PartialEq, Eq, Drop, Error)]
 pub enum TextFault {
-    /// The first line that writes no entry, where lines count from 1.
+    /// The number of the first line that doesn't denote an entry, counted from 1.
     BadLine(u64),
-    /// Each line writes an entry, and the entries make no list.
+    /// Each line denotes an entry, but the entries don't form a list.
     List(ListFault),
 }
 

@@ -1,11 +1,12 @@
 //! Gate lists: which traffic classes a port may send, and which frames of a stream pass (IEEE 802.1Q, 8.6.8.4 and
 //! 8.6.5.1).
 //!
-//! - [`TxList`] is the list of a port. [`TxList::mask_at`] gives the states of its gates at an instant, and
+//! - [`TxList`] is the list of a port. [`TxList::mask_at`] returns the states of its gates at an instant, and
 //!   [`TxList::open_for`] how long a class stays open from then on.
-//! - [`StreamList`] is the list of a stream gate, and [`StreamGate`] the gate, which counts octets against it.
-//! - [`compiled_list`] and [`gate_of_reservation`] are the lists that a cycle and a reservation are compiled to.
-//! - [`read_tx`], [`write_tx`], [`write_stream`] and [`put_stream`] read and write lists as texts, with states as [`hex_digit_of`] has them.
+//! - [`StreamList`] is the list of a stream gate, and [`StreamGate`] is the gate, which counts octets against the list.
+//! - [`compiled_list`] and [`gate_of_reservation`] return the lists that a cycle and a reservation are compiled to.
+//! - [`read_tx`], [`write_tx`], [`write_stream`] and [`put_stream`] read and write lists as text, with gate states in
+//!   the digits of [`hex_digit_of`].
 //!
 //! ```text
 //! TxList::new(&[(0x80, 120_000), (0x00, 5000), (0x40, 120_000), (0x00, 5000)]) is Ok(list)

@@ -1,4 +1,4 @@
-//! The entries of a reservation's gate, put one behind the other.
+//! The entries of a reservation's gate, put together one after the other.
 ghost use Rattle.std.specs.Prelude.{[], ◌≡◌, ◌+◌, ◌*◌, ◌%◌, ◌^◌, ◌<◌, ◌∷◌, ◌++◌, length};
 ghost use Rattle.cqf_model.specs.declared.gates.StreamEntry.{StreamEntry as Entry};
 ghost use Rattle.cqf_gates.specs.ReservedSpans.{closed_for, open_in, second_turn};
@@ -8,16 +8,17 @@ use crate::{Pace, StreamEntry};
 use cqf_units::{Nanos, Octets};
 use std::marker::Model;
 
-/// The class that a stream's frames get in even cycles, as their internal priority value.
+/// The class that a stream's frames get in even cycles, as internal priority value.
 const CLASS_OF_EVEN_CYCLE: u8 = 6;
 
-/// The class that they get in odd cycles.
+/// The class that a stream's frames get in odd cycles, as internal priority value.
 const CLASS_OF_ODD_CYCLE: u8 = 7;
 
-/// The entries so far: at most five, two of the stream's own cycles, and what is closed before, between and behind them.
+/// The entries so far, at most five: those of two of the stream's own cycles, and the closed ones before, between and
+/// after them.
 #[derive(Drop)]
 pub(crate) struct Spans {
-    /// The entries, and blanks behind them.
+    /// The entries, followed by blanks.
     places: [StreamEntry; 5],
     used: usize,
 }
@@ -33,7 +34,7 @@ impl Model for Spans {
     ghost invariant = { λ spans. spans.used ≤ 5 };
 }
 
-/// The class that frames get in a cycle.
+/// Returns the class that frames get in a cycle.
 fn class_of(cycle: u16) -> u8
     ensures { result ≡ 6 + cycle % 2 }
 {
@@ -45,7 +46,7 @@ fn class_of(cycle: u16) -> u8
 }
 
 impl Spans {
-    /// No entry.
+    /// Returns an empty list.
     pub(crate) fn new() -> Spans
         ensures { result ≡ [] }
     {
@@ -55,14 +56,14 @@ impl Spans {
         }
     }
 
-    /// The entries so far.
+    /// Returns the entries so far.
     pub(crate) fn entries(&self) -> &[StreamEntry]
         ensures { result.now ≡ self.now }
     {
         &self.places[..self.used]
     }
 
-    /// Puts an entry behind the others.
+    /// Appends an entry.
     fn push(&mut self, entry: StreamEntry)
         requires { length self.old < 5 }
         ensures { self.new ≡ self.old ++ entry ∷ [] }
@@ -71,7 +72,7 @@ impl Spans {
         self.used += 1;
     }
 
-    /// A span of so many cycles in which nothing passes, where there are any.
+    /// Appends the entry for this many cycles in which nothing passes, unless the number is 0.
     pub(crate) fn close(&mut self, cycle_time: Nanos, cycles: u16)
         requires room { length self.old < 5 }
         requires short { cycles * cycle_time.0 < 2 ^ 32 }
@@ -87,7 +88,7 @@ impl Spans {
         }
     }
 
-    /// One cycle, in which the reservation's octets pass.
+    /// Appends the entry for one cycle in which the reserved octets pass.
     pub(crate) fn open(&mut self, cycle_time: Nanos, reserved: Octets, cycle: u16)
         requires room { length self.old < 5 }
         requires short { cycle_time.0 < 2 ^ 32 }
@@ -100,7 +101,8 @@ impl Spans {
         });
     }
 
-    /// Where a period has an odd number of cycles, the closed ones up to the stream's own in the second period, and that one.
+    /// If a period has an odd number of cycles, appends the entries from the stream's first own cycle to the second:
+    /// the closed cycles, and the own one.
     pub(crate) fn open_again(&mut self, cycle_time: Nanos, reserved: Octets, pace: Pace, turn: u16)
         requires room { length self.old < 4 }
         requires short { (pace.pause + 1) * cycle_time.0 < 2 ^ 32 }

@@ -1,4 +1,4 @@
-//! The lists of stream gates as texts.
+//! The lists of stream gates as text.
 ghost use Rattle.std.specs.Prelude.{◌≡◌, ◌++◌, IfOk, codes, decimal};
 ghost use Rattle.cqf_gates.specs.StreamText.{is_shut, line_of_open, line_of_stream_entry, octet_max_text, text_of_stream_entries};
 ghost use Rattle.cqf_press.specs.Press.{Puts};
@@ -8,14 +8,14 @@ use cqf_press::{Press, Sheet, Sink, Told, told_text};
 use cqf_units::Memory;
 use std::alloc::Global;
 
-/// Whether no frame of an octet or more is within the octet maximum, so that the entry is written as closed.
+/// Returns whether no frame of one or more octets is within the octet maximum, so that the entry is written as closed.
 pub fn is_shut(octet_max: Option<u32>) -> bool
     ensures { result ≡ is_shut octet_max }
 {
     octet_max == Some(0)
 }
 
-/// Puts an octet maximum, `-` where there is none.
+/// Puts an octet maximum, or `-` if there is none.
 fn put_maximum<W: Sink>(press: &mut Press<'_, W>, octet_max: Option<u32>)
     ensures { Puts W.contents press.old press.new (octet_max_text octet_max) }
 {
@@ -25,7 +25,7 @@ fn put_maximum<W: Sink>(press: &mut Press<'_, W>, octet_max: Option<u32>)
     }
 }
 
-/// Puts what is told of an entry in which frames may pass.
+/// Puts the line of an entry in which frames may pass.
 fn put_open<W: Sink>(press: &mut Press<'_, W>, entry: StreamEntry)
     ensures { Puts W.contents press.old press.new (line_of_open entry) }
 {
@@ -37,7 +37,7 @@ fn put_open<W: Sink>(press: &mut Press<'_, W>, entry: StreamEntry)
     put_maximum(press, entry.octet_max);
 }
 
-/// Puts what is told of one in which none passes.
+/// Puts the line of an entry in which none may pass.
 fn put_closed<W: Sink>(press: &mut Press<'_, W>, interval: u32)
     ensures { Puts W.contents press.old press.new (codes "closed " ++ decimal interval) }
 {
@@ -45,7 +45,7 @@ fn put_closed<W: Sink>(press: &mut Press<'_, W>, interval: u32)
     press.put_number(interval);
 }
 
-/// Puts what is told of an entry of a stream's gate.
+/// Puts the line of an entry of a stream's gate.
 fn put_entry<W: Sink>(press: &mut Press<'_, W>, entry: StreamEntry)
     ensures { Puts W.contents press.old press.new (line_of_stream_entry entry) }
 {
@@ -56,7 +56,7 @@ fn put_entry<W: Sink>(press: &mut Press<'_, W>, entry: StreamEntry)
     }
 }
 
-/// Puts the text of a stream gate's list, as [`write_stream`] gives it. It asks for no memory.
+/// Puts the text of a stream gate's list, as [`write_stream`] returns it. Asks for no memory.
 pub fn put_stream<W: Sink>(press: &mut Press<'_, W>, list: &StreamList)
     ensures { Puts W.contents press.old press.new (text_of_stream_entries list.now) }
 {
@@ -66,9 +66,9 @@ pub fn put_stream<W: Sink>(press: &mut Press<'_, W>, list: &StreamList)
     }
 }
 
-/// The text of a stream gate's list: for each entry a line with `open`, the internal priority value, the interval and
-/// the octet maximum, `-` where there is none; or, where that is 0, so that no frame passes, with `closed` and the interval
-///. The error is want of memory.
+/// Returns the text of a stream gate's list. Each entry is a line with `open`, the internal priority value, the
+/// interval and the octet maximum (`-` if there is none); if the octet maximum is 0, so that no frame passes, the line
+/// has `closed` and the interval. Returns `Memory` if an allocation fails.
 pub fn write_stream(alloc: Global, list: &StreamList) -> Result<Vec<u8>, Memory>
     ensures { IfOk result (λ text. text.items ≡ text_of_stream_entries list.now) }
 {

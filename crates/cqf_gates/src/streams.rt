@@ -1,4 +1,4 @@
-//! Stream gates and their control lists (IEEE 802.1Q, 8.6.5.1; the rules of octets and of classes: profile).
+//! Stream gates and their control lists (IEEE 802.1Q, 8.6.5.1). The rules about octets and classes are this project's own.
 ghost use Rattle.std.specs.Prelude.{List, [], ◌≡◌, ◌==◌, ◌+◌, ◌/◌, ◌<◌, ◌≤◌, length, take};
 ghost use Rattle.std.specs.List.{list_any};
 ghost use Rattle.std.specs.Option.{SomeIff};
@@ -12,18 +12,17 @@ use crate::{ListFault, StreamEntry};
 use cqf_units::{Nanos, Octets};
 use std::marker::Model;
 
-/// What stands in a place that isn't used.
+/// The value at an index that isn't used.
 pub(crate) const BLANK: StreamEntry = StreamEntry {
     ipv: 6,
     interval: 1,
     octet_max: None,
 };
 
-/// A stream gate control list: 1 to 16 entries. Rounds of the list follow one another from instant 0 without end
-/// 
+/// A stream gate control list: 1 to 16 entries. Rounds of the list follow one another without end, from instant 0.
 #[derive(Debug, Drop)]
 pub struct StreamList {
-    /// The entries, and blanks behind them.
+    /// The entries, followed by blanks.
     places: [StreamEntry; 16],
     used: usize,
 }
@@ -40,7 +39,7 @@ impl Model for StreamList {
     ghost invariant = { λ list. (list.used ≤ 16) × IsStreamList (take list.used list.places) };
 }
 
-/// What a stream gate says of a frame.
+/// What a stream gate decides about a frame.
 #[derive(Clone, Copy, Debug, PartialEq, Eq)]
 pub enum Passed {
     /// The frame passes, with this traffic class, 6 or 7.
@@ -49,35 +48,35 @@ pub enum Passed {
     OverOctets,
 }
 
-/// Whether the entry would be in force for no time.
+/// Returns whether the entry would be in force for no time.
 fn is_zero(entry: &StreamEntry) -> bool
     ensures { result ≡ (entry.now.interval == 0) }
 {
     entry.interval == 0
 }
 
-/// Whether one of the entries would be in force for no time.
+/// Returns whether one of the entries would be in force for no time.
 fn has_zero(entries: &[StreamEntry]) -> bool
     ensures { result ≡ list_any (λ (entry : Entry). entry.interval == 0) entries.now }
 {
     entries.iter().any(|entry| is_zero(entry))
 }
 
-/// Whether the entry's internal priority value is neither 6 nor 7.
+/// Returns whether the entry's internal priority value is neither 6 nor 7.
 fn has_bad_value(entry: &StreamEntry) -> bool
     ensures { result ≡ is_bad_ipv entry.now }
 {
     entry.ipv != 6 && entry.ipv != 7
 }
 
-/// Whether one of the internal priority values is neither 6 nor 7.
+/// Returns whether one of the internal priority values is neither 6 nor 7.
 fn has_bad_ipv(entries: &[StreamEntry]) -> bool
     ensures { result ≡ list_any is_bad_ipv entries.now }
 {
     entries.iter().any(|entry| has_bad_value(entry))
 }
 
-/// The entries in the first places, and blanks behind them.
+/// Returns the entries followed by blanks.
 fn placed(entries: &[StreamEntry]) -> [StreamEntry; 16]
     requires { length entries.now ≤ 16 }
     ensures { take (length entries.now) result ≡ entries.now }
@@ -89,7 +88,7 @@ fn placed(entries: &[StreamEntry]) -> [StreamEntry; 16]
     places
 }
 
-/// How long the entries take together, in nanoseconds.
+/// Returns the total of the intervals, in nanoseconds.
 fn length_of(entries: &[StreamEntry]) -> u64
     requires { length entries.now ≤ 16 }
     ensures { result ≡ gate_round entries.now }
@@ -102,9 +101,9 @@ fn length_of(entries: &[StreamEntry]) -> u64
 }
 
 impl StreamList {
-    /// The list of these entries. It refuses no entries as `Empty`, more than 16 as `TooMany`, an interval of 0 as
-    /// `ZeroInterval`, and an internal priority value other than 6 and 7 as `BadIpv`, the first of these that fits
-    /// 
+    /// Returns the list of these entries. Returns the first of these faults that applies: `Empty` for no entries,
+    /// `TooMany` for more than 16, `ZeroInterval` for an interval of 0, and `BadIpv` for an internal priority value
+    /// other than 6 and 7.
     pub fn new(entries: &[StreamEntry]) -> Result<StreamList, ListFault>
         ensures { result ≡ stream_list_of entries.now }
     {
@@ -126,7 +125,7 @@ impl StreamList {
         })
     }
 
-    /// What the list was made of.
+    /// Returns the entries.
     pub fn entries(&self) -> &[StreamEntry]
         ensures value { result.now ≡ self.now }
         ensures facts { IsStreamList self.now }
@@ -134,7 +133,7 @@ impl StreamList {
         &self.places[..self.used]
     }
 
-    /// The number of the round at the instant, and the place of the entry in force.
+    /// Returns the number of the round at the instant, and the index of the entry in force.
     fn interval_at(&self, t: Nanos) -> (u64, usize)
         ensures round { result.0 ≡ round_at self.now t.0 }
         ensures place { result.1 ≡ place_at self.now t.0 }
@@ -153,7 +152,7 @@ impl StreamList {
         unreachable!()
     }
 
-    /// The entry in force at the instant.
+    /// Returns the entry in force at the instant.
     fn in_force(&self, t: Nanos) -> StreamEntry
         ensures { entry_at self.now t.0 ≡ Some result }
     {
@@ -162,14 +161,14 @@ impl StreamList {
     }
 }
 
-/// A stream gate: it gives each frame that passes the internal priority value of the entry in force, and in each
-/// interval it lets as many octets pass as that entry's octet maximum says (IEEE 802.1Q, 8.6.5.1; profile).
+/// A stream gate. Each frame that passes gets the internal priority value of the entry in force, and in each interval
+/// as many octets pass as that entry's octet maximum allows (IEEE 802.1Q, 8.6.5.1).
 #[derive(Debug, Drop)]
 pub struct StreamGate {
     list: StreamList,
     /// The instant of the last call.
     last: Nanos,
-    /// What the frames that passed in the interval of the last call took of its octet maximum.
+    /// What the frames that passed in the interval of the last call took of its octet maximum; 0 if it has none.
     taken: u32,
 }
 
@@ -181,7 +180,7 @@ impl Model for StreamGate {
     ghost view = { λ gate. record { entries = gate.list; last = gate.last.0; taken = gate.taken } };
 }
 
-/// What is taken with so many octets more, where that is within the octet maximum.
+/// Returns what is taken with these octets too, if that is within the octet maximum.
 fn taken_with(taken: u32, octets: u32, most: u32) -> Option<u32>
     ensures { SomeIff result (taken + octets ≤ most) (taken + octets) }
 {
@@ -190,7 +189,7 @@ fn taken_with(taken: u32, octets: u32, most: u32) -> Option<u32>
 }
 
 impl StreamGate {
-    /// A gate that has seen no frame.
+    /// Returns a gate that has met no frame.
     pub fn new(list: StreamList) -> StreamGate
         ensures { result ≡ fresh list }
     {
@@ -201,7 +200,7 @@ impl StreamGate {
         }
     }
 
-    /// What has been taken of the octet maximum in the interval of the instant.
+    /// Returns what has been taken of the octet maximum in the interval of the instant.
     fn taken_at(&self, t: Nanos) -> u32
         ensures { result ≡ taken_at self.now t.0 }
     {
@@ -214,10 +213,10 @@ impl StreamGate {
         }
     }
 
-    /// Whether a frame of so many octets, from the destination address to the FCS, passes at the instant, and with
-    /// which traffic class: `Class` exactly where the entry in force has no octet maximum, or where the octets and
-    /// those that passed before in the same interval are within it. A frame that doesn't pass takes nothing, so a
-    /// smaller one may pass behind it.
+    /// Returns whether a frame of these octets, from the destination address to the FCS, passes at the instant, and
+    /// with which traffic class. The result is `Class` if and only if the entry in force has no octet maximum, or the
+    /// octets together with those that passed before in the same interval are within it. A frame that doesn't pass
+    /// takes nothing, so a smaller one may pass after it. Calls come in the order of their instants.
     pub fn pass(&mut self, t: Nanos, octets: Octets) -> Passed
         requires { self.old.last ≤ t.0 }
         ensures verdict { result ≡ verdict_on self.old t.0 octets.0 }
@@ -239,8 +238,8 @@ impl StreamGate {
     }
 }
 
-/// A gate that has counted what a list of calls passed decides as that list does, and goes on counting; a gate that
-/// has seen no frame has counted none.
+/// Says that a gate that has counted what a list of calls passed decides as that list does and continues to count, and
+/// that a gate that has met no frame has counted none.
 pub fn gate_counts_calls()
     ensures decides { DecidesByCalls }
     ensures begins { (entries : List Entry) → Counts (fresh entries) [] }

@@ -1,4 +1,4 @@
-//! Gate lists as texts.
+//! Gate lists as text.
 ghost use Rattle.std.specs.Prelude.{◌≡◌, ◌<◌, ◌^◌, ◌++◌, ◌∷◌, [], IfOk, OnOk};
 ghost use Rattle.cqf_gates.specs.GateListText.{hex_digit, line_of_gates, text_of_entries};
 ghost use Rattle.cqf_gates.specs.TxText.{list_of_text};
@@ -10,12 +10,12 @@ use cqf_text::split_line;
 use cqf_units::Memory;
 use std::alloc::Global;
 
-/// One entry more than a list can have: with so many kept, further ones change nothing.
+/// One entry more than a list can have: after this many, further ones change nothing.
 const TOO_MANY: usize = 17;
 
-/// The list that the text writes: on each line two hexadecimal digits of either case for the states, one space, and
-/// the interval as a decimal number up to 4,294,967,295. It refuses the first line of another form as `BadLine`, and
-/// then entries that make no list as `List` with [`TxList::new`]'s fault. An empty text has no line.
+/// Reads a list: on each line, two hexadecimal digits of either case for the gate states, one space, and the interval
+/// as a decimal number up to 4,294,967,295. Returns `BadLine` with the number of the first line that has another form;
+/// otherwise `List` with the fault of [`TxList::new`] if the entries don't form a list. An empty text has no line.
 pub fn read_tx(text: &[u8]) -> Result<TxList, TextFault>
     ensures { result ≡ list_of_text text.now }
 {
@@ -38,7 +38,7 @@ pub fn read_tx(text: &[u8]) -> Result<TxList, TextFault>
     }
 }
 
-/// The upper case hexadecimal digit of a number below 16.
+/// Returns the upper case hexadecimal digit of a number below 16.
 pub fn hex_digit_of(number: u8) -> u8
     requires { number < 16 }
     ensures { result ≡ hex_digit number }
@@ -50,7 +50,7 @@ pub fn hex_digit_of(number: u8) -> u8
     }
 }
 
-/// Appends the line that writes an entry.
+/// Appends the line of an entry.
 fn push_entry(alloc: Global, text: &mut Vec<u8>, states: u8, interval: u32) -> Result<(), Memory>
     ensures line { OnOk result (text.new.items ≡ text.old.items ++ line_of_gates (states, interval) ++ 10 ∷ []) }
     ensures ranges { (states < 256) × (interval < 2 ^ 32) }
@@ -62,8 +62,8 @@ fn push_entry(alloc: Global, text: &mut Vec<u8>, states: u8, interval: u32) -> R
     Ok(())
 }
 
-/// The text that [`read_tx`] reads as this list: for each entry a line with its states as two upper case hexadecimal
-/// digits, one space, and its interval.
+/// Returns the text that [`read_tx`] reads as this list: for each entry a line with its gate states as two upper case
+/// hexadecimal digits, one space, and its interval. Returns `Memory` if an allocation fails.
 pub fn write_tx(alloc: Global, list: &TxList) -> Result<Vec<u8>, Memory>
     ensures text { IfOk result (λ text. text.items ≡ text_of_entries list.now) }
     ensures again { IfOk result (λ text. list_of_text text.items ≡ Ok list.now) }

@@ -11,8 +11,9 @@ use cqf_lanes::open_run;
 use cqf_units::Nanos;
 use std::marker::Model;
 
-/// A transmission gate control list: entries of eight gate states and an interval in nanoseconds. Rounds of the list
-/// follow one another from instant 0 without end (IEEE 802.1Q, 8.6.8.4; base time and limits: profile).
+/// A transmission gate control list: 1 to 16 entries of eight gate states and an interval in nanoseconds. Rounds of the
+/// list follow one another without end, from instant 0 (IEEE 802.1Q, 8.6.8.4). The base time and the limits are this
+/// project's own.
 #[derive(Debug, Drop)]
 pub struct TxList {
     entries: ArrayVec<(u8, u32), 16>,
@@ -31,21 +32,21 @@ impl Model for TxList {
     ghost inverse = { λ entries. record { entries = record { items = entries } } };
 }
 
-/// Whether the entry would be in force for no time.
+/// Returns whether the entry would be in force for no time.
 fn is_zero(entry: &(u8, u32)) -> bool
     ensures { result ≡ (entry.now.1 == 0) }
 {
     entry.1 == 0
 }
 
-/// Whether one of the entries would be in force for no time.
+/// Returns whether one of the entries would be in force for no time.
 fn has_zero(entries: &[(u8, u32)]) -> bool
     ensures { result ≡ list_any (λ (entry : Entry). entry.1 == 0) entries.now }
 {
     entries.iter().any(|entry| is_zero(entry))
 }
 
-/// How long the entries take together, in nanoseconds.
+/// Returns the total of the intervals, in nanoseconds.
 fn length_of(entries: &[(u8, u32)]) -> u64
     requires { length entries.now ≤ 16 }
     ensures value { result ≡ round_of entries.now }
@@ -58,7 +59,7 @@ fn length_of(entries: &[(u8, u32)]) -> u64
     nanos
 }
 
-/// The states of the entries.
+/// Returns the gate states of the entries.
 fn states_of(entries: &[(u8, u32)]) -> ArrayVec<u8, 16>
     requires { length entries.now ≤ 16 }
     ensures { result.items ≡ map (λ (entry : Entry). entry.0) entries.now }
@@ -70,7 +71,7 @@ fn states_of(entries: &[(u8, u32)]) -> ArrayVec<u8, 16>
     states
 }
 
-/// The entries, turned to begin at a place.
+/// Returns the entries rotated to begin at an index.
 fn turned(entries: &[(u8, u32)], place: usize) -> ArrayVec<(u8, u32), 16>
     requires few { length entries.now ≤ 16 }
     requires inside { place ≤ length entries.now }
@@ -86,9 +87,9 @@ fn turned(entries: &[(u8, u32)], place: usize) -> ArrayVec<(u8, u32), 16>
 }
 
 impl TxList {
-    /// The list of these entries, each with the states of eight gates, class 7 in the highest bit and 1 for open,
-    /// and its interval in nanoseconds. It refuses no entries as `Empty`, more than 16 as `TooMany`, and an interval
-    /// of 0 as `ZeroInterval`, the first of these that fits.
+    /// Returns the list of these entries, each with the states of eight gates, class 7 in the highest bit and 1 for
+    /// open, and its interval in nanoseconds. Returns the first of these faults that applies: `Empty` for no entries,
+    /// `TooMany` for more than 16, and `ZeroInterval` for an interval of 0.
     pub fn new(entries: &[(u8, u32)]) -> Result<TxList, ListFault>
         ensures { result ≡ tx_list_of entries.now }
     {
@@ -104,7 +105,7 @@ impl TxList {
         Ok(TxList { entries: kept })
     }
 
-    /// The list again: it holds no memory, so this can't fail.
+    /// Returns a copy of the list. A list needs no allocation, so this can't fail.
     pub fn copied(&self) -> TxList
         ensures { result ≡ self.now }
     {
@@ -114,7 +115,7 @@ impl TxList {
         }
     }
 
-    /// What the list was made of.
+    /// Returns the entries.
     pub fn entries(&self) -> &[(u8, u32)]
         ensures value { result.now ≡ self.now }
         ensures facts { IsTxList self.now }
@@ -122,7 +123,7 @@ impl TxList {
         self.entries.as_slice()
     }
 
-    /// How long the list takes before it repeats, in nanoseconds: the standard's cycle time of a gate control list
+    /// Returns the time after which the list repeats, in nanoseconds: the standard's cycle time of a gate control list
     /// (8.6.8.4).
     pub fn round(&self) -> Nanos
         ensures value { result.0 ≡ round_of self.now }
@@ -132,7 +133,7 @@ impl TxList {
         Nanos(length_of(self.entries()))
     }
 
-    /// The place of the entry in force at the instant, and how many nanoseconds it has been in force.
+    /// Returns the index of the entry in force at the instant, and how many nanoseconds it has been in force.
     pub fn entry_at(&self, t: Nanos) -> (usize, u32)
         ensures in_force { InForce self.now t.0 result.0 result.1 }
         ensures steady { let entry = slice_index_or self.now result.0 (0, 0) in
@@ -150,7 +151,7 @@ impl TxList {
         unreachable!()
     }
 
-    /// The states of the eight gates at the instant, class 7 in the highest bit and 1 for open.
+    /// Returns the states of the eight gates at the instant, class 7 in the highest bit and 1 for open.
     pub fn mask_at(&self, t: Nanos) -> u8
         ensures { result ≡ states_at self.now t.0 }
     {
@@ -158,9 +159,9 @@ impl TxList {
         self.entries()[place].0
     }
 
-    /// How long the class stays open from the instant on: `Closed` where it is closed at the instant, `Always` where
-    /// each entry opens it, and otherwise up to the first later instant at which it is closed. A boundary between two
-    /// entries that both open the class is no close of its gate.
+    /// Returns how long the class stays open from the instant on: `Closed` if it is closed at the instant, `Always` if
+    /// every entry opens it, and otherwise the first later instant at which it is closed. A boundary between two
+    /// entries that both open the class doesn't close its gate.
     pub fn open_for(&self, t: Nanos, class: u8) -> OpenFor
         requires gate { class < 8 }
         requires early { t.0 < 2 ^ 62 }

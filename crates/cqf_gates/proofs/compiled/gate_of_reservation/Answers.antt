@@ -1,4 +1,4 @@
--- The spans make a list.
+-- The entries form a list.
 use Rattle.std.proofs.Common.{◌≡◌, Ok, ap, ◌∙◌}
 use Rattle.cqf_gates.proofs.MadeSpans.{put_together, spans_made}
 use Rattle.cqf_gates.specs.ReservedSpans.{reserved_spans}

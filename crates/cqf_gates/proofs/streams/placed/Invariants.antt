@@ -1,4 +1,4 @@
--- The entries so far stand in the first places.
+-- The entries so far are at the first indices.
 use Rattle.std.proofs.Common.{◌≡◌, length, take}
 use Rattle.cqf_gates.proofs.streams.placed.Given as goal
 

@@ -1,4 +1,4 @@
--- Each line adds its entry to what has been read.
+-- Each line adds its entry to those that were read.
 use Rattle.std.proofs.Common.{◌≡◌, ◌<◌, ◌≤◌, ◌++◌, [], ◌∷◌, Some, length, arith}
 use Rattle.cqf_text.specs.Lines.{lines_of}
 use Rattle.cqf_gates.specs.GateListText.{entry_of_line}

@@ -1,4 +1,4 @@
--- What the text writes is what has been read and what the lines that are left write.
+-- The text denotes the entries that were read and those of the lines that are left.
 use Rattle.std.proofs.Common.{◌+◌, ◌≤◌, length}
 use Rattle.cqf_gates.proofs.ReadLines.{IsReadSoFar}
 use Rattle.cqf_gates.proofs.text.read_tx.Given as goal

@@ -1,4 +1,4 @@
--- A round takes some time, and the instant lies in it.
+-- A round has a positive duration, and the instant is in one.
 use Rattle.std.proofs.Common.{arith, ap}
 use Rattle.std.proofs.lemmas.List.{take_all}
 use Rattle.cqf_model.specs.StreamGate.{gate_round}

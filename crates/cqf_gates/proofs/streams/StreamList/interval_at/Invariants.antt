@@ -1,4 +1,4 @@
--- What is left of the offset in the round lies behind the entries so far.
+-- The rest of the offset in the round is after the entries so far.
 use Rattle.std.proofs.Common.{◌≡◌, ◌+◌, ◌%◌, take, drop}
 use Rattle.cqf_model.specs.StreamGate.{gate_round, place_in, place_at}
 use Rattle.cqf_gates.proofs.streams.StreamList.interval_at.Given as goal

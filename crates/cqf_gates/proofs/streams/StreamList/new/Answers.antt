@@ -1,4 +1,4 @@
--- What is made has the form of a list.
+-- The entries have the form of a list.
 use Rattle.std.proofs.Common.{arith}
 use Rattle.std.proofs.lemmas.Bool.Decides.{nat_tests}
 use Rattle.cqf_gates.proofs.EntryTests.{IsStreamList-from_tests}

@@ -1,4 +1,4 @@
--- The entry was found in which the instant lies.
+-- The entry whose interval contains the instant was found.
 use Rattle.std.proofs.Common.{◌≡◌, arith}
 use Rattle.cqf_model.specs.GateList.{InForce}
 use Rattle.cqf_gates.proofs.Rounds.{InForce-from_rest, InForce-later, states_at-in_force}

@@ -1,4 +1,4 @@
--- What is left of the offset in the round lies behind the entries so far.
+-- The rest of the offset in the round is after the entries so far.
 use Rattle.std.proofs.Common.{◌≡◌, ◌+◌, ◌%◌, take}
 use Rattle.cqf_model.specs.GateList.{round_of}
 use Rattle.cqf_gates.proofs.transmission.TxList.entry_at.Given as goal

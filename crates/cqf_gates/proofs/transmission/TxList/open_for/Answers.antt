@@ -1,11 +1,11 @@
--- The class is open up to the first entry of the turned list that closes it.
+-- The class is open up to the first entry of the rotated list that closes it.
 use Rattle.std.proofs.Common.{◌≡◌, take, ap, ◌∙◌, length, arith}
 use Rattle.std.proofs.lemmas.List.{length-take}
 use Rattle.cqf_model.specs.GateList.{round_of}
 use Rattle.cqf_gates.proofs.OpenSpans.{turned_to, run_of_turned, all-open, open-always, open-to_end, run_inside}
 use Rattle.cqf_gates.proofs.transmission.TxList.open_for.Goals as goal
 
--- each entry opens the class
+-- every entry opens the class
 pub returns-then-run-len-clause-span : goal.returns-then-run-len-clause-span
 returns-then-run-len-clause-span c =
     let entries = c.args.self.now in
@@ -29,7 +29,7 @@ returns-then-run-len-clause-always c = λ same.
     open-always entries c.args.class c.args.t.0 place c.entry_at-place.result.1 c.open_run-run.result c.entries.ensures.facts
     c.entry_at-place.ensures.in_force run (c.if-run-len.true ∙ c.len.ensures.value ∙ ap length turned)
 
--- the run isn't longer than the list
+-- the run is no longer than the list
 pub slice_bounds-length_of-end : goal.slice_bounds-length_of-end
 slice_bounds-length_of-end c =
     let entries = c.args.self.now in

@@ -1,4 +1,4 @@
--- A round takes some time.
+-- A round has a positive duration.
 use Rattle.std.proofs.Common.{◌<◌, subst, sym, ◌∙◌, ap}
 use Rattle.cqf_model.specs.GateList.{round_of}
 use Rattle.cqf_gates.proofs.OpenSpans.{round_positive}
