@@ -1,4 +1,4 @@
--- What the fields of a port keep that has taken arrivals and hasn't run.
+-- The fields of a port that has taken arrivals and hasn't run.
 use Rattle.std.proofs.Common.{ℕ, ◌≡◌, ◌≤◌, ◌<◌, ◌+◌, List, [], length, get_or, set, take, sym, ap, subst, ◌∙◌, arith, inl, inr}
 use Rattle.std.proofs.lemmas.List.{get_or-take, length-take-le, take_more}
 use Rattle.std.proofs.lemmas.Bool.{cases_lt}
@@ -11,7 +11,7 @@ use Rattle.cqf_port.specs.declared.progress.Progress.{Progress}
 use Rattle.cqf_port.proofs.Kept.{kept_offer_as}
 
 module _ (arrivals : List Arrival) (taken : AreTaken arrivals) (place : ℕ) (inside : place < length arrivals) where
-  -- the newest of its class came no later than the next arrival
+  -- the last arrival of its class came no later than the next arrival
   in_turn : (newest : List Nanos) → AreNewest (take place arrivals) newest → (get_or newest (class_of arrivals place) (record { 0 = 0 })).0
       ≤ instant_of arrivals place
   in_turn newest by_class =
@@ -27,7 +27,7 @@ module _ (arrivals : List Arrival) (taken : AreTaken arrivals) (place : ℕ) (in
         | inr none ↦ omega (arith, none)
       ]
 
-  -- so that is taken
+  -- so the next arrival is taken
   pub kept_next : (before after : Progress) (newest : List Nanos) (slot : ℕ) → IsKeptByAll (take place arrivals) before newest → slot
       ≡ class_of arrivals place →
       IsAfterArrival place (class_of arrivals place) before after → IsKeptByAll (take (place + 1) arrivals) after

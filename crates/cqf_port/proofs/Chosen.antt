@@ -1,4 +1,4 @@
--- The choice among the heads, from what their classes ask for.
+-- The choice among the heads, from what their classes need.
 use Rattle.std.proofs.Common.{ℕ, ◌≡◌, ◌≢◌, ◌+◌, ◌*◌, ◌%◌, ◌^◌, ◌≤◌, ◌<◌, ◌↔◌, List, length, get_or, set, IsBitSet}
 use Rattle.std.proofs.Common.{Option, None, min, bit_or, w8, inl, inr, sym, ap, subst, ◌∙◌, arith}
 use Rattle.std.specs.Prelude.{MatchOption}
@@ -17,7 +17,7 @@ use Rattle.cqf_port.specs.Progress.{AreInside, IsReady, NoneReady, IsChosen}
 use Rattle.cqf_port.specs.Asked.{HeadFits, NoHeadFits, IsShortFrame, AreAsked}
 use Rattle.cqf_port.specs.Spans.{AreSpansAt}
 
--- no class is asked for at first
+-- at first no class is set
 pub none_asked : (octet_time : ℕ) (arrivals : List Arrival) (heads : List (Option ℕ)) (t : ℕ) (spans need left : List ℕ) → length need ≡ 8 →
     length left ≡ 8 → AreAsked octet_time arrivals heads t spans 0 0 need left
 none_asked octet_time arrivals heads t spans need left eight also = record {
@@ -31,14 +31,14 @@ none_asked octet_time arrivals heads t spans need left eight also = record {
 module _ (octet_time : ℕ) (arrivals : List Arrival) (heads : List (Option ℕ)) (t : ℕ) (spans : List ℕ) (seen classes : ℕ) (need left : List ℕ)
     (low_seen : seen < 8) (so_far : AreAsked octet_time arrivals heads t spans seen classes need left)
     (short : IsShortFrame octet_time arrivals (get_or heads seen None)) where
-  -- what is short of the classes so far and of one more
+  -- the frames of the classes so far and of one more are short
   short_more : (class : ℕ) → class < 8 → class < seen + 1 → IsShortFrame octet_time arrivals (get_or heads class None)
   short_more class low looked = elim (cases_lt class seen) [
     | inl before ↦ so_far.short class low before
     | inr here ↦ subst (λ k. IsShortFrame octet_time arrivals (get_or heads k None)) (let same : seen ≡ class = omega arith in same) short
   ]
 
-  -- one more class asks for nothing
+  -- one more class isn't set
   pub asked_none : NoHeadFits octet_time arrivals (get_or heads seen None) t (get_or spans seen 0) →
       AreAsked octet_time arrivals heads t spans (seen + 1) classes need left
   asked_none none = record {
@@ -56,7 +56,7 @@ module _ (octet_time : ℕ) (arrivals : List Arrival) (heads : List (Option ℕ)
     others = λ class low unseen. so_far.others class low (omega arith);
   }
 
-  -- one more class asks
+  -- one more class is set
   pub asked_some : (asked_need asked_left after : ℕ) → after ≡ bit_or classes (1 * 2 ^ seen % 2 ^ 8) →
       (asked_need ≤ asked_left) ↔ HeadFits octet_time arrivals (get_or heads seen None) t (get_or spans seen 0) →
       AreAsked octet_time arrivals heads t spans (seen + 1) after (set need seen asked_need) (set left seen asked_left)
@@ -91,7 +91,7 @@ module _ (octet_time : ℕ) (arrivals : List Arrival) (heads : List (Option ℕ)
         so_far.others class low (omega arith) (set_from_one classes class (sym bit ∙ one_from_set after class is_set));
   }
 
--- at most so much, of both
+-- two numbers capped by a third
 pub capped : (need left most : ℕ) → ¬ ((most < need) × (left < need)) → (min need most ≤ min left most) ↔ (need ≤ left)
 capped need left most fits = (
   λ less. elim (cases_lt left need) [
@@ -136,13 +136,13 @@ module _ (rules : PortRules) (arrivals : List Arrival) (heads : List (Option ℕ
         fits = ((open_for.each class low) takes (takes_some place) (omega arith)).0 through;
       }
 
-  -- where no class is eligible no head is ready
+  -- if no class is eligible, no head is ready
   pub none_ready : (eligible : ℕ) → AreEligible classes need left eligible → eligible ≡ 0 → NoneReady rules arrivals heads t 0
   none_ready eligible are none class place from low ready =
       let bits = (asked.each class low low).1 (fits_from_ready class place low ready) in
       unset_from_zero eligible class (ap (λ m. bit_at m class) none ∙ bit_at-zero class) ((are class low).1 bits)
 
-  -- else the head of the highest is chosen
+  -- otherwise the head of the highest eligible class is chosen
   pub highest_is_chosen : (eligible class : ℕ) → AreEligible classes need left eligible → IsHighest eligible class →
       MatchOption (get_or heads class None) (NoneReady rules arrivals heads t 0) (IsChosen rules arrivals heads t)
   highest_is_chosen eligible class are highest =

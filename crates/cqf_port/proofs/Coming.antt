@@ -38,7 +38,7 @@ same_in_round states some_entry entries positive t rounds =
     } in
     states entries (t + rounds * round_of entries) there.0 there.1 here ∙ sym (states entries t there.0 there.1 there.2)
 
--- what isn't ready in a whole round once all heads have come never is
+-- what isn't ready in a whole round after all heads have come never is
 pub never_ready : StatesAreOfTheEntry → SomeEntryIsInForce → (rules : PortRules) (arrivals : List Arrival) (heads : List (Option ℕ)) (from latest : ℕ)
     → 0 < round_of rules.entries → from ≤ latest → HaveCome arrivals heads 8 latest →
     ((s : ℕ) → from ≤ s → s < latest + round_of rules.entries → NoneReady rules arrivals heads s 0) → NeverReady rules arrivals heads from
@@ -61,14 +61,14 @@ never_ready states some_entry rules arrivals heads from latest positive in_order
 
 module _ (rules : PortRules) (arrivals : List Arrival) (reached from : ℕ) (starts : List Transmission) (progress : Progress)
     (taken : AreTaken arrivals) (abreast : IsAbreast rules arrivals reached starts progress) (first : from ≡ max reached progress.idle_from.0) where
-  -- where no head is ready from an instant on, the port is abreast of a later one
+  -- if no head is ready from an instant on, what the port knows holds for later ones
   abreast_until : (e : ℕ) → reached ≤ e → ((s : ℕ) → from ≤ s → s < e → NoneReady rules arrivals progress.heads s 0) →
       IsAbreast rules arrivals e starts progress
   abreast_until e later none = abreast_skip rules arrivals reached e starts progress abreast later (λ s after soon idle.
       let free = abreast.idle s after idle in
       none_is_due rules arrivals reached s starts progress taken abreast after (none s (omega arith) soon))
 
-  -- what is ready first starts next
+  -- the head that is ready first starts next
   pub starts_next : (result : Option Nanos) → MatchOption result (NeverReady rules arrivals progress.heads from)
       (λ t. IsNextReady rules arrivals progress.heads from t.0) →
       MatchOption result (StartsNoMore (record { rules = rules; reached = reached; arrivals = arrivals; starts = starts }))
@@ -83,7 +83,7 @@ module _ (rules : PortRules) (arrivals : List Arrival) (reached from : ℕ) (sta
             (chosen_is_due rules arrivals t.0 starts progress next.place taken here next.chosen);
       }
 
--- a class that was closed for a round was closed for longer
+-- a class that was closed for a round is closed for longer
 pub closed_for_good : StatesAreOfTheEntry → SomeEntryIsInForce → (entries : List Entry) (class first end last : ℕ) → 0 < round_of entries →
     end ≡ min last (first + round_of entries) → ((s : ℕ) → first ≤ s → s < end → ¬ IsOpen entries class s) → ¬ WasOpen entries class first last
 closed_for_good states some_entry entries class first end last positive is closed was =

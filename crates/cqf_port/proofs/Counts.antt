@@ -1,4 +1,4 @@
--- How many frames wait, counted from the head of their class on.
+-- The number of waiting frames, counted from the head of their class on.
 use Rattle.std.proofs.Common.{ℕ, ◌≡◌, ◌+◌, ◌≤◌, ◌<◌, inl, inr, List, [], ◌∷◌, length, get_or, take, drop, ◌-◌, refl}
 use Rattle.std.proofs.Common.{sym, ap, subst, ◌∙◌, arith, Bool, true, false, cond, ◌&&◌, not, ◌==◌, Option, Some, None}
 use Rattle.std.proofs.Common.{eq-eqb, zero, suc}
@@ -18,18 +18,18 @@ use Rattle.cqf_port.specs.declared.progress.Progress.{Progress}
 use Rattle.cqf_port.proofs.Heads.{cases_order, head_at}
 use Rattle.cqf_port.proofs.More.{range_to_end}
 
--- what has a start has started
+-- an arrival with a start has started
 pub started_is : (starts : List Transmission) (place : ℕ) → HasStarted starts place → has_started starts place ≡ true
 started_is starts place started = list_any_at (λ (x : Transmission). x.0 == place) starts started.1.0 (place, started.0) started.1.1
     (ap (λ (x : Transmission). x.0 == place) started.1.2 ∙ eq-eqb place place refl)
 
--- and what has none hasn't
+-- an arrival without a start hasn't
 pub not_started_is : (starts : List Transmission) (place : ℕ) → ((s : ℕ) → ¬ Contains starts (place, s)) → has_started starts place ≡ false
 not_started_is starts place none = list_any_none (λ (x : Transmission). x.0 == place) starts
     (λ k d inside. ne_eqb (get_or starts k d).0 place (λ same.
     none (get_or starts k d).1 (subst (λ (n : ℕ). Contains starts (n, (get_or starts k d).1)) same (Contains-get_or starts k d inside))))
 
--- behind the head of a class none of the class has started
+-- no arrival of a class after its head has started
 pub behind_head : (rules : PortRules) (arrivals : List Arrival) (t : ℕ) (starts : List Transmission) (class place other s : ℕ) →
     AreTaken arrivals → AreLegal rules arrivals t starts → IsHead arrivals starts class place → place ≤ other → class_of arrivals other
     ≡ class → ¬ Contains starts (other, s)
@@ -48,12 +48,12 @@ behind_head rules arrivals t starts class place other s taken legal head behind 
   ]
 ]
 
--- what holds and isn't refused
+-- a test and true
 and_true : (a : Bool) → (a && true) ≡ a
 and_true true = refl
 and_true false = refl
 
--- what is refused
+-- a test and false
 and_false : (a : Bool) → (a && false) ≡ false
 and_false true = refl
 and_false false = refl
@@ -72,7 +72,7 @@ module _ (starts : List Transmission) (class : ℕ) where
   abbrev is_of_class : Arrival → Bool
   is_of_class x = x.class == class
 
-  -- a frame that hasn't started waits where it is of the class
+  -- a frame that hasn't started waits if it is of the class
   fresh : (n : ℕ) (x : Arrival) → (x.class ≡ class → has_started starts n ≡ false) → still_waits (n, x) ≡ is_of_class x
   fresh n x not_started = elim (eqb_tells x.class class) [
     | inl same ↦ ap (λ (b : Bool). is_of_class x && not b) (not_started same.1) ∙ and_true (is_of_class x)
@@ -86,7 +86,7 @@ module _ (starts : List Transmission) (class : ℕ) where
     | inr differs ↦ ap (λ (b : Bool). b && not (has_started starts n)) differs.0
   ]
 
-  -- where none of the class has started, all of it wait
+  -- if none of the class has started, all of the class wait
   each_waits : (n : ℕ) (xs : List Arrival) → ((place i : ℕ) → place ≡ n + i → i < length xs → (get_or xs i no_arrival).class ≡ class →
       has_started starts place ≡ false) → count_by still_waits (enumerate_from n xs) ≡ count_by is_of_class xs
   each_waits n [] behind = refl
@@ -122,7 +122,7 @@ waiting_from_head rules arrivals t starts class head taken legal is_head = count
     not_started_is starts place (λ s. behind_head rules arrivals t starts class head place s taken legal is_head (omega arith)
     (subst (λ (n : ℕ). class_of arrivals n ≡ class) (sym here) same)))
 
--- none where the class has no head
+-- none waits if the class has no head
 pub none_waiting : (arrivals : List Arrival) (starts : List Transmission) (class : ℕ) → IsHeadOf arrivals starts class None →
     waiting_of arrivals starts class ≡ 0
 none_waiting arrivals starts class all =
@@ -132,7 +132,7 @@ none_waiting arrivals starts class all =
     (λ place i is inside upper same. absurd (omega arith))
     ∙ ap (λ (rest : List Arrival). count_by (λ (x : Arrival). x.class == class) rest) (drop_all (length arrivals) arrivals (omega arith))
 
--- what a port answers where the class has a head
+-- what a port returns if the class has a head
 pub waiting_as : (rules : PortRules) (arrivals xs : List Arrival) (t : ℕ) (starts : List Transmission) (progress : Progress) (class slot head answer : ℕ)
     → AreTaken arrivals → IsAbreast rules arrivals t starts progress → class < 8 → slot ≡ class → get_or progress.heads slot None ≡ Some head
     → xs ≡ arrivals → answer ≡ count_by (λ (x : Arrival). x.class == class) (take (length xs - head) (drop head xs)) → answer ≡ waiting_of arrivals starts class
@@ -144,7 +144,7 @@ waiting_as rules arrivals xs t starts progress class slot head answer taken abre
     ∙ ap (λ (ys : List Arrival). count_by (λ (x : Arrival). x.class == class) (drop head ys)) is
     ∙ sym (waiting_from_head rules arrivals t starts class head taken abreast.legal from_head)
 
--- and where it has none
+-- what a port returns if the class has no head
 pub none_as : (rules : PortRules) (arrivals : List Arrival) (t : ℕ) (starts : List Transmission) (progress : Progress) (class slot : ℕ) →
     IsAbreast rules arrivals t starts progress → class < 8 → slot ≡ class → get_or progress.heads slot None ≡ None → 0 ≡ waiting_of arrivals starts class
 none_as rules arrivals t starts progress class slot abreast low same is_none =

@@ -1,4 +1,4 @@
--- From which instant on a class stays open for so long.
+-- The instants from which a class stays open for a time.
 use Rattle.std.proofs.Common.{ℕ, ◌≡◌, ◌+◌, ◌-◌, ◌*◌, ◌/◌, ◌%◌, ◌^◌, ◌≤◌, ◌<◌, List, [], length, take, get_or, IsBitSet, inl, inr, sym, ap, subst, ◌∙◌, arith}
 use Rattle.std.proofs.lemmas.Bool.{cases_lt}
 use Rattle.std.proofs.lemmas.List.{take_all}
@@ -13,7 +13,7 @@ use Rattle.cqf_port.specs.Spans.{AreSpans, IsAhead}
 use Rattle.cqf_port.proofs.Coming.{same_in_round}
 use Rattle.cqf_port.proofs.Staying.{span_within}
 
--- behind an entry the next one is in force, in the same round
+-- after an entry the next one is in force, in the same round
 pub force_next : (entries : List Entry) (t place offset : ℕ) → IsTxList entries → InForce entries t place offset → place + 1 < length entries
     → InForce entries (t + ((get_or entries place (0, 0)).1 - offset)) (place + 1) 0
 force_next entries t place offset list force more =
@@ -25,7 +25,7 @@ force_next entries t place offset list force more =
       within = All-get_or (λ (entry : Entry). 0 < entry.1) entries (place + 1) (0, 0) more list.lasting;
     }
 
--- and behind the last one the first, in the next round
+-- after the last entry the first is in force, in the next round
 pub force_again : (entries : List Entry) (t place offset : ℕ) → IsTxList entries → InForce entries t place offset → place + 1 ≡ length entries
     → InForce entries (t + ((get_or entries place (0, 0)).1 - offset)) 0 0
 force_again entries t place offset list force last =
@@ -40,7 +40,7 @@ force_again entries t place offset list force last =
       within = All-get_or (λ (entry : Entry). 0 < entry.1) entries 0 (0, 0) list.some list.lasting;
     }
 
--- where it fits nowhere up to an instant, and nowhere from there on, it fits nowhere
+-- what fits nowhere up to an instant, and nowhere from there on, fits nowhere
 pub nowhere_on : (entries : List Entry) (class need first middle last : ℕ) → FitsNowhere entries class need first middle →
     FitsNowhere entries class need middle last → FitsNowhere entries class need first last
 nowhere_on entries class need first middle last before after s from to = elim (cases_lt s middle) [
@@ -57,7 +57,7 @@ nowhere_steady entries t begins class need some steady waits s from to through =
       | inr late ↦ through u late (omega arith)
     ])
 
--- what takes longer than a class stays open from the beginning of an entry on fits nowhere within it
+-- what takes longer than a class stays open from the beginning of an entry on fits nowhere within the entry
 pub nowhere_within : StatesAreOfTheEntry → RoundTakesTime → SomeEntryIsInForce → (entries : List Entry) (spans : List (List ℕ)) (t place class need : ℕ)
     → AreSpans entries spans → InForce entries t place 0 → class < 8 → 0 < need → need < 2 ^ 62 → (get_or entries place (0, 0)).1 < 2 ^ 32 →
     get_or (get_or spans place []) class 0 < need → FitsNowhere entries class need t (t + (get_or entries place (0, 0)).1)
@@ -87,7 +87,7 @@ nowhere_ever states some_entry entries class need first last later positive whol
     (λ u after until. subst (λ x. IsBitSet x class) (same_in_round states some_entry entries positive u rounds)
     (through (u + rounds * round) (omega (arith, at)) (omega (arith, at))))
 
--- what fits nowhere from the next entry up to an instant, fits nowhere up to that
+-- what doesn't fit now, nor from the next entry up to an instant, fits nowhere up to that instant
 pub nowhere_behind : (entries shown : List Entry) (t place begins again class need fit : ℕ) → entries ≡ shown → IsAhead shown t place begins again
     → 0 < need → ¬ IsOpenThrough shown class t (t + need) → FitsNowhere entries class need begins fit → FitsNowhere shown class need t fit
 nowhere_behind entries shown t place begins again class need fit same ahead some waits after =

@@ -1,4 +1,4 @@
--- The head of each class tells what is first of its class, so a port finds what is due without its starts.
+-- The head of each class determines what is first of its class, so a port finds what is due without its starts.
 use Rattle.std.proofs.Common.{ℕ, ◌≡◌, ◌≤◌, ◌<◌, ◌⊎◌, inl, inr, List, get_or, ap, subst, ◌∙◌, arith, refl, Option, Some, None}
 use Rattle.std.proofs.lemmas.Bool.{cases_lt}
 use Rattle.cqf_model.specs.declared.ports.Arrival.{Arrival}
@@ -17,18 +17,18 @@ cases_order m n = elim (cases_lt m n) [
 
 module _ (rules : PortRules) (arrivals : List Arrival) (t now_at : ℕ) (starts : List Transmission) (taken : AreTaken arrivals)
     (legal : AreLegal rules arrivals t starts) (later : t ≤ now_at) where
-  -- what has started doesn't wait
+  -- an arrival that has started doesn't wait
   pub started_waits_not : (place : ℕ) → HasStarted starts place → ¬ Waits arrivals starts place now_at
   started_waits_not place started waits = omega (arith, waits.not_started started.0 started.1, legal.before_end place started.0 started.1)
 
-  -- a head that has come is first of its class
+  -- a head that has come is the first of its class
   pub head_is_first : (class place : ℕ) → IsHead arrivals starts class place → instant_of arrivals place ≤ now_at → IsFirst arrivals starts place now_at
   head_is_first class place head come = record {
     waits = record { inside = head.inside; come = come; not_started = λ s started. absurd (head.not_started s started) };
     none_before = λ other lower same. started_waits_not other (head.started_before other lower (same ∙ head.of_class));
   }
 
-  -- what is first of its class is that class's head
+  -- the first of a class is that class's head
   pub first_is_head : (head : Option ℕ) (place : ℕ) → IsHeadOf arrivals starts (class_of arrivals place) head → IsFirst arrivals starts place now_at
       → head ≡ Some place
   first_is_head None place started first = absurd (started_waits_not place (started place first.waits.inside refl) first.waits)
@@ -46,7 +46,7 @@ module _ (rules : PortRules) (arrivals : List Arrival) (t now_at : ℕ) (starts 
     ]
   ]
 
--- where no head is ready, no first of a class is eligible
+-- if no head is ready, no first of a class is eligible
 pub none_is_due : (rules : PortRules) (arrivals : List Arrival) (t s : ℕ) (starts : List Transmission) (progress : Progress) → AreTaken arrivals
     → IsAbreast rules arrivals t starts progress → t ≤ s → NoneReady rules arrivals progress.heads s 0 → (other : ℕ) →
     IsFirst arrivals starts other s → ¬ IsEligible rules arrivals other s
@@ -59,12 +59,12 @@ none_is_due rules arrivals t s starts progress taken abreast later none_ready ot
       eligible = eligible;
     })
 
--- the head that a class's place in the list of heads names
+-- the head in a class's slot of the list of heads
 pub head_at : (arrivals : List Arrival) (starts : List Transmission) (class place : ℕ) (head : Option ℕ) → head ≡ Some place →
     IsHeadOf arrivals starts class head → IsHead arrivals starts class place
 head_at arrivals starts class place head is_head = subst (λ (o : Option ℕ). IsHeadOf arrivals starts class o) is_head
 
--- the chosen head is what is due
+-- the chosen head is due
 pub chosen_is_due : (rules : PortRules) (arrivals : List Arrival) (t : ℕ) (starts : List Transmission) (progress : Progress) (place : ℕ) →
     AreTaken arrivals → IsAbreast rules arrivals t starts progress → IsChosen rules arrivals progress.heads t place → IsDue rules arrivals starts place t
 chosen_is_due rules arrivals t starts progress place taken abreast chosen =

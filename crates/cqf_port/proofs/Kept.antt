@@ -1,4 +1,4 @@
--- What the fields of a port keep as it takes arrivals and runs.
+-- The fields of a port as it takes arrivals and runs.
 use Rattle.std.proofs.Common.{ℕ, ◌≡◌, ◌≢◌, ◌+◌, ◌^◌, ◌≤◌, ◌<◌, inl, inr, List, [], ◌∷◌, ◌++◌, length, get_or, set, take}
 use Rattle.std.proofs.Common.{drop, ◌-◌, sym, ap, subst, ◌∙◌, arith, length-append}
 use Rattle.std.specs.Prelude.{All, map}
@@ -18,7 +18,7 @@ use Rattle.cqf_port.proofs.Longer.{same_arrival, last_arrival, arrival_after}
 use Rattle.cqf_port.proofs.More.{range_to_end}
 use Rattle.cqf_port.proofs.Steps.{abreast_arrival, cases_same}
 
--- a port is what its fields keep
+-- the invariant of a port, from that of its fields
 pub kept_port : (rules : PortRules) (arrivals : List Arrival) (reached : ℕ) (starts : List Transmission) (progress : Progress) (newest : List Nanos)
     → IsKept rules arrivals reached starts progress newest → IsPort (record { rules = rules; reached = reached; arrivals = arrivals; starts = starts })
 kept_port rules arrivals reached starts progress newest kept = record { legal = kept.abreast.legal; taken = kept.taken; early = kept.early }
@@ -28,18 +28,18 @@ pub only_legal : (rules : PortRules) (arrivals : List Arrival) (reached : ℕ) (
     AreLegal rules arrivals reached starts → shown ≡ starts → (others : List Transmission) → AreLegal rules arrivals reached others → others ≡ shown
 only_legal rules arrivals reached starts shown unique legal same others also = unique rules arrivals reached others starts also legal ∙ sym same
 
--- what was added to a list is cut off again
+-- truncating a list removes what was added to it
 pub cut_back : (before after cut : List Transmission) (kept lowest : ℕ) → AreMore before after lowest → kept ≡ length before → cut
     ≡ take kept after → cut ≡ before
 cut_back before after cut kept lowest more at_end is =
     is ∙ ap (λ (xs : List Transmission). take kept xs) more.value ∙ ap (λ (n : ℕ). take n (before ++ more.made)) at_end ∙ take-append_seam before more.made
 
 module _ (arrivals : List Arrival) (arrival : Arrival) where
-  -- one place more
+  -- the list is one longer
   longer : length (arrivals ++ arrival ∷ []) ≡ length arrivals + 1
   longer = length-append arrivals (arrival ∷ [])
 
-  -- what holds of each arrival before and of the last holds of each
+  -- a property of each earlier arrival and of the last is one of each
   each_arrival : (P : Arrival → Type 0) → ((place : ℕ) → place < length arrivals → P (get_or arrivals place no_arrival)) → P arrival →
       (place : ℕ) → place < length (arrivals ++ arrival ∷ []) → P (get_or (arrivals ++ arrival ∷ []) place no_arrival)
   each_arrival P before last place inside = elim (cases_lt place (length arrivals)) [
@@ -48,7 +48,7 @@ module _ (arrivals : List Arrival) (arrival : Arrival) where
         subst (λ (n : ℕ). P (get_or (arrivals ++ arrival ∷ []) n no_arrival)) here (subst P (sym (last_arrival arrivals arrival)) last))
   ]
 
-  -- an arrival at or after the last one of its class
+  -- an arrival at or after the last one of its class is taken
   pub taken_more : AreTaken arrivals → arrival.class < 8 → arrival.at.0 < 2 ^ 62 →
       ((place : ℕ) → place < length arrivals → class_of arrivals place ≡ arrival.class → instant_of arrivals place ≤ arrival.at.0) →
       AreTaken (arrivals ++ arrival ∷ [])
@@ -98,7 +98,7 @@ module _ (arrivals : List Arrival) (arrival : Arrival) where
         (subst (λ (x : Arrival). x.class ≢ class) (sym (last_arrival arrivals arrival)) (λ same. differs (sym same))))
   ]
 
-  -- and the last of each other class is as before
+  -- the last of each other class is unchanged
   newest_other : (class t : ℕ) → class ≢ arrival.class → IsNewest arrivals class t → IsNewest (arrivals ++ arrival ∷ []) class t
   newest_other class t differs before = record {
     latest = each_arrival (λ x. x.class ≡ class → x.at.0 ≤ t) before.latest (λ same. absurd (differs (sym same)));
@@ -113,7 +113,7 @@ module _ (arrivals : List Arrival) (arrival : Arrival) where
     );
   }
 
-  -- so the instants of the last arrivals are right again
+  -- so the instants of the last arrivals are correct again
   pub newest_more : (newest : List Nanos) → AreNewest arrivals newest → arrival.class < 8 →
       ((place : ℕ) → place < length arrivals → class_of arrivals place ≡ arrival.class → instant_of arrivals place ≤ arrival.at.0) →
       AreNewest (arrivals ++ arrival ∷ []) (set newest arrival.class arrival.at)
@@ -133,7 +133,7 @@ module _ (arrivals : List Arrival) (arrival : Arrival) where
         ];
       }
 
--- where an arrival isn't out of order, the last one of its class came no later
+-- if an arrival isn't out of order, the last one of its class came no later
 pub newest_before : (p : PortState) (newest : List Nanos) (arrival : Arrival) → AreNewest p.arrivals newest → arrival.class < 8 → ¬ IsOutOfOrder p arrival →
     (get_or newest arrival.class (record { 0 = 0 })).0 ≤ arrival.at.0
 newest_before p newest arrival by_class low in_order =
@@ -192,7 +192,7 @@ advances p until starts handed given given_after more rest appended =
       handed = appended ∙ ap (λ (xs : List Transmission). given ++ map (start_of p.arrivals) xs) same;
     }
 
--- the same where the list, the place and the class go by other names
+-- the same for the list, the index and the class in other forms
 pub kept_offer_as : (rules : PortRules) (arrivals items : List Arrival) (reached : ℕ) (starts : List Transmission) (before after : Progress)
     (newest : List Nanos) (arrival : Arrival) (place slot : ℕ) → IsKept rules arrivals reached starts before newest → arrival.class < 8 →
     arrival.at.0 < 2 ^ 62 → ¬ WasOpen rules.entries arrival.class arrival.at.0 reached → items ≡ arrivals ++ arrival ∷ [] → place
@@ -206,7 +206,7 @@ kept_offer_as rules arrivals items reached starts before after newest arrival pl
     (subst (λ (n : ℕ). IsKept rules (arrivals ++ arrival ∷ []) reached starts after (set newest n arrival.at)) (sym same)
     (kept_offer rules arrivals reached starts before after newest arrival kept low early not_late in_class at_end))
 
--- the starts from a place on, where the lists go by other names
+-- the starts from an index on, for the lists in other forms
 pub handed_inside : (rules : PortRules) (arrivals xs : List Arrival) (t : ℕ) (starts ys : List Transmission) (n : ℕ) →
     AreLegal rules arrivals t starts → arrivals ≡ xs → ys ≡ starts → All (λ (x : Transmission). x.0 < length xs) (take (length ys - n) (drop n ys))
 handed_inside rules arrivals xs t starts ys n legal same same_starts =
@@ -216,7 +216,7 @@ handed_inside rules arrivals xs t starts ys n legal same same_starts =
     subst (λ (zs : List Transmission). All (λ (x : Transmission). x.0 < length xs) zs) (sym same_starts) inside in
     All-take (λ (x : Transmission). x.0 < length xs) (length ys - n) (drop n ys) (All-drop (λ (x : Transmission). x.0 < length xs) n ys all)
 
--- what a run adds is what it hands on, where the lists go by other names
+-- the starts that a run adds are those that it hands on, for the lists in other forms
 pub advances_as : (p : PortState) (until kept : ℕ) (starts ys : List Transmission) (xs : List Arrival) (given given_after : List Start) →
     AreMore p.starts starts p.reached → kept ≡ length p.starts → ys ≡ starts → xs ≡ p.arrivals → given_after ≡ given
     ++ map (start_of xs) (take (length ys - kept) (drop kept ys)) →

@@ -1,24 +1,24 @@
--- Arrivals with one more behind them.
+-- Arrivals with one more at the end.
 use Rattle.std.proofs.Common.{ℕ, ◌≡◌, ◌+◌, ◌<◌, List, [], ◌∷◌, ◌++◌, length, get_or, sym, subst, length-append}
 use Rattle.std.proofs.lemmas.List.{get_or_append_left}
 use Rattle.std.proofs.Math.Seq.{get_or-append_seam}
 use Rattle.cqf_model.specs.declared.ports.Arrival.{Arrival}
 use Rattle.cqf_model.specs.Port.{no_arrival}
 
--- there is one place more
+-- the list is one longer
 pub longer : (arrivals : List Arrival) (arrival : Arrival) → length (arrivals ++ arrival ∷ []) ≡ length arrivals + 1
 longer arrivals arrival = length-append arrivals (arrival ∷ [])
 
--- those before are as they were
+-- the earlier arrivals are unchanged
 pub same_arrival : (arrivals : List Arrival) (arrival : Arrival) (place : ℕ) → place < length arrivals →
     get_or (arrivals ++ arrival ∷ []) place no_arrival ≡ get_or arrivals place no_arrival
 same_arrival arrivals arrival place inside = get_or_append_left arrivals (arrival ∷ []) no_arrival place inside
 
--- and the last is the one that came
+-- the last arrival is the new one
 pub last_arrival : (arrivals : List Arrival) (arrival : Arrival) → get_or (arrivals ++ arrival ∷ []) (length arrivals) no_arrival ≡ arrival
 last_arrival arrivals arrival = get_or-append_seam arrivals arrival [] no_arrival
 
--- a fact on the arrival at a place that stays
+-- a property of an earlier arrival remains
 pub arrival_after : (arrivals : List Arrival) (arrival : Arrival) (P : Arrival → Type 0) (place : ℕ) → place < length arrivals →
     P (get_or arrivals place no_arrival) → P (get_or (arrivals ++ arrival ∷ []) place no_arrival)
 arrival_after arrivals arrival P place inside = subst P (sym (same_arrival arrivals arrival place inside))

@@ -1,11 +1,11 @@
--- How long a class stays open, from an instant within an entry on.
+-- The time for which a class stays open, from an instant within an entry on.
 use Rattle.std.proofs.Common.{ℕ, ◌≡◌, ◌+◌, ◌-◌, ◌^◌, ◌≤◌, ◌<◌, List, [], take, get_or, IsBitSet, inl, inr, sym, ap, subst, ◌∙◌, arith}
 use Rattle.std.proofs.lemmas.Bool.{cases_lt}
 use Rattle.cqf_model.specs.GateList.{Entry, InForce, IsOpen, IsOpenThrough, round_of, states_at}
 use Rattle.cqf_laws_network.specs.GateLaws.{StatesAreOfTheEntry, RoundTakesTime, SomeEntryIsInForce}
 use Rattle.cqf_port.specs.Spans.{IsSpan, AreSpansAt, AreSpans, AreLess}
 
--- the class was closed at each instant from the first one up to and without the last
+-- the class was closed at each instant from `first` up to but excluding `last`
 pub record WasClosed (entries : List Entry) (class first last : ℕ) : Type 0 where
   pub in_order : first ≤ last
   pub closed : (t : ℕ) → first ≤ t → t < last → ¬ IsOpen entries class t
@@ -35,7 +35,7 @@ module _ (states : StatesAreOfTheEntry) (round_takes : RoundTakesTime) (some_ent
   abbrev begun : ℕ
   begun = round_of (take place entries)
 
-  -- a round takes some time
+  -- a round has a positive duration
   positive : 0 < round_of entries
   positive = round_takes entries place force.inside (omega (arith, force.within))
 
@@ -57,7 +57,7 @@ module _ (states : StatesAreOfTheEntry) (round_takes : RoundTakesTime) (some_ent
       let here : InForce entries (begun + x) place x = record { inside = force.inside; round = 0; spans = omega arith; within = within } in
       states entries (begun + x) place x here ∙ sym (states entries t place offset force)
 
-  -- what stays open from the beginning of the entry on stays so for less from within it
+  -- what stays open for a time from the beginning of the entry on stays open for less from within it
   pub span_within : (class span bound shorter : ℕ) → offset + shorter ≤ bound → IsSpan entries class begun bound span →
       IsSpan entries class t shorter (span - offset)
   span_within class span bound shorter room from_begun need some small =

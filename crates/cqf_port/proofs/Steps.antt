@@ -1,4 +1,4 @@
--- What a port knows stays right as instants pass, frames start and frames arrive.
+-- What a port knows remains correct as instants pass, frames start and frames arrive.
 use Rattle.std.proofs.Common.{ℕ, ◌≡◌, ◌≢◌, ◌+◌, ◌≤◌, ◌<◌, ◌⊎◌, inl, inr, List, [], ◌∷◌, ◌++◌, length, get_or, ap, sym}
 use Rattle.std.proofs.Common.{subst, ◌∙◌, arith, refl, Option, Some, None}
 use Rattle.std.specs.Prelude.{Contains}
@@ -47,13 +47,13 @@ abreast_none rules arrivals t e starts progress taken abreast later none_ready =
 started_still : (starts : List Transmission) (place t other : ℕ) → HasStarted starts other → HasStarted (starts ++ (place, t) ∷ []) other
 started_still starts place t other started = (started.0, Contains-append_left starts ((place, t) ∷ []) (other, started.0) started.1)
 
--- and the last has
+-- and so has the last
 started_now : (starts : List Transmission) (place t other : ℕ) → place ≡ other → HasStarted (starts ++ (place, t) ∷ []) other
 started_now starts place t other same = (t, subst (λ (n : ℕ). Contains (starts ++ (place, t) ∷ []) (n, t)) same (Contains-push starts (place, t)))
 
 module _ (rules : PortRules) (arrivals : List Arrival) (t : ℕ) (starts : List Transmission) (place : ℕ) (taken : AreTaken arrivals)
     (legal : AreLegal rules arrivals t starts) (due : IsDue rules arrivals starts place t) where
-  -- what stands behind the frame that starts hasn't started if it is of the same class
+  -- no later arrival of the class of the frame that starts has started
   behind_not_started : (other s : ℕ) → place < other → class_of arrivals place ≡ class_of arrivals other → ¬ Contains starts (other, s)
   behind_not_started other s higher same started =
       let first : IsFirst arrivals starts other s = legal.first other s started in
@@ -64,7 +64,7 @@ module _ (rules : PortRules) (arrivals : List Arrival) (t : ℕ) (starts : List 
         not_started = λ u began. omega (arith, due.first.waits.not_started u began, legal.before_end place u began);
       })
 
-  -- the head of the class behind a start
+  -- the head of the class after a start
   next_head : (head : Option ℕ) → IsHead arrivals starts (class_of arrivals place) place → IsNextOf arrivals (place + 1) (class_of arrivals place) head
       → IsHeadOf arrivals (starts ++ (place, t) ∷ []) (class_of arrivals place) head
   next_head None head none_behind = λ other inside same. elim (cases_order other place) [
@@ -90,7 +90,7 @@ module _ (rules : PortRules) (arrivals : List Arrival) (t : ℕ) (starts : List 
     ];
   }
 
-  -- the head of another class behind a start
+  -- the head of another class after a start
   other_head : (class : ℕ) (head : Option ℕ) → class ≢ class_of arrivals place → IsHeadOf arrivals starts class head →
       IsHeadOf arrivals (starts ++ (place, t) ∷ []) class head
   other_head class None differs all = λ other inside same. started_still starts place t other (all other inside same)
@@ -150,7 +150,7 @@ module _ (arrivals : List Arrival) (arrival : Arrival) (starts : List Transmissi
         (sym (ap (λ (x : Arrival). x.class) (same_arrival arrivals arrival other (omega (arith, head.inside)))) ∙ same);
   }
 
-  -- a frame that arrives in a class with no head is its head
+  -- a frame that arrives in a class without a head is its head
   new_head : (rules : PortRules) (t : ℕ) → AreLegal rules arrivals t starts →
       ((place : ℕ) → place < length arrivals → class_of arrivals place ≡ arrival.class → HasStarted starts place) →
       IsHead (arrivals ++ arrival ∷ []) starts arrival.class (length arrivals)
@@ -161,7 +161,7 @@ module _ (arrivals : List Arrival) (arrival : Arrival) (starts : List Transmissi
     started_before = λ other lower same. all other lower (sym (ap (λ (x : Arrival). x.class) (same_arrival arrivals arrival other lower)) ∙ same);
   }
 
-  -- a class with no head has none when a frame of another class arrives
+  -- a class without a head has none when a frame of another class arrives
   none_still : (class : ℕ) → class ≢ arrival.class → IsHeadOf arrivals starts class None → IsHeadOf (arrivals ++ arrival ∷ []) starts class None
   none_still class differs all place inside same = elim (cases_lt place (length arrivals)) [
     | inl in_list ↦ all place in_list (sym (ap (λ (x : Arrival). x.class) (same_arrival arrivals arrival place in_list)) ∙ same)

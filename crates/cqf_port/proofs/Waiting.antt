@@ -1,4 +1,4 @@
--- What isn't ready stays so until a head comes or fits.
+-- What isn't ready remains so until a head comes or fits.
 use Rattle.std.proofs.Common.{ℕ, ◌≡◌, ◌+◌, ◌*◌, ◌≤◌, ◌<◌, List, Option, None, Some, get_or, min, inl, inr, ap, sym, ◌∙◌, subst, arith}
 use Rattle.std.proofs.lemmas.Bool.{cases_lt}
 use Rattle.cqf_units.specs.Timing.{slot_of, time_of}
@@ -20,7 +20,7 @@ steps_busy rules arrivals t starts before abreast busy = record {
   abreast = λ e after until. abreast_busy rules arrivals t e starts before abreast (omega arith) until;
 }
 
--- a port whose heads aren't ready
+-- no head is ready
 pub steps_none : (rules : PortRules) (arrivals : List Arrival) (t until : ℕ) (starts : List Transmission) (before : Progress) →
     AreTaken arrivals → IsAbreast rules arrivals t starts before → t < until → IsIdleUntil rules arrivals before.heads t until →
     StepsTo rules arrivals t starts before until
@@ -55,17 +55,17 @@ idle_one_more rules arrivals heads t until other less seen so_far here shorter a
       (λ s place from soon. here s place from (omega arith))
 ]
 
--- where each class is idle, no head is ready
+-- if each class is idle, no head is ready
 pub idle_each : (rules : PortRules) (arrivals : List Arrival) (heads : List (Option ℕ)) (t until : ℕ) →
     ((class : ℕ) → class < 8 → IsIdleOf rules arrivals (get_or heads class None) t until) → IsIdleUntil rules arrivals heads t until
 idle_each rules arrivals heads t until each s from soon class place lowest low ready = each class low s place from soon ready.is_head ready.come ready.eligible
 
--- the place of a head
+-- the index of a head
 abbrev place_in : Option ℕ → ℕ
 place_in None = 0
 place_in (Some place) = place
 
--- where it fits nowhere, the head is not eligible
+-- if it fits nowhere, the head isn't eligible
 pub idle_nowhere : (rules : PortRules) (arrivals : List Arrival) (head : Option ℕ) (class t until place need : ℕ) → head ≡ Some place →
     class_of arrivals place ≡ class → need ≡ time_of (octets_of arrivals place + 8) rules.octet_time → FitsNowhere rules.entries class need t until
     → IsIdleOf rules arrivals head t until
@@ -76,7 +76,7 @@ idle_nowhere rules arrivals head class t until place need was of_class takes_so 
     nowhere s from soon (subst (λ n. IsOpenThrough rules.entries class s n) ends
     (subst (λ k. IsOpenThrough rules.entries k s (s + time_of (octets_of arrivals place + 8) rules.octet_time)) of_class here))
 
--- where it fits once it has come, the head turns
+-- if the head has come and fits, something can start
 pub turns_fits : (rules : PortRules) (arrivals : List Arrival) (head : Option ℕ) (class t place need : ℕ) → head ≡ Some place →
     class_of arrivals place ≡ class → need ≡ time_of (octets_of arrivals place + 8) rules.octet_time → instant_of arrivals place ≤ t →
     IsOpenThrough rules.entries class t (t + need) → Turns rules arrivals head t
@@ -92,7 +92,7 @@ turns_fits rules arrivals head class t place need was of_class takes_so come fit
       );
     }
 
--- the lesser of two instants at which a head turns is one
+-- the lesser of two such instants is one
 pub turns_less : (rules : PortRules) (arrivals : List Arrival) (heads : List (Option ℕ)) (until other less seen most : ℕ) → seen < 8 →
     until ≤ most → (until < most → OneTurns rules arrivals heads until) → (other < until → Turns rules arrivals (get_or heads seen None) other)
     → less ≡ min until other → less < most → OneTurns rules arrivals heads less

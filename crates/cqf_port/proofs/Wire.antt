@@ -1,4 +1,4 @@
--- How long frames take on the wire.
+-- The time that frames take on the wire.
 use Rattle.std.proofs.Common.{ℕ, ◌^◌, ◌<◌, arith}
 use Rattle.cqf_units.specs.declared.timing.Rate.{Rate}
 use Rattle.cqf_units.specs.declared.timing.Rate.TheVariants.{Mb10, Mb100, Mb1000, Mb2500, Mb5000, Mb10000, Mb25000, Mb40000, Mb100000}

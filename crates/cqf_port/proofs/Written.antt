@@ -1,9 +1,9 @@
--- Lists that are written place by place.
+-- Lists that are written index by index.
 use Rattle.std.proofs.Common.{ℕ, ◌≡◌, ◌≢◌, ◌+◌, ◌<◌, List, length, get_or, set, inl, inr, sym, subst, arith}
 use Rattle.std.proofs.lemmas.Bool.{cases_lt}
 use Rattle.std.proofs.lemmas.List.{get_or-set_same, get_or-set_other}
 
--- what holds of each element written so far holds of one more
+-- a property of each element written so far is one of one more
 pub each_written : {X : Type 0} (P : ℕ → X → Type 0) (xs : List X) (i place : ℕ) (x d : X) → place ≡ i → i < length xs →
     ((k : ℕ) → k < i → P k (get_or xs k d)) → P i x → (k : ℕ) → k < i + 1 → P k (get_or (set xs place x) k d)
 each_written P xs i place x d at inside before here k below = elim (cases_lt k i) [

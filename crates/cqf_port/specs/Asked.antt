@@ -1,17 +1,17 @@
--- What the classes of a port ask for at an instant.
+-- What the classes of a port need at an instant.
 use Rattle.std.specs.Prelude.{ℕ, ◌≡◌, ◌+◌, ◌*◌, ◌^◌, ◌≤◌, ◌<◌, ◌↔◌, List, length, Option, Some, None, IsBitSet, slice_index_or}
 use Rattle.cqf_model.specs.declared.ports.Arrival.{Arrival}
 use Rattle.cqf_units.specs.Timing.{time_of}
 use Rattle.cqf_model.specs.Port.{instant_of, octets_of}
 
--- the head has come by t, and takes no longer than is left
+-- the class has a head, which has come by t and takes no longer than is left
 pub record HeadFits (octet_time : ℕ) (arrivals : List Arrival) (head : Option ℕ) (t left : ℕ) : Type 0 where
   pub place : ℕ
   pub is_head : head ≡ Some place
   pub come : instant_of arrivals place ≤ t
   pub fits : time_of (octets_of arrivals place + 8) octet_time ≤ left
 
--- it hasn't, or takes longer
+-- the class has no head, or its head hasn't come by t or takes longer than is left
 abbrev pub NoHeadFits : ℕ → List Arrival → Option ℕ → ℕ → ℕ → Type 0
 NoHeadFits octet_time arrivals head t left = ¬ HeadFits octet_time arrivals head t left
 
@@ -19,8 +19,7 @@ NoHeadFits octet_time arrivals head t left = ¬ HeadFits octet_time arrivals hea
 abbrev pub IsShortFrame : ℕ → List Arrival → Option ℕ → Type 0
 IsShortFrame octet_time arrivals head = (place : ℕ) → head ≡ Some place → time_of (octets_of arrivals place + 8) octet_time < 2 ^ 43
 
--- of the classes below one that was seen, just those whose heads fit are set and need no longer than what is left; the
--- others aren't set
+-- of the classes below `seen`, those are set and need no longer than is left whose heads fit, and no others; the classes from `seen` on aren't set
 pub record AreAsked (octet_time : ℕ) (arrivals : List Arrival) (heads : List (Option ℕ)) (t : ℕ) (spans : List ℕ) (seen classes : ℕ)
     (need left : List ℕ) : Type 0 where
   pub eight_need : length need ≡ 8

@@ -2,6 +2,6 @@ pub mod PortState
 pub mod Progress
 pub mod Spans
 pub mod NextStart
--- what the inner functions say
+-- for the contracts of inner functions
 pub mod Asked
 pub mod Quiet

@@ -1,29 +1,29 @@
--- When the next frame starts, if nothing more is offered.
+-- The next start, if nothing more is offered.
 use Rattle.std.specs.Prelude.{ℕ, ◌≡◌, ◌+◌, ◌≤◌, ◌<◌, ◌++◌, [], ◌∷◌, List, Option, Some, None, slice_index_or}
 use Rattle.cqf_model.specs.declared.ports.Arrival.{Arrival}
 use Rattle.cqf_model.specs.Port.{PortRules, AreLegal, instant_of}
 use Rattle.cqf_port.specs.PortState.{PortState}
 use Rattle.cqf_port.specs.Progress.{NoneReady, IsChosen}
 
--- the next start from now on is at t: with one at t behind those that were handed out the starts are legal behind t
+-- the next start from now on is at t: the starts so far with one more at t are legal up to t inclusive
 pub record StartsNext (p : PortState) (t : ℕ) : Type 0 where
   pub from_now : p.reached ≤ t
   pub place : ℕ
   pub legal : AreLegal p.rules p.arrivals (t + 1) (p.starts ++ (place, t) ∷ [])
 
--- none would come: those that were handed out stay legal up to any end
+-- no further start would come: the starts so far remain legal up to any later end
 abbrev pub StartsNoMore : PortState → Type 0
 StartsNoMore p = (end : ℕ) → p.reached ≤ end → AreLegal p.rules p.arrivals end p.starts
 
--- the heads of the classes below one that was seen have come by t
+-- the heads of the classes below `seen` have come by t
 abbrev pub HaveCome : List Arrival → List (Option ℕ) → ℕ → ℕ → Type 0
 HaveCome arrivals heads seen t = (class place : ℕ) → class < seen → slice_index_or heads class None ≡ Some place → instant_of arrivals place ≤ t
 
--- no head is ever ready
+-- no head is ever ready from an instant on
 abbrev pub NeverReady : PortRules → List Arrival → List (Option ℕ) → ℕ → Type 0
 NeverReady rules arrivals heads from = (s : ℕ) → from ≤ s → NoneReady rules arrivals heads s 0
 
--- a head is ready at t, and none is before
+-- a head is ready at t, and none is ready before
 pub record IsNextReady (rules : PortRules) (arrivals : List Arrival) (heads : List (Option ℕ)) (from t : ℕ) : Type 0 where
   pub later : from ≤ t
   pub none_before : (s : ℕ) → from ≤ s → s < t → NoneReady rules arrivals heads s 0

@@ -1,4 +1,4 @@
--- What a port is to its callers, what it keeps, and what each of its operations does.
+-- What a port is to its callers, its invariant, and what each of its operations does.
 use Rattle.std.specs.Prelude.{ℕ, ◌≡◌, ◌≢◌, ◌^◌, ◌≤◌, ◌<◌, ◌==◌, ◌&&◌, ◌++◌, Bool, List, length, map, not, count_by, slice_index_or, Contains}
 use Rattle.std.specs.List.{enumerate_from, list_any}
 use Rattle.cqf_units.specs.Timing.{ticks_of_octet}
@@ -8,26 +8,25 @@ use Rattle.cqf_model.specs.declared.ports.Start.{Start}
 use Rattle.cqf_model.specs.GateList.{Entry, IsOpen}
 use Rattle.cqf_model.specs.Port.{Transmission, PortRules, AreLegal, no_arrival, instant_of, class_of, octets_of}
 
--- what a port of a list and a rate goes by
+-- the rules of a port with this list and rate
 abbrev pub rules_of : List Entry → Rate → PortRules
 rules_of entries rate = record { entries = entries; octet_time = ticks_of_octet rate }
 
--- a port: what it goes by, the instant up to which it has run, the arrivals that it has taken, and the starts that it
--- has handed out
+-- a port: its rules, the instant up to which it has run, the arrivals that it has taken, and the starts that it has made
 pub record PortState : Type 0 where
   pub rules : PortRules
   pub reached : ℕ
   pub arrivals : List Arrival
   pub starts : List Transmission
 
--- the arrivals that a port takes: of eight classes, early enough, and of each class in order of instant
+-- arrivals that a port takes: of eight classes, before 2^62 ns, and within each class in order of instant
 pub record AreTaken (arrivals : List Arrival) : Type 0 where
   pub classes : (place : ℕ) → place < length arrivals → class_of arrivals place < 8
   pub early : (place : ℕ) → place < length arrivals → instant_of arrivals place < 2 ^ 62
   pub by_class : (place later : ℕ) → place < later → later < length arrivals → class_of arrivals place ≡ class_of arrivals later →
       instant_of arrivals place ≤ instant_of arrivals later
 
--- what each port keeps: its starts are legal up to the instant that it has reached
+-- the invariant of each port: its starts are legal up to the instant that it has reached
 pub record IsPort (p : PortState) : Type 0 where
   pub legal : AreLegal p.rules p.arrivals p.reached p.starts
   pub taken : AreTaken p.arrivals
@@ -37,18 +36,18 @@ pub record IsPort (p : PortState) : Type 0 where
 abbrev pub AreOnly : PortState → Type 0
 AreOnly p = (others : List Transmission) → AreLegal p.rules p.arrivals p.reached others → others ≡ p.starts
 
--- the class was open at an instant from the first one up to and without the last
+-- the class was open at some instant from `first` up to but excluding `last`
 pub record WasOpen (entries : List Entry) (class first last : ℕ) : Type 0 where
   pub instant : ℕ
   pub from_first : first ≤ instant
   pub before_last : instant < last
   pub is_open : IsOpen entries class instant
 
--- the arrival comes too late: its class was open at an instant from its own one on that the port has passed
+-- the arrival comes too late: its class was open at some instant from the arrival's own on that the port has passed
 abbrev pub IsLate : PortState → Arrival → Type 0
 IsLate p arrival = WasOpen p.rules.entries arrival.class arrival.at.0 p.reached
 
--- the last arrival of the class stands at this place
+-- the last arrival of the class is at this index
 pub record IsLast (arrivals : List Arrival) (class place : ℕ) : Type 0 where
   pub inside : place < length arrivals
   pub of_class : class_of arrivals place ≡ class
@@ -60,7 +59,7 @@ pub record IsOutOfOrder (p : PortState) (arrival : Arrival) : Type 0 where
   pub last : IsLast p.arrivals arrival.class place
   pub earlier : arrival.at.0 < instant_of p.arrivals place
 
--- a transmission as callers get it, with what its arrival said
+-- a transmission as callers get it, with the data of its arrival
 abbrev pub start_of : List Arrival → Transmission → Start
 start_of arrivals x = record {
   start = record { 0 = x.1 };
@@ -69,24 +68,23 @@ start_of arrivals x = record {
   frame = (slice_index_or arrivals x.0 no_arrival).frame;
 }
 
--- the port runs up to an instant: it makes starts from the instant that it had reached on, behind those before
+-- the port runs up to an instant: it makes starts from the instant that it had reached on, after those before
 pub record RunsUpTo (until : ℕ) (before after : PortState) : Type 0 where
   pub made : List Transmission
   pub from_reached : (place s : ℕ) → Contains made (place, s) → before.reached ≤ s
   pub value : after ≡ record { rules = before.rules; reached = until; arrivals = before.arrivals; starts = before.starts ++ made }
 
--- the port runs up to an instant: it makes starts from the instant that it had reached on, and hands each on behind
--- what its caller had
+-- the port runs up to an instant: it makes starts from the instant that it had reached on, and appends them to its caller's list
 pub record Advances (before after : PortState) (until : ℕ) (given given_after : List Start) : Type 0 where
   pub made : List Transmission
   pub from_reached : (place s : ℕ) → Contains made (place, s) → before.reached ≤ s
   pub value : after ≡ record { rules = before.rules; reached = until; arrivals = before.arrivals; starts = before.starts ++ made }
   pub handed : given_after ≡ given ++ map (start_of before.arrivals) made
 
--- whether the arrival at the place has started
+-- whether the arrival at the index has started
 abbrev pub has_started : List Transmission → ℕ → Bool
 has_started starts place = list_any (λ (x : Transmission). x.0 == place) starts
 
--- how many arrivals of the class haven't started
+-- the number of arrivals of the class that haven't started
 abbrev pub waiting_of : List Arrival → List Transmission → ℕ → ℕ
 waiting_of arrivals starts class = count_by (λ (x : ℕ × Arrival). (x.1.class == class) && not (has_started starts x.0)) (enumerate_from 0 arrivals)

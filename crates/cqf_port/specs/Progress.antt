@@ -1,4 +1,4 @@
--- How a port remembers where it stands, so that it needn't look through its starts again.
+-- What a port remembers of its progress, so that it needn't search its starts again.
 use Rattle.std.specs.Prelude.{ℕ, ◌≡◌, ◌≢◌, ◌+◌, ◌^◌, ◌≤◌, ◌<◌, ◌++◌, List, [], length, Option, Some, None, slice_index_or, Contains}
 use Rattle.cqf_model.specs.declared.ports.Arrival.{Arrival}
 use Rattle.cqf_model.specs.Port.{Transmission, PortRules, AreLegal, IsEligible, IsIdle, instant_of, class_of, octets_of}
@@ -11,19 +11,19 @@ use Rattle.cqf_port.specs.declared.progress.Progress.{Progress}
 abbrev pub HasStarted : List Transmission → ℕ → Type 0
 HasStarted starts place = (s : ℕ) × Contains starts (place, s)
 
--- the arrival at the place hasn't started, and each arrival of its class before it has
+-- the arrival at the index hasn't started, and each earlier arrival of its class has
 pub record IsHead (arrivals : List Arrival) (starts : List Transmission) (class place : ℕ) : Type 0 where
   pub inside : place < length arrivals
   pub of_class : class_of arrivals place ≡ class
   pub not_started : (s : ℕ) → ¬ Contains starts (place, s)
   pub started_before : (other : ℕ) → other < place → class_of arrivals other ≡ class → HasStarted starts other
 
--- the first arrival of a class that hasn't started, or none where each has
+-- the head of a class: the first arrival of the class that hasn't started, or none if all have
 abbrev pub IsHeadOf : List Arrival → List Transmission → ℕ → Option ℕ → Type 0
 IsHeadOf arrivals starts class None = (place : ℕ) → place < length arrivals → class_of arrivals place ≡ class → HasStarted starts place
 IsHeadOf arrivals starts class (Some place) = IsHead arrivals starts class place
 
--- what a port knows at an instant from which on it hasn't run yet: when it is idle, and the head of each class
+-- what a port knows at an instant up to which it has run: from when on it is idle, and the head of each class
 pub record IsAbreast (rules : PortRules) (arrivals : List Arrival) (t : ℕ) (starts : List Transmission) (progress : Progress) : Type 0 where
   pub legal : AreLegal rules arrivals t starts
   pub idle : (s : ℕ) → t ≤ s → IsIdle rules arrivals starts s → progress.idle_from.0 ≤ s
@@ -32,18 +32,18 @@ pub record IsAbreast (rules : PortRules) (arrivals : List Arrival) (t : ℕ) (st
   pub eight : length progress.heads ≡ 8
   pub heads : (class : ℕ) → class < 8 → IsHeadOf arrivals starts class (slice_index_or progress.heads class None)
 
--- the head of the class has come by t, and is eligible then
+-- the head of the class has come by t, and is eligible at t
 pub record IsReady (rules : PortRules) (arrivals : List Arrival) (heads : List (Option ℕ)) (t class place : ℕ) : Type 0 where
   pub is_head : slice_index_or heads class None ≡ Some place
   pub come : instant_of arrivals place ≤ t
   pub eligible : IsEligible rules arrivals place t
 
--- each head is within the arrivals, and of its class
+-- each head is an index of an arrival of its class
 pub record AreInside (arrivals : List Arrival) (heads : List (Option ℕ)) : Type 0 where
   pub places : (class place : ℕ) → class < 8 → slice_index_or heads class None ≡ Some place → place < length arrivals
   pub classes : (class place : ℕ) → class < 8 → slice_index_or heads class None ≡ Some place → class_of arrivals place ≡ class
 
--- no class from this one on has a head that is ready
+-- no class from `lowest` on has a head that is ready
 abbrev pub NoneReady : PortRules → List Arrival → List (Option ℕ) → ℕ → ℕ → Type 0
 NoneReady rules arrivals heads t lowest = (class place : ℕ) → lowest ≤ class → class < 8 → ¬ IsReady rules arrivals heads t class place
 
@@ -54,24 +54,24 @@ pub record IsChosen (rules : PortRules) (arrivals : List Arrival) (heads : List 
   pub ready : IsReady rules arrivals heads t class place
   pub above : NoneReady rules arrivals heads t (class + 1)
 
--- the instant of the last arrival of the class, or 0 where there is none
+-- the instant of the last arrival of the class, or 0 if there is none
 pub record IsNewest (arrivals : List Arrival) (class t : ℕ) : Type 0 where
   pub latest : (place : ℕ) → place < length arrivals → class_of arrivals place ≡ class → instant_of arrivals place ≤ t
   pub of_last : 0 < t → (place : ℕ) × IsLast arrivals class place × (instant_of arrivals place ≡ t)
 
--- the first arrival of the class from a place on
+-- the first arrival of the class from an index on
 pub record IsNext (arrivals : List Arrival) (first class place : ℕ) : Type 0 where
   pub from_there : first ≤ place
   pub inside : place < length arrivals
   pub of_class : class_of arrivals place ≡ class
   pub none_between : (other : ℕ) → first ≤ other → other < place → class_of arrivals other ≢ class
 
--- that arrival, or none where no arrival of the class stands from the place on
+-- that arrival, or none if there is no arrival of the class from the index on
 abbrev pub IsNextOf : List Arrival → ℕ → ℕ → Option ℕ → Type 0
 IsNextOf arrivals first class None = (other : ℕ) → first ≤ other → other < length arrivals → class_of arrivals other ≢ class
 IsNextOf arrivals first class (Some place) = IsNext arrivals first class place
 
--- what a port knows behind a start at t: it is idle once the gap is over, and its class has the next head
+-- what a port knows after a start at t: it is idle once the gap is over, and the head of its class is the next arrival of the class
 pub record IsAfterStart (octet_time : ℕ) (arrivals : List Arrival) (place t : ℕ) (before after : Progress) : Type 0 where
   pub idle_from : after.idle_from.0 ≡ idle_after t (octets_of arrivals place) octet_time
   pub soon : after.idle_from.0 < 2 ^ 63
@@ -79,7 +79,7 @@ pub record IsAfterStart (octet_time : ℕ) (arrivals : List Arrival) (place t : 
   pub next : IsNextOf arrivals (place + 1) (class_of arrivals place) (slice_index_or after.heads (class_of arrivals place) None)
   pub others : (class : ℕ) → class ≢ class_of arrivals place → slice_index_or after.heads class None ≡ slice_index_or before.heads class None
 
--- what a port knows behind an arrival of a class: it is the class's head where the class had none
+-- what a port knows after an arrival of a class: the arrival is the class's head if the class had none
 pub record IsAfterArrival (place class : ℕ) (before after : Progress) : Type 0 where
   pub idle_from : after.idle_from.0 ≡ before.idle_from.0
   pub eight : length after.heads ≡ length before.heads
@@ -92,18 +92,18 @@ pub record AreNewest (arrivals : List Arrival) (newest : List Nanos) : Type 0 wh
   pub eight : length newest ≡ 8
   pub each : (class : ℕ) → class < 8 → IsNewest arrivals class (slice_index_or newest class (record { 0 = 0 })).0
 
--- more starts than before, and each further one at or after an instant
+-- more starts than before, each further one at or after an instant
 pub record AreMore (before after : List Transmission) (lowest : ℕ) : Type 0 where
   pub made : List Transmission
   pub value : after ≡ before ++ made
   pub not_before : (place s : ℕ) → Contains made (place, s) → lowest ≤ s
 
--- what a port knows once it has looked at an instant: it is abreast of each later one up to the next
+-- what a port knows after it has handled an instant; it holds for each later instant up to the next one
 pub record StepsTo (rules : PortRules) (arrivals : List Arrival) (t : ℕ) (starts : List Transmission) (progress : Progress) (next : ℕ) : Type 0 where
   pub later : t < next
   pub abreast : (e : ℕ) → t < e → e ≤ next → IsAbreast rules arrivals e starts progress
 
--- what a port is by its fields
+-- the invariant of a port's fields
 pub record IsKept (rules : PortRules) (arrivals : List Arrival) (reached : ℕ) (starts : List Transmission) (progress : Progress)
     (newest : List Nanos) : Type 0 where
   pub abreast : IsAbreast rules arrivals reached starts progress
@@ -112,6 +112,6 @@ pub record IsKept (rules : PortRules) (arrivals : List Arrival) (reached : ℕ) 
   pub early : reached < 2 ^ 62
   pub octets_take_time : 0 < rules.octet_time
 
--- what a port at instant 0 is by its fields, whatever its rules
+-- the invariant of the fields of a port at instant 0, for any rules
 abbrev pub IsKeptByAll : List Arrival → Progress → List Nanos → Type 0
 IsKeptByAll arrivals progress newest = (rules : PortRules) → 0 < rules.octet_time → IsKept rules arrivals 0 [] progress newest

@@ -1,30 +1,30 @@
--- For how long nothing can start.
+-- The time for which nothing can start.
 use Rattle.std.specs.Prelude.{ℕ, ◌≡◌, ◌+◌, ◌≤◌, ◌<◌, ◌⊎◌, List, Option, Some, None, slice_index_or}
 use Rattle.cqf_model.specs.declared.ports.Arrival.{Arrival}
 use Rattle.cqf_model.specs.GateList.{Entry, IsOpenThrough}
 use Rattle.cqf_model.specs.Port.{PortRules, IsEligible, instant_of}
 use Rattle.cqf_port.specs.Progress.{NoneReady}
 
--- from no instant from the first one up to and without the last does the class stay open for so long
+-- from no instant from `first` up to but excluding `last` does the class stay open for `need` nanoseconds
 abbrev pub FitsNowhere : List Entry → ℕ → ℕ → ℕ → ℕ → Type 0
 FitsNowhere entries class need first last = (s : ℕ) → first ≤ s → s < last → ¬ IsOpenThrough entries class s (s + need)
 
--- at no instant from the first one up to and without the last has the head come and is eligible
+-- at no instant from `first` up to but excluding `last` is there a head that has come and is eligible
 abbrev pub IsIdleOf : PortRules → List Arrival → Option ℕ → ℕ → ℕ → Type 0
 IsIdleOf rules arrivals head first last =
     (s place : ℕ) → first ≤ s → s < last → head ≡ Some place → instant_of arrivals place ≤ s → ¬ IsEligible rules arrivals place s
 
--- from t up to and without an instant no head is ready
+-- from t up to but excluding an instant no head is ready
 abbrev pub IsIdleUntil : PortRules → List Arrival → List (Option ℕ) → ℕ → ℕ → Type 0
 IsIdleUntil rules arrivals heads t until = (s : ℕ) → t ≤ s → s < until → NoneReady rules arrivals heads s 0
 
--- at the instant the head comes, or has come and is eligible
+-- the head comes at the instant, or has come and is eligible
 pub record Turns (rules : PortRules) (arrivals : List Arrival) (head : Option ℕ) (t : ℕ) : Type 0 where
   pub place : ℕ
   pub is_head : head ≡ Some place
   pub turns : (instant_of arrivals place ≡ t) ⊎ ((instant_of arrivals place ≤ t) × IsEligible rules arrivals place t)
 
--- at the instant some head comes or is ready
+-- some head comes or is ready at the instant
 pub record OneTurns (rules : PortRules) (arrivals : List Arrival) (heads : List (Option ℕ)) (t : ℕ) : Type 0 where
   pub class : ℕ
   pub low : class < 8

@@ -1,29 +1,29 @@
--- How long classes stay open.
+-- The times for which classes stay open.
 use Rattle.std.specs.Prelude.{ℕ, ◌≡◌, ◌+◌, ◌-◌, ◌^◌, ◌≤◌, ◌<◌, ◌↔◌, List, [], length, take, slice_index_or}
 use Rattle.cqf_model.specs.GateList.{Entry, InForce, IsOpenThrough, round_of, states_at}
 
--- the class stays open for so long from t on: what needs no longer fits, and what needs longer doesn't. What needs as
--- much as a bound is left out, so that a number stands for a class that never closes
+-- the class stays open for `span` nanoseconds from t on: what needs no longer fits, and what needs longer doesn't. Only needs below the
+-- bound count, so that a large number can represent a class that never closes
 abbrev pub IsSpan : List Entry → ℕ → ℕ → ℕ → ℕ → Type 0
 IsSpan entries class t bound span = (need : ℕ) → 0 < need → need < bound → (IsOpenThrough entries class t (t + need) ↔ (need ≤ span))
 
--- how long each of the eight classes stays open from t on
+-- the times for which the eight classes stay open from t on
 pub record AreSpansAt (entries : List Entry) (t bound : ℕ) (row : List ℕ) : Type 0 where
   pub eight : length row ≡ 8
   pub each : (class : ℕ) → class < 8 → IsSpan entries class t bound (slice_index_or row class 0)
 
--- how long they stay so from the beginning of each entry in the first round on
+-- the times for which they stay open from the beginning of each entry on, in the first round
 pub record AreSpans (entries : List Entry) (spans : List (List ℕ)) : Type 0 where
   pub few : length entries ≤ 16
   pub sixteen : length spans ≡ 16
   pub rows : (place : ℕ) → place < length entries → AreSpansAt entries (round_of (take place entries)) (2 ^ 63) (slice_index_or spans place [])
 
--- so much less of each of eight, or nothing
+-- each of eight numbers is less by this much, but not below 0
 pub record AreLess (row : List ℕ) (much : ℕ) (left : List ℕ) : Type 0 where
   pub eight : length left ≡ 8
   pub each : (class : ℕ) → class < 8 → slice_index_or left class 0 ≡ slice_index_or row class 0 - much
 
--- the next entry begins behind t, no gate changes before, and a round later all is as it was
+-- the next entry begins after t, no gate changes before it does, and the list has repeated at `again`, one round after t
 pub record IsAhead (entries : List Entry) (t place begins again : ℕ) : Type 0 where
   pub later : t < begins
   pub force : InForce entries begins place 0

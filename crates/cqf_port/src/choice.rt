@@ -10,9 +10,9 @@ use cqf_lanes::{eligible, highest};
 use cqf_model::Arrival;
 use cqf_units::{Nanos, Rate, time_of};
 
-/// What the classes ask for: those with a frame that waits behind an open gate, how long each takes, and how long the
-/// gate stays open. What is left is at most 4,294,967,295 ns, also where it is more or the class never closes; a frame
-/// that takes longer asks only where it fits.
+/// What the classes need: the classes with a waiting frame and an open gate, the time that each frame takes, and the
+/// time for which each gate stays open. Times are at most 4,294,967,295 ns, even if the frame takes longer or the gate
+/// stays open for longer; if a frame takes longer than that, its class is in the set only if the frame fits.
 #[derive(Clone, Copy)]
 struct Asked {
     classes: u8,
@@ -20,7 +20,8 @@ struct Asked {
     left: [u32; 8],
 }
 
-/// How long a frame of so many octets takes on the wire, in nanoseconds, with preamble and start delimiter (IEEE 802.3).
+/// Returns the time that a frame of these octets takes on the wire, in nanoseconds, with preamble and start delimiter
+/// (IEEE 802.3).
 pub(crate) fn need_of(octets: u32, rate: Rate) -> u64
     ensures value { result ≡ time_of (octets + 8) (ticks_of_octet rate) }
     ensures short { result < 2 ^ 43 }
@@ -29,8 +30,9 @@ pub(crate) fn need_of(octets: u32, rate: Rate) -> u64
     time_of(u64::from(octets) + 8, rate)
 }
 
-/// How long the head of the class takes and how long its gate stays open, at most 4,294,967,295 ns each, where the head
-/// has come by the instant and its gate is open.
+/// Returns the time that the head of the class takes and the time for which its gate stays open, at most 4,294,967,295
+/// ns each. Returns `None` if there is no head, it hasn't come by the instant, its gate is closed, or it takes longer
+/// than 4,294,967,295 ns and doesn't fit.
 fn asked_of(
     arrivals: &[Arrival],
     rate: Rate,
@@ -55,7 +57,7 @@ fn asked_of(
     Some((need.min(most) as u32, left.min(most) as u32))
 }
 
-/// What the classes ask for at the instant, where each stays open for so long.
+/// Returns what the classes need at the instant, given how long each stays open.
 fn ask(
     arrivals: &[Arrival],
     rate: Rate,
@@ -81,7 +83,7 @@ fn ask(
     asked
 }
 
-/// The head that starts at the instant: that of the highest class that has an eligible one (strict priority).
+/// Returns the head that starts at the instant: that of the highest class with an eligible head (strict priority).
 pub(crate) fn choose(egress: &Egress<'_>, heads: &[Option<usize>; 8], t: Nanos) -> Option<usize>
     requires taken { AreTaken egress.now.arrivals.now }
     requires inside { AreInside egress.now.arrivals.now heads.now }

@@ -1,16 +1,17 @@
-//! What an output port goes by, and what it has taken.
+//! The rules of an output port, and the arrivals that it has taken.
 
 use crate::spans::Schedule;
 use cqf_model::Arrival;
 use cqf_units::Rate;
 
-/// What an output port goes by, and what it has taken: what may start hangs on these alone, and on what has started.
+/// The rules of an output port, and the arrivals that it has taken. What may start depends only on these and on what
+/// has started.
 #[derive(Clone, Copy)]
 pub(crate) struct Egress<'p> {
     /// The gate control list.
     pub(crate) schedule: &'p Schedule,
     /// The rate of the link.
     pub(crate) rate: Rate,
-    /// The frames that have come to it, in order.
+    /// The frames that have arrive at the port, in order.
     pub(crate) arrivals: &'p [Arrival],
 }

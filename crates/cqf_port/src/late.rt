@@ -6,8 +6,8 @@ use crate::spans::Schedule;
 use cqf_laws_network::mask_is_in_force;
 use cqf_units::Nanos;
 
-/// Whether the class was open at an instant from the first one up to, and without, the last. It goes from entry to
-/// entry, since no gate changes in between, and no further than a round, since rounds repeat.
+/// Returns whether the class was open at some instant from `first` up to but excluding `last`. Goes from entry to
+/// entry, since no gate changes in between, and no further than one round, since rounds repeat.
 pub(crate) fn was_open(schedule: &Schedule, class: u8, first: Nanos, last: Nanos) -> bool
     requires gate { class < 8 }
     requires come { first.0 < 2 ^ 62 }

@@ -11,7 +11,7 @@ use cqf_laws_network::mask_is_in_force;
 use cqf_model::Arrival;
 use cqf_units::Nanos;
 
-/// The instant by which each head has come, not before a first one.
+/// Returns an instant from `from` on by which each head has come.
 fn all_come(arrivals: &[Arrival], heads: &[Option<usize>; 8], from: Nanos) -> Nanos
     requires early { from.0 < 2 ^ 63 }
     requires taken { AreTaken arrivals.now }
@@ -29,8 +29,9 @@ fn all_come(arrivals: &[Arrival], heads: &[Option<usize>; 8], from: Nanos) -> Na
     Nanos(latest)
 }
 
-/// The first instant from one on at which a head is ready, if no frame starts before. It looks no further than a round of
-/// the list behind the instant by which all heads have come: from there on the same happens in each round.
+/// Returns the first instant from `from` on at which a head is ready, if no frame starts before, or `None` if none ever
+/// is. It looks no further than one round of the list after the instant by which all heads have come, since from then
+/// on each round is the same.
 pub(crate) fn next_ready(
     egress: &Egress<'_>,
     heads: &[Option<usize>; 8],

@@ -18,16 +18,16 @@ use cqf_units::{Memory, Nanos, Rate};
 use std::alloc::{AllocError, Global};
 use std::marker::Model;
 
-/// Why a port takes no arrival. The port is then as it was.
+/// Why a port doesn't take an arrival. The port is then unchanged.
 #[derive(Clone, Copy, Debug, PartialEq, Eq, Drop, thiserror::Error)]
 pub enum PortFault {
-    /// The arrival's class was open at an instant from the arrival's own one on that the port has passed.
+    /// The arrival's class was open at some instant from the arrival's own on that the port has passed.
     #[error("the frame comes after its class was open")]
     Late,
     /// The arrival is before the last one taken of its class.
     #[error("the frame comes before the last one of its class")]
     OutOfOrder,
-    /// A growth was refused.
+    /// An allocation failed.
     #[error("out of memory")]
     Memory,
 }
@@ -43,7 +43,8 @@ impl From<Memory> for PortFault {
     }
 }
 
-/// What a port at instant 0 knows that has taken these arrivals: where it stands, and by class the instant of the last one.
+/// Returns what a port at instant 0 knows after taking these arrivals: its progress, and by class the instant of the
+/// last arrival.
 fn taken_in_turn(arrivals: &[Arrival]) -> (Progress, [Nanos; 8])
     requires { AreTaken arrivals.now }
     ensures { IsKeptByAll arrivals.now result.0 result.1 }
@@ -69,10 +70,10 @@ pub struct Port {
     /// The instant up to which the port has run.
     reached: Nanos,
     progress: Progress,
-    /// By class, the instant of the last arrival, or 0.
+    /// By class, the instant of the last arrival, or 0 if there is none.
     newest: [Nanos; 8],
     arrivals: Vec<Arrival>,
-    /// By start, the place of the arrival and the instant.
+    /// The starts in order, each with the index of its arrival and its instant.
     starts: Vec<(usize, u64)>,
 }
 
@@ -88,8 +89,7 @@ impl Model for Port {
 }
 
 impl Port {
-    /// A port at instant 0 that goes by the gate control list, at the end of a link of the rate. It takes no memory
-    /// yet.
+    /// Returns a port at instant 0 with this gate control list, at the end of a link of this rate. Allocates nothing yet.
     pub fn new(alloc: Global, list: TxList, rate: Rate) -> Port
         ensures { result ≡ record { rules = rules_of list rate; reached = 0; arrivals = []; starts = [] } }
     {
@@ -107,9 +107,10 @@ impl Port {
         }
     }
 
-    /// A port at instant 0 that has taken these arrivals, in their order, which become its own: each of a class from 0 to 7,
-    /// and none before one of its class that stands before it. It goes by the gate control list, at the end of a link of the
-    /// rate, and is the port that [`Port::offer`] of each in turn makes. It takes no memory.
+    /// Returns a port at instant 0 that has taken these arrivals, in their order, without copying them. Each has a
+    /// class from 0 to 7 and an instant below 2^62 ns, and none is before an earlier arrival of its class. The port has
+    /// this gate control list, at the end of a link of this rate, and is the same as a new one to which [`Port::offer`]
+    /// is applied for each arrival in turn. Allocates nothing.
     pub fn with_arrivals(alloc: Global, list: TxList, rate: Rate, arrivals: Vec<Arrival>) -> Port
         requires { AreTaken arrivals.items }
         ensures { result ≡ record { rules = rules_of list rate; reached = 0; arrivals = arrivals.items; starts = [] } }
@@ -126,16 +127,16 @@ impl Port {
         }
     }
 
-    /// Does nothing, and makes known to a proof what each call keeps: what the port has started is legal for the arrivals that it has taken.
+    /// Does nothing. It lets a proof use the invariant: what the port has started is legal for the arrivals that it has taken.
     pub fn know(&self)
         ensures facts { IsPort self.now }
     {
-        // a use of a field: with it the invariant is known
+        // a use of a field makes the invariant known
         let _ = &self.reached;
     }
 
-    /// The instant up to, and without, which the port has run, 0 at first. What it has started by then is legal for
-    /// the arrivals that it has taken.
+    /// Returns the instant up to but excluding which the port has run, at first 0. What it has started by then is legal
+    /// for the arrivals that it has taken.
     pub fn now(&self) -> Nanos
         ensures value { result.0 ≡ self.now.reached }
         ensures facts { IsPort self.now }
@@ -143,8 +144,8 @@ impl Port {
         self.reached
     }
 
-    /// The instant of the next start from now on, if nothing more is offered, or `None` where none would come. It takes
-    /// no memory, and what is looked at grows with the time until then and not with what was handed out.
+    /// Returns the instant of the next start from now on, if nothing more is offered, or `None` if none would come.
+    /// Allocates nothing. The work grows with the time until then, not with the number of starts so far.
     pub fn next_start(&self) -> Option<Nanos>
         ensures { MatchOption result (StartsNoMore self.now) (λ t. StartsNext self.now t.0) }
     {
@@ -157,22 +158,22 @@ impl Port {
         next_ready(&egress, &self.progress.heads, from)
     }
 
-    /// What has been started, in order: of each start the place of its arrival among those taken, from 0, and its instant
-    /// in nanoseconds.
+    /// Returns the starts so far, in order, each with the index of its arrival among those taken, from 0, and its
+    /// instant in nanoseconds.
     pub fn starts(&self) -> &[(usize, u64)]
         ensures { result.now ≡ self.now.starts }
     {
         self.starts.as_slice()
     }
 
-    /// What it has taken, in order.
+    /// Returns the arrivals that the port has taken, in order.
     pub fn arrivals(&self) -> &[Arrival]
         ensures { result.now ≡ self.now.arrivals }
     {
         self.arrivals.as_slice()
     }
 
-    /// How many arrivals of the class, 0 to 7, haven't started.
+    /// Returns the number of arrivals of the class, 0 to 7, that haven't started.
     pub fn waiting(&self, class: u8) -> usize
         requires { class < 8 }
         ensures { result ≡ waiting_of self.now.arrivals self.now.starts class }
@@ -183,9 +184,10 @@ impl Port {
         }
     }
 
-    /// Takes an arrival of a class from 0 to 7 (8.6.6). It is refused as `Late` where the class was open at an
-    /// instant from the arrival's own one on that the port has passed, else as `OutOfOrder` where it is before the
-    /// last arrival taken of its class, else as `Memory` where a growth is refused. The port is then as it was.
+    /// Takes an arrival of a class from 0 to 7 (8.6.6) with an instant below 2^62 ns. Returns `Late` if the class was
+    /// open at some instant from the arrival's own on that the port has passed; otherwise `OutOfOrder` if the arrival
+    /// is before the last one taken of its class; otherwise `Memory` if an allocation fails. After an error the port is
+    /// unchanged.
     pub fn offer(&mut self, arrival: Arrival) -> Result<(), PortFault>
         requires gate { arrival.class < 8 }
         requires early { arrival.at.0 < 2 ^ 62 }
@@ -205,8 +207,9 @@ impl Port {
         Ok(())
     }
 
-    /// Takes an arrival of a class from 0 to 7 of which it is known that [`Port::offer`] finds it neither late nor out of
-    /// order, and tests neither. Where a growth is refused, the port is as it was.
+    /// Takes an arrival of a class from 0 to 7, with an instant below 2^62 ns, that is known to be neither late nor out
+    /// of order for [`Port::offer`]; neither is tested. Returns `Memory` if an allocation fails; the port is then
+    /// unchanged.
     pub fn take(&mut self, arrival: Arrival) -> Result<(), Memory>
         requires gate { arrival.class < 8 }
         requires early { arrival.at.0 < 2 ^ 62 }
@@ -226,8 +229,9 @@ impl Port {
         Ok(())
     }
 
-    /// Runs the port up to, and without, an instant. What it starts on the way is listed by [`Port::starts`], behind what
-    /// it started before. Where the instant isn't after the port's now, nothing changes, nor where a growth is refused.
+    /// Runs the port up to but excluding an instant, which is below 2^62 ns. [`Port::starts`] lists what it starts on
+    /// the way, after what it started before. Nothing changes if the instant isn't after the port's current one.
+    /// Returns `Memory` if an allocation fails; the port is then unchanged.
     pub fn run_to(&mut self, until: Nanos) -> Result<(), Memory>
         requires { until.0 < 2 ^ 62 }
         ensures ok { OnOk result (self.old.reached < until.0 → RunsUpTo until.0 self.old self.new) }
@@ -257,9 +261,9 @@ impl Port {
         Ok(())
     }
 
-    /// Runs the port up to, and without, an instant, and appends what it starts on the way, in order. Where the
-    /// instant isn't after the port's now, nothing changes. Where a growth is refused, the port and the list are as
-    /// they were.
+    /// Runs the port up to but excluding an instant, which is below 2^62 ns, and appends what it starts on the way to
+    /// `given`, in order. Nothing changes if the instant isn't after the port's current one. Returns `Memory` if an
+    /// allocation fails; the port and the list are then unchanged.
     pub fn advance(&mut self, until: Nanos, given: &mut Vec<Start>) -> Result<(), Memory>
         requires { until.0 < 2 ^ 62 }
         ensures ok { OnOk result (self.old.reached < until.0 → Advances self.old self.new until.0 given.old.items given.new.items) }
@@ -296,7 +300,7 @@ impl Port {
     }
 }
 
-/// How many of the arrivals are of the class.
+/// Returns the number of the arrivals of the class.
 fn count_of_class(arrivals: &[Arrival], class: u8) -> usize
     ensures { result ≡ count_by (λ (x : Arrival). x.class == class) arrivals.now }
 {

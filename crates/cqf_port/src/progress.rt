@@ -1,4 +1,4 @@
-//! What a port remembers of where it stands, so that it needn't look through its starts again.
+//! What a port remembers of its progress, so that it needn't search its starts again.
 ghost use Rattle.std.specs.Prelude.{◌≡◌, ◌+◌, ◌^◌, ◌<◌, length};
 ghost use Rattle.cqf_units.specs.Timing.{ticks_of_octet, idle_after};
 ghost use Rattle.cqf_model.specs.Port.{class_of};
@@ -12,11 +12,11 @@ use cqf_units::{Nanos, Octets, Rate, idle_from};
 pub(crate) struct Progress {
     /// The instant from which the port may start again.
     pub(crate) idle_from: Nanos,
-    /// By class, the place of the first arrival that hasn't started.
+    /// By class, the index of the first arrival that hasn't started.
     pub(crate) heads: [Option<usize>; 8],
 }
 
-/// The place of the first arrival of the class from a place on.
+/// Returns the index of the first arrival of the class from an index on.
 fn next_of_class(arrivals: &[Arrival], first: usize, class: u8) -> Option<usize>
     ensures { IsNextOf arrivals.now first class result }
 {
@@ -28,7 +28,7 @@ fn next_of_class(arrivals: &[Arrival], first: usize, class: u8) -> Option<usize>
     None
 }
 
-/// The instant from which the port may start again behind a frame of so many octets.
+/// Returns the instant from which the port may start again after a frame of these octets.
 fn idle_behind(octets: u32, rate: Rate, start: Nanos) -> Nanos
     requires { start.0 < 2 ^ 62 }
     ensures value { result.0 ≡ idle_after start.0 octets (ticks_of_octet rate) }
@@ -37,7 +37,7 @@ fn idle_behind(octets: u32, rate: Rate, start: Nanos) -> Nanos
     idle_from(start, Octets(octets), rate)
 }
 
-/// What the port remembers once the arrival at the place has started.
+/// Returns what the port knows after the arrival at the index has started.
 pub(crate) fn after_start(
     arrivals: &[Arrival],
     rate: Rate,
@@ -57,7 +57,7 @@ pub(crate) fn after_start(
     after
 }
 
-/// What the port remembers once an arrival of the class has come to the place behind all others.
+/// Returns what the port knows after an arrival of the class was appended at the index.
 pub(crate) fn after_arrival(place: usize, class: u8, before: Progress) -> Progress
     requires { class < 8 }
     ensures { IsAfterArrival place class before result }

@@ -1,4 +1,4 @@
-//! For how long nothing can start.
+//! The time for which nothing can start.
 ghost use Rattle.std.specs.Prelude.{◌≡◌, ◌+◌, ◌-◌, ◌^◌, ◌<◌, ◌≤◌, ℕ, Some, length};
 ghost use Rattle.cqf_model.specs.Port.{IsEligible, class_of, instant_of};
 ghost use Rattle.cqf_port.specs.PortState.{rules_of};
@@ -11,8 +11,9 @@ use crate::egress::Egress;
 use crate::spans::Ahead;
 use cqf_units::Nanos;
 
-/// The first instant behind one at which the head of the class can start: it comes, or it has come and an entry begins
-/// from whose beginning its gate stays open long enough. It looks for no entry behind the last instant.
+/// Returns the first instant after `t` at which the head of the class can start: the head comes, or it has come and its
+/// gate stays open long enough from the beginning of an entry. The result from `last` on has no meaning but that the
+/// head can't start before it.
 fn idle_of(
     egress: &Egress<'_>,
     head: Option<usize>,
@@ -45,7 +46,8 @@ fn idle_of(
     }
 }
 
-/// The first instant behind one at which no head is ready at which one can be: a head comes, or one that has come fits.
+/// Returns the first instant after `t`, at which no head is ready, at which one can be: a head comes, or one that has
+/// come fits.
 pub(crate) fn idle_until(egress: &Egress<'_>, heads: &[Option<usize>; 8], t: Nanos) -> Nanos
     requires early { t.0 < 2 ^ 63 + 2 ^ 62 }
     requires inside { AreInside egress.now.arrivals.now heads.now }

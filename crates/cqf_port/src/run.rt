@@ -1,4 +1,4 @@
-//! A port from one instant to another.
+//! Running a port from one instant to another.
 ghost use Rattle.std.specs.Prelude.{◌≡◌, ◌+◌, ◌++◌, ◌^◌, ◌<◌, ◌≤◌, All, IfOk, OnErr, OnOk, length, map};
 ghost use Rattle.cqf_port.specs.PortState.{AreTaken, rules_of, start_of};
 ghost use Rattle.cqf_port.specs.Progress.{AreMore, IsAbreast, StepsTo};
@@ -11,8 +11,8 @@ use cqf_model::{Arrival, Start};
 use cqf_units::{Memory, Nanos};
 use std::alloc::AllocError;
 
-/// What happens at one instant: the frame that is due starts. It answers what the port remembers then, and the next
-/// instant at which anything can happen.
+/// Handles one instant: the frame that is due starts. Returns what the port knows then, and the next instant at which
+/// anything can happen.
 fn step(
     egress: &Egress<'_>,
     t: Nanos,
@@ -39,8 +39,8 @@ fn step(
     }
 }
 
-/// What happens from an instant up to and without another. It answers what the port remembers then. Where a growth
-/// is refused, some starts may have been added.
+/// Runs from an instant up to but excluding another. Returns what the port knows then. If it returns `Memory`, some
+/// starts may have been added.
 fn run(
     egress: &Egress<'_>,
     reached: Nanos,
@@ -65,8 +65,8 @@ fn run(
     Ok(progress)
 }
 
-/// What happens from an instant up to and without another. It answers what the port remembers then. Where a growth is
-/// refused, no start was added.
+/// Runs from an instant up to but excluding another. Returns what the port knows then. If it returns `Memory`, no start
+/// was added.
 pub(crate) fn run_or_stay(
     egress: &Egress<'_>,
     reached: Nanos,
@@ -92,8 +92,7 @@ pub(crate) fn run_or_stay(
     }
 }
 
-/// Hands on the starts that were made, behind what its caller has. Where a growth is refused, the caller has what it
-/// had.
+/// Appends the starts that were made to the caller's list. If it returns `Memory`, the list is unchanged.
 pub(crate) fn hand_on(
     arrivals: &[Arrival],
     made: &[(usize, u64)],

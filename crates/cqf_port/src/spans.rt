@@ -1,4 +1,4 @@
-//! How long the classes of a gate list stay open.
+//! The times for which the classes of a gate list stay open.
 ghost use Rattle.std.specs.Prelude.{◌≡◌, ◌+◌, ◌^◌, ◌<◌, ◌≤◌, ◌↔◌, ◌-◌, IsTrue, ℕ, slice_index_or};
 ghost use Rattle.cqf_port.specs.Spans.{AreLess, AreSpans, AreSpansAt, IsAhead, IsSpan};
 ghost use Rattle.cqf_port.specs.Quiet.{FitsNowhere};
@@ -9,23 +9,23 @@ use cqf_laws_network::mask_is_in_force;
 use cqf_units::Nanos;
 use std::marker::Model;
 
-/// A gate list, and for each of its entries how long each class stays open from the entry's first instant on. To those
-/// who hold it, it is the list.
+/// A gate list, and for each of its entries the time for which each class stays open from the entry's first instant on.
+/// To its users it is the list.
 #[derive(Debug, Drop)]
 pub(crate) struct Schedule {
     list: TxList,
-    /// By entry and class, in nanoseconds: 0 where the class is closed, and 2^64 - 1 where it never closes.
+    /// By entry and class, in nanoseconds: 0 if the class is closed, and 2^64 - 1 if it never closes.
     spans: [[u64; 8]; 16],
 }
 
-/// What comes behind the entry in force at an instant.
+/// What comes after the entry in force at an instant.
 #[derive(Clone, Copy, Debug)]
 pub(crate) struct Ahead {
-    /// The place of the next entry.
+    /// The index of the next entry.
     place: usize,
-    /// The instant at which that begins, in nanoseconds.
+    /// The instant at which that entry begins, in nanoseconds.
     begins: u64,
-    /// The instant from which on all is as it was, a round later.
+    /// The instant one round later, from which everything repeats.
     again: u64,
 }
 
@@ -40,7 +40,7 @@ impl Model for Schedule {
     ghost invariant = { λ schedule. AreSpans schedule.list schedule.spans };
 }
 
-/// For how long the class stays open from the instant on.
+/// Returns the time for which the class stays open from the instant on.
 fn span_at(list: &TxList, t: u64, class: u8) -> u64
     requires gate { class < 8 }
     requires early { t < 2 ^ 62 }
@@ -53,7 +53,7 @@ fn span_at(list: &TxList, t: u64, class: u8) -> u64
     }
 }
 
-/// For how long each class stays open from the instant on.
+/// Returns the time for which each class stays open from the instant on.
 fn row_at(list: &TxList, t: u64) -> [u64; 8]
     requires { t < 2 ^ 62 }
     ensures { AreSpansAt list.now t (2 ^ 63) result }
@@ -65,7 +65,7 @@ fn row_at(list: &TxList, t: u64) -> [u64; 8]
     row
 }
 
-/// The number with 64 bits.
+/// Returns the number as one of 64 bits.
 fn widened(nanoseconds: u32) -> u64
     ensures value { result ≡ nanoseconds }
     ensures short { result < 2 ^ 32 }
@@ -73,7 +73,7 @@ fn widened(nanoseconds: u32) -> u64
     u64::from(nanoseconds)
 }
 
-/// For how long each class stays open from the beginning of each entry on.
+/// Returns the time for which each class stays open from the beginning of each entry on.
 fn spans_of(list: &TxList) -> [[u64; 8]; 16]
     ensures { AreSpans list.now result }
 {
@@ -87,7 +87,7 @@ fn spans_of(list: &TxList) -> [[u64; 8]; 16]
     spans
 }
 
-/// The instant so many nanoseconds later.
+/// Returns the instant this many nanoseconds later.
 fn later_by(t: Nanos, nanoseconds: u32) -> Nanos
     requires { t.0 < 2 ^ 63 + 2 ^ 62 }
     ensures { result.0 ≡ t.0 + nanoseconds }
@@ -95,7 +95,7 @@ fn later_by(t: Nanos, nanoseconds: u32) -> Nanos
     Nanos(t.0 + u64::from(nanoseconds))
 }
 
-/// What is left of each of the spans behind so many nanoseconds.
+/// Returns what is left of each of the times after this many nanoseconds.
 fn less(row: [u64; 8], nanoseconds: u32) -> [u64; 8]
     ensures left { AreLess row nanoseconds result }
     ensures short { nanoseconds < 2 ^ 32 }
@@ -107,7 +107,7 @@ fn less(row: [u64; 8], nanoseconds: u32) -> [u64; 8]
     left
 }
 
-/// The entry behind one in force, and the instant at which it begins.
+/// Returns the entry after the one in force, and the instant at which it begins.
 fn entry_behind(list: &TxList, t: u64, place: usize, offset: u32) -> (usize, u64)
     requires force { InForce list.now t place offset }
     requires early { t < 2 ^ 63 + 2 ^ 62 + 2 ^ 38 }
@@ -125,7 +125,8 @@ fn entry_behind(list: &TxList, t: u64, place: usize, offset: u32) -> (usize, u64
     (after, t + widened(entries[place].1 - offset))
 }
 
-/// The first beginning of an entry, from one ahead on, from which the class stays open for so long, or one not before an end.
+/// Returns the first beginning of an entry, from the one ahead on, from which the class stays open for `need`
+/// nanoseconds, or, if there is none before `end`, the first beginning from `end` on.
 fn fit_from(
     list: &TxList,
     spans: &[[u64; 8]; 16],
@@ -157,7 +158,7 @@ fn fit_from(
 }
 
 impl Schedule {
-    /// The schedule of the list.
+    /// Returns the schedule of the list.
     pub(crate) fn new(list: TxList) -> Schedule
         ensures { result ≡ list }
     {
@@ -165,7 +166,7 @@ impl Schedule {
         Schedule { list, spans }
     }
 
-    /// Whether the class is open at the instant.
+    /// Returns whether the class is open at the instant.
     pub(crate) fn is_open(&self, t: Nanos, class: u8) -> bool
         requires { class < 8 }
         ensures { IsTrue result ↔ IsOpen self.now class t.0 }
@@ -173,7 +174,7 @@ impl Schedule {
         self.list.mask_at(t) & (1 << class) != 0
     }
 
-    /// How long the list takes before it repeats.
+    /// Returns the time after which the list repeats.
     pub(crate) fn round(&self) -> Nanos
         ensures value { result.0 ≡ round_of self.now }
         ensures some { 0 < result.0 }
@@ -182,7 +183,7 @@ impl Schedule {
         self.list.round()
     }
 
-    /// For how long each class stays open from the instant on.
+    /// Returns the time for which each class stays open from the instant on.
     pub(crate) fn left_at(&self, t: Nanos) -> [u64; 8]
         ensures { AreSpansAt self.now t.0 (2 ^ 62) result }
     {
@@ -191,7 +192,7 @@ impl Schedule {
         less(self.spans[place], offset)
     }
 
-    /// The instant at which the entry in force ends.
+    /// Returns the instant at which the entry in force ends.
     pub(crate) fn next_boundary(&self, t: Nanos) -> Nanos
         requires { t.0 < 2 ^ 63 + 2 ^ 62 }
         ensures later { t.0 < result.0 }
@@ -201,7 +202,7 @@ impl Schedule {
         later_by(t, self.list.entries()[place].1 - offset)
     }
 
-    /// What comes behind the entry in force at the instant.
+    /// Returns what comes after the entry in force at the instant.
     pub(crate) fn ahead(&self, t: Nanos) -> Ahead
         requires { t.0 < 2 ^ 63 + 2 ^ 62 }
         ensures { IsAhead self.now t.0 result.place result.begins result.again }
@@ -215,9 +216,10 @@ impl Schedule {
         }
     }
 
-    /// The first instant behind one at which the class doesn't stay open for so long from which on it does: the beginning
-    /// of an entry. It looks no further than a round, since what doesn't fit in one never does, and than the last instant;
-    /// where there is none up to that, it answers one past all that was looked at.
+    /// Returns the first instant after `t`, from which the class doesn't stay open for `need` nanoseconds, from which
+    /// it does: the beginning of an entry. It looks no further than one round, since what doesn't fit in a round never
+    /// does, and no further than `last`. If there is no such instant up to that, it returns one after all that it
+    /// examined.
     pub(crate) fn next_fit(&self, t: Nanos, class: u8, need: u64, ahead: Ahead, last: u64) -> Nanos
         requires gate { class < 8 }
         requires early { t.0 < 2 ^ 63 + 2 ^ 62 }

@@ -6,11 +6,11 @@ use Rattle.cqf_port.proofs.Chosen.{none_asked, asked_none, asked_some}
 use Rattle.cqf_port.proofs.choice.ask.Goals as goal
 use Rattle.cqf_port.proofs.choice.ask.Goals.{in-Some, in_default}
 
--- no class is asked for at first
+-- at first no class is set
 pub loop-class-init : goal.loop-class-init
 loop-class-init c = none_asked _ _ _ _ _ _ _ refl refl
 
--- one more class asks, or doesn't
+-- one more class is set, or isn't
 pub loop-class-preserved : goal.loop-class-preserved
 loop-class-preserved c =
     let octet_time = ticks_of_octet c.args.rate in

@@ -15,7 +15,7 @@ returns-then-is_open c = (
   λ was. refl,
 )
 
--- it was closed for as long as can tell
+-- the class was closed for a whole round or up to the end
 pub returns : goal.returns
 returns c = (
   λ yes. absurd (cc),

@@ -2,6 +2,6 @@ use Rattle.std.proofs.Common.{◌≢◌, ◌<◌, ◌≤◌, ℕ}
 use Rattle.cqf_model.specs.Port.{class_of}
 use Rattle.cqf_port.proofs.progress.next_of_class.Given as goal
 
--- no arrival of the class stands from the first place up to here
+-- no arrival of the class is between
 abbrev pub invariant-loop-place : goal.invariant-loop-place
 invariant-loop-place l = (other : ℕ) → l.first ≤ other → other < l.place → class_of l.arrivals other ≢ l.class

@@ -3,7 +3,7 @@ use Rattle.cqf_model.specs.GateList.{Entry, IsOpenThrough}
 use Rattle.cqf_port.proofs.Fitting.{nowhere_behind, nowhere_ever}
 use Rattle.cqf_port.proofs.spans.Schedule.next_fit.Goals as goal
 
--- it doesn't fit into what is left of the entry in force, nor behind that up to where it does
+-- it doesn't fit into the rest of the entry in force, nor after that until it does
 pub returns-then-fit-ahead-clause-nowhere : goal.returns-then-fit-ahead-clause-nowhere
 returns-then-fit-ahead-clause-nowhere c = nowhere_behind c.self.inside.list c.args.self.now c.args.t.0 c.args.ahead.place c.args.ahead.begins
     c.args.ahead.again c.args.class c.args.need c.fit_from-fit.result
