@@ -1,4 +1,4 @@
--- Pages that say the same give one book, and stand in the same order.
+-- Pages that say the same give the same book, and are in the same order.
 use Rattle.std.proofs.Common.{ℕ, ◌≡◌, ◌<◌, ◌≤◌, ◌∙◌, [], List, Some, arith, flat_map, inl, inr, length, map, slice_get, sym, ap, subst}
 use Rattle.std.proofs.lemmas.Bool.{cases_lt}
 use Rattle.std.proofs.lemmas.List.{get_or_past}
@@ -15,7 +15,7 @@ use Rattle.cqf_book.proofs.Copying.{said_at, said_count}
 
 module _ (pages others : ℕ → List Page) (bridges : ℕ)
     (same : (bridge : ℕ) → bridge < bridges → map said (pages bridge) ≡ map said (others bridge)) where
-  -- what stands on them is the same
+  -- their contents are the same
   pub same_on : {A : Type 0} (of_said : Said → List A) →
       on_pages (λ (page : Page). of_said (said page)) pages bridges ≡ on_pages (λ (page : Page). of_said (said page)) others bridges
   same_on of_said = same_below (λ bridge. flat_map (λ (page : Page). of_said (said page)) (pages bridge))
@@ -30,7 +30,7 @@ module _ (pages others : ℕ → List Page) (bridges : ℕ)
     drops = subst (λ (on : List Dropped). AreDropsInOrder on book.drops) (same_on (λ (s : Said). s.contents.drops)) is.drops;
   }
 
--- pages that say what those from before and the shares' say stand in order, so these do: none stands twice, and none is missing
+-- pages that say what those from before and the shares' say are without doubles or gaps, so the latter are too
 module _ (opening posted : Posted) (shares : List Own) (before : ArePosted opening) (are : ArePosted posted)
     (agree : Agree opening shares posted opening.bridges) where
   -- the rows of pages, by bridge
@@ -41,7 +41,7 @@ module _ (opening posted : Posted) (shares : List Own) (before : ArePosted openi
   one_each : length rows ≡ opening.bridges
   one_each = length-singles (all_pages_of opening shares) opening.bridges
 
-  -- a bridge's, and none of a bridge that isn't one of the bridges
+  -- the row of a bridge, and none for a bridge that doesn't exist
   row_at : (bridge : ℕ) → bridge < opening.bridges → pages_of (with_shares opening shares) bridge ≡ all_pages_of opening shares bridge
   row_at bridge inside = get_or-singles (all_pages_of opening shares) opening.bridges bridge [] inside
 
@@ -63,7 +63,7 @@ module _ (opening posted : Posted) (shares : List Own) (before : ArePosted openi
     | inr past ↦ omega (arith, ap length (row_past bridge past))
   ]
 
-  -- each page is of the bridge and the cycle at whose place it stands
+  -- each page is of the bridge and the cycle at whose index it is
   row_in_place : (bridge cycle : ℕ) (page : Page) → page_at (with_shares opening shares) bridge cycle ≡ Some page →
       (page.bridge ≡ bridge) × (page.cycle.0 ≡ cycle)
   row_in_place bridge cycle page found = elim (cases_lt bridge opening.bridges) [
@@ -75,7 +75,7 @@ module _ (opening posted : Posted) (shares : List Own) (before : ArePosted openi
     | inr past ↦ absurd (none-some page (sym (ap (λ (row : List Page). slice_get row cycle) (row_past bridge past)) ∙ found))
   ]
 
-  -- so the shares' pages behind those from before stand in order
+  -- so the pages from before, followed by the shares', are without doubles or gaps
   pub shares_posted : ArePosted (with_shares opening shares)
   shares_posted = record {
     few_bridges = before.few_bridges;

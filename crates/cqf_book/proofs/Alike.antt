@@ -1,4 +1,4 @@
--- Lists of pages that say the same, place by place and part by part.
+-- Lists of pages that say the same, index by index and part by part.
 use Rattle.std.proofs.Common.{ℕ, ◌≡◌, ◌<◌, ◌++◌, ◌∙◌, List, ap, arith, drop, get_or, length, map, sym, take}
 use Rattle.std.proofs.Math.ListN.{get_or-map}
 use Rattle.std.proofs.Math.Seq.{drop-length}
@@ -7,7 +7,7 @@ use Rattle.cqf_model.specs.declared.frames.Page.{Page}
 use Rattle.cqf_book.specs.Shares.{Said, said}
 use Rattle.cqf_book.proofs.Copying.{said_count}
 
--- at each place they have pages that say the same
+-- at each index they have pages that say the same
 pub alike_at : (pages others : List Page) → map said pages ≡ map said others → (place : ℕ) (page other : Page) → place < length pages →
     page ≡ get_or pages place page → other ≡ get_or others place other → said page ≡ said other
 alike_at pages others same place page other inside is is_other =
@@ -16,16 +16,16 @@ alike_at pages others same place page other inside is is_other =
     ∙ get_or-map said others place page ∙ sym (ap said (get_or_read others place other there is_other page))
 
 module _ (pages earlier later : List Page) where
-  -- how many come first
+  -- the number of earlier pages
   abbrev many : ℕ
   many = length earlier
 
-  -- pages that say what the earlier and the later ones say do so in front
+  -- pages that say what the earlier and the later ones say agree with the earlier ones at the front
   pub front_alike : map said pages ≡ map said (earlier ++ later) → map said (take many pages) ≡ map said earlier
   front_alike same = sym (take-map said many pages) ∙ ap (take many) same ∙ take-map said many (earlier ++ later)
       ∙ ap (map said) (take-append-le many earlier later (omega arith) ∙ take_all many earlier (omega arith))
 
-  -- and behind
+  -- and with the later ones after that
   pub back_alike : map said pages ≡ map said (earlier ++ later) → map said (drop many pages) ≡ map said later
   back_alike same = sym (drop-map said many pages) ∙ ap (drop many) same ∙ drop-map said many (earlier ++ later)
       ∙ ap (map said) (drop-append-le many earlier later (omega arith) ∙ ap (λ (row : List Page). row ++ later) (drop-length earlier))

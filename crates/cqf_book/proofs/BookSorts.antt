@@ -1,4 +1,4 @@
--- One stable sort puts drops, and starts, into the order of a book.
+-- A stable sort puts drops, and starts, into the order of a book.
 use Rattle.std.proofs.Common.{ℕ, ◌≡◌, List, refl}
 use Rattle.std.specs.List.{All}
 use Rattle.std.proofs.lemmas.List.Elements.{All-weaker}

@@ -1,4 +1,4 @@
--- Pages that say the same as pages without doubles or gaps have none either, and the same totals.
+-- Pages that say the same as pages without doubles or gaps have none either, and have the same totals.
 use Rattle.std.proofs.Common.{ℕ, ◌≡◌, ◌∙◌, [], List, Option, Some, None, length, map, slice_get, get_or, sum_by, sym, refl, ap, arith}
 use Rattle.std.specs.Option.{option_map}
 use Rattle.std.proofs.Math.ListN.{get_or-map}
@@ -15,21 +15,21 @@ use Rattle.cqf_book.specs.Totals.{AreKeptTotals, count_of_pages}
 abbrev rows_said : List (List Page) → List (List Said)
 rows_said rows = map (map said) rows
 
--- a sum over all pages hangs on what they say
+-- a sum over all pages depends only on what they say
 pub summed : (of_said : Said → ℕ) (rows : List (List Page)) → sum_by (λ row. sum_by of_said row) (rows_said rows)
     ≡ over_pages (λ (page : Page). of_said (said page)) rows
 summed of_said rows = sum_map (λ row. sum_by of_said row) (map said) rows ∙ (λ i. sum_by (λ (row : List Page). sum_map of_said said row i) rows)
 
--- so does how many there are
+-- and so does their number
 counted : (rows : List (List Page)) → sum_by (λ (row : List Said). length row) (rows_said rows) ≡ count_of_pages rows
 counted rows = sum_map (λ (row : List Said). length row) (map said) rows ∙ (λ i. sum_by (λ (row : List Page). length-map row said i) rows)
 
--- what an answer made of another is made of
+-- an option that is mapped has a value only if the original has
 from_map : {A B : Type 0} (f : A → B) (o : Option A) (y : B) → option_map f o ≡ Some y → (x : A) × (o ≡ Some x) × (f x ≡ y)
 from_map f (Some x) y h = (x, refl, same_Some (f x) y h)
 from_map f None y h = absurd (none-some y h)
 
--- of pages that say the same, those at one place do
+-- if lists of pages say the same, so do the pages at each index
 pub said_at : (pages others : List Page) → map said others ≡ map said pages → (place : ℕ) (page : Page) → slice_get others place ≡ Some page →
     (p : Page) × (slice_get pages place ≡ Some p) × (said p ≡ said page)
 said_at pages others same place page found = from_map said (slice_get pages place) (said page)
@@ -50,7 +50,7 @@ module _ (posted other : Posted) (same : rows_said other.pages ≡ rows_said pos
   same_count : (bridge : ℕ) → page_count other bridge ≡ page_count posted bridge
   same_count bridge = said_count (pages_of posted bridge) (pages_of other bridge) (same_row bridge)
 
-  -- the page at a place says the same
+  -- the page at an index says the same
   same_page : (bridge cycle : ℕ) (page : Page) → page_at other bridge cycle ≡ Some page → (p : Page) × (page_at posted bridge cycle ≡ Some p)
       × (said p ≡ said page)
   same_page bridge cycle page found = said_at (pages_of posted bridge) (pages_of other bridge) (same_row bridge) cycle page found
@@ -61,7 +61,7 @@ module _ (posted other : Posted) (same : rows_said other.pages ≡ rows_said pos
   same_sum of_said = sym (summed of_said other.pages) ∙ ap (λ (rows : List (List Said)). sum_by (λ row. sum_by of_said row) rows) same
       ∙ summed of_said posted.pages
 
-  -- no page twice and none missing
+  -- there are no doubles or gaps
   copy_posted : other.bridges ≡ posted.bridges → other.cycles ≡ posted.cycles → ArePosted posted → ArePosted other
   copy_posted bridges cycles facts = record {
     few_bridges = omega (arith, facts.few_bridges, bridges);
@@ -74,7 +74,7 @@ module _ (posted other : Posted) (same : rows_said other.pages ≡ rows_said pos
         (sym (ap (λ (s : Said). s.bridge) p.2) ∙ place.0, sym (ap (λ (s : Said). s.cycle) p.2) ∙ place.1);
   }
 
-  -- and the same totals
+  -- the totals are the same
   pub copy_kept : (frames octets frames_again octets_again : List ℕ) → other.bridges ≡ posted.bridges → other.cycles ≡ posted.cycles
       → frames_again ≡ frames → octets_again ≡ octets → AreKeptTotals posted frames octets → AreKeptTotals other frames_again octets_again
   copy_kept frames octets frames_again octets_again bridges cycles is_frames is_octets kept =

@@ -62,11 +62,11 @@ none_kept bridges cycles pages frames octets few_bridges few_cycles is_pages is_
     (subst (λ (os : List ℕ). AreKeptTotals (record { bridges = bridges; cycles = cycles; pages = replicate bridges [] }) (replicate 65536 0) os) (sym is_octets)
     (record { posted_so = none_posted bridges cycles few_bridges few_cycles; totals = none_totals bridges })))
 
--- rows of pages, of which a bridge's has one more page
+-- the rows of pages, with one more page in a bridge's row
 abbrev rows_with : List (List Page) → ℕ → Page → List (List Page)
 rows_with rows bridge page = set rows bridge (get_or rows bridge [] ++ page ∷ [])
 
--- what the rows of pages count together, once one has one more page
+-- a sum over all pages, after one more page in a row
 sum_with : (f : Page → ℕ) (rows : List (List Page)) (bridge : ℕ) (page : Page) → bridge < length rows
     → over_pages f (rows_with rows bridge page) ≡ over_pages f rows + f page
 sum_with f rows bridge page inside =
@@ -80,7 +80,7 @@ count_with rows bridge page inside =
     let own = get_or rows bridge [] in
     omega (arith, sum_by-set (λ (row : List Page). length row) rows bridge (own ++ page ∷ []) [] inside, length_push own page)
 
--- the totals, once a page's starts are added
+-- the totals, after a page's starts are added
 totals_with : (rows : List (List Page)) (bridge : ℕ) (page : Page) (frames octets frames_after octets_after : List ℕ) → bridge < length rows
     → AreTotals rows frames octets → AreAdded page.starts.items frames octets frames_after octets_after → AreFewTotals page.starts.items
     → AreTotals (rows_with rows bridge page) frames_after octets_after
@@ -97,7 +97,7 @@ totals_with rows bridge page frames octets frames_after octets_after inside befo
   few_octets = λ link below. omega (arith, added.octets_add link below, before.few_octets link below, few.few_octets link, count_with rows bridge page inside);
 }
 
--- a row's page at a place, once one more stands behind
+-- a row's page at an index, after one more is appended
 pushed_at : (row : List Page) (page other : Page) (place : ℕ) → slice_get (row ++ page ∷ []) place ≡ Some other
     → (slice_get row place ≡ Some other) ⊎ ((place ≡ length row) × (page ≡ other))
 pushed_at [] page other zero found = inr (refl, same_Some page other found)
@@ -108,7 +108,7 @@ pushed_at (first ∷ row) page other (suc place) found = elim (pushed_at row pag
   | inr last ↦ inr (omega (arith, last.0), last.1)
 ]
 
--- the pages of a bridge, once a page is added: its own have one more, the others' are as they were
+-- the pages of a bridge, after a page is added: its own has one more, the others are unchanged
 row_with : (posted : Posted) (page : Page) (bridge : ℕ) → page.bridge < length posted.pages
     → ((bridge ≡ page.bridge) × (pages_of (with_page posted page) bridge ≡ pages_of posted page.bridge ++ page ∷ []))
     ⊎ (pages_of (with_page posted page) bridge ≡ pages_of posted bridge)
@@ -119,7 +119,7 @@ row_with posted page bridge inside =
       | inr differs ↦ inr (get_or-set_other posted.pages page.bridge bridge own [] differs)
     ]
 
--- the next page keeps what pages keep
+-- the next page keeps the invariant of the pages
 pub next_posted : (posted : Posted) (page : Page) → ArePosted posted → IsNextPage posted page → ArePosted (with_page posted page)
 next_posted posted page before next =
     let inside : page.bridge < length posted.pages = omega (arith, before.each_bridge, next.0) in
@@ -140,7 +140,7 @@ next_posted posted page before next =
       ];
     }
 
--- so do they with their totals, where the bridge's row is written anew
+-- and of their totals, with the bridge's row replaced
 pub next_kept : (posted : Posted) (page : Page) (frames octets frames_after octets_after : List ℕ) (bridge : ℕ) (own row : List Page)
     → AreKeptTotals posted frames octets → bridge ≡ page.bridge → IsNextPage posted page → own ≡ get_or posted.pages bridge own
     → row ≡ own ++ page ∷ [] → AreAdded page.starts.items frames octets frames_after octets_after → AreFewTotals page.starts.items
@@ -158,7 +158,7 @@ next_kept posted page frames octets frames_after octets_after bridge own row bef
       totals = totals_with posted.pages page.bridge page frames octets frames_after octets_after inside before.totals added few;
     })
 
--- a row that is written as it was changes nothing
+-- replacing a row by itself changes nothing
 pub same_kept : (posted : Posted) (frames octets frames_after octets_after : List ℕ) (bridge : ℕ) (own row : List Page)
     → AreKeptTotals posted frames octets → bridge < posted.bridges → own ≡ get_or posted.pages bridge own
     → row ≡ own → frames_after ≡ frames → octets_after ≡ octets
@@ -171,7 +171,7 @@ same_kept posted frames octets frames_after octets_after bridge own row before o
     (subst (λ (fs : List ℕ). at posted.pages fs octets_after) (sym is_frames)
     (subst (λ (os : List ℕ). at posted.pages frames os) (sym is_octets) before))
 
--- the totals of as many pages as there may be have room for one more
+-- the totals of the most pages that there may be have room for one more
 pub room_for_next : (posted : Posted) (frames octets : List ℕ) → AreKeptTotals posted frames octets → HaveTotalsRoom frames octets
 room_for_next posted frames octets kept =
     let rows = posted.pages in

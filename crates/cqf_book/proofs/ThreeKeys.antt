@@ -1,4 +1,4 @@
--- A stable sort by three keys, one after the other, gives the elements of each triple of keys in turn, as they were.
+-- A stable sort by three keys gives the elements of each triple of keys in turn, in their order.
 use Rattle.std.proofs.Common.{ℕ, ◌≡◌, ◌<◌, ◌≤◌, ◌==◌, ◌∙◌, ◌&&◌, Bool, true, false, not, List, filter, get_or, refl, sym, ap, subst, inl, inr, arith}
 use Rattle.std.specs.Cmp.{IsStrictWeakOrder}
 use Rattle.std.specs.List.{All}
@@ -15,7 +15,7 @@ use Rattle.cqf_lists.specs.Lists.{each_below}
 use Rattle.cqf_lists.proofs.EachBelow.{filter_twice, same_below}
 use Rattle.cqf_lists.proofs.Keys.{by_key}
 
--- where the answer `Less` passes a test and the answer at two numbers fails it, the first isn't below the second
+-- if `Less` passes a test and the comparison of two numbers fails it, the first isn't below the second
 not_below : (a b : ℕ) (test : Ordering → Bool) → test Less ≡ true → test (nat_cmp a b) ≡ false → b ≤ a
 not_below a b test passes fails =
     elim (cases_lt a b) [
@@ -26,17 +26,17 @@ not_below a b test passes fails =
     is_less : a < b → nat_cmp a b ≡ Less
     is_less lt = rw (lt-ltb a b lt) refl
 
--- numbers that are the same compare so
+-- equal numbers compare as equal
 same_compare : (a b : ℕ) → a ≡ b → nat_cmp a b ≡ Equal
 same_compare a b same = rw (le-ltb a b (omega (arith, same)), eq-eqb a b same) refl
 
--- of three comparisons, the last two may come first
+-- of three comparisons, the last two may be combined first
 then-assoc : (o p q : Ordering) → ordering_then (ordering_then o p) q ≡ ordering_then o (ordering_then p q)
 then-assoc Less p q = refl
 then-assoc Equal p q = refl
 then-assoc Greater p q = refl
 
--- what is the same behind a comparison doesn't count
+-- a comparison followed by `Equal` is the comparison
 then-equal : (o : Ordering) → ordering_then o Equal ≡ o
 then-equal Less = refl
 then-equal Equal = refl
@@ -46,7 +46,7 @@ then-equal Greater = refl
 abbrev are_tied : Ordering → Ordering → Bool
 are_tied there back = not (is_lt there) && not (is_lt back)
 
--- two tie by a number and then by more just where the number is the same and they tie by the rest
+-- two elements tie if and only if their first numbers are equal and they tie by the rest
 ties_then : (a b : ℕ) (there back : Ordering) →
     are_tied (ordering_then (nat_cmp a b) there) (ordering_then (nat_cmp b a) back) ≡ ((b == a) && are_tied there back)
 ties_then a b there back = elim (cases_order a b) [
@@ -59,7 +59,7 @@ ties_then a b there back = elim (cases_order a b) [
   ]
 ]
 
--- a test and no other
+-- a test and true
 and-true : (a : Bool) → (a && true) ≡ a
 and-true true = refl
 and-true false = refl
@@ -79,13 +79,13 @@ and-turned false false false = refl
 abbrev compared : ℕ → ℕ → ℕ → ℕ → ℕ → ℕ → Ordering
 compared a b c d e f = ordering_then (ordering_then (nat_cmp a d) (nat_cmp b e)) (nat_cmp c f)
 
--- the same, one behind the other
+-- the same, one after the other
 compared_in_turn : (a b c d e f : ℕ) → compared a b c d e f ≡ ordering_then (nat_cmp a d) (ordering_then (nat_cmp b e) (ordering_then (nat_cmp c f) Equal))
 compared_in_turn a b c d e f =
     then-assoc (nat_cmp a d) (nat_cmp b e) (nat_cmp c f)
     ∙ ap (λ o. ordering_then (nat_cmp a d) (ordering_then (nat_cmp b e) o)) (sym (then-equal (nat_cmp c f)))
 
--- three numbers tie with three just where they are the same one by one
+-- two triples of numbers tie if and only if they are equal one by one
 three_tie : (a b c d e f : ℕ) → are_tied (compared a b c d e f) (compared d e f a b c) ≡ ((d == a) && ((e == b) && (f == c)))
 three_tie a b c d e f =
     ap (λ o. are_tied o (compared d e f a b c)) (compared_in_turn a b c d e f)
@@ -94,7 +94,7 @@ three_tie a b c d e f =
     ∙ ap (λ t. (d == a) && t) (ties_then b e (ordering_then (nat_cmp c f) Equal) (ordering_then (nat_cmp f c) Equal))
     ∙ ap (λ t. (d == a) && ((e == b) && t)) (ties_then c f Equal Equal ∙ and-true (f == c))
 
--- of a sorted list, the elements that pass a test are, key by key, those with that key, where keys rise among them
+-- of a sorted list, the elements that pass a test are, key by key, those with that key, if keys don't decrease among them
 kept_by_key : {X : Type 0} (lt : X → X → Bool) → IsStrictWeakOrder lt → (key : X → ℕ) (p : X → Bool)
     → ((x y : X) → p x ≡ true → p y ≡ true → lt y x ≡ false → key x ≤ key y)
     → (n : ℕ) (xs : List X) → IsSortedBy lt xs → All (λ x. key x < n) xs
@@ -126,30 +126,30 @@ module _ {X : Type 0} (first second third : X → ℕ) where
   abbrev pub goes_before : X → X → Bool
   goes_before x y = is_lt (compared (first x) (second x) (third x) (first y) (second y) (third y))
 
-  -- what a stable sort by three keys says of the list before and after it
+  -- the properties of a stable sort by three keys
   pub record SortsByThree (before after : List X) : Type 0 where
     pub moved : IsPermutation before after
     pub sorted : IsSortedBy goes_before after
     pub stable : IsStableBy goes_before before after
 
-  -- three keys order what has them
+  -- the order by three keys is a strict weak order
   goes_before_orders : IsStrictWeakOrder goes_before
   goes_before_orders =
       ranks_by (then_total (then_total (on_total first nat_cmp_total) (on_total second nat_cmp_total)) (on_total third nat_cmp_total)) (λ x. x)
 
-  -- the first key rises
+  -- the first key doesn't decrease
   first_rises : (x y : X) → goes_before y x ≡ false → first x ≤ first y
   first_rises x y up =
       not_below (first y) (first x) (λ o. is_lt (ordering_then (ordering_then o (nat_cmp (second y) (second x))) (nat_cmp (third y) (third x)))) refl up
 
-  -- and the second, where the first is the same
+  -- the second doesn't, if the first is the same
   second_rises : (x y : X) → first y ≡ first x → goes_before y x ≡ false → second x ≤ second y
   second_rises x y same up =
       not_below (second y) (second x) (λ o. is_lt (ordering_then o (nat_cmp (third y) (third x)))) refl
       (subst (λ (o : Ordering). is_lt (ordering_then (ordering_then o (nat_cmp (second y) (second x))) (nat_cmp (third y) (third x))) ≡ false)
       (same_compare (first y) (first x) same) up)
 
-  -- and the third, where the first two are the same
+  -- the third doesn't, if the first two are the same
   third_rises : (x y : X) → first y ≡ first x → second y ≡ second x → goes_before y x ≡ false → third x ≤ third y
   third_rises x y same alike up =
       not_below (third y) (third x) is_lt refl
@@ -160,7 +160,7 @@ module _ {X : Type 0} (first second third : X → ℕ) where
 module _ {X : Type 0} (first second third : X → ℕ) (probe : ℕ → ℕ → ℕ → X)
     (is_first : (a b c : ℕ) → first (probe a b c) ≡ a) (is_second : (a b c : ℕ) → second (probe a b c) ≡ b)
     (is_third : (a b c : ℕ) → third (probe a b c) ≡ c) where
-  -- a stable sort keeps the elements of each triple of keys as they were
+  -- a stable sort keeps the elements of each triple of keys in their order
   kept_keys : (before after : List X) → IsStableBy (goes_before first second third) before after → (a b c : ℕ)
       → filter (has_keys first second third a b c) after ≡ filter (has_keys first second third a b c) before
   kept_keys before after stable a b c =

@@ -1,4 +1,4 @@
--- The order of a book's drops, and of its starts.
+-- The order of a book's drops and starts.
 use Rattle.std.specs.Prelude.{ℕ, ◌<◌, ◌==◌, ◌&&◌, Bool, List, filter}
 use Rattle.cqf_model.specs.declared.frames.Dropped.{Dropped}
 use Rattle.cqf_model.specs.declared.frames.Started.{Started}
@@ -10,11 +10,11 @@ pub record IsDropBelow (cycles bridges frames : ℕ) (drop : Dropped) : Type 0 w
   pub bridge : drop.bridge < bridges
   pub frame : drop.frame < frames
 
--- the drop is of this cycle, bridge and frame
+-- the drop has this cycle, bridge and frame
 abbrev pub is_drop_of : ℕ → ℕ → ℕ → Dropped → Bool
 is_drop_of cycle bridge frame drop = (drop.cycle.0 == cycle) && ((drop.bridge == bridge) && (drop.frame == frame))
 
--- the drops of each cycle, bridge and frame below these, in this order
+-- the drops for each cycle, bridge and frame below these bounds, in this order
 abbrev pub in_book_order : ℕ → ℕ → ℕ → List Dropped → List Dropped
 in_book_order cycles bridges frames drops =
     each_below (λ cycle. each_below (λ bridge. each_below (λ frame. filter (is_drop_of cycle bridge frame) drops) frames) bridges) cycles
@@ -25,11 +25,11 @@ pub record IsStartBelow (cycles links instants : ℕ) (start : Started) : Type 0
   pub link : start.link < links
   pub instant : start.start.0 < instants
 
--- the start is of this cycle, on this link and at this instant
+-- the start has this cycle, link and instant
 abbrev pub is_start_of : ℕ → ℕ → ℕ → Started → Bool
 is_start_of cycle link instant start = (start.cycle.0 == cycle) && ((start.link == link) && (start.start.0 == instant))
 
--- the starts of each cycle, link and instant below these, in this order
+-- the starts for each cycle, link and instant below these bounds, in this order
 abbrev pub starts_in_book_order : ℕ → ℕ → ℕ → List Started → List Started
 starts_in_book_order cycles links instants starts =
     each_below (λ cycle. each_below (λ link. each_below (λ instant. filter (is_start_of cycle link instant) starts) instants) links) cycles

@@ -3,5 +3,5 @@ pub mod Faults
 pub mod Pages
 pub mod Shares
 pub mod Totals
--- what the inner functions say
+-- for the contracts of inner functions
 pub mod Whole

@@ -26,7 +26,7 @@ impl Model for BridgePages {
 }
 
 impl BridgePages {
-    /// No page. It takes no memory yet.
+    /// Returns no pages. Allocates nothing yet.
     pub(crate) fn new(alloc: Global) -> BridgePages
         ensures { result ≡ [] }
     {
@@ -35,28 +35,28 @@ impl BridgePages {
         }
     }
 
-    /// How many pages there are.
+    /// Returns the number of pages.
     pub(crate) fn len(&self) -> usize
         ensures { result ≡ length self.now }
     {
         self.pages.len()
     }
 
-    /// The page at a place, where there is one.
+    /// Returns the page at an index, if there is one.
     pub(crate) fn get(&self, place: usize) -> Option<&Page>
         ensures { option_copied result ≡ slice_get self.now place }
     {
         self.pages.get(place)
     }
 
-    /// The pages, in order of cycle.
+    /// Returns the pages, in order of cycle.
     pub(crate) fn as_slice(&self) -> &[Page]
         ensures { result.now ≡ self.now }
     {
         self.pages.as_slice()
     }
 
-    /// Pages that say the same, unless memory runs out.
+    /// Returns pages that say the same, or `Memory` if an allocation fails.
     pub(crate) fn try_copy(&self, alloc: Global) -> Result<BridgePages, Memory>
         ensures { IfOk result (λ copy. map said copy ≡ map said self.now) }
     {
@@ -65,8 +65,8 @@ impl BridgePages {
         })
     }
 
-    /// Puts the page behind the others, and adds its starts to the totals. Where a growth is refused, the pages and the
-    /// totals are as they were, and the page comes back.
+    /// Appends the page, and adds its starts to the totals. If an allocation fails, the pages and the totals are
+    /// unchanged, and the page is returned.
     pub(crate) fn push(&mut self, page: Page, totals: &mut LinkTotals) -> Result<(), Page>
         requires { HaveTotalsRoom totals.old.frames.items totals.old.octets.items }
         ensures ok { OnOk result (self.new ≡ self.old ++ page ∷ []) }

@@ -1,4 +1,4 @@
-//! The book of the pages that were posted, where the shares agree with them.
+//! The book of the posted pages, if the shares agree with them.
 ghost use Rattle.std.specs.Prelude.{◌≡◌, ◌<◌, ◌↔◌, ◌++◌, IfErr, IfNone, IfOk, IfSome, IsErrOf, OnOk, count_by, find, map, option_copied, true};
 ghost use Rattle.std.specs.List.{flat_map};
 ghost use Rattle.cqf_model.specs.Book.{contents_of};
@@ -16,7 +16,7 @@ use cqf_model::{Book, Page};
 use cqf_units::Memory;
 use std::alloc::Global;
 
-/// How many of the shares are the bridge's.
+/// Returns the number of the shares that are the bridge's.
 fn count_of(shares: &[Share], bridge: u16) -> usize
     ensures { result ≡ count_by (is_of bridge) shares.now }
 {
@@ -26,7 +26,7 @@ fn count_of(shares: &[Share], bridge: u16) -> usize
         .count()
 }
 
-/// Whether there is one share of each of so many bridges, and no other.
+/// Returns whether there is one share for each of the first bridges, and no other.
 fn are_one_each(shares: &[Share], bridges: u16) -> bool
     ensures { (result ≡ true) ↔ AreOneEach bridges shares.now }
 {
@@ -41,14 +41,14 @@ fn are_one_each(shares: &[Share], bridges: u16) -> bool
     true
 }
 
-/// The bridge's share, the first where there are several.
+/// Returns the bridge's share, the first one if there are several.
 fn share_of(shares: &[Share], bridge: u16) -> Option<&Share>
     ensures { option_copied result ≡ find (is_of bridge) shares.now }
 {
     shares.iter().find(|share| share.bridge() == bridge)
 }
 
-/// The pages in the bridge's share; none where there is no such share.
+/// Returns the pages in the bridge's share, or none if there is no such share.
 fn share_pages(shares: &[Share], bridge: u16) -> &[Page]
     ensures { result.now ≡ pages_by shares.now bridge }
 {
@@ -58,7 +58,7 @@ fn share_pages(shares: &[Share], bridge: u16) -> &[Page]
     }
 }
 
-/// Whether pages say what the earlier and the later ones say, one behind the other.
+/// Returns whether the pages say what the earlier and the later ones say, in this order.
 fn continues(pages: &[Page], earlier: &[Page], later: &[Page]) -> bool
     ensures { (result ≡ true) ↔ (map said pages.now ≡ map said (earlier.now ++ later.now)) }
 {
@@ -72,7 +72,7 @@ fn continues(pages: &[Page], earlier: &[Page], later: &[Page]) -> bool
     are_same(behind, later)
 }
 
-/// The least bridge whose pages aren't those from before and its share's behind them, where there is one.
+/// Returns the first bridge whose pages aren't those from before followed by its share's, if there is one.
 fn first_to_disagree(opening: &Pages, posted: &Pages, shares: &[Share]) -> Option<u16>
     ensures none { IfNone result (Agree opening.now shares.now posted.now opening.now.bridges) }
     ensures least { IfSome result (λ bridge. IsLeastToDisagree opening.now shares.now posted.now bridge) }
@@ -93,7 +93,7 @@ fn first_to_disagree(opening: &Pages, posted: &Pages, shares: &[Share]) -> Optio
     None
 }
 
-/// Puts what stands on the pages behind what the book has.
+/// Appends the contents of the pages to the book.
 fn add_pages(book: &mut Book, pages: &[Page]) -> Result<(), Memory>
     ensures starts { OnOk result (book.new.starts.items ≡ book.old.starts.items ++ flat_map (λ page. page.starts.items) pages.now) }
     ensures background { OnOk result (book.new.background.items ≡ book.old.background.items ++ flat_map (λ page. page.background.items) pages.now) }
@@ -108,7 +108,7 @@ fn add_pages(book: &mut Book, pages: &[Page]) -> Result<(), Memory>
     Ok(())
 }
 
-/// What stands on the pages of the first bridges, so many of them, bridge by bridge and page by page.
+/// Returns the contents of the pages of the first bridges, bridge by bridge and page by page.
 fn gathered(alloc: Global, posted: &Pages, bridges: u16) -> Result<Book, Memory>
     ensures starts { IfOk result (λ book. book.starts.items ≡ on_pages (λ page. page.starts.items) (pages_of posted.now) bridges) }
     ensures background { IfOk result (λ book. book.background.items ≡ on_pages (λ page. page.background.items) (pages_of posted.now) bridges) }
@@ -125,8 +125,8 @@ fn gathered(alloc: Global, posted: &Pages, bridges: u16) -> Result<Book, Memory>
     Ok(book)
 }
 
-/// The book of the pages of the first bridges, so many of them: what stands on them, in the order of a book. `Memory` where a growth
-/// is refused.
+/// Returns the book of the pages of the first `bridges` bridges: their contents, in the order of a book. Returns
+/// `Memory` if an allocation fails.
 pub fn book_of(alloc: Global, posted: &Pages, bridges: u16) -> Result<Book, Memory>
     ensures { IfOk result (λ book. IsBookOfPages (pages_of posted.now) bridges (contents_of book)) }
 {
@@ -137,7 +137,7 @@ pub fn book_of(alloc: Global, posted: &Pages, bridges: u16) -> Result<Book, Memo
     Ok(book)
 }
 
-/// Refused where the shares aren't one of each bridge, or don't agree with the pages that were posted. It asks for no memory.
+/// Returns a fault if the shares aren't one for each bridge, or don't agree with the posted pages. Asks for no memory.
 pub(crate) fn check_shares(
     opening: &Pages,
     posted: &Pages,
@@ -162,7 +162,7 @@ pub(crate) fn check_shares(
     Ok(())
 }
 
-/// The book of the pages that were posted, where the shares are one of each bridge and agree with them.
+/// Returns the book of the posted pages, if the shares are one for each bridge and agree with the pages.
 pub(crate) fn closed(
     alloc: Global,
     opening: &Pages,

@@ -1,4 +1,4 @@
-//! A book that bridges write in threads of their own, each by its share.
+//! A book that bridges write from threads of their own, each through its share.
 ghost use Rattle.std.specs.Prelude.{◌≡◌, ◌≢◌, ◌↔◌, ◌≤◌, ◌+◌, ◌⊎◌, IfErr, IfNone, IfOk, IsErrOf, OnErr, OnOk, Some, vec_len, vec_capacity};
 ghost use Rattle.cqf_model.specs.Book.{contents_of};
 ghost use Rattle.cqf_book.specs.Faults.{IsBookCloseFault, IsPostFault};
@@ -17,7 +17,7 @@ use std::alloc::Global;
 use std::marker::Model;
 use std::sync::{Mutex, Wait};
 
-/// What a bridge has in a [`CycleBook`]: its number, and the pages that it has posted there.
+/// A bridge's part of a [`CycleBook`]: its number, and the pages that it has posted there.
 #[derive(Debug, Drop)]
 pub struct Share {
     bridge: u16,
@@ -33,14 +33,14 @@ impl Model for Share {
 }
 
 impl Share {
-    /// The number of the share's bridge.
+    /// Returns the number of the share's bridge.
     pub fn bridge(&self) -> u16
         ensures { result ≡ self.now.bridge }
     {
         self.bridge
     }
 
-    /// The pages that the bridge has posted by this share, in order.
+    /// Returns the pages that the bridge has posted through this share, in order.
     pub fn pages(&self) -> &[Page]
         ensures { result.now ≡ self.now.pages }
     {
@@ -48,7 +48,7 @@ impl Share {
     }
 }
 
-/// The shares of so many bridges, by number, that have posted nothing.
+/// Returns the shares of the first bridges, in order of number, which have posted nothing.
 fn one_each(alloc: Global, bridges: u16) -> Result<Vec<Share>, Memory>
     ensures { IfOk result (λ shares. shares.items ≡ new_shares bridges) }
 {
@@ -62,7 +62,8 @@ fn one_each(alloc: Global, bridges: u16) -> Result<Vec<Share>, Memory>
     Ok(shares)
 }
 
-/// A page that says the same, with room for a page more among those there, unless memory runs out.
+/// Returns a page that says the same, and makes room for one more page in the list. Returns `Memory` if an allocation
+/// fails; the list then has the same pages.
 fn copy_with_room(pages: &mut Vec<Page>, page: &Page) -> Result<Page, Memory>
     ensures same { pages.new.items ≡ pages.old.items }
     ensures room { OnOk result (vec_len pages.new + 1 ≤ vec_capacity pages.new) }
@@ -73,7 +74,7 @@ fn copy_with_room(pages: &mut Vec<Page>, page: &Page) -> Result<Page, Memory>
     Ok(copy)
 }
 
-/// The totals of now, unless they are fewer than those of before.
+/// Returns the current totals, or the earlier ones if a current number is below the earlier one.
 fn no_fewer(before: Totals, now: Totals) -> Totals
     ensures one { (result ≡ before) ⊎ (result ≡ now) }
     ensures frames { before.frames ≤ result.frames }
@@ -86,14 +87,14 @@ fn no_fewer(before: Totals, now: Totals) -> Totals
     }
 }
 
-/// A book that several threads write, each for a bridge of its own: [`Pages`] under a lock. Contracts see it as the pages
-/// that it was made of; what was posted since is known once the book is closed.
+/// A book that several threads write, each for a bridge of its own: [`Pages`] under a lock. Contracts see it as the
+/// pages that it was made from; what was posted since is known once the book is closed.
 #[derive(Drop)]
 pub struct CycleBook {
     alloc: Global,
-    /// The pages that the book was made of.
+    /// The pages that the book was made from.
     opening: Pages,
-    /// These again, and the pages posted since.
+    /// The same pages, and those posted since.
     posted: Mutex<Pages>,
 }
 
@@ -106,8 +107,8 @@ impl Model for CycleBook {
 }
 
 impl CycleBook {
-    /// A book that begins with these pages, and a share for each of their bridges, by number, that has posted nothing.
-    /// `Memory` where a growth is refused; then the pages are gone.
+    /// Returns a book that begins with these pages, and a share for each of their bridges, in order of number, that has
+    /// posted nothing. Returns `Memory` if an allocation fails; the pages are then gone.
     pub fn new(alloc: Global, pages: Pages) -> Result<(CycleBook, Vec<Share>), Memory>
         ensures opening { IfOk result (λ made. made.0 ≡ pages) }
         ensures shares { IfOk result (λ made. made.1.items ≡ new_shares pages.bridges) }
@@ -122,12 +123,14 @@ impl CycleBook {
         Ok((book, shares))
     }
 
-    /// Takes the next page of the share's bridge, and keeps it in the share too. The answers are those of [`Pages::post`]
-    /// while the lock is held, and for a page of another bridge than the share's it's [`PageFault::StrangeBridge`]. A page
-    /// that isn't taken comes back with the reason, and the book and the share stay as they are. Of the pages behind those
-    /// that the book was made of no clause can speak: a page that is one of these is a `DoublePage`, one whose cycle isn't
-    /// behind the next of these is no `CycleSkipped`, and `StrangeBridge` and `StrangeCycle` come exactly where these have
-    /// no such bridge and no such cycle. It may wait for the lock.
+    /// Takes the next page of the share's bridge, and keeps it in the share too. A page of another bridge than the
+    /// share's is a [`PageFault::StrangeBridge`]; otherwise the answer is that of [`Pages::post`] while the lock is
+    /// held. A page that isn't taken is returned with the reason, and the book and the share are unchanged.
+    ///
+    /// Contracts know only the pages that the book was made from, not those posted since. `StrangeBridge`, for a page
+    /// of the share's bridge, and `StrangeCycle` are returned if and only if that bridge or cycle doesn't exist. A page
+    /// that the book was made from is a `DoublePage`, and `CycleSkipped` is returned only if the page's cycle is after
+    /// the next one of these pages. May wait for the lock.
     pub fn post<R: Wait>(
         &self,
         rt: &R,
@@ -162,7 +165,8 @@ impl CycleBook {
         }
     }
 
-    /// Why the page can't be the next one, by the pages that the book was made of, whatever stands behind these.
+    /// Returns why the page can't be the next one, judging by the pages that the book was made from, regardless of what
+    /// was posted since.
     fn never_next(&self, page: &Page) -> Option<PageFault>
         ensures strange_bridge { (result ≡ Some PageFault.StrangeBridge) ↔ IsOfStrangeBridge self.now page.now }
         ensures strange_cycle { (result ≡ Some PageFault.StrangeCycle) ↔ IsOfStrangeCycle self.now page.now }
@@ -177,8 +181,9 @@ impl CycleBook {
         }
     }
 
-    /// Why a page that may be the next one isn't taken, where the pages under the lock gave this reason: for one, a page
-    /// that is behind none that is missing isn't skipped.
+    /// Returns why a page that may be the next one isn't taken, given the reason that the pages under the lock gave. A
+    /// reason that the pages from which the book was made rule out becomes `Memory`, for example a skipped cycle if no
+    /// cycle before the page's is missing.
     fn told(&self, page: &Page, fault: PageFault) -> PageFault
         requires may { MayBeNext self.now page.now }
         ensures strange_bridge { result ≡ PageFault.StrangeBridge → ⊥ }
@@ -193,7 +198,7 @@ impl CycleBook {
         }
     }
 
-    /// Why the page isn't taken, where there is no memory for it.
+    /// Returns why the page isn't taken, if there is no memory for it.
     fn refusal<R: Wait>(&self, rt: &R, page: &Page) -> PageFault {
         self.posted
             .lock(rt)
@@ -201,7 +206,7 @@ impl CycleBook {
             .unwrap_or(PageFault::Memory)
     }
 
-    /// Posts the page among those under the lock.
+    /// Posts the page to the pages under the lock.
     fn take<R: Wait>(&self, rt: &R, page: Page) -> Result<(), PageFault> {
         match self.posted.lock(rt).post(page) {
             Ok(()) => Ok(()),
@@ -209,9 +214,9 @@ impl CycleBook {
         }
     }
 
-    /// Of how many first cycles each bridge has posted its page: what [`Pages::whole_cycles`] answers of the pages at one
-    /// time; no fewer than those of the pages that it was made of, and no more than there are cycles. It may wait for the
-    /// lock, and takes no memory.
+    /// Returns the number of first cycles that every bridge has posted, as [`Pages::whole_cycles`] does for the pages
+    /// at one time. It is at least that of the pages that the book was made from, and at most the number of cycles. May
+    /// wait for the lock, and allocates nothing.
     pub fn whole_cycles<R: Wait>(&self, rt: &R) -> u32
         ensures value { MayBeWhole self.now result }
         ensures facts { ArePosted self.now }
@@ -221,8 +226,9 @@ impl CycleBook {
         now.max(before).min(self.opening.cycles())
     }
 
-    /// How many streams' frames the pages have on the link, and their octets: what [`Pages::totals`] answers of the pages at
-    /// one time; no fewer than on those that it was made of. It may wait for the lock, and takes no memory.
+    /// Returns the number of streams' frames on the link, and their octets, as [`Pages::totals`] does for the pages at
+    /// one time. They are at least those of the pages that the book was made from. May wait for the lock, and allocates
+    /// nothing.
     pub fn totals<R: Wait>(&self, rt: &R, link: u16) -> Totals
         ensures some { AreTotalsOfSome link result.frames result.octets }
         ensures frames { frames_posted link self.now.pages ≤ result.frames }
@@ -233,8 +239,8 @@ impl CycleBook {
         no_fewer(before, now)
     }
 
-    /// The pages of the book: those that it was made of and, bridge by bridge, those of the bridge's share behind them. It is
-    /// refused as [`CycleBook::close`] is, but asks for no memory, and waits for nobody.
+    /// Returns the pages of the book: those that it was made from, each bridge's followed by those of its share.
+    /// Returns the faults of [`CycleBook::close`] except `Memory`: it allocates nothing. Never waits.
     pub fn close_pages(self, shares: Vec<Share>) -> Result<Pages, BookClose>
         ensures missing { IsErrOf result BookClose.ShareMissing ↔ (AreOneEach self.bridges shares.items → ⊥) }
         ensures memory { IsErrOf result BookClose.Memory → ⊥ }
@@ -254,13 +260,14 @@ impl CycleBook {
         }
     }
 
-    /// The book of the pages that it was made of and, bridge by bridge, of those of the bridge's share behind them: the
-    /// starts by cycle, then link, then instant, the drops by cycle, then bridge, then frame; what has these three in common
-    /// stands by page, and by its place there. It waits for nobody. It takes one share of each bridge, in any
-    /// order; other shares are [`BookClose::ShareMissing`], and a share whose pages aren't those that the book took of its
-    /// bridge is [`BookClose::SharesDisagree`], with the least such bridge; then comes `Memory`, where a growth is refused.
-    /// Where it answers, no page of these stands twice and none is missing: each is of the bridge and the cycle at whose place
-    /// it stands. With a fault the pages are gone.
+    /// Returns the book of the pages that it was made from, each bridge's followed by those of its share: the starts by
+    /// cycle, then link, then instant, and the drops by cycle, then bridge, then frame; entries that agree in these
+    /// three are in the order of the pages. Never waits.
+    ///
+    /// Takes one share of each bridge, in any order. Returns [`BookClose::ShareMissing`] for other shares, otherwise
+    /// [`BookClose::SharesDisagree`] with the first bridge whose share doesn't have the pages that the book took of the
+    /// bridge, otherwise `Memory` if an allocation fails. After a fault the pages are gone. On success none of the
+    /// pages occurs twice and none is missing: each is of the bridge and the cycle at whose index it is.
     pub fn close(self, shares: Vec<Share>) -> Result<Book, BookClose>
         ensures missing { IsErrOf result BookClose.ShareMissing ↔ (AreOneEach self.bridges shares.items → ⊥) }
         ensures ok { IfOk result (λ book. IsBookOfShares self shares.items (contents_of book)) }

@@ -5,8 +5,8 @@ ghost use Rattle.cqf_book.specs.BookOrder.{in_book_order, IsDropBelow};
 use cqf_model::Dropped;
 use cqf_units::Memory;
 
-/// Puts drops into the order of a book: by cycle, then bridge, then frame, and drops of the same three as they were.
-/// Where memory is refused the drops stand as they did.
+/// Sorts drops into the order of a book: by cycle, then bridge, then frame. Drops that agree in these keep their order.
+/// Returns `Memory` if an allocation fails; the drops are then unchanged.
 pub fn sort_drops(drops: &mut Vec<Dropped>) -> Result<(), Memory>
     ensures ok { OnOk result ((cycles bridges frames : ℕ) → All (IsDropBelow cycles bridges frames) drops.old.items
         → drops.new.items ≡ in_book_order cycles bridges frames drops.old.items) }

@@ -6,18 +6,18 @@ use cqf_units::Memory;
 use std::fmt;
 use thiserror::Error;
 
-/// Why a page isn't taken: the first of these that is so. It prints as its name.
+/// Why a page isn't taken: the first of these that applies. It prints as its name.
 #[derive(Clone, Copy, Debug, PartialEq, Eq, Drop, Error)]
 pub enum PageFault {
-    /// The page's bridge isn't one of the bridges, or isn't that of the share by which it is posted.
+    /// The page's bridge doesn't exist, or isn't that of the share through which the page is posted.
     StrangeBridge,
-    /// The page's cycle isn't one of the cycles.
+    /// The page's cycle doesn't exist.
     StrangeCycle,
     /// The bridge has posted its page of that cycle.
     DoublePage,
     /// The bridge hasn't posted its page of the cycle before.
     CycleSkipped,
-    /// A growth was refused.
+    /// An allocation failed.
     Memory,
 }
 
@@ -35,14 +35,15 @@ impl fmt::Display for PageFault {
     }
 }
 
-/// Why a cycle book doesn't close: the first of these that is so. It prints as its name, and the bridge's number.
+/// Why a cycle book doesn't close: the first of these that applies. It prints as its name, and the bridge's number if
+/// it has one.
 #[derive(Clone, Copy, Debug, PartialEq, Eq, Drop, Error)]
 pub enum BookClose {
-    /// The shares aren't one of each bridge of the book.
+    /// The shares aren't one for each bridge of the book.
     ShareMissing,
-    /// The pages in this bridge's share aren't those that the book took of the bridge: the least bridge of which that is so.
+    /// The pages in this bridge's share aren't those that the book took of the bridge. It is the first such bridge.
     SharesDisagree(u16),
-    /// A growth was refused.
+    /// An allocation failed.
     Memory,
 }
 

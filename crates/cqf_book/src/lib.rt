@@ -1,11 +1,11 @@
 //! Pages on which each bridge writes what it sent and dropped in a cycle, and the order of a book.
 //!
-//! - [`Pages`] takes each bridge's [`Page`]s in order of cycle, each once, and refuses the others with a [`PageFault`]. [`Totals`] is how many
-//!   streams' frames and octets they have on a link.
-//! - [`CycleBook`] is pages under a lock, which bridges write in threads of their own, each by its [`Share`]. Closed, it is the book of all
-//!   pages, or these pages; or it says with a [`BookClose`] why it isn't.
-//! - [`book_of`] gives the book of pages: starts by cycle, link and instant, drops by cycle, bridge and frame. [`sort_drops`] brings drops into
-//!   that order.
+//! - [`Pages`] takes each bridge's [`Page`]s in order of cycle, each once, and refuses the others with a [`PageFault`].
+//!   [`Totals`] are the numbers of streams' frames and octets that they have on a link.
+//! - [`CycleBook`] is pages under a lock, which bridges write from threads of their own, each through its [`Share`].
+//!   Closing it returns the book of all pages, or these pages, or a [`BookClose`] that says why it can't be closed.
+//! - [`book_of`] returns the book of pages: starts by cycle, link and instant, and drops by cycle, bridge and frame.
+//!   [`sort_drops`] sorts drops into that order.
 //!
 //! ```text
 //! Pages::new(alloc, 3, 5)      three bridges, five cycles, no page

@@ -14,12 +14,12 @@ use cqf_units::{Cycle, Memory};
 use std::alloc::Global;
 use std::marker::Model;
 
-/// The pages that bridges have posted, each bridge's in order of cycle, and the totals of what they have on each link.
+/// The pages that bridges have posted, each bridge's in order of cycle, and the totals on each link.
 #[derive(Debug, Drop)]
 pub struct Pages {
     bridges: u16,
     cycles: u32,
-    /// By bridge.
+    /// The pages, by bridge.
     posted: Vec<BridgePages>,
     totals: LinkTotals,
 }
@@ -37,7 +37,8 @@ impl Model for Pages {
 }
 
 impl Pages {
-    /// No page yet, of so many bridges and cycles: up to 1,024 bridges and 100,000 cycles.
+    /// Returns no pages yet, for the given numbers of bridges and cycles, up to 1,024 bridges and 100,000 cycles.
+    /// Returns `Memory` if an allocation fails.
     pub fn new(alloc: Global, bridges: u16, cycles: u32) -> Result<Pages, Memory>
         requires few_bridges { bridges ≤ 1024 }
         requires few_cycles { cycles ≤ most_cycles }
@@ -51,9 +52,9 @@ impl Pages {
         })
     }
 
-    /// Takes a bridge's next page. Each bridge posts its pages in order of cycle, from cycle 0 on, and the bridges in any
-    /// order among one another. A page that isn't taken comes back with the reason, the first of [`PageFault`] that is
-    /// so, and nothing is changed.
+    /// Takes a bridge's next page. Each bridge posts its pages in order of cycle, from cycle 0 on; the bridges may post
+    /// in any order among each other. A page that isn't taken is returned with the first reason of [`PageFault`] that
+    /// applies, and nothing changes.
     pub fn post(&mut self, page: Page) -> Result<(), (PageFault, Page)>
         ensures strange_bridge { IsErrOf result (PageFault.StrangeBridge, page) ↔ IsOfStrangeBridge self.old page }
         ensures strange_cycle { IsErrOf result (PageFault.StrangeCycle, page) ↔ IsOfStrangeCycle self.old page }
@@ -75,7 +76,7 @@ impl Pages {
         }
     }
 
-    /// Why the page isn't the next one of its bridge, where it isn't. It takes no memory.
+    /// Returns why the page isn't the next one of its bridge, if it isn't. Allocates nothing.
     pub(crate) fn refusal(&self, page: &Page) -> Option<PageFault>
         ensures strange_bridge { (result ≡ Some PageFault.StrangeBridge) ↔ IsOfStrangeBridge self.now page.now }
         ensures strange_cycle { (result ≡ Some PageFault.StrangeCycle) ↔ IsOfStrangeCycle self.now page.now }
@@ -101,8 +102,8 @@ impl Pages {
         None
     }
 
-    /// Of how many first cycles each bridge has posted its page: the least number of pages that a bridge has, and with no
-    /// bridge all cycles. It takes no memory.
+    /// Returns the number of first cycles that every bridge has posted: the least number of pages that a bridge has, or
+    /// all cycles if there is no bridge. Allocates nothing.
     pub fn whole_cycles(&self) -> u32
         ensures value { AreWhole self.now result }
         ensures facts { ArePosted self.now }
@@ -110,7 +111,8 @@ impl Pages {
         least_count(self.posted.as_slice(), self.cycles)
     }
 
-    /// How many streams' frames the pages have on the link, and their octets. The sums are kept, and it takes no memory.
+    /// Returns the number of streams' frames that the pages have on the link, and their octets. The sums are stored;
+    /// this allocates nothing.
     pub fn totals(&self, link: u16) -> Totals
         ensures frames { result.frames ≡ frames_posted link self.now.pages }
         ensures octets { result.octets ≡ octets_posted link self.now.pages }
@@ -119,29 +121,29 @@ impl Pages {
         self.totals.at(link)
     }
 
-    /// The bridge's page of the cycle, where it has posted it. It takes no memory.
+    /// Returns the bridge's page of the cycle, if it has been posted. Allocates nothing.
     pub fn page(&self, bridge: u16, cycle: Cycle) -> Option<&Page>
         ensures { option_copied result ≡ page_at self.now bridge cycle.0 }
     {
         self.posted.get(usize::from(bridge))?.get(cycle.0 as usize)
     }
 
-    /// How many bridges there are.
+    /// Returns the number of bridges.
     pub(crate) fn bridges(&self) -> u16
         ensures { result ≡ self.now.bridges }
     {
         self.bridges
     }
 
-    /// Does nothing, and makes known to a proof what each post keeps: the pages of each bridge stand in order, from cycle 0.
+    /// Does nothing. It lets a proof use the invariant: the pages of each bridge are in order, from cycle 0.
     pub(crate) fn know(&self)
         ensures facts { ArePosted self.now }
     {
-        // a use of a field: with it the invariant is known
+        // a use of a field makes the invariant known
         let _ = &self.posted;
     }
 
-    /// How many cycles there are.
+    /// Returns the number of cycles.
     pub(crate) fn cycles(&self) -> u32
         ensures value { result ≡ self.now.cycles }
         ensures facts { ArePosted self.now }
@@ -149,7 +151,7 @@ impl Pages {
         self.cycles
     }
 
-    /// The bridge's pages, in order of cycle; none of a bridge that isn't one of the bridges.
+    /// Returns the bridge's pages, in order of cycle; none for a bridge that doesn't exist.
     pub(crate) fn of_bridge(&self, bridge: u16) -> &[Page]
         ensures { result.now ≡ pages_of self.now bridge }
     {
@@ -159,7 +161,7 @@ impl Pages {
         }
     }
 
-    /// The same bridges and cycles, with pages that say the same, unless memory runs out.
+    /// Returns the same numbers of bridges and cycles with pages that say the same, or `Memory` if an allocation fails.
     pub(crate) fn try_copy(&self, alloc: Global) -> Result<Pages, Memory>
         ensures bridges { IfOk result (λ copy. copy.bridges ≡ self.now.bridges) }
         ensures cycles { IfOk result (λ copy. copy.cycles ≡ self.now.cycles) }
@@ -174,7 +176,7 @@ impl Pages {
     }
 }
 
-/// Each bridge's pages again, unless memory runs out.
+/// Returns a copy of each bridge's pages, or `Memory` if an allocation fails.
 fn copied_rows(alloc: Global, posted: &[BridgePages]) -> Result<Vec<BridgePages>, Memory>
     ensures { IfOk result (λ rows. map (map said) rows.items ≡ map (map said) posted.now) }
 {
@@ -185,7 +187,7 @@ fn copied_rows(alloc: Global, posted: &[BridgePages]) -> Result<Vec<BridgePages>
     Ok(rows)
 }
 
-/// So many bridges, of which none has posted a page.
+/// Returns no pages for each of the given number of bridges.
 fn no_pages(alloc: Global, bridges: u16) -> Result<Vec<BridgePages>, Memory>
     ensures { IfOk result (λ posted. posted.items ≡ replicate bridges []) }
 {
@@ -196,7 +198,7 @@ fn no_pages(alloc: Global, bridges: u16) -> Result<Vec<BridgePages>, Memory>
     Ok(posted)
 }
 
-/// The least number of pages that a bridge has, and no more than there are cycles.
+/// Returns the least number of pages that a bridge has, but at most the number of cycles.
 fn least_count(posted: &[BridgePages], cycles: u32) -> u32
     ensures { IsLeastBelow posted.now cycles (length posted.now) result }
 {

@@ -6,7 +6,7 @@ use cqf_model::{Dropped, Page, Started};
 use cqf_units::Memory;
 use std::alloc::Global;
 
-/// A page that says the same, unless memory runs out.
+/// Returns a page that says the same, or `Memory` if an allocation fails.
 pub(crate) fn copied_page(page: &Page) -> Result<Page, Memory>
     ensures { IfOk result (λ copy. said copy ≡ said page.now) }
 {
@@ -19,7 +19,7 @@ pub(crate) fn copied_page(page: &Page) -> Result<Page, Memory>
     })
 }
 
-/// Pages that say the same one by one, unless memory runs out.
+/// Returns pages that say the same one by one, or `Memory` if an allocation fails.
 pub(crate) fn copied_pages(alloc: Global, pages: &[Page]) -> Result<Vec<Page>, Memory>
     ensures { IfOk result (λ copies. map said copies.items ≡ map said pages.now) }
 {
@@ -30,21 +30,21 @@ pub(crate) fn copied_pages(alloc: Global, pages: &[Page]) -> Result<Vec<Page>, M
     Ok(copies)
 }
 
-/// Whether the starts are the same.
+/// Returns whether the starts are the same.
 fn are_same_starts(starts: &[Started], others: &[Started]) -> bool
     ensures { (result ≡ true) ↔ (starts.now ≡ others.now) }
 {
     starts == others
 }
 
-/// Whether the drops are the same.
+/// Returns whether the drops are the same.
 fn are_same_drops(drops: &[Dropped], others: &[Dropped]) -> bool
     ensures { (result ≡ true) ↔ (drops.now ≡ others.now) }
 {
     drops == others
 }
 
-/// Whether two pages say the same.
+/// Returns whether two pages say the same.
 fn is_same(page: &Page, other: &Page) -> bool
     ensures { (result ≡ true) ↔ (said page.now ≡ said other.now) }
 {
@@ -60,7 +60,7 @@ fn is_same(page: &Page, other: &Page) -> bool
     are_same_drops(&page.drops, &other.drops)
 }
 
-/// Whether pages say the same one by one.
+/// Returns whether pages say the same one by one.
 pub(crate) fn are_same(pages: &[Page], others: &[Page]) -> bool
     ensures { (result ≡ true) ↔ (map said pages.now ≡ map said others.now) }
 {

@@ -5,8 +5,8 @@ ghost use Rattle.cqf_book.specs.BookOrder.{starts_in_book_order, IsStartBelow};
 use cqf_model::Started;
 use cqf_units::Memory;
 
-/// Puts starts into the order of a book: by cycle, then link, then instant, and starts of the same three as they were.
-/// Where memory is refused the starts stand as they did.
+/// Sorts starts into the order of a book: by cycle, then link, then instant. Starts that agree in these keep their
+/// order. Returns `Memory` if an allocation fails; the starts are then unchanged.
 pub fn sort_starts(starts: &mut Vec<Started>) -> Result<(), Memory>
     ensures ok { OnOk result ((cycles links instants : ℕ) → All (IsStartBelow cycles links instants) starts.old.items
         → starts.new.items ≡ starts_in_book_order cycles links instants starts.old.items) }

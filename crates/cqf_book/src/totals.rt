@@ -1,4 +1,4 @@
-//! The sums of streams' frames and octets by link.
+//! The numbers of streams' frames and octets, by link.
 ghost use Rattle.std.specs.Prelude.{◌≡◌, ◌+◌, ◌^◌, ◌<◌, IfOk, length, replicate, slice_index, slice_set};
 ghost use Rattle.cqf_book.specs.Totals.{AreAdded, AreFewTotals, HaveTotalsRoom};
 
@@ -6,21 +6,21 @@ use cqf_model::Started;
 use cqf_units::Memory;
 use std::alloc::Global;
 
-/// How many streams' frames a link has sent, and how many octets they have together.
+/// The number of streams' frames that a link has sent, and their total octets.
 #[derive(Clone, Copy, Debug, PartialEq, Eq)]
 pub struct Totals {
     pub frames: u128,
     pub octets: u128,
 }
 
-/// The totals of each link, by its number.
+/// The totals of each link, by the link's number.
 #[derive(Debug, Drop)]
 pub(crate) struct LinkTotals {
     frames: Vec<u128>,
     octets: Vec<u128>,
 }
 
-/// So many zeros.
+/// Returns this many zeros.
 fn zeros(alloc: Global, count: usize) -> Result<Vec<u128>, Memory>
     ensures { IfOk result (λ zeros. zeros.items ≡ replicate count 0) }
 {
@@ -29,7 +29,7 @@ fn zeros(alloc: Global, count: usize) -> Result<Vec<u128>, Memory>
 }
 
 impl LinkTotals {
-    /// The totals of links that have sent nothing.
+    /// Returns the totals of links that have sent nothing.
     pub(crate) fn new(alloc: Global) -> Result<LinkTotals, Memory>
         ensures frames { IfOk result (λ totals. totals.frames.items ≡ replicate 65536 0) }
         ensures octets { IfOk result (λ totals. totals.octets.items ≡ replicate 65536 0) }
@@ -40,7 +40,7 @@ impl LinkTotals {
         })
     }
 
-    /// The same totals again, unless memory runs out.
+    /// Returns a copy of the totals, or `Memory` if an allocation fails.
     pub(crate) fn try_copy(&self) -> Result<LinkTotals, Memory>
         ensures frames { IfOk result (λ copy. copy.frames.items ≡ self.now.frames.items) }
         ensures octets { IfOk result (λ copy. copy.octets.items ≡ self.now.octets.items) }
@@ -51,7 +51,7 @@ impl LinkTotals {
         })
     }
 
-    /// The totals of the link.
+    /// Returns the totals of the link.
     pub(crate) fn at(&self, link: u16) -> Totals
         requires frames { length self.now.frames.items ≡ 65536 }
         requires octets { length self.now.octets.items ≡ 65536 }
@@ -65,7 +65,7 @@ impl LinkTotals {
         }
     }
 
-    /// Adds a frame of so many octets on the link.
+    /// Adds a frame of these octets on the link.
     fn add_frame(&mut self, link: u16, octets: u32)
         requires all_frames { length self.old.frames.items ≡ 65536 }
         requires all_octets { length self.old.octets.items ≡ 65536 }

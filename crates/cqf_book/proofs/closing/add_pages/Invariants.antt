@@ -2,7 +2,7 @@ use Rattle.std.proofs.Common.{◌≡◌, ◌++◌, flat_map, take}
 use Rattle.cqf_model.specs.declared.frames.Page.{Page}
 use Rattle.cqf_book.proofs.closing.add_pages.Given as goal
 
--- what stands on the pages below the index is behind what the book had
+-- the contents of the pages below the index follow what the book had
 abbrev pub invariant-loop-page : goal.invariant-loop-page
 invariant-loop-page l =
     (l.book.starts.items ≡ l.fn.book.starts.items ++ flat_map (λ (page : Page). page.starts.items) (take l.page-index l.pages))

@@ -4,7 +4,7 @@ use Rattle.cqf_book.specs.Shares.{said}
 use Rattle.cqf_book.proofs.Alike.{back_alike, front_alike, parts_alike}
 use Rattle.cqf_book.proofs.closing.continues.Goals as goal
 
--- the pages in front don't say what the earlier ones say
+-- the first pages don't say what the earlier ones say
 pub returns-then-not-are_same : goal.returns-then-not-are_same
 returns-then-not-are_same c = (
   λ never. absurd (true≢false (sym never)),
@@ -13,7 +13,7 @@ returns-then-not-are_same c = (
       ∙ c.are_same.ensures.1 (ap (map said) c.split_at.ensures.front ∙ front_alike c.args.pages.now c.args.earlier.now c.args.later.now same),
 )
 
--- they do, so it hangs on those behind
+-- they do, so the answer depends on the pages after them
 pub returns : goal.returns
 returns c = (
   λ so. parts_alike c.args.pages.now c.args.earlier.now c.args.later.now

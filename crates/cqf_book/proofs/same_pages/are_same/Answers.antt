@@ -3,7 +3,7 @@ use Rattle.std.proofs.lemmas.Bool.{true≢false}
 use Rattle.cqf_book.proofs.Alike.{alike_at}
 use Rattle.cqf_book.proofs.same_pages.are_same.Goals as goal
 
--- pages that say the same do so at each place
+-- pages that say the same do so at each index
 pub returns-then-not-is_same : goal.returns-then-not-is_same
 returns-then-not-is_same c = (
   λ never. absurd (true≢false (sym never)),

@@ -3,7 +3,7 @@ use Rattle.cqf_book.specs.Pages.{AreWhole, Posted}
 use Rattle.cqf_book.proofs.Whole.{least_is_whole}
 use Rattle.cqf_book.proofs.pages.Pages.whole_cycles.Goals as goal
 
--- the least number is how many are whole
+-- the least number of pages is the number of whole cycles
 pub returns-clause-value : goal.returns-clause-value
 returns-clause-value c =
     let posted : Posted = record { bridges = c.self.inside.bridges; cycles = c.self.inside.cycles; pages = c.self.inside.posted.items } in
