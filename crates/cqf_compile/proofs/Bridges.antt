@@ -17,15 +17,15 @@ use Rattle.cqf_compile.proofs.Ends.{from_bridge}
 abbrev pub bridges_in : Domain → List Hop → List ℕ
 bridges_in d tree = each_once (λ a b. a == b) (map (bridge_of d) (links_in tree))
 
--- with one more kept where none of those kept is the same
+-- the bridges, with one more unless it is among them
 abbrev pub kept_once : List ℕ → ℕ → List ℕ
 kept_once kept bridge = if list_any (λ y. y == bridge) kept then kept else kept ++ bridge ∷ []
 
--- what stands past the end of a list of hops
+-- the value past the end of a list of hops
 abbrev pub no_hop : Hop
 no_hop = record { link = 0; depth = 0; from = None }
 
--- one hop more, one bridge more where it is a new one
+-- one more hop gives one more bridge if it is a new one
 bridges_in-more : (d : Domain) (tree : List Hop) (k : ℕ) → k < length tree →
     bridges_in d (take (k + 1) tree) ≡ kept_once (bridges_in d (take k tree)) (bridge_of d (get_or tree k no_hop).link)
 bridges_in-more d tree k below =
@@ -41,7 +41,7 @@ pub record AreBridges (d : Domain) (tree : List Hop) (k : ℕ) (bridges : List �
   pub few : length bridges ≤ k
   pub inside : All (λ (b : ℕ). b < length d.bridges) bridges
 
--- one hop more, whose bridge is among those before it or isn't
+-- one more hop, whose bridge is or isn't among those before
 AreBridges-more : (d : Domain) (tree : List Hop) (k bridge : ℕ) (known : Bool) (bridges : List ℕ) → k < length tree →
     bridge_of d (get_or tree k no_hop).link ≡ bridge → bridge < length d.bridges
     → known ≡ list_any (λ other. other == bridge) bridges → AreBridges d tree k bridges →
@@ -66,7 +66,7 @@ AreBridges-more d tree k bridge known bridges below from within word so_far = re
     inside false = All-append (λ (x : ℕ). x < length d.bridges) bridges (bridge ∷ []) so_far.inside
         (All-cons (λ (x : ℕ). x < length d.bridges) bridge [] within (All-nil (λ (x : ℕ). x < length d.bridges)))
 
--- the same, in the words of the calls that read the hop
+-- the same, in the terms of the calls that read the hop
 pub AreBridges-next : (d domain : Domain) (tree items : List Hop) (k : ℕ) (link : Link) (known : Bool) (bridges seen : List ℕ) → domain ≡ d → IsAccepted d →
     items ≡ tree → seen ≡ bridges → k < length items
     → slice_get domain.links (get_or items k no_hop).link ≡ Some link → known ≡ list_any (λ other. other == link.from) seen

@@ -13,11 +13,11 @@ use Rattle.cqf_model.specs.GateList.{Entry, port_list}
 use Rattle.cqf_model.specs.Network.{compiled_lists}
 use Rattle.cqf_topology.specs.NodeNames.{ends_of_link, name_of_bridge, name_of_node}
 
--- the gate list of a link's port, as a text
+-- the gate list of a link's port, as text
 abbrev list_text : Domain → Link → List ℕ
 list_text d link = text_of_entries (port_list d.cycle_time (guard_by d.guard link))
 
--- a link's line and what stands behind it, piece by piece
+-- a link's line and its gate list, piece by piece
 link_pieces : (d : Domain) (link : Link) → text_of_link d link ≡ codes "link " ++ (ends_of_link d link ++ 10 ∷ list_text d link)
 link_pieces d link =
     ap (λ (line : List ℕ). line ++ 10 ∷ list_text d link)
@@ -25,7 +25,7 @@ link_pieces d link =
     ∙ append_assoc (codes "link ") (name_of_bridge d link.from) (62 ∷ name_of_node d link.to))
     ∙ append_assoc (codes "link ") (ends_of_link d link) (10 ∷ list_text d link)
 
--- the text of a link that is there
+-- the text of a link that exists
 pub port_pieces : (d : Domain) (l : ℕ) (link : Link) (list : List Entry) → slice_get d.links l ≡ Some link → list ≡ compiled_lists d l →
     option_map (text_of_link d) (slice_get d.links l) ≡ Some (codes "link " ++ (ends_of_link d link ++ 10 ∷ text_of_entries list))
 port_pieces d l link list found is =
@@ -34,7 +34,7 @@ port_pieces d l link list found is =
     ap (option_map (text_of_link d)) found ∙ ap Some (link_pieces d link)
     ∙ ap (λ (entries : List Entry). Some (codes "link " ++ (ends_of_link d link ++ 10 ∷ text_of_entries entries))) (sym (is ∙ own))
 
--- a stream's line at a bridge, and its gate behind it, piece by piece
+-- a stream's line at a bridge and its gate, piece by piece
 pub row_pieces : (d : Domain) (row : Row) (bridge : ℕ) →
     text_at d row bridge ≡ (row_front row ++ (name_of_bridge d bridge ++ 10 ∷ [])) ++ text_of_stream_entries (gate_at d row bridge)
 row_pieces d row bridge =

@@ -16,7 +16,7 @@ short_pace pace good =
           absurd (omega (arith, itself, good.divides))
     ]
 
--- so one of 80 of the longest cycles fits an interval
+-- so 80 of the longest cycles fit an interval
 pub short_round : (pace : Pace) (cycle_time : ℕ) → IsGoodPace pace → cycle_time ≤ 10000000 → (pace.pause + 1) * cycle_time < 4294967296
 short_round pace cycle_time good short =
     let most : (pace.pause + 1) * cycle_time ≤ 80 * 10000000 = mul-le (pace.pause + 1) cycle_time 80 10000000 (omega (arith, short_pace pace good)) short in

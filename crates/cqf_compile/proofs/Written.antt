@@ -13,7 +13,7 @@ use Rattle.cqf_compile.specs.BridgeGates.{gate_at, way_to}
 use Rattle.cqf_compile.specs.WrittenGates.{EachBridgeHasAGate, FramesComeThatWay, WrittenGatesPassTheSame}
 use Rattle.cqf_laws_shift.proofs.Trees.{GoesBy, by_goes_on, goes_on_by, its_bridge, one_way_at}
 
--- one way leads on from a bridge, and the first hop that leaves it is behind that
+-- one way leads on from a bridge, and the first hop that leaves the bridge continues it
 pub that_way : FramesComeThatWay
 that_way d row way bridge good on =
     let here = λ (hop : Hop). leaves d hop.link bridge in

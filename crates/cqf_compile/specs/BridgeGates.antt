@@ -8,14 +8,14 @@ use Rattle.cqf_model.specs.Domain.{Domain, leaves}
 use Rattle.cqf_model.specs.Table.{depth_behind}
 use Rattle.cqf_gates.specs.ReservedSpans.{reserved_spans}
 
--- the first hop by which a stream leaves a bridge. It comes there by the link before that hop, or where there is none from its
--- talker
+-- the first hop by which a stream leaves a bridge
 abbrev pub first_hop : Domain → ℕ → Row → Option Hop
 first_hop d bridge row = find (λ (hop : Hop). leaves d hop.link bridge) row.tree.items
 
+-- the way by which the stream arrives at the bridge: by the link before that hop, or from its talker if there is none
 abbrev pub way_to : Domain → ℕ → Row → Option ℕ
 way_to d bridge row = option_and_then (λ (hop : Hop). hop.from) (first_hop d bridge row)
 
--- its gate there, by spans: that of frames that came that way
+-- the stream's written gate at the bridge: that of frames that came that way
 abbrev pub gate_at : Domain → Row → ℕ → List StreamEntry
 gate_at d row bridge = reserved_spans d.cycle_time row.octets row.pace (depth_behind row (way_to d bridge row))

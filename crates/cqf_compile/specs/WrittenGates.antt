@@ -7,16 +7,16 @@ use Rattle.cqf_model.specs.Table.{IsTree, bridges_of, goes_on}
 use Rattle.cqf_model.specs.Traffic.{gate_behind}
 use Rattle.cqf_compile.specs.BridgeGates.{gate_at, way_to}
 
--- in a tree each frame that goes on from a bridge came by the link for which the gate is written, from the edge where there is none
+-- in a tree, each frame that goes on from a bridge came by the link for which the gate is written, or from the edge if there is none
 abbrev pub FramesComeThatWay : Type 0
 FramesComeThatWay = (d : Domain) (row : Row) (way : Option ℕ) (bridge : ℕ) → IsTree d row.tree.items → goes_on d row way bridge ≡ true →
     way ≡ way_to d bridge row
 
--- so what is written at the bridge lets the same frames of at least one octet pass as the network's gate does, with the same class
+-- so the gate that is written for the bridge passes the same frames of at least one octet as the network's gate, with the same class
 abbrev pub WrittenGatesPassTheSame : Type 0
 WrittenGatesPassTheSame = (d : Domain) (row : Row) (way : Option ℕ) (bridge : ℕ) → 0 < d.cycle_time → IsTree d row.tree.items →
     goes_on d row way bridge ≡ true → PassTheSame (gate_at d row bridge) (gate_behind d row way)
 
--- and there is one at each bridge from which frames go on
+-- and a gate is written for each bridge from which frames go on
 abbrev pub EachBridgeHasAGate : Type 0
 EachBridgeHasAGate = (d : Domain) (row : Row) (way : Option ℕ) (bridge : ℕ) → goes_on d row way bridge ≡ true → Contains (bridges_of d row) bridge

@@ -1,4 +1,4 @@
-//! The configuration as a text, line by line.
+//! The configuration as text, line by line.
 ghost use Rattle.std.specs.Prelude.{◌≡◌, ◌<◌, ◌++◌, ◌∷◌, [], All, IfOk, codes, length, map};
 ghost use Rattle.std.specs.Arc.{arc_value};
 ghost use Rattle.std.specs.List.{flat_map};
@@ -24,8 +24,8 @@ use cqf_units::Memory;
 use std::alloc::Global;
 use std::sync::Arc;
 
-/// Puts an entry of a gate list: its states in two upper case hexadecimal digits, where bit k is class k, a space, and its interval in
-/// nanoseconds.
+/// Puts an entry of a gate list: its gate states in two upper case hexadecimal digits, in which bit k is class k, a
+/// space, and its interval in nanoseconds.
 pub fn put_gates<W: Sink>(press: &mut Press<'_, W>, states: u8, interval: u32)
     ensures { Puts W.contents press.old press.new (line_of_gates (states, interval)) }
 {
@@ -35,7 +35,7 @@ pub fn put_gates<W: Sink>(press: &mut Press<'_, W>, states: u8, interval: u32)
     press.put_number(interval);
 }
 
-/// Puts a gate list, an entry a line.
+/// Puts a gate list, one entry a line.
 fn put_list<W: Sink>(press: &mut Press<'_, W>, list: &TxList)
     ensures { Puts W.contents press.old press.new (text_of_entries list.now) }
 {
@@ -45,7 +45,7 @@ fn put_list<W: Sink>(press: &mut Press<'_, W>, list: &TxList)
     }
 }
 
-/// Puts the line of a link, and a gate list behind it.
+/// Puts the line of a link, followed by a gate list.
 fn put_port<W: Sink>(press: &mut Press<'_, W>, domain: &Domain, link: Link, list: &TxList)
     ensures { Puts W.contents press.old press.new (codes "link " ++ (ends_of_link domain.now link ++ 10 ∷ text_of_entries list.now)) }
 {
@@ -55,7 +55,7 @@ fn put_port<W: Sink>(press: &mut Press<'_, W>, domain: &Domain, link: Link, list
     put_list(press, list);
 }
 
-/// Puts each link's line, and the gate list of its port.
+/// Puts each link's line, followed by the gate list of its port.
 fn put_ports<W: Sink>(press: &mut Press<'_, W>, domain: &Domain)
     ensures { Puts W.contents press.old press.new (texts_of_links domain.now) }
 {
@@ -65,7 +65,7 @@ fn put_ports<W: Sink>(press: &mut Press<'_, W>, domain: &Domain)
     }
 }
 
-/// Puts a text, and the name of a bridge behind it, and ends the line.
+/// Puts a text followed by the name of a bridge, and ends the line.
 fn put_at<W: Sink>(press: &mut Press<'_, W>, domain: &Domain, front: &[u8], bridge: u16)
     ensures { Puts W.contents press.old press.new (front.now ++ (name_of_bridge domain.now bridge ++ 10 ∷ [])) }
 {
@@ -89,7 +89,7 @@ fn put_row<W: Sink>(press: &mut Press<'_, W>, plan: &Plan, row: &Row)
     }
 }
 
-/// Puts each stream of some rows, and its gates.
+/// Puts the streams of the rows, with their gates.
 fn put_rows<W: Sink>(press: &mut Press<'_, W>, plan: &Plan, rows: &[Row])
     requires along { AreAlongLinks plan.now rows.now }
     requires paced { AreOfGoodPaces rows.now }
@@ -100,7 +100,7 @@ fn put_rows<W: Sink>(press: &mut Press<'_, W>, plan: &Plan, rows: &[Row])
     }
 }
 
-/// Puts the configuration of a plan and the streams of some rows, as [`write_config`] gives that of a table. It asks for no memory.
+/// Puts the configuration of a plan and the streams of the rows, as [`write_config`] returns it for a table. Allocates nothing.
 pub fn put_config<W: Sink>(press: &mut Press<'_, W>, plan: &Plan, rows: &[Row])
     requires { IsReadyConfig plan.now rows.now }
     ensures { Puts W.contents press.old press.new (config_text plan.now rows.now) }
@@ -109,7 +109,7 @@ pub fn put_config<W: Sink>(press: &mut Press<'_, W>, plan: &Plan, rows: &[Row])
     put_rows(press, plan, rows);
 }
 
-/// Puts each stream of a table's rows, and its gates.
+/// Puts the streams of a table's rows, with their gates.
 fn put_shared<W: Sink>(press: &mut Press<'_, W>, plan: &Plan, rows: &[Arc<Row>])
     requires along { AreAlongLinks plan.now (map (λ row. arc_value row) rows.now) }
     requires paced { AreOfGoodPaces (map (λ row. arc_value row) rows.now) }
@@ -120,10 +120,11 @@ fn put_shared<W: Sink>(press: &mut Press<'_, W>, plan: &Plan, rows: &[Arc<Row>])
     }
 }
 
-/// The configuration of the plan and the streams of a table. For each link by number it has a line `link FROM>TO`, and
-/// then the gate list of the link's port. Then, for each row of the table by number and each bridge of its tree, once and in
-/// the order in which the tree leaves them, it has a line `stream NO NAME bridge BRIDGE`, and then the stream's gate there
-///. The trees of the table go along links of the plan's domain, and the paces of its streams are good.
+/// Returns the configuration of the plan and the streams of a table. For each link in order of number it has a line
+/// `link FROM>TO`, followed by the gate list of the link's port. Then, for each row of the table in order of number and
+/// each bridge of its tree, once and in the order in which the tree leaves them, it has a line `stream NO NAME bridge
+/// BRIDGE`, followed by the stream's gate there. The trees of the table have only links of the plan's domain, and the
+/// paces of its streams are good. Returns `Memory` if an allocation fails.
 pub fn write_config(alloc: Global, plan: &Plan, table: &Table) -> Result<Vec<u8>, Memory>
     requires along { AreAlongLinks plan.now table.now.rows }
     requires paced { AreOfGoodPaces table.now.rows }

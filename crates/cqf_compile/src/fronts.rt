@@ -1,4 +1,4 @@
-//! The piece of text that a stream's lines have in common, kept in place.
+//! The text that a stream's lines have in common, kept without allocation.
 ghost use Rattle.std.specs.Prelude.{◌≡◌, ◌≤◌, ◌+◌, ◌++◌, decimal, length};
 ghost use Rattle.cqf_compile.specs.ConfigLines.{row_front};
 
@@ -9,7 +9,7 @@ use itoa::Buffer;
 /// A text of at most 64 bytes.
 pub(crate) type Piece = ArrayVec<u8, 64>;
 
-/// A piece with bytes behind it.
+/// Appends bytes to a piece.
 fn add(piece: &mut Piece, bytes: &[u8])
     requires { length piece.old.items + length bytes.now ≤ 64 }
     ensures { piece.new.items ≡ piece.old.items ++ bytes.now }
@@ -20,7 +20,7 @@ fn add(piece: &mut Piece, bytes: &[u8])
     }
 }
 
-/// A piece with a number behind it, of at most ten digits.
+/// Appends a number of at most ten digits to a piece.
 fn add_number(piece: &mut Piece, number: u32)
     requires { length piece.old.items + 10 ≤ 64 }
     ensures text { piece.new.items ≡ piece.old.items ++ decimal number }
@@ -30,7 +30,7 @@ fn add_number(piece: &mut Piece, number: u32)
     add(piece, buffer.format(number).as_bytes());
 }
 
-/// What stands in front of the bridge in each of the stream's lines.
+/// Returns the stream's line up to the name of the bridge.
 pub(crate) fn row_front(row: &Row) -> Piece
     ensures { result.items ≡ row_front row.now }
 {

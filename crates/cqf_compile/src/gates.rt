@@ -11,8 +11,8 @@ use cqf_model::Row;
 use cqf_topology::Domain;
 use cqf_units::Octets;
 
-/// The gate list of the port of a link of the domain: class 7 is open in even cycles, class 6 in odd ones, classes 0 to 5 in both,
-/// and no class in the link's guard time.
+/// Returns the gate list of the port of a link of the domain: class 7 is open in even cycles, class 6 in odd ones,
+/// classes 0 to 5 in both, and no class in the link's guard band.
 pub fn port_list_of(domain: &Domain, link: u16) -> TxList
     requires { link < length domain.now.links }
     ensures { result ≡ compiled_lists domain.now link }
@@ -20,9 +20,10 @@ pub fn port_list_of(domain: &Domain, link: u16) -> TxList
     compiled_list(domain.cycle_time(), guard_on(domain, link))
 }
 
-/// The gate of a stream at a bridge of its tree: in the cycles of its own, as many later as its frames are deep there on their way,
-/// as many octets pass as are reserved, with class 6 in even cycles and class 7 in odd ones, and in the others none. It is the gate
-/// that the network asks for there, `gate_behind`, by spans (IEEE 802.1Q, Annex T; the classes and the octet maximum: profile).
+/// Returns the gate of a stream at a bridge of its tree. In the stream's own cycles there, which come as many cycles
+/// after those of its offers as the hop number says, the reserved octets pass, with class 6 in even cycles and class 7
+/// in odd ones; in the others nothing passes. By [`crate::written_gates_are_the_networks`] it passes what the network's
+/// gate `gate_behind` passes (IEEE 802.1Q, Annex T). The classes and the octet maximum are this project's own.
 pub fn gate_of(domain: &Domain, row: &Row, bridge: u16) -> StreamList
     requires { IsGoodPace row.now.pace }
     ensures { result ≡ gate_at domain.now row.now bridge }

@@ -1,4 +1,4 @@
-//! Which bridges a stream leaves, and by which hop.
+//! The bridges that a stream leaves, and the hops by which it leaves them.
 ghost use Rattle.std.specs.Prelude.{◌≡◌, ◌<◌, ◌==◌, All, length, option_copied};
 ghost use Rattle.std.specs.List.{list_any};
 ghost use Rattle.cqf_model.specs.Domain.{leaves};
@@ -10,14 +10,14 @@ use arrayvec::ArrayVec;
 use cqf_model::{Hop, Row};
 use cqf_topology::Domain;
 
-/// Whether a link leaves the bridge. A link that the domain lacks doesn't.
+/// Returns whether the link leaves the bridge; `false` for a link that the domain doesn't have.
 pub fn leaves(domain: &Domain, link: u16, bridge: u16) -> bool
     ensures { result ≡ leaves domain.now link bridge }
 {
     link < domain.links() && domain.link(link).from == bridge
 }
 
-/// Where the first hop stands by which the row's stream leaves the bridge.
+/// Returns the first hop by which the row's stream leaves the bridge.
 fn find_hop<'r>(domain: &Domain, row: &'r Row, bridge: u16) -> Option<&'r Hop>
     ensures { option_copied result ≡ first_hop domain.now bridge row.now }
 {
@@ -27,7 +27,7 @@ fn find_hop<'r>(domain: &Domain, row: &'r Row, bridge: u16) -> Option<&'r Hop>
         .find(|hop| leaves(domain, hop.link, bridge))
 }
 
-/// The first hop by which the row's stream leaves the bridge.
+/// Returns the first hop by which the row's stream leaves the bridge, or `None` if it doesn't leave it.
 pub fn first_hop(domain: &Domain, row: &Row, bridge: u16) -> Option<Hop>
     ensures { result ≡ first_hop domain.now bridge row.now }
 {
@@ -37,15 +37,16 @@ pub fn first_hop(domain: &Domain, row: &Row, bridge: u16) -> Option<Hop>
     }
 }
 
-/// The link by which the frames come that go on from the bridge; none at the stream's first bridge, and at one that it doesn't leave.
+/// Returns the link by which the frames that go on from the bridge come. Returns `None` at the stream's first bridge,
+/// and at a bridge that it doesn't leave.
 pub(crate) fn way_to(domain: &Domain, row: &Row, bridge: u16) -> Option<u16>
     ensures { result ≡ way_to domain.now bridge row.now }
 {
     first_hop(domain, row, bridge)?.from
 }
 
-/// The bridges at which the stream has a gate: each once, in the order in which its tree leaves them. Its tree goes along links of
-/// the plan's domain.
+/// Returns the bridges at which the stream has a gate, each once, in the order in which its tree leaves them. The tree
+/// has only links of the plan's domain.
 pub fn bridges_of(plan: &Plan, row: &Row) -> ArrayVec<u16, 200>
     requires { All (λ l. l < length plan.now.links) (links_of row.now) }
     ensures value { result.items ≡ bridges_of plan.now row.now }
@@ -62,7 +63,7 @@ pub fn bridges_of(plan: &Plan, row: &Row) -> ArrayVec<u16, 200>
     bridges
 }
 
-/// Whether a bridge is among some.
+/// Returns whether the bridge is among these.
 fn is_among(bridges: &[u16], bridge: u16) -> bool
     ensures { result ≡ list_any (λ other. other == bridge) bridges.now }
 {

@@ -1,17 +1,17 @@
-//! The compiler: what a domain and its streams are configured as.
+//! The compiler: the configuration of a domain and its streams.
 //!
 //! - [`compile`] makes a [`Plan`] of a domain: the gate list of the port of each link.
-//! - [`gate_of`] gives the gate of a stream at a bridge of its tree. A stream that is offered in each cycle has the same at each; the gate of one
-//!   that pauses is as many cycles late as its frames are deep on their way there.
-//!   [`port_list_of`] gives the gate list of the port of a link.
-//! - [`write_config`] writes both as one text, and [`put_config`] puts it on a press; [`put_gates`] puts an entry of a gate list.
-//!   `bridges_of` has the bridges at which a stream has a gate, in its order. [`leaves`] tells whether a link leaves a bridge, and
-//!   [`first_hop`] by which hop a stream does so first.
-//! - [`written_gates_are_the_networks`] is a law, a function that does nothing: what is written for a stream at a bridge passes what the gate
-//!   passes that the network asks for there.
+//! - [`gate_of`] returns the gate of a stream at a bridge of its tree. A stream that is offered in each cycle has the
+//!   same gate at each bridge; the gate of a stream that pauses is later by as many cycles as the hop number there
+//!   says. [`port_list_of`] returns the gate list of the port of a link.
+//! - [`write_config`] returns both as one text, and [`put_config`] puts it on a press; [`put_gates`] puts an entry of a
+//!   gate list. `bridges_of` returns the bridges at which a stream has a gate, in the order of its tree. [`leaves`]
+//!   returns whether a link leaves a bridge, and [`first_hop`] the hop by which a stream first does so.
+//! - [`written_gates_are_the_networks`] is a law, a function that does nothing: the gate that is written for a stream
+//!   at a bridge passes what the network's gate there passes.
 //!
-//! In even cycles a stream's gate gives its frames class 6 while the ports send class 7, and in odd cycles the other way round: so each frame
-//! waits for the cycle after the one that it came in (IEEE 802.1Q, Annex T).
+//! In even cycles a stream's gate gives its frames class 6 while the ports send class 7, and in odd cycles the other
+//! way round: so each frame waits for the cycle after the one in which it came (IEEE 802.1Q, Annex T).
 //!
 //! The configuration of one link, and of a stream of 1,500 octets in each cycle over it:
 //!
@@ -26,7 +26,7 @@
 //! open 7 125000 1500
 //! ```
 //!
-//! Where it is offered in one cycle of four, in cycle 1 and so on, cycles in which nothing passes are one entry:
+//! If it is offered in one cycle of four, first in cycle 1, consecutive cycles in which nothing passes are one entry:
 //!
 //! ```text
 //! stream 0 x bridge a

@@ -10,12 +10,12 @@ use cqf_units::Memory;
 use std::alloc::Global;
 use std::marker::Model;
 
-/// A domain with the gate list of the port of each of its links. To those who hold it, it is its domain, since that
-/// determines the lists.
+/// A domain with the gate list of the port of each of its links. To its users it is its domain, since that determines
+/// the lists.
 #[derive(Debug, Drop)]
 pub struct Plan {
     domain: Domain,
-    /// One for each link, by number.
+    /// One list for each link, by number.
     lists: Vec<TxList>,
 }
 
@@ -31,15 +31,15 @@ impl Model for Plan {
 }
 
 impl Plan {
-    /// Does nothing, and makes known to a proof what was seen to when the plan's domain was read: it is accepted.
+    /// Does nothing. It lets a proof use what was checked when the plan's domain was read: it is accepted.
     pub fn know(&self)
         ensures accepted { IsAccepted self.now }
     {
-        // a use of a field: with it the invariant is known
+        // a use of a field makes the invariant known
         let _ = &self.domain;
     }
 
-    /// The domain that the plan was compiled from. It is accepted.
+    /// Returns the domain from which the plan was compiled. It is accepted.
     pub fn domain(&self) -> &Domain
         ensures value { result.now ≡ self.now }
         ensures accepted { IsAccepted self.now }
@@ -47,8 +47,9 @@ impl Plan {
         &self.domain
     }
 
-    /// The gate list of the link's port: class 7 is open in even cycles, class 6 in odd ones, classes 0 to 5 in both, and
-    /// no class is in the link's guard time, which ends each cycle (IEEE 802.1Q, Annex T; the guard time and the classes: profile).
+    /// Returns the gate list of the link's port: class 7 is open in even cycles, class 6 in odd ones, classes 0 to 5 in
+    /// both, and no class in the link's guard band, which ends each cycle (IEEE 802.1Q, Annex T). The guard band and
+    /// the classes are this project's own.
     pub fn list(&self, link: u16) -> &TxList
         requires { link < length self.now.links }
         ensures { result.now ≡ compiled_lists self.now link }
@@ -57,7 +58,7 @@ impl Plan {
     }
 }
 
-/// The plan of a domain. It keeps a copy of the domain.
+/// Returns the plan of a domain, with a copy of the domain. Returns `Memory` if an allocation fails.
 pub fn compile(alloc: Global, domain: &Domain) -> Result<Plan, Memory>
     ensures { IfOk result (λ plan. plan ≡ domain.now) }
 {

@@ -1,9 +1,10 @@
-//! Laws about what is compiled for rows, bridges and trees: it is what the network demands.
+//! Laws about what is compiled for streams and bridges: it is what the network demands.
 ghost use Rattle.cqf_compile.specs.WrittenGates.{EachBridgeHasAGate, FramesComeThatWay, WrittenGatesPassTheSame};
 
-/// The gate that the configuration has of a stream at a bridge is the network's gate there: whatever goes on from the bridge came by
-/// the way for which the gate is written, and of it the gate passes just what `gate_behind` passes, at each instant and behind whatever
-/// passed before, with the same class. Each bridge from which frames of the stream go on has such a gate.
+/// Says that the gate in the configuration of a stream at a bridge is the network's gate there, for a stream with a
+/// tree and a positive cycle time. Each frame that goes on from the bridge came by the way for which the gate is
+/// written. The gate passes the same frames of at least one octet as `gate_behind`, with the same class, at each
+/// instant and regardless of what passed before. Each bridge from which frames of the stream go on has such a gate.
 pub fn written_gates_are_the_networks()
     ensures ways { FramesComeThatWay }
     ensures passes { WrittenGatesPassTheSame }

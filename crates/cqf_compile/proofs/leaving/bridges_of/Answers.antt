@@ -1,4 +1,4 @@
--- One more hop is gone over.
+-- One more hop is processed.
 use Rattle.std.proofs.Common.{◌++◌, ◌∷◌, [], Bool, if◌then◌else◌, ◌+◌, subst}
 use Rattle.cqf_compile.proofs.Bridges.{AreBridges, AreBridges-next, link-inside}
 use Rattle.cqf_compile.proofs.leaving.bridges_of.Goals as goal

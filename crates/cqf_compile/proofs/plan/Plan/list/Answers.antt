@@ -1,4 +1,4 @@
--- There is a list for each link, at its place.
+-- There is a list for each link, at its index.
 use Rattle.std.proofs.Common.{◌<◌, ◌≡◌, ◌∙◌, ◌∷◌, [], ℕ, List, ap, ap₂, arith, get_or, length}
 use Rattle.cqf_lists.proofs.EachBelow.{get_or-singles, length-singles}
 use Rattle.cqf_model.specs.Domain.{Domain}
