@@ -15,7 +15,7 @@ abbrev pub behind_entries : List Entry → Result (List Entry) ℕ → Result (L
 behind_entries read (Ok others) = Ok (read ++ others)
 behind_entries read (Err line) = Err line
 
--- some entries were read, the first 17 of which are kept; the number of the first line that is left is `number`
+-- some entries were read, and the first 17 are kept; the number of the first line that is left is `number`
 pub record IsReadSoFar (text : List ℕ) (kept : List Entry) (number : ℕ) (left : List ℕ) : Type 0 where
   pub read : List Entry
   pub keeps : kept ≡ take 17 read

@@ -63,7 +63,6 @@ PortGoesByThePast = (d : Domain) (entries : List Entry) (l end : ℕ) (front res
     end ≤ one.end → end ≤ other.end → SendTheSame end one.sents other.sents one.backed other.backed
 
 -- the links of the domain carry the same before an instant
--- the links of the domain carry the same before an instant
 abbrev pub CarryTheSame : Domain → ℕ → Carried → Carried → Type 0
 CarryTheSame d end carried other = (l : ℕ) → l < length d.links → sent_before end (carried l) ≡ sent_before end (other l)
 

@@ -12,7 +12,7 @@
 //!   been closed since it came ([`late_arrival_changes_nothing`]).
 //!
 //! ```
-//! from here on, a proof knows that two legal lists of transmissions for the same arrivals are equal
+//! // from here on, a proof knows that two legal lists of transmissions for the same arrivals are equal
 //! cqf_laws_network::legal_starts_are_unique();
 //! ```
 

@@ -20,7 +20,7 @@
 //!   admitted or withdrawn later.
 //!
 //! ```
-//! from here on, a proof knows that two legal networks of the same run and gate lists are equal
+//! // from here on, a proof knows that two legal networks of the same run and gate lists are equal
 //! cqf_laws_network::legal_network_is_unique();
 //! ```
 #![tactic(auto)]

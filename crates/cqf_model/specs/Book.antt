@@ -21,7 +21,7 @@ batch d carried link cycle = filter (λ (sent : Sent). cycle_of d sent.start.0 =
 abbrev pub backed_batch : Domain → (ℕ → List Start) → ℕ → ℕ → List Start
 backed_batch d backed link cycle = filter (λ (start : Start). cycle_of d start.start.0 == cycle) (backed link)
 
--- a streams' frame as an entry of a book
+-- a stream's frame as an entry of a book
 abbrev pub started : ℕ → ℕ → Sent → Started
 started cycle link sent = record { cycle = record { 0 = cycle }; link = link; frame = sent.frame; octets = sent.octets; start = sent.start }
 
@@ -53,7 +53,6 @@ drop_by cycle bridge x (Queued row) = []
 drop_by cycle bridge x LacksRow = []
 drop_by cycle bridge x ExceedsGate = []
 
--- the frame came in the cycle, and its offer has this place
 -- the frame came in the cycle, and its offer has this index
 abbrev pub is_of_place : Domain → ℕ → ℕ → Policed → Bool
 is_of_place d cycle place p = (cycle_of d p.received.at == cycle) && (p.received.frame == place + 1)

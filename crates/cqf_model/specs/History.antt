@@ -175,7 +175,7 @@ is_same (Some a) (Some b) = same_node a b
 abbrev pub is_loop_at : Domain → Branch → ℕ → Bool
 is_loop_at d branch place = list_any (λ name. is_same (node_named d name) (node_at d branch place)) (take place branch)
 
--- the first position at which a branch fails a test, where positions count through the branches as one list. Each branch is tested up to
+-- the first position at which a branch fails a test; positions count through the branches as one list. Each branch is tested up to
 -- the index after its last node, so an empty branch is tested at index 0
 abbrev pub first_place : (Branch → ℕ → Bool) → List Branch → Option ℕ
 first_place fails [] = None

@@ -33,8 +33,7 @@ abbrev pub uses : List Hop → Pace → ℕ → ℕ → Bool
 uses tree pace l cycle = list_any (λ (hop : Hop). (hop.link == l) && is_turn pace hop.depth cycle) tree
 
 -- what a stream costs on a link in a cycle, in octets: the reservation's cost, once regardless of how many listeners are downstream of the
--- link, if its frames go by the link in that cycle
--- frames go by the link in that cycle
+-- link, if its frames go by the link in that cycle; otherwise 0
 abbrev pub cost_on : Row → ℕ → ℕ → ℕ
 cost_on row l cycle = if uses row.tree.items row.pace l cycle then cost_of row.octets else 0
 

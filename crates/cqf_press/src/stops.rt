@@ -57,7 +57,7 @@ impl Stop {
         }
     }
 
-    /// Returns the end for arguments that can't be read because they aren't text, or because memory lacks.
+    /// Returns the end for arguments that can't be read because they aren't text or there is no memory for them.
     pub fn without_words(alloc: Global, error: &io::Error) -> Stop
         ensures { EndsWith 2 (line_of (codes "cqf: words")) result }
     {

@@ -1,4 +1,4 @@
--- The depth of the deepest hop so far.
+-- The greatest hop number so far.
 use Rattle.std.proofs.Common.{◌≡◌, fold, max, take}
 use Rattle.cqf_model.specs.declared.topology.Hop.{Hop}
 use Rattle.cqf_model.proofs.topology.Row.residence.Given as goal
