@@ -18,20 +18,20 @@ use Rattle.cqf_laws_history.specs.TrafficLaws.{FramesGoToNoOtherPort}
 use Rattle.cqf_laws_history.specs.TreeLaws.{FramesGoOnByTheirTree, FramesGoOnWhereALinkLeaves, GatesStandWhereLinksLeave, LeadsOn, OneGateABridge}
 use Rattle.cqf_laws_history.specs.TreeLaws.{ResidenceIsTheGreatestDepth, StreamsCostNothingElsewhere, StreamsCostOnceALink}
 
--- a number that is none of some isn't found among them
+-- a number that isn't in a list isn't found there
 not_among : (l : ℕ) (xs : List ℕ) → ¬ Contains xs l → list_any (λ k. k == l) xs ≡ false
 not_among l xs none = elim (cases_Bool (list_any (λ k. k == l) xs)) [
   | inr f ↦ f
   | inl t ↦ (let w = any_member (λ k. k == l) xs t in absurd (none (subst (λ (k : ℕ). Contains xs k) (eqb-true w.0 l w.2) w.1)))
 ]
 
--- a frame goes to no port whose hop doesn't follow
+-- a frame goes to no port that its stream doesn't take next
 pub no_other_port : FramesGoToNoOtherPort
 no_other_port d received row l none =
     ap (λ (b : Bool). flat_map (λ (x : Unit {0}). if b then queued_frame d received row ∷ [] else []) (tt ∷ []))
     (not_among l (goes_to row (came_by received.way)) none)
 
--- a stream costs of a link in the cycles of its turn there
+-- a stream costs its reservation on a link in its turns there
 pub costs_once : StreamsCostOnceALink
 costs_once row depth link cycle is turn =
     let hop = is.hop in
@@ -40,7 +40,7 @@ costs_once row depth link cycle is turn =
     ap (λ (b : Bool). if b then cost_of row.octets else 0)
     (member_any (λ (h : Hop). (h.link == link) && is_turn row.pace h.depth cycle) row.tree.items hop is.of_tree here)
 
--- and nothing else
+-- and nothing otherwise
 pub costs_nothing : StreamsCostNothingElsewhere
 costs_nothing row link cycle none =
     let at : Hop → Bool = λ hop. (hop.link == link) && is_turn row.pace hop.depth cycle in
@@ -53,7 +53,7 @@ costs_nothing row link cycle none =
           absurd (both_ways (is_turn row.pace w.0.depth cycle) (none w.0.depth is) both.1)
     ]
 
--- a way is the same as itself
+-- equal ways are the same
 itself : (a : Option ℕ) → same_way a a ≡ true
 itself None = refl
 itself (Some l) = eq-eqb l l refl
