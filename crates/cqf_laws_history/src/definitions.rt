@@ -55,7 +55,8 @@ pub fn verdicts_have_their_reason()
     ensures inside { VerdictsInsideHaveTheirReason }
 {}
 
-/// Proves that a frame goes on from a bridge only if its stream's tree leaves that bridge after the link by which the frame came.
+/// Proves that a frame goes on from a bridge only if its stream's tree leaves that bridge after the link by which the frame came,
+/// or, for an offer, at the edge.
 pub fn queued_frames_leave_their_bridge()
     ensures { QueuedFramesLeaveTheirBridge }
 {

@@ -69,7 +69,7 @@ pub fn state_follows_history()
 {}
 
 /// Proves how the streams of a history, held or not and in the order of their numbers, change with each entry: a granted stream is
-/// appended, a withdrawn one ends at its place, and a Seal changes none.
+/// appended, a withdrawn one keeps its position and gets its end, and a Seal changes none.
 pub fn streams_follow_history()
     ensures granted { GrantedIsLast }
     ensures withdrawn { WithdrawnEnds }
