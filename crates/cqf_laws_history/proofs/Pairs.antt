@@ -445,7 +445,7 @@ first_from paths place w =
       first = λ i j xs ys l k e f. not_stray paths i j xs ys l e f (w.below j k);
     }
 
--- and the other way round
+-- and conversely
 first_to : (paths : List Branch) (place : ℕ) → IsFirstStray paths place → IsLeast (is_stray paths) (length paths) place
 first_to paths place w =
     let inside = slice_get_within paths place w.branch w.here in

@@ -58,7 +58,7 @@ itself : (a : Option ℕ) → same_way a a ≡ true
 itself None = refl
 itself (Some l) = eq-eqb l l refl
 
--- a frame goes on where its tree does
+-- a frame goes on by the links of its tree
 pub goes_on_by_tree : FramesGoOnByTheirTree
 goes_on_by_tree row way link = (
   λ c.
@@ -72,14 +72,14 @@ goes_on_by_tree row way link = (
       (contains_map (λ (hop : Hop). hop.link) (filter (λ (hop : Hop). same_way hop.from way) row.tree.items) leads.hop kept),
 )
 
--- a frame goes on from a bridge where a link that it goes on by leaves it
+-- a frame goes on from a bridge if one of the links by which it goes on leaves that bridge
 pub goes_on_where_leaves : FramesGoOnWhereALinkLeaves
 goes_on_where_leaves d row way bridge = (
   λ t. any_member (λ l. leaves d l bridge) (goes_to row way) t,
   λ w. member_any (λ l. leaves d l bridge) (goes_to row way) w.0 w.1 w.2,
 )
 
--- a stream has a gate where a link of its tree leaves
+-- a stream has a gate at each bridge that a link of its tree leaves
 pub gates_where_links_leave : GatesStandWhereLinksLeave
 gates_where_links_leave d row bridge = (
   λ c. contains_from_map (bridge_of d) (links_of row) bridge (once_from (λ a b. a == b) (map (bridge_of d) (links_of row)) bridge c),

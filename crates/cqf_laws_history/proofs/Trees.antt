@@ -49,7 +49,7 @@ apart_agree xs ys e p q name f g =
     let not_in : list_any (λ y. is_text name y) ys ≡ false = none_member (λ x. list_any (λ y. is_text x y) ys) xs name none (contains_at xs p name f) in
     absurd (both_ways (is_text name name) (none_member (λ y. is_text name y) ys name not_in (contains_at ys q name g)) (is_text_itself name))
   where
-    -- where the opposite of a test holds, the test fails
+    -- if the negation of a test holds, the test fails
     none_of : (b : Bool) → not b ≡ true → b ≡ false
     none_of true h = absurd cc
     none_of false h = refl
@@ -84,7 +84,7 @@ make_tree (x ∷ xs) (y ∷ ys) e no_x no_y =
       agree = agree_cons x y xs ys same (part_agree xs ys parts.1 (rest_no_repeat x xs no_x) (rest_no_repeat y ys no_y)) no_x no_y;
     }
 
--- they agree the other way round
+-- and conversely
 agree_sym : (xs ys : Branch) → Agree xs ys → Agree ys xs
 agree_sym xs ys h p q name e f =
     let r = h q p name f e in
