@@ -12,12 +12,12 @@ use Rattle.cqf_instants.specs.declared.link.SendingLink.{SendingLink}
 use Rattle.cqf_instants.specs.Lanes.{TellsLane, cap_at, caps_below, in_pace, start_of_lane, sum_below}
 use Rattle.cqf_instants.proofs.Adding.{cap_there}
 
--- sums of the same numbers
+-- sums of equal summands are equal
 pub sums_same : (f g : ℕ → ℕ) (n : ℕ) → ((l : ℕ) → l < n → f l ≡ g l) → sum_below f n ≡ sum_below g n
 sums_same f g zero same = refl
 sums_same f g (suc n) same = ap₂ (λ (a b : ℕ). a + b) (sums_same f g n (λ l below. same l (omega (arith, below)))) (same n (omega arith))
 
--- a sum of more is no less
+-- a sum of more summands is no less
 sums_more : (f : ℕ → ℕ) (m k : ℕ) → sum_below f m ≤ sum_below f (m + k)
 sums_more f m zero =
     let e : m + zero ≡ m = omega arith in
@@ -32,7 +32,7 @@ sums_rise f m n upto =
     let e : m + k ≡ n = omega (arith, upto) in
     omega (arith, sums_more f m k, ap (sum_below f) e)
 
--- a start a frame
+-- each frame gives one start
 one_each : (cycle link begins r t : ℕ) (xs : List Waiting) → length (in_pace (start_of_lane cycle link begins) r t xs) ≡ length xs
 one_each cycle link begins r t [] = refl
 one_each cycle link begins r t (x ∷ xs) =
@@ -43,7 +43,7 @@ one_each cycle link begins r t (x ∷ xs) =
       one_each cycle link begins r n xs,
     )
 
--- so as many more as the lane had
+-- so as many starts are added as the lane had frames
 pub lane_told : (sender : SendingLink) (cycle begins : ℕ) (lane : List Waiting) (old own : Vec Waiting Global) (branches : List LaidHop)
     (before after : List (Vec Waiting Global)) (told all : List Started) →
     TellsLane sender cycle begins lane old own branches before after told all → length all ≡ length told + length lane
@@ -55,7 +55,7 @@ lane_told sender cycle begins lane old own branches before after told all h = om
   length_permutation lane h.sorted h.same,
 )
 
--- a lane has no more than it has room for, nor have those up to it
+-- a lane has no more frames than it has room for, and so together with the lanes before it
 pub lane_within : (before now : List (Vec Waiting Global)) (place : ℕ) (own d : Vec Waiting Global) (count : ℕ) → place < length now →
     own ≡ get_or now place d → ((l : ℕ) → cap_at now l ≡ cap_at before l) → count ≤ caps_below before place →
     count + length own.items ≤ caps_below before (place + 1)

@@ -1,4 +1,4 @@
--- Groups of hops, laid and tied.
+-- Groups of hops, appended and tied.
 use Rattle.std.proofs.Common.{◌≡◌, ◌≢◌, ℕ, suc, ◌+◌, ◌-◌, ◌<◌, ◌≤◌, ◌∷◌, [], ◌==◌, List, Bool}
 use Rattle.std.proofs.Common.{Option, Some, None, inl, inr, refl, sym, ap, ◌∙◌, subst, arith, length, take, map, filter}
 use Rattle.std.proofs.Common.{All, Contains, get_or, eq-eqb, eqb-true}
@@ -21,7 +21,7 @@ use Rattle.cqf_instants.specs.Lanes.{branch_at}
 use Rattle.cqf_instants.specs.declared.laying.Group.{Group}
 use Rattle.cqf_instants.specs.LaidTrees.{AreBehind, AreTied, HaveLinks, IsLaidBranch, StandBehind, behind_at, group_at, is_of_tree}
 
--- a list of one thing for each element is the mapped list
+-- a list of one element for each index is the mapped list
 by_index : {X Y : Type 0} (f : X → Y) (d : X) (xs : List X) → each_below (λ k. f (get_or xs k d) ∷ []) (length xs) ≡ map f xs
 by_index f d [] = refl
 by_index f d (x ∷ xs) =
@@ -38,11 +38,11 @@ no_group = record { first = 0; many = 0 }
 abbrev pub no_hop : Hop
 no_hop = record { link = 0; depth = 0; from = None }
 
--- what is filtered is no longer
+-- a filtered list is no longer
 filter_short : {X : Type 0} (p : X → Bool) (xs : List X) → length (filter p xs) ≤ length xs
 filter_short p xs = omega (arith, length-filter p xs, count_by-le-length p xs)
 
--- branches of the same links stand behind the same hops
+-- branches with the same links are those of the same hops
 pub stand_same : (tree : List Hop) (way : Option ℕ) (xs ys : List LaidHop) (group : Group) → length xs ≤ length ys →
     ((h : ℕ) → h < length xs → (branch_at ys h).link ≡ (branch_at xs h).link) → StandBehind tree way xs group → StandBehind tree way ys group
 stand_same tree way xs ys group longer same s = record {
@@ -58,11 +58,11 @@ module _ (tree : List Hop) (way : Option ℕ) (before after : List LaidHop) (man
   pub grown : length after ≡ length before + many
   grown = omega (arith, ap length lays.laid, length-append before (map bare group), length-map group bare, lays.count)
 
-  -- what stood there stands there still
+  -- earlier branches are unchanged
   pub stays : (h : ℕ) → h < length before → branch_at after h ≡ branch_at before h
   stays h inside = ap (λ (xs : List LaidHop). get_or xs h no_branch) lays.laid ∙ get_or_append_left before (map bare group) no_branch h inside
 
-  -- and what is new is a hop of the group
+  -- and a new one is a hop of the group
   new_at : (k : ℕ) → k < many → branch_at after (length before + k) ≡ bare (get_or group k no_hop)
   new_at k below =
       ap (λ (xs : List LaidHop). get_or xs (length before + k) no_branch) lays.laid
@@ -98,7 +98,7 @@ module _ (tree : List Hop) (way : Option ℕ) (before after : List LaidHop) (man
   pub short : many ≤ length tree
   short = omega (arith, lays.count, filter_short (λ (hop : Hop). same_way hop.from way) tree)
 
--- nothing is laid yet
+-- nothing is appended yet
 pub none_behind : (tree : List Hop) (before : List LaidHop) (groups : List Group) → length groups ≡ 4096 → AreBehind tree before before 0 groups
 none_behind tree before groups count = record {
   count = count;
@@ -110,7 +110,7 @@ none_behind tree before groups count = record {
   own = λ h from inside. absurd (omega (arith, from, inside));
 }
 
--- one hop more has its group
+-- one more hop has its group
 pub behind_more : (tree : List Hop) (before now after : List LaidHop) (k : ℕ) (hop : Hop) (many : ℕ) (groups : List Group) →
     length tree ≤ 200 → hop.link < 4096 → slice_get tree k ≡ Some hop → AreBehind tree before now k groups → LaysGroup tree (Some hop.link) now after many →
     AreBehind tree before after (k + 1) (slice_set groups hop.link (record { first = length now; many = many }))

@@ -16,7 +16,7 @@ use Rattle.cqf_instants.specs.Progress.{IsBasisOf, IsUnderWay, SomeBasis, starts
 use Rattle.cqf_instants.specs.Telling.{AreEmptyLanes, IsReadyFor, room_at}
 use Rattle.cqf_instants.proofs.Telling.{can_put, can_send, ready_first, ready_next, room_for_all, same_room, starts_are}
 
--- the starts of the cycles told, and of one more
+-- the starts of the computed cycles, and of one more
 pub starts_more : (given : Given) (cycle : ℕ) →
     starts_of given.run.domain cycle given.net.carried ++ starts_of_cycle given cycle ≡ starts_of given.run.domain (cycle + 1) given.net.carried
 starts_more given cycle = ap (λ (n : ℕ). starts_of given.run.domain n given.net.carried) (sym (add-one cycle))
@@ -43,7 +43,7 @@ first_way laws basis some now next starts frames one two are cap = record {
 
 module _ (laws : TheLaws) (basis : Basis) (cycle : ℕ) (old : Standing) (way : IsUnderWay basis cycle old) (in_run : cycle < basis.cycles)
     (small : cycle < 2 ^ 32) where
-  -- what a run needs that the cycle may be sent
+  -- what a run requires to send the cycle
   pub may_send : (given : Given) → IsBasisOf given basis →
       CanSend given basis.branches.items basis.links.items cycle old.begins old.now.items old.next.items
   may_send given is =
@@ -57,7 +57,7 @@ module _ (laws : TheLaws) (basis : Basis) (cycle : ℕ) (old : Standing) (way : 
       (sends : (given : Given) → CanSend given basis.branches.items basis.links.items cycle old.begins old.now.items old.next.items →
       SendsAll given basis.branches.items cycle (length basis.links.items) old.now.items now old.next.items next [] starts.items)
       (cap : vec_capacity starts ≡ vec_capacity old.starts) where
-    -- the offers may be put
+    -- the offers can be put
     pub may_put : CanPut basis.offers.items old.from old.begins (old.begins + basis.cycle_time) basis.branches.items next
     may_put =
         let given = way.some.given in

@@ -1,4 +1,4 @@
--- A tree that is laid out: behind each hop's branch those of the hops that follow it, side by side.
+-- A tree that is laid out: each hop's branch refers to the branches of the hops that follow it, which are contiguous.
 use Rattle.std.specs.Prelude.{ℕ, true, ◌≡◌, ◌+◌, ◌*◌, ◌≤◌, ◌<◌, ◌==◌, List, Option, Some, None, length, slice_get, slice_index_or, take}
 use Rattle.std.specs.List.{list_any}
 use Rattle.cqf_model.specs.declared.topology.Hop.{Hop}
@@ -9,7 +9,7 @@ use Rattle.cqf_instants.specs.Lanes.{branch_at}
 use Rattle.cqf_instants.specs.Meaning.{links_at}
 use Rattle.cqf_instants.specs.declared.laying.Group.{Group}
 
--- branches that stand side by side are by the links of the hops that follow a way
+-- contiguous branches have the links of the hops that follow a way
 pub record StandBehind (tree : List Hop) (way : Option ℕ) (branches : List LaidHop) (group : Group) : Type 0 where
   pub inside : group.first + group.many ≤ length branches
   pub links : links_at branches group.first group.many ≡ links_in (group_of tree way)
@@ -22,7 +22,7 @@ group_at groups link = slice_index_or groups link (record { first = 0; many = 0 
 abbrev pub is_of_tree : List Hop → ℕ → LaidHop → Type 0
 is_of_tree tree h branch = list_any (λ (hop : Hop). hop.link == branch.link) tree ≡ true
 
--- behind branches that stood there were laid, for each of the first so many hops of a tree, those that follow it
+-- after the given branches, those that follow each of the first `many` hops of a tree were appended
 pub record AreBehind (tree : List Hop) (before after : List LaidHop) (many : ℕ) (groups : List Group) : Type 0 where
   pub count : length groups ≡ 4096
   pub longer : length before ≤ length after
@@ -32,11 +32,11 @@ pub record AreBehind (tree : List Hop) (before after : List LaidHop) (many : ℕ
   pub beyond : (k : ℕ) (hop : Hop) → k < many → slice_get tree k ≡ Some hop → length before ≤ (group_at groups hop.link).first
   pub own : (h : ℕ) → length before ≤ h → h < length after → is_of_tree tree h (branch_at after h)
 
--- from a place on links have numbers below 4096
+-- from an index on, links have numbers below 4096
 abbrev pub HaveLinks : List LaidHop → ℕ → Type 0
 HaveLinks branches from = (h : ℕ) → from ≤ h → h < length branches → (branch_at branches h).link < 4096
 
--- the branches from a place up to another lead to the group of their link, and all else is as it was
+-- the branches from one index up to another refer to the group of their link, and nothing else has changed
 pub record AreTied (before after : List LaidHop) (from to : ℕ) (groups : List Group) : Type 0 where
   pub count : length after ≡ length before
   pub links : (h : ℕ) → (branch_at after h).link ≡ (branch_at before h).link
@@ -44,12 +44,12 @@ pub record AreTied (before after : List LaidHop) (from to : ℕ) (groups : List 
       × ((branch_at after h).many ≡ (group_at groups (branch_at before h).link).many)
   pub front : (h : ℕ) → h < from → branch_at after h ≡ branch_at before h
 
--- where the branches behind a branch stand
+-- the group of the branches that follow a branch
 abbrev pub behind_at : List LaidHop → ℕ → Group
 behind_at branches h = let branch = branch_at branches h in record { first = branch.next; many = branch.many }
 
--- a tree was laid behind branches that stood there: from the edge it begins with a group, and each branch of it leads to those that
--- follow its link, which are of it too
+-- a tree was appended to the given branches: it begins with a group from the edge, and each branch of it refers to those that
+-- follow its link, which belong to the tree too
 pub record IsLaidBranch (tree : List Hop) (before after : List LaidHop) (edge : Group) : Type 0 where
   pub longer : length before ≤ length after
   pub short : length after ≤ length before + 40200

@@ -1,9 +1,9 @@
--- The laws by which a pass goes.
+-- The laws that a pass relies on.
 use Rattle.cqf_laws_instants.specs.Instants.{BatchIsDue, FirstBatchIsEmpty, QueueHasRoom}
 use Rattle.cqf_laws_instants.specs.LaneLaws.{CoveredGoByTheirTree, LaneIsQueued, UncoveredGoNowhere}
 use Rattle.cqf_laws_instants.specs.QueueLaws.{CoveringCovers}
 
--- what a link sends in a cycle, how much that is, and what comes to its lane
+-- what a link sends in a cycle, how much that is, and what enters its lane
 pub record TheLaws : Type 0 where
   pub lane : LaneIsQueued
   pub due : BatchIsDue

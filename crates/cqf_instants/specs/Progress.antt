@@ -1,4 +1,4 @@
--- How far a pass over the cycles of a run is, and what it tells.
+-- The progress of a pass over the cycles of a run, and what the pass computes.
 use Rattle.std.specs.Prelude.{ℕ, ◌≡◌, ◌+◌, ◌≤◌, ◌<◌, List, length, vec_capacity}
 use Rattle.cqf_lists.specs.Lists.{each_below}
 use Rattle.cqf_model.specs.declared.frames.Started.{Started}
@@ -19,40 +19,40 @@ pub record SomeBasis (basis : Basis) : Type 0 where
   pub given : Given
   pub is : IsBasisOf given basis
 
--- the starts of streams' frames in a cycle of it, by link, then instant
+-- the starts of streams' frames in a cycle of the run, by link, then instant
 abbrev pub starts_of_cycle : Given → ℕ → List Started
 starts_of_cycle given cycle = each_below (starts_in given.run.domain given.net.carried cycle) (length given.run.domain.links)
 
--- these are the starts of a run that the basis is of, by cycle, then link, then instant
+-- these are the starts of a run whose basis this is, by cycle, then link, then instant
 pub record AreStartsOf (basis : Basis) (starts : List Started) : Type 0 where
   pub given : Given
   pub is : IsBasisOf given basis
   pub are : starts ≡ starts_of given.run.domain basis.cycles given.net.carried
 
--- how far a pass is: what it tells the starts from, how many cycles are told, and the starts of the last of them
+-- the progress of a pass: its basis, the number of cycles computed so far, and the starts of the last of them
 pub record Progress : Type 0 where
   pub basis : Basis
   pub told : ℕ
   pub starts : List Started
 
--- the next cycle is told: the starts are those of it, in each run that the basis is of
+-- the next cycle is computed: the starts are those of that cycle, in each run with this basis
 pub record TellsNext (old new : Progress) : Type 0 where
   pub basis : new.basis ≡ old.basis
   pub in_run : old.told < old.basis.cycles
   pub told : new.told ≡ old.told + 1
   pub starts : (given : Given) → IsBasisOf given old.basis → new.starts ≡ starts_of_cycle given old.told
 
--- all cycles are told, and the pass is as it was
+-- all cycles are done, and the pass is unchanged
 pub record IsOver (old new : Progress) : Type 0 where
   pub same : new ≡ old
   pub all : old.told ≡ old.basis.cycles
 
--- the starts have room for what the lanes of so many links can hold
+-- the starts have room for what the lanes of this many links can hold
 pub record LaneHasRoomFor (links : ℕ) (standing : Standing) : Type 0 where
   pub now : caps_below standing.now.items links ≤ vec_capacity standing.starts
   pub next : caps_below standing.next.items links ≤ vec_capacity standing.starts
 
--- so many cycles are told, and the lanes are ready for the next one, in each run that the basis is of
+-- `told` cycles are computed, and the lanes are ready for the next one, in each run with this basis
 pub record IsUnderWay (basis : Basis) (told : ℕ) (standing : Standing) : Type 0 where
   pub some : SomeBasis basis
   pub within : told ≤ basis.cycles

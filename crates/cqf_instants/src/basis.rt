@@ -1,22 +1,22 @@
-//! What the starts of a run are told from.
+//! What the starts of a run are computed from.
 
 use crate::lanes::LaidHop;
 use crate::offers::Entering;
 use cqf_model::Link;
 
-/// What the starts of a run are told from.
+/// What the starts of a run are computed from.
 #[derive(Debug, Drop)]
 pub struct Basis {
     /// The links of the domain, by number.
     pub links: Vec<Link>,
-    /// How long a cycle is, in nanoseconds.
+    /// The length of a cycle, in nanoseconds.
     pub cycle_time: u32,
-    /// How long a link is kept idle before a cycle ends, where it has no guard time of its own, in nanoseconds.
+    /// How long a link is kept idle before a cycle ends, in nanoseconds, if it has no guard band of its own.
     pub guard: u32,
-    /// How many cycles are run.
+    /// The number of cycles of the run.
     pub cycles: u32,
     /// The hops of the streams' trees.
     pub branches: Vec<LaidHop>,
-    /// The offers by place, with what was decided of each.
+    /// The offers in order of instant, each with the hops by which it enters.
     pub offers: Vec<Entering>,
 }

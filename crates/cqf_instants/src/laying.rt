@@ -1,4 +1,4 @@
-//! A tree's hops, laid group by group.
+//! A tree's hops, laid out group by group.
 ghost use Rattle.std.specs.Prelude.{◌≡◌, ◌+◌, ◌<◌, ◌≤◌, ◌^◌, All, IfOk, length};
 ghost use Rattle.cqf_instants.specs.LaidTrees.{AreBehind, AreTied, HaveLinks, IsLaidBranch};
 
@@ -6,14 +6,14 @@ use crate::{LaidHop, lay_group};
 use cqf_model::Hop;
 use cqf_units::Memory;
 
-/// Where hops that follow one way stand among all, side by side, and how many they are.
+/// The index of the first of the hops that follow one way, which are contiguous, and their number.
 #[derive(Clone, Copy, Debug, PartialEq, Eq)]
 pub struct Group {
     pub first: u32,
     pub many: u32,
 }
 
-/// Lays for each hop of a tree those that follow it, and notes by link where they stand.
+/// Appends, for each hop of a tree, the hops that follow it, and notes their group by link.
 fn lay_groups(
     tree: &[Hop],
     groups: &mut Vec<Group>,
@@ -33,7 +33,7 @@ fn lay_groups(
     Ok(())
 }
 
-/// Ties each branch from a place on to those that follow its link.
+/// Makes each branch from an index on refer to the group of its link.
 fn tie(branches: &mut Vec<LaidHop>, from: usize, groups: &[Group])
     requires within { from ≤ length branches.old.items }
     requires links { HaveLinks branches.old.items from }
@@ -51,12 +51,15 @@ fn tie(branches: &mut Vec<LaidHop>, from: usize, groups: &[Group])
     }
 }
 
-/// Lays a tree behind the branches: first the hops from the edge, which are where the group says, and then for each hop those
-/// that follow it, to which it leads. Links have numbers below 4096, and a tree has at most 200 hops. The groups, a place for each link, are
-/// room to work in: what they hold before says nothing, and they may be lent again for the next tree.
+/// Appends a tree to the branches: first the hops from the edge, whose group it returns, then for each hop of the tree the hops
+/// that follow it. Each appended branch refers to the group of the hops that follow its link.
+///
+/// Link numbers are below 4096, and a tree has at most 200 hops. `groups` has 4096 entries, one for each link number, and is
+/// scratch space: its contents before the call don't matter, and it can be reused for the next tree.
 ///
 /// # Errors
-/// Where a growth is refused.
+///
+/// Returns `Memory` if an allocation fails.
 pub fn lay_tree(
     tree: &[Hop],
     groups: &mut Vec<Group>,

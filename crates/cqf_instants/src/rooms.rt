@@ -10,8 +10,8 @@ use cqf_model::Link;
 use cqf_units::{Memory, Nanos, budget_octets};
 use std::alloc::Global;
 
-/// How many frames a link sends in a cycle at most: as many of the shortest size as have room in its budget, and each of so many
-/// offers once.
+/// Returns the most frames that a link can send in a cycle: as many of the shortest size as its budget has room for, and at most as
+/// many as there are offers.
 fn frames_in(link: &Link, cycle_time: u32, guard: u32, offers: usize) -> usize
     requires { guard_by guard link.now ≤ cycle_time }
     ensures value { result ≡ min (frames_in cycle_time (guard_by guard link.now) (ticks_of_octet link.now.rate)) offers }
@@ -24,7 +24,7 @@ fn frames_in(link: &Link, cycle_time: u32, guard: u32, offers: usize) -> usize
     frames.min(offers)
 }
 
-/// How many all links send together.
+/// Returns the most frames that all links together can send in a cycle.
 pub(crate) fn frames_in_all(links: &[Link], cycle_time: u32, guard: u32, offers: usize) -> usize
     requires forth { AreGuardsShort links.now cycle_time guard }
     requires few { length links.now ≤ 4096 }
@@ -37,7 +37,8 @@ pub(crate) fn frames_in_all(links: &[Link], cycle_time: u32, guard: u32, offers:
     frames
 }
 
-/// A lane for each link, with room for all that it can hold of so many offers, and nothing in it.
+/// Returns an empty lane for each link, with room for all that it can hold if there are this many offers. Returns `Memory` if an
+/// allocation fails.
 pub(crate) fn empty_lanes(
     alloc: Global,
     links: &[Link],

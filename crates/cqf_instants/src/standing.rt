@@ -1,4 +1,4 @@
-//! Where a pass stands, and how it goes on by a cycle.
+//! The state of a pass, and how it goes on by a cycle.
 ghost use Rattle.std.specs.Prelude.{◌≡◌, ◌+◌, ◌<◌, [], IfOk};
 ghost use Rattle.cqf_instants.specs.Laws.{TheLaws};
 ghost use Rattle.cqf_instants.specs.Meaning.{Given};
@@ -14,22 +14,22 @@ use cqf_model::Started;
 use cqf_units::{Cycle, Memory};
 use std::alloc::Global;
 
-/// Where a pass stands.
+/// The state of a pass before a cycle.
 #[derive(Debug, Drop)]
 pub(crate) struct Standing {
-    /// A lane for each link, of what it sends in the next cycle.
+    /// A lane for each link, with what it sends in the next cycle.
     pub(crate) now: Vec<Vec<Waiting>>,
-    /// And of what it sends in the cycle behind that one: nothing yet.
+    /// A lane for each link, with what it sends in the cycle after that: nothing yet.
     pub(crate) next: Vec<Vec<Waiting>>,
-    /// The place of the first offer of the next cycle or a later one.
+    /// The index of the first offer of the next cycle or a later one.
     pub(crate) from: usize,
-    /// When the next cycle begins, in nanoseconds.
+    /// The instant at which the next cycle begins, in nanoseconds.
     pub(crate) begins: u64,
-    /// The starts of the cycle told last.
+    /// The starts of the last computed cycle.
     pub(crate) starts: Vec<Started>,
 }
 
-/// The laws by which a pass goes.
+/// Proves the laws that a pass relies on.
 fn the_laws()
     ensures { TheLaws }
 {
@@ -39,7 +39,8 @@ fn the_laws()
     cqf_laws_instants::lane_is_queued();
 }
 
-/// Where a pass stands before its first cycle. It has all the memory that it will need.
+/// Returns the state of a pass before its first cycle, with all the memory that it will need. Returns `Memory` if an allocation
+/// fails.
 pub(crate) fn stand_at_first(alloc: Global, basis: &Basis) -> Result<Standing, Memory>
     requires { SomeBasis basis.now }
     ensures way { IfOk result (IsUnderWay basis.now 0) }
@@ -62,7 +63,7 @@ pub(crate) fn stand_at_first(alloc: Global, basis: &Basis) -> Result<Standing, M
     })
 }
 
-/// Tells the starts of a cycle, and stands before the next one.
+/// Computes the starts of a cycle, and moves the state to the next one.
 pub(crate) fn tell_cycle(basis: &Basis, cycle: u32, standing: &mut Standing)
     requires way { IsUnderWay basis.now cycle standing.old }
     requires in_run { cycle < basis.now.cycles }

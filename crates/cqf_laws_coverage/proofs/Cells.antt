@@ -34,11 +34,11 @@ module _ (run : Run) (carried : Carried) (apart : AllPairs AreApart (starts_of r
   abbrev of_sent : Sent → ℕ
   of_sent sent = if cycle_of run.domain sent.start.0 == cycle then wire_of sent.octets else 0
 
-  -- a start is of a frame
+  -- whether a start is that of a frame
   abbrev match : Started → Sent → Bool
   match s sent = (s.link == link) && (s.frame == sent.frame)
 
-  -- each start is of one, which takes no less
+  -- each start is that of a frame, which takes no less
   has : (s : Started) → Contains starts s → 0 < of_start s → (sent : Sent) × Contains (carried link) sent × (match s sent ≡ true) × (of_start s ≤ of_sent sent)
   has s c some =
       let counts = counts_so (s.link == link) (s.cycle.0 == cycle) s.octets some in

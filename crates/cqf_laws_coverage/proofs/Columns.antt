@@ -1,4 +1,4 @@
--- What a link has in each cycle tells what it has at all, and the most in one cycle.
+-- A link's octets in each cycle give its octets in all, and the most in one cycle.
 use Rattle.std.proofs.Common.{◌≡◌, ℕ, zero, suc, ◌+◌, ◌-◌, ◌<◌, ◌≤◌, ◌⊎◌, ◌∷◌, [], List, Bool, true, false, inl, inr}
 use Rattle.std.proofs.Common.{sym, ap, ◌∙◌, arith, refl, sum, sum_by, fold, max}
 use Rattle.std.proofs.Common.{get_or, ◌==◌, ◌&&◌, nat_le, if◌then◌else◌, le-leb, eq-eqb, ne_eqb}
@@ -13,18 +13,18 @@ use Rattle.cqf_laws_coverage.proofs.InOneCycle.{most_is_most, most_is_one}
 use Rattle.cqf_laws_coverage.proofs.Counts.{second_fails, second_passes}
 use Rattle.cqf_laws_coverage.proofs.Matched.{sum_same}
 
--- the greatest of some numbers is no less than where it began
+-- the maximum is at least its initial value
 most_begins : (a : ℕ) (xs : List ℕ) → a ≤ fold max a xs
 most_begins a [] = omega arith
 most_begins a (x ∷ xs) = omega (arith, most_begins (max a x) xs)
 
--- nor than any of them
+-- and at least each element
 most_bounds : (a : ℕ) (xs : List ℕ) (k : ℕ) → get_or xs k 0 ≤ fold max a xs
 most_bounds a [] k = omega arith
 most_bounds a (x ∷ xs) zero = omega (arith, most_begins (max a x) xs)
 most_bounds a (x ∷ xs) (suc k) = most_bounds (max a x) xs k
 
--- and it is where it began, or one of them
+-- and it is the initial value or an element
 most_reached : (a : ℕ) (xs : List ℕ) → (fold max a xs ≡ a) ⊎ ((k : ℕ) × (get_or xs k 0 ≡ fold max a xs))
 most_reached a [] = inl refl
 most_reached a (x ∷ xs) = elim (most_reached (max a x) xs) [
@@ -43,7 +43,7 @@ module _ (starts : List Started) (link : ℕ) where
   abbrev within : ℕ → Started → ℕ
   within cycle s = if (s.link == link) && (s.cycle.0 == cycle) then s.octets else 0
 
-  -- in a cycle and from the next one on it counts what it counts from that cycle on
+  -- what it counts in a cycle and from the next one on is what it counts from that cycle on
   parted : (first : ℕ) (s : Started) → within first s + from (first + 1) s ≡ from first s
   parted first s = by (s.link == link) (s.cycle.0 == first) (nat_le (first + 1) s.cycle.0) (nat_le first s.cycle.0) tests
     where
@@ -77,7 +77,7 @@ module _ (starts : List Started) (link : ℕ) where
         )
       ]
 
-  -- a list of what the link has in each cycle from one on tells what it has from there on
+  -- a list of the link's octets in each cycle from one cycle on gives its octets from there on
   summed : (column : List ℕ) (first : ℕ) → ((k : ℕ) → get_or column k 0 ≡ octets_summed link (first + k) starts) → sum column ≡ sum_by (from first) starts
   summed [] first each = sym (sum_none (from first) starts (λ s c. elim (cases_lt s.cycle.0 first) [
     | inl early ↦ second_fails (s.link == link) (nat_le first s.cycle.0) s.octets (lt-leb first s.cycle.0 early)
@@ -108,7 +108,7 @@ module _ (starts : List Started) (link : ℕ) where
   all_count = sum_same (from 0) (λ (s : Started). if s.link == link then s.octets else 0) starts
       (λ s c. sym (second_passes (s.link == link) (nat_le 0 s.cycle.0) s.octets (le-leb 0 s.cycle.0 (omega arith))))
 
-  -- the greatest is the most in one cycle
+  -- the maximum is the most in one cycle
   greatest : (column : List ℕ) → ((k : ℕ) → get_or column k 0 ≡ octets_summed link k starts) → IsMost link starts (fold max 0 column)
   greatest column each = record {
     no_more = λ cycle. omega (arith, each cycle, most_bounds 0 column cycle);

@@ -1,4 +1,4 @@
--- An offer changes the counter of the row in force alone.
+-- An offer changes only the counter of the row in force.
 use Rattle.cqf_model.specs.Table.{reserved_in}
 use Rattle.std.proofs.Common.{◌≡◌, ℕ, ◌+◌, Bool, true, false, Some, sym, ap, ◌∙◌, refl, inl, inr, ◌==◌, ◌&&◌, nat_le, if◌then◌else◌, eq-eqb}
 use Rattle.std.proofs.lemmas.Bool.{and_from, and_parts, cases_Bool}
@@ -13,7 +13,7 @@ use Rattle.cqf_model.specs.Table.{begins_at, is_held}
 use Rattle.cqf_laws_coverage.specs.Judged.{CounterOfTheRow, CountersOfOthers}
 use Rattle.cqf_laws_coverage.specs.Rows.{OneIsInForce}
 
--- a step by its tests
+-- a step, by its tests
 by_tests : (here named begins fits : Bool) (used more : ℕ) → here ≡ true → named ≡ true →
     (if (here && named && begins) && fits then more else used) ≡ (if begins && fits then more else used)
 by_tests true true begins fits used more a b = refl
@@ -33,7 +33,7 @@ counter_of_the_row d entries x row used found =
     by_tests (offer_cycle d x == cycle) (is_text row.name x.offer.stream) (begins_at d row x.offer.bridge) (nat_le (used + x.offer.octets) (reserved_in row 0 cycle))
     used (used + x.offer.octets) (eq-eqb cycle cycle refl) (and_parts (is_text row.name x.offer.stream) (is_held row cycle) member.1).0
 
--- and of another
+-- and the step of another row
 pub counters_of_others : OneIsInForce → CountersOfOthers
 counters_of_others one d entries x other used legal in_run among held differ =
     let cycle = offer_cycle d x in

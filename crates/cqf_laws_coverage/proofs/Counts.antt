@@ -15,13 +15,13 @@ use Rattle.cqf_laws_coverage.specs.Counted.{AreCountedHops, HistoryIsCounted, Is
 use Rattle.cqf_laws_coverage.proofs.Matched.{sum_same}
 use Rattle.cqf_laws_shift.proofs.Octets.{of_batch}
 
--- where the second test fails, nothing counts
+-- if the second test fails, nothing counts
 pub second_fails : (a b : Bool) (n : ℕ) → b ≡ false → (if a && b then n else 0) ≡ 0
 second_fails true true n e = absurd (cc)
 second_fails true false n e = refl
 second_fails false b n e = refl
 
--- and where it passes, the first decides
+-- and if it passes, the first test decides
 pub second_passes : (a b : Bool) (n : ℕ) → b ≡ true → (if a then n else 0) ≡ (if a && b then n else 0)
 second_passes true true n e = refl
 second_passes true false n e = absurd (cc)

@@ -1,4 +1,4 @@
--- Where offers stand in order of instant, the offers before one stand before it.
+-- If offers are in order of instant, the offers before an offer precede it in the list.
 use Rattle.cqf_model.specs.Table.{reserved_in}
 use Rattle.std.proofs.Common.{◌≡◌, ℕ, suc, ◌+◌, ◌-◌, ◌<◌, ◌≤◌, ◌∷◌, [], ◌++◌, List, Bool, false, inl, inr, sym, ap, ap₂, ◌∙◌, subst, arith, refl}
 use Rattle.std.proofs.Common.{AllPairs, Contains, filter, fold, length, get_or, take, ◌==◌, ◌&&◌, append-nil, ne_eqb, nat_le, if◌then◌else◌}
@@ -31,12 +31,12 @@ use Rattle.cqf_laws_coverage.specs.Judged.{CountersBegin, CountersGoOn, OffersBe
 abbrev the_offered : ℕ × Offer → Offered
 the_offered x = record { frame = x.0; offer = x.1 }
 
--- the numbered offers stand in order too
+-- the numbered offers are in order too
 numbered_in_order : (offers : List Offer) → StandInOrder offers → AllPairs (λ (a b : Offered). a.offer.at.0 ≤ b.offer.at.0) (numbered offers)
 numbered_in_order offers ordered i j e l inside =
     pairs_map (λ (a b : Offered). a.offer.at.0 ≤ b.offer.at.0) the_offered (enumerate_from 1 offers) places i j e l inside
   where
-    -- by place
+    -- by index
     places : AllPairs (λ (a b : ℕ × Offer). a.1.at.0 ≤ b.1.at.0) (enumerate_from 1 offers)
     places i j e l inside =
         let j_in : j < length offers = omega (arith, inside, length-enumerate_from 1 offers) in
@@ -44,7 +44,7 @@ numbered_in_order offers ordered i j e l inside =
         let at_j = ap (λ (z : ℕ × Offer). z.1.at.0) (get_or-enumerate_from 1 offers j e j_in) in
         omega (arith, at_i, at_j, ordered i j e.1 l j_in)
 
--- an offer's number is its place, from 1
+-- an offer's number is its position, from 1
 number_is_place : (offers : List Offer) (x : Offered) (before after : List Offered) → numbered offers ≡ before ++ (x ∷ after) → length before < length offers →
     x.frame ≡ 1 + length before
 number_is_place offers x before after parts inside =
@@ -55,11 +55,11 @@ number_is_place offers x before after parts inside =
     (get_or-map the_offered (enumerate_from 1 offers) k d x (omega (arith, inside, length-enumerate_from 1 offers)))
     ∙ ap (λ (z : ℕ × Offer). z.0) (get_or-enumerate_from 1 offers k d inside)
 
--- there are as many as offers
+-- there are as many numbered offers as offers
 numbered_length : (offers : List Offer) → length (numbered offers) ≡ length offers
 numbered_length offers = length-map (enumerate_from 1 offers) the_offered ∙ length-enumerate_from 1 offers
 
--- the pairs of a front
+-- the pairs of a prefix
 front_pairs : {X : Type 0} (R : X → X → Type 0) (xs ys : List X) → AllPairs R (xs ++ ys) → AllPairs R xs
 front_pairs R xs ys all i j d l inside =
     subst (λ z. R z (get_or xs j d)) (get_or_append_left xs ys d i (omega (arith, l, inside)))
@@ -70,11 +70,11 @@ module _ (offers : List Offer) (x : Offered) (ordered : StandInOrder offers) (in
   abbrev t : ℕ
   t = x.offer.at.0
 
-  -- those at an instant
+  -- whether an offer is at an instant
   abbrev at : ℕ → Offered → Bool
   at s y = y.offer.at.0 == s
 
-  -- those that stand before it, and those behind it
+  -- those that precede it in the list, and those that follow it
   split : (before after : List Offered) × (numbered offers ≡ before ++ (x ∷ after))
   split = parted_at (numbered offers) x inside
 
@@ -90,14 +90,14 @@ module _ (offers : List Offer) (x : Offered) (ordered : StandInOrder offers) (in
   ascends : AllPairs not_later (first ++ (x ∷ second))
   ascends = subst (AllPairs not_later) split.2 (numbered_in_order offers ordered)
 
-  -- what stands behind is no earlier
+  -- what follows it is no earlier
   behind : (y : Offered) → Contains (x ∷ second) y → t ≤ y.offer.at.0
   behind y c = elim (contains_cases x second y c) [
     | inl e ↦ omega (arith, ap (λ (z : Offered). z.offer.at.0) e)
     | inr h ↦ pairs_head not_later x second y (pairs_second not_later first (x ∷ second) ascends) h
   ]
 
-  -- the earlier ones are those that stand before
+  -- the earlier ones precede it in the list
   earlier : each_below (offers_at offers) t ≡ each_below (λ (s : ℕ). filter (at s) first) t
   earlier = same_below (offers_at offers) (λ (s : ℕ). filter (at s) first) t (λ s l.
       ap (filter (at s)) split.2
@@ -106,7 +106,7 @@ module _ (offers : List Offer) (x : Offered) (ordered : StandInOrder offers) (in
       (filter_none (at s) (x ∷ second) (λ y c. ne_eqb y.offer.at.0 s (λ e. omega (arith, e, l, behind y c))))
       ∙ append-nil (filter (at s) first))
 
-  -- which stand in order of instant
+  -- they are in order of instant
   first_ascends : IsNonDecreasingBy (λ (y : Offered). y.offer.at.0) first
   first_ascends i j d le l = elim (cases_lt i j) [
     | inl less ↦ front_pairs not_later first (x ∷ second) ascends i j d less l
@@ -116,13 +116,13 @@ module _ (offers : List Offer) (x : Offered) (ordered : StandInOrder offers) (in
   up_to : (y : Offered) → Contains first y → y.offer.at.0 < suc t
   up_to y c = omega (arith, pairs_across not_later first (x ∷ second) y x ascends c (contains_here x second))
 
-  -- so the offers before it are those that stand before it
+  -- so the offers before it are those that precede it in the list
   before_is_first : offers_before offers x ≡ first
   before_is_first =
       ap₂ (λ (a b : List Offered). a ++ b) earlier (smaller_before offers x first second split.2)
       ∙ sym (by_key (λ (y : Offered). y.offer.at.0) (suc t) first first_ascends up_to)
 
-  -- which are as many as its number says
+  -- there are as many as its number says
   frame_is : x.frame ≡ 1 + length first
   frame_is = number_is_place offers x first second split.2
       (omega (arith, ap (λ (zs : List Offered). length zs) split.2, length-append first (x ∷ second), numbered_length offers))
@@ -136,7 +136,7 @@ module _ (offers : List Offer) (x : Offered) (ordered : StandInOrder offers) (in
 pub offers_before_stand_before : OffersBeforeStandBefore
 offers_before_stand_before offers x ordered inside = stand_before offers x ordered inside
 
--- one offer more is one step more
+-- one more offer is one more step
 pub counters_go_on : CountersGoOn
 counters_go_on d row cycle place offers x is =
     let xs = numbered offers in

@@ -29,7 +29,7 @@ use Rattle.cqf_laws_shift.proofs.Apart.{AreApart, starts_apart}
 use Rattle.cqf_laws_coverage.proofs.Matched.{pairs_flat, sum_le_own}
 use Rattle.cqf_laws_shift.proofs.Octets.{start_octets}
 
--- a verdict that is so is the one that the definitions give
+-- a verdict in accordance with the definitions is the one that they give
 pub decided_is : (run : Run) (x : Offered) (v : Verdict) → IsDecided run x v → judged run x ≡ v
 decided_is run x (Queued row) is = covered_judged run x row is
 decided_is run x (DroppedFor reason) is = uncovered_judged run x reason is
@@ -48,7 +48,7 @@ hop_of_row run x (DroppedFor reason) hop is c = absurd (contains_none hop c)
 hop_of_row run x LacksRow hop is c = absurd is
 hop_of_row run x ExceedsGate hop is c = absurd is
 
--- two pairs of an offer and a hop aren't of one frame on one link
+-- two pairs of an offer and a hop aren't of the same frame on the same link
 abbrev HopsApart : (a b : Offered × Hop) → Type 0
 HopsApart a b = a.0.frame ≡ b.0.frame → a.1.link ≡ b.1.link → ⊥
 
@@ -97,7 +97,7 @@ module _ (laws : CycleLaws) (run : Run) (carried : Carried) (alone : IsRunAlone 
   abbrev of_offer : Offered → ℕ
   of_offer x = sum_by (λ (hop : Hop). of_hop (x, hop)) (hops_of (verdict x))
 
-  -- a start and a hop are of one frame on one link
+  -- whether a start and a hop are of the same frame on the same link
   abbrev match : Started → Offered × Hop → Bool
   match s y = (s.frame == y.0.frame) && (s.link == y.1.link)
 
@@ -112,7 +112,7 @@ module _ (laws : CycleLaws) (run : Run) (carried : Carried) (alone : IsRunAlone 
   octets s c x inside frames =
       start_octets laws run carried alone (length run.tables) s (subst (λ (xs : List Started). Contains xs s) are_starts c) x inside frames
 
-  -- three equal things count the same
+  -- three equal arguments count the same
   same_counts : (l m c e o p : ℕ) → l ≡ m → c ≡ e → o ≡ p → counts l c o ≡ counts m e p
   same_counts l m c e o p links cycles octets = λ i. counts (links i) (cycles i) (octets i)
 
@@ -170,7 +170,7 @@ module _ (laws : CycleLaws) (run : Run) (carried : Carried) (alone : IsRunAlone 
             | inr past ↦ absurd (omega (arith, some, none_later hop.link cycle x.offer.octets past))
           ]
 
-  -- no two starts have one hop
+  -- no two starts have the same hop
   no_two_starts : (y : Offered × Hop) → AllPairs (λ (a b : Started). match a y ≡ true → match b y ≡ true → ⊥) starts
   no_two_starts y =
       pairs_weaker AreApart (λ (a b : Started). match a y ≡ true → match b y ≡ true → ⊥) starts
@@ -180,7 +180,7 @@ module _ (laws : CycleLaws) (run : Run) (carried : Carried) (alone : IsRunAlone 
       apart (eqb-true a.frame y.0.frame p.0 ∙ sym (eqb-true b.frame y.0.frame q.0)) (eqb-true a.link y.1.link p.1 ∙ sym (eqb-true b.link y.1.link q.1)))
       (subst (AllPairs AreApart) (sym are_starts) (starts_apart laws run carried alone (length run.tables)))
 
-  -- no two hops are of one frame on one link
+  -- no two hops are of the same frame on the same link
   hops_apart : AllPairs HopsApart pairs
   hops_apart =
       pairs_flat HopsApart with_hops offers
@@ -197,7 +197,7 @@ module _ (laws : CycleLaws) (run : Run) (carried : Carried) (alone : IsRunAlone 
       omega (arith, less, frames, ap (λ (w : Offered × Hop). w.0.frame) p.2, ap (λ (w : Offered × Hop). w.0.frame) q.2))
       (AllPairs-filter (λ (a b : Offered). a.frame < b.frame) early (numbered run.offers) (numbers_ascend run.offers)))
 
-  -- so no two have one start
+  -- so no two have the same start
   no_two_hops : (s : Started) → AllPairs (λ (a b : Offered × Hop). match s a ≡ true → match s b ≡ true → ⊥) pairs
   no_two_hops s =
       pairs_weaker HopsApart (λ (a b : Offered × Hop). match s a ≡ true → match s b ≡ true → ⊥) pairs
@@ -230,7 +230,7 @@ module _ (laws : CycleLaws) (run : Run) (carried : Carried) (alone : IsRunAlone 
       ∙ sum_filter of_offer early (numbered run.offers)
       ∙ ap (λ (h : Offered → ℕ). sum_by h (numbered run.offers)) (λ i. λ x. whole x i)
     where
-      -- an offer counts whether it is early or not
+      -- whether it is early or not, an offer counts this
       whole : (x : Offered) → (if early x then of_offer x else 0) ≡ of_offer x
       whole x = elim (cases_Bool (early x)) [
         | inl t ↦ cond-true (early x) (of_offer x) 0 t

@@ -1,4 +1,4 @@
--- The most octets that a link has in one cycle is one number.
+-- The most octets that a link has in one cycle is a unique number.
 use Rattle.std.proofs.Common.{◌≡◌, ℕ, zero, suc, ◌<◌, ◌≤◌, ◌==◌, ◌&&◌, ◌⊎◌, ◌∷◌, [], Bool, true, false, List, inl, inr}
 use Rattle.std.proofs.Common.{Contains, fold, max, if◌then◌else◌, refl, ap, subst, arith}
 use Rattle.std.proofs.lemmas.Bool.{cases_lt, eqb-true}
@@ -7,18 +7,18 @@ use Rattle.cqf_model.specs.declared.frames.Started.{Started}
 use Rattle.cqf_laws_coverage.specs.InOneCycle.{IsMost, MostIsTheGreatest, most_on, octets_summed}
 
 module _ {X : Type 0} (f : X → ℕ) where
-  -- the greatest of some numbers is no less than where it began
+  -- the maximum is at least its initial value
   greatest_begins : (a : ℕ) (xs : List X) → a ≤ fold (λ most x. max most (f x)) a xs
   greatest_begins a [] = omega arith
   greatest_begins a (x ∷ xs) = omega (arith, greatest_begins (max a (f x)) xs)
 
-  -- nor than any of them
+  -- and at least each element
   greatest_bounds : (a : ℕ) (xs : List X) (x : X) → Contains xs x → f x ≤ fold (λ most x. max most (f x)) a xs
   greatest_bounds a [] x among = absurd (omega (arith, among.1))
   greatest_bounds a (y ∷ ys) x (zero, inside, is) = omega (arith, greatest_begins (max a (f y)) ys, ap f is)
   greatest_bounds a (y ∷ ys) x (suc k, inside, is) = greatest_bounds (max a (f y)) ys x (k, omega (arith, inside), is)
 
-  -- and it is where it began, or one of them
+  -- and it is the initial value or an element
   greatest_reached : (a : ℕ) (xs : List X) → (fold (λ most x. max most (f x)) a xs ≡ a) ⊎ ((x : X) × (f x ≡ fold (λ most x. max most (f x)) a xs))
   greatest_reached a [] = inl refl
   greatest_reached a (x ∷ xs) = elim (greatest_reached (max a (f x)) xs) [
@@ -35,7 +35,7 @@ counts_in true true octets some = (refl, refl)
 counts_in true false octets some = absurd (omega (arith, some))
 counts_in false in_cycle octets some = absurd (omega (arith, some))
 
--- the most that a link has in one cycle is so
+-- the most that a link has in one cycle is such a number
 pub most_is_most : MostIsTheGreatest
 most_is_most link starts =
     let in_cycle_of : Started → ℕ = λ start. octets_summed link start.cycle.0 starts in
@@ -53,14 +53,14 @@ most_is_most link starts =
       ];
     }
 
--- of two numbers that are the most, neither is more
+-- of two such numbers, neither is greater
 most_within : (link : ℕ) (starts : List Started) (one two : ℕ) → IsMost link starts one → IsMost link starts two → one ≤ two
 most_within link starts one two first second = elim first.reached [
   | inl none ↦ omega (arith, none)
   | inr found ↦ omega (arith, found.1, second.no_more found.0)
 ]
 
--- so there is one such number
+-- so there is only one
 pub most_is_one : (link : ℕ) (starts : List Started) (one two : ℕ) → IsMost link starts one → IsMost link starts two → one ≡ two
 most_is_one link starts one two first second =
     omega (arith, most_within link starts one two first second, most_within link starts two one second first)

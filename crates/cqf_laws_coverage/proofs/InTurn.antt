@@ -1,4 +1,4 @@
--- What each link of a run carries stands in order of instant, batch by batch.
+-- What each link of a run carries is in order of instant, batch by batch.
 use Rattle.std.proofs.Common.{◌≡◌, ℕ, ◌*◌, ◌<◌, inl, inr, sym, ap, subst, arith, AllPairs, Contains, length, get_or}
 use Rattle.std.specs.List.Sorted.{IsNonDecreasingBy}
 use Rattle.std.proofs.lemmas.Bool.{cases_order}
@@ -16,12 +16,12 @@ use Rattle.cqf_model.specs.Traffic.{Carried}
 use Rattle.cqf_model.proofs.Sending.{sent_in_run, sent_of_once, sent_of_when}
 use Rattle.cqf_laws_shift.specs.Run.{IsLegalRun}
 
--- what each link of a run carries stands in order of instant, and is sent before the end
+-- what each link of a run carries is in order of instant, and is sent before the end
 pub record IsInTurn (d : Domain) (cycles : ℕ) (carried : Carried) : Type 0 where
   pub in_order : (l : ℕ) → l < length d.links → AllPairs (λ (a b : Sent). a.start.0 < b.start.0) (carried l)
   pub before_end : (l : ℕ) (x : Sent) → Contains (carried l) x → x.start.0 < cycles * d.cycle_time
 
--- it does in a legal run
+-- this holds in a legal run
 pub run_in_turn : (run : Run) (net : Network) → IsLegalRun run net → IsInTurn run.domain (length run.tables) net.carried
 run_in_turn run net legal = record {
   in_order = λ l is_link.
@@ -36,7 +36,7 @@ run_in_turn run net legal = record {
 }
 
 module _ (d : Domain) (cycles : ℕ) (carried : Carried) (some : 0 < d.cycle_time) (turn : IsInTurn d cycles carried) where
-  -- what a link carries is its batches
+  -- what a link carries is the sequence of its batches
   pub batches : (l : ℕ) → l < length d.links → carried l ≡ each_below (batch d carried l) cycles
   batches l is_link = by_key (λ (x : Sent). cycle_of d x.start.0) cycles (carried l) ascends
       (λ x c. cycle_below d.cycle_time x.start.0 cycles (turn.before_end l x c))

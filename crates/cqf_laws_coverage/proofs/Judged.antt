@@ -64,7 +64,7 @@ offers_are_judged found as_live before d entries offers background cycles x seal
     let run = run_of_history d entries offers background cycles in
     subst (IsDecided run x) (is_judged found as_live before d entries offers background cycles x sealed ordered inside in_run) (is_decided run x inside)
 
--- so a book is counted by it
+-- so a book is counted by these verdicts
 pub report_is_counted : HistoryIsCounted → OffersAreJudged → ReportIsCounted
 report_is_counted counted are_judged d entries offers background cycles book link accepted legal offered behind ordered is =
     counted d entries offers background cycles book (judged_of d entries offers) link accepted legal offered behind is (λ x inside in_run.

@@ -1,4 +1,4 @@
--- Rows of one name follow one another in time.
+-- Rows of the same name follow one another in time.
 use Rattle.std.proofs.Common.{◌≡◌, ◌≢◌, ℕ, ◌+◌, ◌<◌, ◌≤◌, ◌++◌, List, true, false, Option, Some, None, inl, inr, sym, ap, ◌∙◌, subst, arith, refl, AllPairs}
 use Rattle.std.proofs.Common.{Contains, get_or, length, nat_le, nat_lt, le-leb, get_or-append-add, length-append}
 use Rattle.std.specs.Prelude.{slice_get, suc}
@@ -59,7 +59,7 @@ admitted_ascend d entries =
       sealed_more entries j k (omega (arith, less)) (omega (arith, l)),
     ))
 
--- so they stand
+-- so the rows are in this order
 pub rows_stand_as_they_begin : RowsStandAsTheyBegin
 rows_stand_as_they_begin d entries =
     let begins : Row → Row → Type 0 = λ (a b : Row). a.admitted.0 ≤ b.admitted.0 in
@@ -74,7 +74,7 @@ module _ (one : OneIsInForce) (held_sound : HeldAreSound) (d : Domain) (entries 
   abbrev ends : ℕ → Option Cycle
   ends = withdrawn_before entries (length entries)
 
-  -- what they have
+  -- what holds for them
   sound_at : (n : ℕ) → n ≤ length entries → Sound d entries n
   sound_at n within = sound d entries legal.replies n within
 
@@ -82,11 +82,11 @@ module _ (one : OneIsInForce) (held_sound : HeldAreSound) (d : Domain) (entries 
   ends_later : (row : Row) → Contains admitted row → (x : Cycle) → ends row.no ≡ Some x → row.admitted.0 ≤ x.0
   ends_later row c x e = by_front (withdrawn_before entries at.0 row.no) refl
     where
-      -- the place at which it is admitted
+      -- the index at which it is admitted
       at : (k : ℕ) × (k < length entries) × Contains (admitted_at d entries k) row
       at = contains_from_below (admitted_at d entries) (length entries) row c
 
-      -- its number is no less than the count of those before it
+      -- its number is at least the count of those before it
       number : length (admitted_before d entries at.0) ≤ row.no
       number =
           let before = admitted_before d entries at.0 in
@@ -124,7 +124,7 @@ module _ (one : OneIsInForce) (held_sound : HeldAreSound) (d : Domain) (entries 
       by_end (Some x) e = lt-ltb row.admitted.0 (x.0 + residence row)
           (omega (arith, ends_later row c x e, residence_some d row ((sound_at (length entries) (omega arith)).trees row c)))
 
-  -- no two of one name are held in a cycle that is closed, or that the next Seal would close
+  -- no two rows of the same name are held in a cycle that is closed, or that the next Seal would close
   abbrev one_held : ℕ → Row → Row → Type 0
   one_held cycle a b = is_held a cycle ≡ true → is_held b cycle ≡ true → a.name ≢ b.name
 
@@ -137,7 +137,7 @@ module _ (one : OneIsInForce) (held_sound : HeldAreSound) (d : Domain) (entries 
         (pairs_of_kept (λ (a b : Row). a.name ≢ b.name) (λ (row : Row). is_held row (seals entries)) (streams_of d entries) held.names))
   ]
 
-  -- two of one name follow one another
+  -- two rows of the same name follow one another
   abbrev follows : Row → Row → Type 0
   follows a b = a.name ≡ b.name → EndsBefore a b
 

@@ -1,4 +1,4 @@
--- The rows that a history ever accepted say the table of each cycle that it closes.
+-- The rows that a history ever accepted determine the table of each cycle that the history closes.
 use Rattle.std.proofs.Common.{◌≡◌, ◌≢◌, ℕ, ◌+◌, ◌<◌, ◌≤◌, ◌∷◌, [], ◌++◌, List, Bool, true, false, ◌&&◌, Option, Some, None, option_map, inl, inr, sym, ap}
 use Rattle.std.proofs.Common.{◌∙◌, subst, arith, refl, AllPairs, Contains, filter, map, length, get_or, append-nil, if◌then◌else◌, nat_le, nat_lt, ◌==◌}
 use Rattle.std.specs.Prelude.{slice_get, suc, cond}
@@ -28,7 +28,7 @@ use Rattle.cqf_laws_history.proofs.Places.{with_end, withdrawn_at, withdrawn_bef
 use Rattle.cqf_laws_coverage.specs.Rows.{AsLive, OneIsInForce, RowsAreFound, RowsSayTheTables, as_of, end_as_of}
 use Rattle.cqf_laws_coverage.proofs.Found.{find-filter, find-map, map-join}
 
--- a later withdrawal leaves a stream live, and so does none
+-- a later withdrawal leaves a stream live, as none does
 live_end : (cycle : ℕ) (o : Option Cycle) →
     option_map_or (λ (w : Cycle). nat_lt cycle w.0) (end_as_of cycle o) true ≡ option_map_or (λ (w : Cycle). nat_lt cycle w.0) o true
 live_end cycle None = refl
@@ -50,19 +50,19 @@ held_end cycle long (Some w) = by (nat_lt cycle w.0) refl
     by true e = sym (lt-ltb cycle (w.0 + long) (omega (arith, ltb-true cycle w.0 e)))
     by false e = refl
 
--- so a row is live, and held, as the table's is
+-- so a row is live, and held, exactly if the table's row is
 pub as_live : AsLive
 as_live row cycle = ap (λ (b : Bool). nat_le row.admitted.0 cycle && b) (live_end cycle row.withdrawn)
 
 as_held : (row : Row) (cycle : ℕ) → is_held (as_of cycle row) cycle ≡ is_held row cycle
 as_held row cycle = ap (λ (b : Bool). nat_le row.admitted.0 cycle && b) (held_end cycle (residence row) row.withdrawn)
 
--- the one of a list of one or none
+-- the element of a list of at most one
 one_or_none : {X : Type 0} (b : Bool) (y x : X) → Contains (if b then y ∷ [] else []) x → y ≡ x
 one_or_none true y x h = elim (contains_cases y [] x h) [ inl e ↦ e | inr n ↦ absurd (contains_none x n) ]
 one_or_none false y x h = absurd (contains_none x h)
 
--- a withdrawal is of no Seal, and its effect is the number of Seals before it
+-- an entry that withdraws is no Seal, and it takes effect in the cycle of the Seals before it
 effect_by : (effect number : ℕ) (act : Act) (reply : Reply) (x : Cycle) → Contains (withdrawal_by effect number act reply) x → (is_seal act ≡ false) ×
     (x.0 ≡ effect)
 effect_by effect number (Admits asked) reply x h = absurd (contains_none x h)
@@ -72,7 +72,7 @@ effect_by effect number (Withdraws name) Sealed x h = absurd (contains_none x h)
 effect_by effect number (Withdraws name) (Accepted receipt) x h =
     (refl, ap (λ (c : Cycle). c.0) (sym (one_or_none (receipt.no == number) (record { 0 = effect }) x h)))
 
--- and so is it of what is admitted
+-- and so does an entry that admits
 admitted_by : (d : Domain) (effect : ℕ) (act : Act) (reply : Reply) (x : Row) → Contains (stream_by d [] effect act reply) x → (is_seal act ≡ false) ×
     (x.admitted.0 ≡ effect)
 admitted_by d effect (Withdraws name) reply x h = absurd (contains_none x h)
@@ -84,7 +84,7 @@ admitted_by d effect (Admits asked) (Accepted receipt) x h = elim (contains_case
   | inr n ↦ absurd (contains_none x n)
 ]
 
--- what is withdrawn at a place: by no Seal, and its effect is the number of Seals before it
+-- an entry at an index that withdraws is no Seal, and it takes effect in the cycle of the Seals before it
 pub effect_of_withdrawn : (entries : List Recorded) (k number : ℕ) → k < length entries → (x : Cycle) → Contains (withdrawn_at entries number k) x →
     (e : Recorded) × (slice_get entries k ≡ Some e) × (is_seal e.act ≡ false) × (x.0 ≡ sealed_before entries k)
 effect_of_withdrawn entries k number inside x h =
@@ -93,7 +93,7 @@ effect_of_withdrawn entries k number inside x h =
     (subst (λ (o : Option Recorded). Contains (option_map_or (λ (y : Recorded). withdrawal_by (sealed_before entries k) number y.act y.reply) o []) x) e.1 h) in
     (e.0, e.1, made.0, made.1)
 
--- and what is admitted at one
+-- and so does one that admits
 pub effect_of_admitted : (d : Domain) (entries : List Recorded) (k : ℕ) → k < length entries → (x : Row) → Contains (admitted_at d entries k) x →
     (e : Recorded) × (slice_get entries k ≡ Some e) × (is_seal e.act ≡ false) × (x.admitted.0 ≡ sealed_before entries k)
 effect_of_admitted d entries k inside x h =
@@ -109,7 +109,7 @@ all_streams d entries =
     ap (streams_of d) (sym (take_all (length entries) entries (omega arith))) ∙ streams_front entries (length entries) (omega arith) d
 
 module _ (d : Domain) (entries : List Recorded) (cycle : ℕ) (closed : cycle < seals entries) where
-  -- the place of the Seal that closes the cycle
+  -- the index of the Seal that closes the cycle
   abbrev place : ℕ
   place = get_or (seal_places entries) cycle (length entries)
 
@@ -119,12 +119,12 @@ module _ (d : Domain) (entries : List Recorded) (cycle : ℕ) (closed : cycle < 
   within : place ≤ length entries
   within = omega (arith, seal.inside)
 
-  -- behind the Seal there is one more
+  -- after the Seal one more cycle is closed
   one_more : sealed_before entries (suc place) ≡ cycle + 1
   one_more = sealed-suc entries place seal.entry seal.is ∙ ap (λ (b : Bool). sealed_before entries place + cond b 1 0) seal.seal
       ∙ ap (λ (c : ℕ). c + 1) seal.before
 
-  -- what an entry behind it, which is no Seal, has for an effect is later
+  -- an entry after it that is no Seal takes effect later
   later : (k : ℕ) → place ≤ k → k < length entries → (e : Recorded) → slice_get entries k ≡ Some e → is_seal e.act ≡ false →
       cycle < sealed_before entries k
   later k behind inside e is no_seal =
@@ -132,24 +132,24 @@ module _ (d : Domain) (entries : List Recorded) (cycle : ℕ) (closed : cycle < 
       (ap (λ (y : Recorded). is_seal y.act) (same_Some e seal.entry (sym is ∙ ap (slice_get entries) (sym q) ∙ seal.is)) ∙ seal.seal) in
       omega (arith, one_more, sealed_more entries (suc place) k (omega (arith, apart, behind)) (omega (arith, inside)))
 
-  -- what is withdrawn behind it takes effect later
+  -- a withdrawal after it takes effect later
   withdrawn_when : (k number : ℕ) → k < length entries → (x : Cycle) → Contains (withdrawn_at entries number k) x →
       (x.0 ≡ sealed_before entries k) × (place ≤ k → cycle < x.0)
   withdrawn_when k number inside x h =
       let made = effect_of_withdrawn entries k number inside x h in
       (made.3, λ behind. omega (arith, made.3, later k behind inside made.0 made.1 made.2))
 
-  -- and so does what is admitted behind it
+  -- and so does an admission after it
   admitted_later : (k : ℕ) → place ≤ k → k < length entries → (x : Row) → Contains (admitted_at d entries k) x → cycle < x.admitted.0
   admitted_later k behind inside x h =
       let made = effect_of_admitted d entries k inside x h in
       omega (arith, made.3, later k behind inside made.0 made.1 made.2)
 
-  -- the withdrawal of a number before the Seal is that of all entries, as of the cycle
+  -- as of the cycle, the withdrawal of a number by all entries is that before the Seal
   ends : (number : ℕ) → end_as_of cycle (withdrawn_before entries (length entries) number) ≡ withdrawn_before entries place number
   ends number = by_front (withdrawn_before entries place number) refl
     where
-      -- the withdrawals before the Seal, and those behind it
+      -- the withdrawals before the Seal, and those after it
       front : List Cycle
       front = each_below (withdrawn_at entries number) place
 
@@ -183,13 +183,13 @@ module _ (d : Domain) (entries : List Recorded) (cycle : ℕ) (closed : cycle < 
           (withdrawn_when late.0 number late.2 x late.3).1 late.1)
           ∙ sym f
 
-  -- so a stream with its end by all entries is, as of the cycle, the one with its end before the Seal
+  -- so as of the cycle, a stream with its end by all entries is the one with its end before the Seal
   stream_as_of : (row : Row) → as_of cycle (with_end (withdrawn_before entries (length entries)) row) ≡ with_end (withdrawn_before entries place) row
   stream_as_of row =
       ap (λ (o : Option Cycle). let made : Row =
       record { no = row.no; name = row.name; octets = row.octets; pace = row.pace; tree = row.tree; admitted = row.admitted; withdrawn = o } in made) (ends row.no)
 
-  -- the test of what is held in the cycle
+  -- whether a row is held in the cycle
   abbrev held : Row → Bool
   held row = is_held row cycle
 
@@ -233,7 +233,7 @@ rows_are_found d entries cycle name closed =
     ∙ find-map (as_of cycle) (λ (row : Row). is_text row.name name) (held_in d entries cycle)
     ∙ ap (option_map (as_of cycle)) (find-filter (λ (row : Row). is_text row.name name) (λ (row : Row). is_held row cycle) (streams_of d entries))
 
--- and no two of one name are held
+-- and no two rows of the same name are held
 pub one_is_in_force : TablesAreOrderly → OneIsInForce
 one_is_in_force orderly d entries cycle legal closed =
     let differ : Row → Row → Type 0 = λ (a b : Row). a.name ≢ b.name in

@@ -1,4 +1,4 @@
--- A book has one drop at most at a bridge in a cycle of an offer, with the number of the offer's place.
+-- A book has at most one drop of an offer at a bridge in a cycle, with the number of the offer's position.
 use Rattle.std.proofs.Common.{◌≡◌, ℕ, ◌+◌, ◌≤◌, [], ◌++◌, ◌==◌, List, Bool, true, sym, ap, ◌∙◌, subst, arith, refl, eq-eqb, eqb-true}
 use Rattle.std.proofs.Common.{AllPairs, Contains, filter, get_or, sum_by}
 use Rattle.std.proofs.lemmas.Bool.{and_parts, cond-true}
@@ -22,13 +22,13 @@ use Rattle.cqf_laws_shift.proofs.Came.{came, offered_counts, offers_single}
 use Rattle.cqf_laws_shift.proofs.Covered.{is_offered}
 use Rattle.cqf_laws_shift.proofs.Policing.{received_list}
 
--- a drop of the offer at a place has the cycle, the bridge, and the number of the place
+-- a drop of the offer at an index has the cycle, the bridge, and the offer's number
 pub record IsDropOf (cycle bridge place : ℕ) (x : Dropped) : Type 0 where
   pub of_cycle : x.cycle.0 ≡ cycle
   pub of_bridge : x.bridge ≡ bridge
   pub of_place : x.frame ≡ place + 1
 
--- so do those of the book
+-- this holds for those of the book
 pub drop_of_place : (d : Domain) (policed : ℕ → List Policed) (cycle bridge place : ℕ) (x : Dropped) → Contains (drops_at d policed cycle bridge place) x →
     IsDropOf cycle bridge place x
 drop_of_place d policed cycle bridge place x h =
@@ -42,7 +42,7 @@ drop_of_place d policed cycle bridge place x h =
           ∙ eqb-true w.0.received.frame (place + 1) (and_parts (cycle_of d w.0.received.at == cycle) (w.0.received.frame == place + 1) kept.1).1;
     }
 
--- a verdict has one drop at most
+-- a verdict has at most one drop
 one_of_verdict : (R : Dropped → Dropped → Type 0) (cycle bridge : ℕ) (x : Received) (v : Verdict) → AllPairs R (drop_by cycle bridge x v)
 one_of_verdict R cycle bridge x (DroppedFor reason) = pairs_one R (drop_for cycle bridge x reason)
 one_of_verdict R cycle bridge x (Queued row) = pairs_none R
@@ -55,7 +55,7 @@ dropped_is_offered : (d : Domain) (table : List Row) (bridge cycle : ℕ) (passe
 dropped_is_offered d table bridge cycle passes (AtEdge name) reason e = refl
 dropped_is_offered d table bridge cycle passes (Relayed m number) reason e = absurd (inside_drops_none d bridge m passes (row_of table number) reason e)
 
--- an offered frame counts as one of its number
+-- an offered frame counts 1 for its number
 counts_one : (way : Way) (number frame : ℕ) → is_offered way ≡ true → number ≡ frame → offered_counts frame way number ≡ 1
 counts_one (AtEdge name) number frame e same = cond-true {A = ℕ} (number == frame) 1 0 (eq-eqb number frame same)
 counts_one (Relayed m stream) number frame e same = absurd (cc)
@@ -65,11 +65,11 @@ abbrev Apart : Policed → Policed → Type 0
 Apart p q = is_offered p.received.way ≡ true → is_offered q.received.way ≡ true → p.received.frame ≡ q.received.frame → ⊥
 
 module _ (run : Run) (carried : Carried) (end : ℕ) where
-  -- what becomes of the frames that come to a bridge
+  -- the verdicts on the frames that arrive at a bridge
   abbrev given : ℕ → List Policed
   given bridge = policed_before run carried bridge end
 
-  -- of the offers there, each comes once
+  -- each offer there arrives once
   offered_once : (bridge frame : ℕ) → sum_by (λ (r : Policed). offered_counts frame r.received.way r.received.frame) (given bridge) ≤ 1
   offered_once bridge frame =
       subst (λ z. z ≤ 1) (sum_map (λ (x : Received). offered_counts frame x.way x.frame) (λ (r : Policed). r.received) (given bridge))
@@ -77,7 +77,7 @@ module _ (run : Run) (carried : Carried) (end : ℕ) where
       (sym (received_list run.domain run.tables bridge [] (came run carried end bridge)))
       (offers_single run carried end bridge frame))
 
-  -- so no two of them have one number
+  -- so no two of them have the same number
   offers_apart : (bridge : ℕ) → AllPairs Apart (given bridge)
   offers_apart bridge i j e less inside first second same =
       let p = get_or (given bridge) i e in
@@ -101,7 +101,7 @@ module _ (run : Run) (carried : Carried) (end : ℕ) where
       ∙ dropped_is_offered d (table_of run.tables (cycle_of d r.x.at)) bridge (cycle_of d r.x.at) (λ row. within_gate d earlier row r.x) r.x.way reason
       (sym (ap (λ (q : Policed). q.verdict) r.is) ∙ e)
 
-  -- so of an offer there is one drop
+  -- so an offer has one drop
   pub one_drop : (cycle bridge place : ℕ) → AllPairs (λ (a b : Dropped). ⊥) (drops_at run.domain given cycle bridge place)
   one_drop cycle bridge place =
       let keep = is_of_place run.domain cycle place in

@@ -1,4 +1,4 @@
--- The book of a history is there without any run.
+-- The book of a history exists without any run.
 use Rattle.std.proofs.Common.{length}
 use Rattle.cqf_model.specs.Book.{Contents, IsOneThreadBook}
 use Rattle.cqf_model.specs.HistoryBook.{run_of_history}
@@ -8,7 +8,7 @@ use Rattle.cqf_laws_network.specs.NetworkLaws.{BookExists, BookIsUnique}
 use Rattle.cqf_laws_shift.specs.Books.{BookSaysTheShift}
 use Rattle.cqf_laws_coverage.specs.Told.{BookOfHistoryIsThere}
 
--- it exists, is the only one, and the laws of a run hold of it
+-- it exists, is the only one, and the laws of a run hold for it
 pub book_of_history_is_there : BookExists → BookIsUnique → BookSaysTheShift → TablesAreOrderly → BookOfHistoryIsThere
 book_of_history_is_there exists unique says are_orderly d entries offers background cycles accepted legal offered behind sealed =
     let run = run_of_history d entries offers background cycles in

@@ -1,4 +1,4 @@
--- What the hops of the covered offers count in a cycle has room, and grows with the offers.
+-- What the hops of the covered offers count in a cycle fits into a cell, and grows with the offers.
 use Rattle.std.proofs.Common.{◌≡◌, ℕ, ◌+◌, ◌<◌, ◌≤◌, ◌∷◌, ◌++◌, [], List, sym, subst, arith, length, sum_by, take, le_trans}
 use Rattle.std.proofs.lemmas.List.Elements.{All-nil}
 use Rattle.std.proofs.lemmas.List.Sums.{sum_by-take-le, sum_by_push}
@@ -26,7 +26,7 @@ use Rattle.cqf_laws_coverage.specs.Told.{CellsFit}
 use Rattle.cqf_laws_shift.proofs.Apart.{starts_apart}
 use Rattle.cqf_laws_coverage.proofs.Cells.{within_wire}
 
--- each cell has room
+-- each cell is large enough
 pub cells_fit : CycleLaws → RunBesideIsRunAlone → GatesMeanTheShift → TablesAreOrderly → BookExists → ReportIsCounted → CellsFit
 cells_fit laws beside means orderly exists counted d entries offers cycles link cycle accepted legal offered ordered sealed is_link in_run =
     let run = run_of_history d entries offers [] cycles in
@@ -52,14 +52,14 @@ cells_fit laws beside means orderly exists counted d entries offers cycles link 
     (le_trans wire (le_trans (shift.loads link cycle is_link within) (shift.costs link cycle cycle is_link))) in
     subst (λ (n : ℕ). n ≤ budget d link) column octets
 
--- one offer more adds its hops
+-- one more offer adds its hops
 pub hops_more : (d : Domain) (verdict : Offered → Verdict) (counts : ℕ → ℕ → ℕ → ℕ) (xs : List Offered) (x : Offered) →
     sum_of_hops d verdict counts (xs ++ x ∷ []) ≡ sum_of_hops d verdict counts xs
     + sum_by (λ (hop : Hop). counts hop.link (offer_cycle d x + hop.depth) x.offer.octets) (hops_of (verdict x))
 hops_more d verdict counts xs x =
     sum_by_push (λ (y : Offered). sum_by (λ (hop : Hop). counts hop.link (offer_cycle d y + hop.depth) y.offer.octets) (hops_of (verdict y))) xs x
 
--- and the first offers have no more than all
+-- and the first offers count at most as much as all
 pub hops_front : (d : Domain) (verdict : Offered → Verdict) (counts : ℕ → ℕ → ℕ → ℕ) (xs : List Offered) (k : ℕ) →
     sum_of_hops d verdict counts (take k xs) ≤ sum_of_hops d verdict counts xs
 hops_front d verdict counts xs k =

@@ -1,5 +1,5 @@
--- What becomes of an offer, by the rows that were ever accepted and a counter for each: offers are taken in the order in which
--- they stand.
+-- The verdict on an offer, by the rows that were ever accepted and a counter for each row; offers are taken in the order of their
+-- list.
 use Rattle.cqf_model.specs.Table.{reserved_in}
 use Rattle.std.specs.Prelude.{true, ℕ, ◌&&◌, ◌≡◌, ◌+◌, ◌-◌, ◌≤◌, ◌<◌, List, Option, Some, None, not, if◌then◌else◌}
 use Rattle.std.specs.Prelude.{nat_le, AllPairs, Contains, slice_get, take}
@@ -20,20 +20,20 @@ use Rattle.cqf_model.specs.Promise.{IsDecided}
 use Rattle.cqf_laws_coverage.specs.Counted.{IsCounted}
 use Rattle.cqf_laws_coverage.specs.Rows.{as_of, row_in_force}
 
--- offers stand in order of instant
+-- offers are in order of instant
 abbrev pub StandInOrder : List Offer → Type 0
 StandInOrder offers = AllPairs (λ (a b : Offer). a.at.0 ≤ b.at.0) offers
 
--- then the offers before one are those that stand before it
+-- then the offers before an offer are those that precede it in the list
 abbrev pub OffersBeforeStandBefore : Type 0
 OffersBeforeStandBefore = (offers : List Offer) (x : Offered) → StandInOrder offers → Contains (numbered offers) x →
     offers_before offers x ≡ take (x.frame - 1) (numbered offers)
 
--- what those that stand before an offer have taken of a row in the offer's cycle
+-- what the offers that precede an offer have taken of a row in the offer's cycle
 abbrev pub used_before : Domain → List Offer → Offered → Row → ℕ
 used_before d offers x row = taken_by d row (offer_cycle d x) (take (x.frame - 1) (numbered offers))
 
--- one offer more is one step more
+-- one more offer is one more step
 abbrev pub CountersGoOn : Type 0
 CountersGoOn = (d : Domain) (row : Row) (cycle place : ℕ) (offers : List Offer) (x : Offered) → slice_get (numbered offers) place ≡ Some x →
     taken_by d row cycle (take (place + 1) (numbered offers)) ≡ take_octets d row cycle (taken_by d row cycle (take place (numbered offers))) x
@@ -43,20 +43,21 @@ abbrev pub CountersBegin : Type 0
 CountersBegin = (d : Domain) (row : Row) (cycle place : ℕ) (offers : List Offer) →
     ((y : Offered) → Contains (take place (numbered offers)) y → offer_cycle d y < cycle) → taken_by d row cycle (take place (numbered offers)) ≡ 0
 
--- an offer's step of the row in force: where the row's tree begins at the offer's bridge, and so many octets are left, they are used
+-- an offer's step for the row in force: if the row's tree begins at the offer's bridge, and at least the offer's octets are left,
+-- they are used
 abbrev pub CounterOfTheRow : Type 0
 CounterOfTheRow = (d : Domain) (entries : List Recorded) (x : Offered) (row : Row) (used : ℕ) →
     row_in_force d entries (offer_cycle d x) x.offer.stream ≡ Some row →
     take_octets d row (offer_cycle d x) used x
     ≡ (if begins_at d row x.offer.bridge && nat_le (used + x.offer.octets) (reserved_in row 0 (offer_cycle d x)) then used + x.offer.octets else used)
 
--- and of each other row that is held in its cycle nothing is used
+-- and for each other row that is held in the offer's cycle nothing is used
 abbrev pub CountersOfOthers : Type 0
 CountersOfOthers = (d : Domain) (entries : List Recorded) (x : Offered) (other : Row) (used : ℕ) → IsLegalHistory d entries →
     offer_cycle d x < seals entries → Contains (streams_of d entries) other → is_held other (offer_cycle d x) ≡ true →
     (row_in_force d entries (offer_cycle d x) x.offer.stream ≡ Some other → ⊥) → take_octets d other (offer_cycle d x) used x ≡ used
 
--- the verdict on an offer by the row in force, and what is used of it so far: the code's four tests
+-- the verdict on an offer by the row in force, and by what is used of it so far: the code's four tests
 abbrev pub judged_by : Domain → ℕ → (Row → ℕ) → Offered → Option Row → Verdict
 judged_by d cycle used x None = DroppedFor Unknown
 judged_by d cycle used x (Some row) =
@@ -76,7 +77,7 @@ OffersAreJudged =
     StandInOrder offers → Contains (numbered offers) x → offer_cycle d x < cycles →
     IsDecided (run_of_history d entries offers background cycles) x (judged_of d entries offers x)
 
--- so a book's sums by link are those of the hops of the offers that are judged so
+-- so a book's sums by link are those of the hops of the offers with these verdicts
 abbrev pub ReportIsCounted : Type 0
 ReportIsCounted =
     (d : Domain) (entries : List Recorded) (offers : List Offer) (background : List Background) (cycles : ℕ) (book : Contents) (link : ℕ) →

@@ -1,4 +1,4 @@
--- A count of frames and a column of octets for each link, from the offers alone; and the book, which is there without any run.
+-- A count of frames and a column of octets for each link, from only the offers; and the book, which exists without any run.
 use Rattle.std.specs.Prelude.{ℕ, ◌≡◌, ◌≤◌, ◌<◌, List, length, slice_index_or}
 use Rattle.cqf_model.specs.declared.frames.Background.{Background}
 use Rattle.cqf_model.specs.declared.frames.Offer.{Offer}
@@ -21,14 +21,14 @@ pub record AreToldSums (d : Domain) (cycles : ℕ) (verdict : Offered → Verdic
       slice_index_or (column link) cycle 0 ≡ sum_of_hops d verdict (counts_in link cycle) offers
   pub none_past : (link cycle : ℕ) → link < length d.links → cycles ≤ cycle → slice_index_or (column link) cycle 0 ≡ 0
 
--- what leaves by a link in a cycle is within the link's budget, so a cell has room
+-- what leaves by a link in a cycle is within the link's budget, so it fits into a cell
 abbrev pub CellsFit : Type 0
 CellsFit =
     (d : Domain) (entries : List Recorded) (offers : List Offer) (cycles link cycle : ℕ) → IsAccepted d → IsLegalHistory d entries →
     AreOffers d offers → StandInOrder offers → cycles ≤ seals entries → link < length d.links → cycle < cycles →
     sum_of_hops d (judged_of d entries offers) (counts_in link cycle) (numbered offers) ≤ budget d link
 
--- the book of a history is there without any run: there is just one, and it keeps what is promised
+-- the book of a history exists without any run: it is the only one, and it keeps what is promised
 pub record IsThere (d : Domain) (entries : List Recorded) (offers : List Offer) (background : List Background) (cycles : ℕ) (book : Contents) : Type 0 where
   pub is_book : IsBookOfHistory d entries offers background cycles book
   pub only : (other : Contents) → IsBookOfHistory d entries offers background cycles other → other ≡ book

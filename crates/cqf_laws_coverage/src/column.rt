@@ -3,8 +3,8 @@
 /// What a link carries.
 #[derive(Debug, Drop)]
 pub struct Column {
-    /// How many frames it starts.
+    /// The number of frames that the link starts.
     pub frames: u64,
-    /// The octets that it starts in each cycle, from cycle 0 on; in later cycles it starts none.
+    /// The octets that the link starts in each cycle, from cycle 0 on. In cycles after the last entry it starts none.
     pub octets: Vec<u32>,
 }

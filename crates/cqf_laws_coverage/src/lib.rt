@@ -1,11 +1,11 @@
-//! Laws about coverage and the sums by link: what becomes of each offer by the rows that a history ever granted, and so what a book says by
-//! link, from the offers and these rows alone. [`Column`] is what one link carries.
+//! Laws about coverage and the sums by link: the verdict on each offer by the rows that a history ever granted, and so what a book
+//! says by link, computed only from the offers and these rows. [`Column`] is what one link carries.
 //!
-//! Each law is a function that ends at once: its contract is a statement of `specs/` about the definitions of `cqf_model`,
-//! and its proof shows that the statement holds. A proof elsewhere uses the law by a call of the function.
+//! Each law is a function that ends at once. Its contract is a statement of `specs/` about the definitions of `cqf_model`, and its
+//! proof shows that the statement holds. To use a law, another proof calls the function.
 //!
 //! ```
-//! // here on, a proof knows that the starts of a book are the hops of the covered offers
+//! // from here on, a proof knows that the starts of a book are the hops of the covered offers
 //! cqf_laws_coverage::starts_are_hops();
 //! ```
 #![tactic(auto)]
@@ -28,8 +28,8 @@ mod column;
 
 pub use column::Column;
 
-/// The starts of a book are the hops of the covered offers: what is counted of the ones is what is counted of the others
-/// 
+/// Proves that the starts of a book are the hops of the covered offers: any count over the starts equals the count over the hops,
+/// if it counts nothing after the run.
 pub fn starts_are_hops()
     ensures { StartsAreHops }
 {
@@ -41,8 +41,8 @@ pub fn starts_are_hops()
     cqf_laws_shift::book_says_the_shift();
 }
 
-/// So a link's frames, octets and octets in a cycle are those of the covered offers' hops, in each book of a legal history
-/// 
+/// Proves that a link's frames, octets and octets in a cycle are those of the covered offers' hops, in each book of a legal
+/// history.
 pub fn history_is_counted()
     ensures { HistoryIsCounted }
 {
@@ -50,18 +50,19 @@ pub fn history_is_counted()
     cqf_laws_history::tables_are_orderly();
 }
 
-/// The most octets that a link has in one cycle is so, over all cycles: no cycle has more, and one has it, unless it is 0.
+/// Proves that the most octets that a link has in one cycle is a maximum over all cycles: no cycle has more, and one cycle has as
+/// much, unless it is 0.
 pub fn most_is_the_greatest()
     ensures { MostIsTheGreatest }
 {}
 
-/// A list of what a link has in each cycle tells its octets, and the most in one cycle.
+/// Proves that a list of a link's octets in each cycle gives its octets in all, and the most in one cycle.
 pub fn columns_tell()
     ensures { ColumnsTell }
 {}
 
-/// The rows that a history ever accepted say the table of each cycle that it closes, and the row of each name in it; no two of
-/// one name are held in one cycle.
+/// Proves that the rows that a history ever accepted determine the table of each cycle that the history closes, and the row of each
+/// name in that table. No two rows of the same name are held in one cycle.
 pub fn rows_say_the_tables()
     ensures tables { RowsSayTheTables }
     ensures found { RowsAreFound }
@@ -71,8 +72,8 @@ pub fn rows_say_the_tables()
     cqf_laws_history::tables_are_orderly();
 }
 
-/// Rows stand in the order in which they begin, and those of one name follow one another in time: so a place that only goes
-/// on finds the row in force.
+/// Proves that rows are in the order in which they begin, and that those of the same name follow one another in time. So an index
+/// that only increases finds the row in force.
 pub fn rows_follow()
     ensures begin { RowsStandAsTheyBegin }
     ensures follow { RowsOfANameFollow }
@@ -81,15 +82,15 @@ pub fn rows_follow()
     cqf_laws_history::state_follows_history();
 }
 
-/// Where offers stand in order of instant, the offers before one stand before it, so that what they
-/// take of a row is counted as one goes on.
+/// Proves that if offers are in order of instant, the offers before an offer precede it in the list. So what they take of a row can
+/// be counted in one pass.
 pub fn offers_stand_in_order()
     ensures before { OffersBeforeStandBefore }
     ensures goes_on { CountersGoOn }
     ensures begins { CountersBegin }
 {}
 
-/// Four tests by the row in force and its counter decide on an offer what the definitions say.
+/// Proves that four tests by the row in force and its counter decide on an offer what the definitions say.
 pub fn offers_are_judged()
     ensures { OffersAreJudged }
 {
@@ -97,7 +98,7 @@ pub fn offers_are_judged()
     offers_stand_in_order();
 }
 
-/// An offer changes the counter of the row in force alone, of the rows that are held in its cycle.
+/// Proves that among the rows that are held in an offer's cycle, the offer changes only the counter of the row in force.
 pub fn counters_step()
     ensures row { CounterOfTheRow }
     ensures others { CountersOfOthers }
@@ -105,7 +106,7 @@ pub fn counters_step()
     rows_say_the_tables();
 }
 
-/// So a book's sums by link are those of the hops of the offers that pass these tests.
+/// Proves that a book's sums by link are those of the hops of the offers that pass these tests.
 pub fn report_is_counted()
     ensures { ReportIsCounted }
 {
@@ -113,7 +114,7 @@ pub fn report_is_counted()
     offers_are_judged();
 }
 
-/// And what leaves by a link in a cycle is within the link's budget, so that it has room in a cell of the link's column.
+/// Proves that what leaves by a link in a cycle is within the link's budget, so that it fits into a cell of the link's column.
 pub fn cells_fit()
     ensures { CellsFit }
 {
@@ -128,8 +129,8 @@ pub fn cells_fit()
     cqf_laws_shift::gates_mean_the_shift();
 }
 
-/// The book of a legal history is there without any run: there is just one, and all that is promised of a run's book holds of
-/// it.
+/// Proves that the book of a legal history exists without any run: there is exactly one, and all that is promised of a run's book
+/// holds for it.
 pub fn book_of_history_is_there()
     ensures { BookOfHistoryIsThere }
 {

@@ -1,4 +1,4 @@
--- What a link sends in a cycle is whole in the next node in the same cycle.
+-- What a link sends in a cycle arrives fully in the next node in the same cycle.
 use Rattle.std.proofs.Common.{◌≡◌, ℕ, ◌+◌, ◌*◌, ◌<◌, ◌≤◌, true, cond, List, length, sym, ap, ◌∙◌, inl, inr, arith, subst, eq-eqb, eqb-true, AllPairs, Contains}
 use Rattle.std.specs.Prelude.{[], ◌++◌, ◌==◌, map, filter, slice_index_or}
 use Rattle.std.proofs.lemmas.Bool.{cases_Bool, cases_lt, cond-false}
@@ -35,7 +35,7 @@ octets_sent queued place l =
     (get_or-map (λ (x : QueuedFrame). x.arrival) queued place no_frame no_arrival (omega (arith, l, length-map queued (λ (x : QueuedFrame). x.arrival))))
 
 module _ (run : Run) (cycles : ℕ) (net : Network) (compiled : IsCompiledNetwork run cycles net) (sends : PortListSends) where
-  -- what a link of the domain sends is whole in its own cycle
+  -- what a link of the domain sends arrives fully in its own cycle
   link_whole : (m : ℕ) (sent : Sent) → m < length run.domain.links → Contains (net.carried m) sent →
       cycle_of run.domain (whole_at run.domain m sent) ≡ cycle_of run.domain sent.start.0
   link_whole m sent in_links h =
@@ -62,7 +62,7 @@ module _ (run : Run) (cycles : ℕ) (net : Network) (compiled : IsCompiledNetwor
       (omega (arith, ended, same_start, same_time, delay, guard_within d m compiled.accepted))
       ∙ ap (cycle_of d) same_start
 
-  -- so is what any link sends
+  -- and so does what any link sends
   sent_whole : (m : ℕ) (sent : Sent) → Contains (net.carried m) sent → cycle_of run.domain (whole_at run.domain m sent) ≡ cycle_of run.domain sent.start.0
   sent_whole m sent h =
       elim (cases_lt m (length run.domain.links)) [
@@ -70,7 +70,7 @@ module _ (run : Run) (cycles : ℕ) (net : Network) (compiled : IsCompiledNetwor
         | inr g ↦ absurd (contains_none sent (subst (λ (xs : List Sent). Contains xs sent) (compiled.legal.no_others m g).0 h))
       ]
 
-  -- a batch is whole in its cycle
+  -- a batch arrives fully in its cycle
   pub batch_whole : (m cycle : ℕ) (sent : Sent) → Contains (batch run.domain net.carried m cycle) sent →
       cycle_of run.domain (whole_at run.domain m sent) ≡ cycle
   batch_whole m cycle sent h =
@@ -78,7 +78,7 @@ module _ (run : Run) (cycles : ℕ) (net : Network) (compiled : IsCompiledNetwor
       sent_whole m sent w.0 ∙ eqb-true (cycle_of run.domain sent.start.0) cycle w.1
 
   module _ (batches : Carried) (cycle bridge : ℕ) (are : (m : ℕ) → enters run.domain m bridge ≡ true → batches m ≡ batch run.domain net.carried m cycle) where
-    -- so at an instant of the cycle a link brings what is of its batch
+    -- so at an instant of the cycle a link brings what belongs to its batch
     brings_at : (t m : ℕ) → cycle_of run.domain t ≡ cycle → relayed_at run.domain batches bridge t m ≡ relayed_at run.domain net.carried bridge t m
     brings_at t m here =
         let d = run.domain in
@@ -107,11 +107,11 @@ module _ (run : Run) (cycles : ℕ) (net : Network) (compiled : IsCompiledNetwor
         ap (λ (xs : List Received). xs ++ offered_at run.offers bridge t)
         (same_below (relayed_at d batches bridge t) (relayed_at d net.carried bridge t) (length d.links) (λ m h. brings_at t m here)))
 
--- a later transmission is whole later
+-- a later transmission arrives fully later
 later_whole : (s t r o p delay : ℕ) → 0 < r → idle_after s o r ≤ t → ending_of s o r + delay < ending_of t p r + delay
 later_whole s t r o p delay positive free = omega (arith, free, slot_parts o r, time_some (p + 8) r (omega arith) positive)
 
--- the frames of a link are whole in the order in which they were sent
+-- the frames of a link arrive fully in the order in which they were sent
 link_in_order : (d : Domain) (entries : List Entry) (end m : ℕ) (queued : List QueuedFrame) (sents : List Sent) (backed : List Start) → 0 < octet_time_of d m →
     Sends d entries end m queued sents backed → AllPairs (λ (a b : Sent). whole_at d m a < whole_at d m b) sents
 link_in_order d entries end m queued sents backed positive s =
@@ -127,7 +127,7 @@ link_in_order d entries end m queued sents backed positive s =
     later_whole u.start.0 v.start.0 r u.octets v.octets (delay_of d m) positive (omega (arith, free, began, begins, ap (λ (n : ℕ). slot_of n r) same)))
     s.legal.in_order)
 
--- so are those of each link of a legal network
+-- and so do those of each link of a legal network
 pub frames_in_order : (run : Run) (lists : ℕ → List Entry) (cycles m : ℕ) (net : Network) → IsLegalNetwork run lists cycles net →
     AllPairs (λ (a b : Sent). whole_at run.domain m a < whole_at run.domain m b) (net.carried m)
 frames_in_order run lists cycles m net legal =

@@ -19,14 +19,14 @@ use Rattle.cqf_units.proofs.Cycles.{cycle_below, cycle_from, cycle_upto, cycles_
 use Rattle.cqf_laws_cycle.proofs.GateLists.{port_list_sends_until, sends_no_own}
 use Rattle.cqf_laws_cycle.proofs.OnePorts.{background_keeps_behind}
 
--- a list has the streams' frames of another, each at the place that a function gives, in their order
+-- `alone` has the streams' frames of `mixed`, in their order, each at the index that a function gives
 record AreTheStreamsOf (mixed alone : List Arrival) (place_of : ℕ → ℕ) : Type 0 where
   inside : (p : ℕ) → p < length mixed → StreamsAt mixed p → place_of p < length alone
   same : (p : ℕ) → p < length mixed → StreamsAt mixed p → get_or alone (place_of p) no_arrival ≡ get_or mixed p no_arrival
   in_order : (q p : ℕ) → q < p → p < length mixed → StreamsAt mixed q → place_of q < place_of p
   each : (k : ℕ) → k < length alone → (p : ℕ) × (p < length mixed) × StreamsAt mixed p × (place_of p ≡ k)
 
--- transmissions are those of streams' frames among others, with their places by the function
+-- `moved` has the starts of streams' frames among others, with the indices that the function gives
 record AreTheStartsOf (mixed : List Arrival) (place_of : ℕ → ℕ) (starts moved : List Transmission) : Type 0 where
   in_order : AllPairs (λ (a b : Transmission). a.1 < b.1) moved
   to : (p s : ℕ) → Contains starts (p, s) → StreamsAt mixed p → Contains moved (place_of p, s)
@@ -39,19 +39,19 @@ module _ (n g r : ℕ) (mixed alone : List Arrival) (place_of : ℕ → ℕ) (cy
   abbrev rules : PortRules
   rules = record { entries = port_list n g; octet_time = r }
 
-  -- the place holds a stream's frame
+  -- the arrival at the index is a stream's frame
   abbrev Streams : ℕ → Type 0
   Streams p = StreamsAt mixed p
 
-  -- background frames keep behind the streams'
+  -- no background frame delays a stream's frame
   keeps : KeepsBehind n g r mixed cycles starts
   keeps = background_keeps_behind n g r mixed cycles cycles starts port legal
 
-  -- what starts has a place
+  -- the index of a start is within the arrivals
   has_place : (p s : ℕ) → Contains starts (p, s) → p < length mixed
   has_place p s c = (legal.first p s c).waits.inside
 
-  -- two places of streams that are one alone are one
+  -- if two streams' frames have the same index alone, they are the same
   one_place : (p q : ℕ) → p < length mixed → q < length mixed → Streams p → Streams q → place_of p ≡ place_of q → p ≡ q
   one_place p q p_inside q_inside p_streams q_streams same = elim (cases_order p q) [
     | inl e ↦ e
@@ -61,7 +61,7 @@ module _ (n g r : ℕ) (mixed alone : List Arrival) (place_of : ℕ → ℕ) (cy
     ]
   ]
 
-  -- and their order alone is theirs
+  -- the function keeps their order
   order_of : (q p : ℕ) → q < length mixed → Streams p → place_of q < place_of p → q < p
   order_of q p q_inside p_streams less = elim (cases_order q p) [
     | inl e ↦ absurd (omega (arith, ap place_of e, less))
@@ -75,7 +75,7 @@ module _ (n g r : ℕ) (mixed alone : List Arrival) (place_of : ℕ → ℕ) (cy
   classes : (p : ℕ) → p < length mixed → Streams p → class_of alone (place_of p) ≡ class_of mixed p
   classes p inside streams = ap (λ (a : Arrival). a.class) (those.same p inside streams)
 
-  -- what waits beside background frames waits alone
+  -- what waits beside background frames waits alone as well
   to_waits : (p t : ℕ) → Streams p → Waits mixed starts p t → Waits alone moved (place_of p) t
   to_waits p t streams waits = record {
     inside = those.inside p waits.inside streams;
@@ -85,7 +85,7 @@ module _ (n g r : ℕ) (mixed alone : List Arrival) (place_of : ℕ → ℕ) (cy
         waits.not_started s (subst (λ z. Contains starts (z, s)) (one_place m.0 p (has_place m.0 s m.1) waits.inside m.2 streams m.3) m.1);
   }
 
-  -- and the other way round
+  -- and conversely
   from_waits : (p t : ℕ) → p < length mixed → Streams p → Waits alone moved (place_of p) t → Waits mixed starts p t
   from_waits p t inside streams waits = record {
     inside = inside;
@@ -93,7 +93,7 @@ module _ (n g r : ℕ) (mixed alone : List Arrival) (place_of : ℕ → ℕ) (cy
     not_started = λ s c. waits.not_started s (renamed.to p s c streams);
   }
 
-  -- what is the first of its class beside background frames is so alone
+  -- the first of its class beside background frames is the first alone as well
   to_first : (p t : ℕ) → Streams p → IsFirst mixed starts p t → IsFirst alone moved (place_of p) t
   to_first p t streams first = record { waits = to_waits p t streams first.waits; none_before = none_before }
     where
@@ -108,7 +108,7 @@ module _ (n g r : ℕ) (mixed alone : List Arrival) (place_of : ℕ → ℕ) (cy
           let q = those.each k waits.inside in
           subst (λ z. z < place_of p → class_of alone z ≡ class_of alone (place_of p) → Waits alone moved z t → ⊥) q.3 (none_at q.0 q.1 q.2) less same waits
 
-  -- and the other way round
+  -- and conversely
   from_first : (p t : ℕ) → p < length mixed → Streams p → IsFirst alone moved (place_of p) t → IsFirst mixed starts p t
   from_first p t inside streams first = record { waits = from_waits p t inside streams first.waits; none_before = none_before }
     where
@@ -118,17 +118,17 @@ module _ (n g r : ℕ) (mixed alone : List Arrival) (place_of : ℕ → ℕ) (cy
           first.none_before (place_of q) (those.in_order q p less inside q_streams) (classes q waits.inside q_streams ∙ same ∙ sym (classes p inside streams))
           (to_waits q t q_streams waits)
 
-  -- what is eligible beside background frames is so alone
+  -- what is eligible beside background frames is eligible alone
   to_eligible : (p t : ℕ) → p < length mixed → Streams p → IsEligible rules mixed p t → IsEligible rules alone (place_of p) t
   to_eligible p t inside streams eligible =
       subst (λ (a : Arrival). IsOpenThrough (port_list n g) a.class t (ending_of t a.octets r)) (sym (those.same p inside streams)) eligible
 
-  -- and the other way round
+  -- and conversely
   from_eligible : (p t : ℕ) → p < length mixed → Streams p → IsEligible rules alone (place_of p) t → IsEligible rules mixed p t
   from_eligible p t inside streams eligible =
       subst (λ (a : Arrival). IsOpenThrough (port_list n g) a.class t (ending_of t a.octets r)) (those.same p inside streams) eligible
 
-  -- a stream's frame that may start came in an earlier cycle
+  -- a stream's frame that may start arrived in an earlier cycle
   came_before : (p t : ℕ) → Streams p → Waits mixed starts p t → IsEligible rules mixed p t → instant_of mixed p / n < t / n
   came_before p t streams waits eligible =
       let some_cycle : 0 < n = omega (arith, port.guard_short) in
@@ -143,8 +143,7 @@ module _ (n g r : ℕ) (mixed alone : List Arrival) (place_of : ℕ → ℕ) (cy
         ]
       ]
 
-  -- no background frame is on the wire where a stream's frame may start: it would be of the same cycle, and behind that
-  -- frame
+  -- no background frame is on the wire when a stream's frame may start: it would be of the same cycle, and start after that frame
   off_the_wire : (p q s t : ℕ) → Streams p → Waits mixed starts p t → IsEligible rules mixed p t → Contains starts (q, s) → class_of mixed q < 6 → s < t →
       idle_after s (octets_of mixed q) r ≤ t
   off_the_wire p q s t streams waits eligible c low less = elim (cases_lt (s / n) (t / n)) [
@@ -168,7 +167,7 @@ module _ (n g r : ℕ) (mixed alone : List Arrival) (place_of : ℕ → ℕ) (cy
         not_started = λ s' c'. omega (arith, waits.not_started s' c', less);
       }
 
-  -- so where the port is idle alone and a stream's frame may start, it is idle beside background frames
+  -- so if the port is idle alone and a stream's frame may start, it is idle beside background frames
   to_idle : (p t : ℕ) → Streams p → Waits mixed starts p t → IsEligible rules mixed p t → IsIdle rules alone moved t → IsIdle rules mixed starts t
   to_idle p t streams waits eligible idle q s c less = elim (cases_lt (class_of mixed q) 6) [
     | inl low ↦ off_the_wire p q s t streams waits eligible c low less
@@ -188,7 +187,7 @@ module _ (n g r : ℕ) (mixed alone : List Arrival) (place_of : ℕ → ℕ) (cy
         | inr w_streams ↦ (place_of w.0, renamed.to w.0 t w.1 w_streams)
       ]
 
-  -- no start is before a higher class that may start
+  -- no start precedes a frame of a higher class that may start
   no_higher : (p s q : ℕ) → Contains starts (p, s) → Streams p → q < length mixed → Streams q → class_of alone (place_of p) < class_of alone (place_of q) →
       IsFirst alone moved (place_of q) s → IsEligible rules alone (place_of q) s → ⊥
   no_higher p s q c p_streams inside q_streams less first eligible =
@@ -228,7 +227,7 @@ module _ (n g r : ℕ) (mixed alone : List Arrival) (place_of : ℕ → ℕ) (cy
         (a_stream_starts o.0 t o.1 o.2 early idle) first eligible;
   }
 
--- a list's streams' frames, by their ranks among them
+-- a list's streams' frames, by their indices among them
 streams_ranked : (arrivals : List Arrival) → AreTheStreamsOf arrivals (only_streams arrivals) (place_alone arrivals)
 streams_ranked arrivals = record {
   inside = λ p inside streams. (kept_at_rank is_streams arrivals p no_arrival inside (le-leb 6 (class_of arrivals p) streams)).inside;

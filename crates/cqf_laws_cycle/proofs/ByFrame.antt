@@ -27,12 +27,12 @@ use Rattle.cqf_laws_cycle.specs.BridgeCycle.{policed_in, received_in}
 use Rattle.cqf_laws_cycle.specs.Gathered.{IsInOrderOf, dropped_of}
 use Rattle.cqf_laws_cycle.proofs.Continued.{policed_when}
 
--- an offer's frame is numbered by its place, from 1
+-- an offer's frame number is its position, from 1
 pub record IsNumbered (places frame : ℕ) : Type 0 where
   pub from_1 : 1 ≤ frame
   pub within : frame ≤ places
 
--- so is each offer
+-- this holds for each offer
 offered_numbered : (offers : List Offer) (x : Offered) → Contains (numbered offers) x → IsNumbered (length offers) x.frame
 offered_numbered offers x h =
     let all = enumerate_from 1 offers in
@@ -47,7 +47,7 @@ offered_numbered offers x h =
     number : ℕ × Offer → Offered
     number y = record { frame = y.0; offer = y.1 }
 
--- and each frame that is offered
+-- and for each frame that is offered
 offer_numbered : (offers : List Offer) (bridge t : ℕ) (x : Received) → Contains (offered_at offers bridge t) x → IsNumbered (length offers) x.frame
 offer_numbered offers bridge t x h =
     let w = contains_from_map offer_received (filter (is_offered_at bridge t) (numbered offers)) x h in
@@ -81,11 +81,11 @@ module _ (run : Run) (carried : Carried) where
       ]
 
   module _ (earlier : ℕ → List Policed) (bridge cycle : ℕ) where
-    -- what becomes of the cycle's frames
+    -- the verdicts on the cycle's frames
     abbrev policed : List Policed
     policed = policed_in run carried bridge cycle (earlier bridge)
 
-    -- its drops, as they come
+    -- its drops, in order of arrival
     abbrev dropped : List Dropped
     dropped = dropped_of cycle bridge policed
 
@@ -112,7 +112,7 @@ module _ (run : Run) (carried : Carried) where
         subst (IsNumbered (length run.offers)) (ap (λ (y : Dropped). y.frame) f.2)
         (dropped_numbered bridge (cycle * d.cycle_time + k.0) before p.received f.0 k.2 verdict)
 
-    -- the drops of a frame are those of its place
+    -- the drops of a frame are those of its offer
     drops_of_frame : (place : ℕ) →
         filter (λ (x : Dropped). x.frame == place + 1) dropped ≡ dropped_of cycle bridge (filter (is_of_place run.domain cycle place) policed)
     drops_of_frame place =
@@ -131,7 +131,7 @@ module _ (run : Run) (carried : Carried) where
           let own : Contains (filter same sorted) drop = contains_filter same sorted drop h (eq-eqb drop.frame drop.frame refl) in
           drop_numbered drop (contains_from_filter same dropped drop (subst (λ (xs : List Dropped). Contains xs drop) (is.stable drop.frame) own)).0
 
-      -- so by frame the drops are those of the page
+      -- so sorted by frame, the drops are those of the page
       pub by_frame : sorted ≡ drops_in run.domain (length run.offers) (λ b. policed_in run carried b cycle (earlier b)) cycle bridge
       by_frame =
           let places = length run.offers in

@@ -1,4 +1,4 @@
--- What comes to a bridge is exactly what is to come there.
+-- What arrives at a bridge is exactly what is due there.
 use Rattle.std.proofs.Common.{◌≡◌, ℕ, ◌+◌, ◌-◌, ◌<◌, ◌⊎◌, Bool, true, false, cond, List, Option, Some, None, length, sym, refl, ap, ap₂, ◌∙◌, inl}
 use Rattle.std.proofs.Common.{inr, arith, subst}
 use Rattle.std.specs.Prelude.{[], ◌++◌, ◌==◌, ◌≢◌, if◌then◌else◌, map, option_map, filter, slice_get, AllPairs, Contains}
@@ -31,12 +31,12 @@ use Rattle.cqf_laws_cycle.specs.ArrivalLaws.{BridgesReceiveWhatComes, Came, Came
 
 -- ---- a bridge
 
--- a link that ends in a bridge ends there
+-- a node that is a bridge, by the test
 node_there : (node : Node) (bridge : ℕ) → node_is node bridge ≡ true → node ≡ Bridge bridge
 node_there (Bridge b) bridge e = ap (λ (n : ℕ). Bridge n) (eqb-true b bridge e)
 node_there (Station s) bridge e = absurd cc
 
--- so what enters a bridge has it as its end
+-- so the end of a link that enters a bridge is the bridge
 ends_there : (d : Domain) (m bridge : ℕ) → enters d m bridge ≡ true → end_of d m ≡ Some (Bridge bridge)
 ends_there d m bridge e = by_link (slice_get d.links m) e
   where
@@ -46,12 +46,12 @@ ends_there d m bridge e = by_link (slice_get d.links m) e
     by_link None f = absurd cc
     by_link (Some link) f = ap (λ (n : Node). Some n) (node_there link.to bridge f)
 
--- and so does one whose end is the bridge, which is one of the domain's
+-- a link whose end is the bridge is one of the domain's and enters the bridge
 record EndsIn (d : Domain) (m bridge : ℕ) : Type 0 where
   inside : m < length d.links
   enters_it : enters d m bridge ≡ true
 
--- such a link enters the bridge
+-- this holds for such a link
 ends_in : (d : Domain) (m bridge : ℕ) → end_of d m ≡ Some (Bridge bridge) → EndsIn d m bridge
 ends_in d m bridge e = by_link (slice_get d.links m) refl e
   where
@@ -66,19 +66,19 @@ ends_in d m bridge e = by_link (slice_get d.links m) refl e
               ∙ eq-eqb bridge bridge refl;
         }
 
--- a numbered offer
+-- an offer with its number
 abbrev as_offered : ℕ × Offer → Offered
 as_offered e = record { frame = e.0; offer = e.1 }
 
--- stands at its number's place
+-- is at its number's position
 offer_at : (offers : List Offer) (x : Offered) → Contains (numbered offers) x → StandsAt (λ (y : Offered). y.frame) (λ (y : Offered). y.offer) offers x
 offer_at offers = numbered_at as_offered (λ (y : Offered). y.frame) (λ (y : Offered). y.offer) (λ e. refl) (λ e. refl) offers
 
--- sources in order
+-- a source of one link is before another if the link, or the index of the same link, is lower
 links_before : (a b : Source) (l m i j : ℕ) → a ≡ OfLink l i → b ≡ OfLink m j → (l < m) ⊎ ((l ≡ m) × (i < j)) → IsSourceBefore a b
 links_before a b l m i j ea eb h = subst (λ (s : Source). IsSourceBefore s b) (sym ea) (subst (λ (s : Source). IsSourceBefore (OfLink l i) s) (sym eb) h)
 
--- the offers behind the links
+-- the links precede the offers
 offers_behind : (a b : Source) (l i j : ℕ) → a ≡ OfLink l i → b ≡ OfOffers j → IsSourceBefore a b
 offers_behind a b l i j ea eb = subst (λ (s : Source). IsSourceBefore s b) (sym ea) (subst (λ (s : Source). IsSourceBefore (OfLink l i) s) (sym eb) tt)
 
@@ -88,26 +88,26 @@ not_itself (OfLink l i) h = elim h [ inl a ↦ omega (arith, a) | inr b ↦ omeg
 not_itself (OfOffers i) h = omega (arith, h)
 
 module _ (run : Run) (carried : Carried) (bridge : ℕ) where
-  -- a link's frame at a place
+  -- a link's frame at an index
   abbrev pub brought : ℕ → ℕ × Sent → Came
   brought m e = record { source = OfLink m e.0; received = sent_received run.domain m e.1 }
 
-  -- whether it is whole at an instant
+  -- whether it has fully arrived at an instant
   abbrev pub is_whole : ℕ → ℕ → ℕ × Sent → Bool
   is_whole t m e = whole_at run.domain m e.1 == t
 
-  -- what a link brings at an instant, with its places
+  -- what a link brings at an instant, with the indices
   abbrev pub brought_at : ℕ → ℕ → List Came
   brought_at t m = if enters run.domain m bridge then map (brought m) (filter (is_whole t m) (enumerate_from 0 (carried m))) else []
 
-  -- an offer, with its place
+  -- an offer, with its index
   abbrev pub offered_as : Offered → Came
   offered_as x = record { source = OfOffers (x.frame - 1); received = offer_received x }
 
   abbrev pub offers_at : ℕ → List Came
   offers_at t = map offered_as (filter (is_offered_at bridge t) (numbered run.offers))
 
-  -- what comes at an instant, and before one
+  -- what arrives at an instant, and before one
   abbrev pub at_instant : ℕ → List Came
   at_instant t = each_below (brought_at t) (length run.domain.links) ++ offers_at t
 
@@ -118,7 +118,7 @@ module _ (run : Run) (carried : Carried) (bridge : ℕ) where
   abbrev pub seen : Came → Received
   seen c = c.received
 
-  -- without their places they are what the link brings
+  -- without the indices this is what the link brings
   brought_is : (t m : ℕ) → map seen (brought_at t m) ≡ relayed_at run.domain carried bridge t m
   brought_is t m =
       let whole = filter (is_whole t m) (enumerate_from 0 (carried m)) in
@@ -126,7 +126,7 @@ module _ (run : Run) (carried : Carried) (bridge : ℕ) where
       ∙ ap (λ (xs : List Received). cond (enters run.domain m bridge) xs [])
       (map-map seen (brought m) whole ∙ unnumbered (sent_received run.domain m) (λ (sent : Sent). whole_at run.domain m sent == t) 0 (carried m))
 
-  -- so it is of all at an instant
+  -- and so for all that arrives at an instant
   instant_is : (t : ℕ) → map seen (at_instant t) ≡ received_at run carried bridge t
   instant_is t =
       let links = length run.domain.links in
@@ -136,23 +136,23 @@ module _ (run : Run) (carried : Carried) (bridge : ℕ) where
       ∙ same_below (λ m. map seen (brought_at t m)) (relayed_at run.domain carried bridge t) links (λ m l. brought_is t m))
       (map-map seen offered_as (filter (is_offered_at bridge t) (numbered run.offers)))
 
-  -- and before one
+  -- and for all before one
   pub until_is : (end : ℕ) → map seen (until end) ≡ received_before run carried bridge end
   until_is end =
       map_below seen at_instant end ∙ same_below (λ t. map seen (at_instant t)) (received_at run carried bridge) end (λ t l. instant_is t)
 
-  -- a frame that comes from its source at an instant
+  -- a frame arrives from its source at an instant
   record ComesAt (t : ℕ) (c : Came) : Type 0 where
     comes : Comes run carried bridge c.source c.received
     instant : c.received.at ≡ t
 
-  -- a link's frame does
+  -- and it is a link's frame
   record IsOfLink (t m : ℕ) (c : Came) : Type 0 where
     comes_at : ComesAt t c
     place : ℕ
     is : c.source ≡ OfLink m place
 
-  -- what a link brings at an instant comes so
+  -- what a link brings at an instant is such
   from_link : (t m : ℕ) (c : Came) → Contains (brought_at t m) c → IsOfLink t m c
   from_link t m c h =
       let all = enumerate_from 0 (carried m) in
@@ -178,13 +178,13 @@ module _ (run : Run) (carried : Carried) (bridge : ℕ) where
         is = refl;
       })
 
-  -- and an offer
+  -- it is an offer
   record IsOfOffers (t : ℕ) (c : Came) : Type 0 where
     comes_at : ComesAt t c
     place : ℕ
     is : c.source ≡ OfOffers place
 
-  -- and so do the offers
+  -- the offers at an instant are such
   from_offers : (t : ℕ) (c : Came) → Contains (offers_at t) c → IsOfOffers t c
   from_offers t c h =
       let e = contains_from_map offered_as (filter (is_offered_at bridge t) (numbered run.offers)) c h in
@@ -209,7 +209,7 @@ module _ (run : Run) (carried : Carried) (bridge : ℕ) where
         is = refl;
       })
 
-  -- so does all at the instant
+  -- and so is all that arrives at the instant
   from_instant : (t : ℕ) (c : Came) → Contains (at_instant t) c → ComesAt t c
   from_instant t c h =
       let links = length run.domain.links in
@@ -218,14 +218,14 @@ module _ (run : Run) (carried : Carried) (bridge : ℕ) where
         | inr k ↦ (from_offers t c k).comes_at
       ]
 
-  -- so what has come comes from its source, early enough
+  -- so each frame of the list arrives from its source, early enough
   from_until : (end : ℕ) (c : Came) → Contains (until end) c → Comes run carried bridge c.source c.received × (c.received.at < end)
   from_until end c h =
       let w = contains_from_below at_instant end c h in
       let r = from_instant w.0 c w.2 in
       (r.comes, omega (arith, w.1, r.instant))
 
-  -- and what does has come
+  -- and each frame that arrives is in the list
   to_instant : (source : Source) (x : Received) → Comes run carried bridge source x → Contains (at_instant x.at) (record { source = source; received = x })
   to_instant (OfLink m place) x b =
       let links = length run.domain.links in
@@ -259,7 +259,7 @@ module _ (run : Run) (carried : Carried) (bridge : ℕ) where
 
   -- ---- in order
 
-  -- what a link brings at an instant
+  -- what a link brings at an instant is in order
   link_pairs : (t m : ℕ) → AllPairs CameBefore (brought_at t m)
   link_pairs t m =
       let all = enumerate_from 0 (carried m) in
@@ -273,7 +273,7 @@ module _ (run : Run) (carried : Carried) (bridge : ℕ) where
         inr (refl, l),
       )) (AllPairs-filter R (is_whole t m) all (enum_pairs 0 (carried m)))))
 
-  -- the offers at an instant
+  -- and so are the offers at an instant
   offer_pairs : (t : ℕ) → AllPairs CameBefore (offers_at t)
   offer_pairs t =
       let mine = is_offered_at bridge t in
@@ -291,7 +291,7 @@ module _ (run : Run) (carried : Carried) (bridge : ℕ) where
       )) (AllPairs-filter R mine (numbered run.offers)
       (numbered_pairs as_offered (λ (y : Offered). y.frame) (λ (y : Offered). y.offer) (λ e. refl) (λ e. refl) run.offers)))
 
-  -- all at an instant
+  -- and all at an instant
   instant_pairs : (t : ℕ) → AllPairs CameBefore (at_instant t)
   instant_pairs t =
       let links = length run.domain.links in
@@ -307,7 +307,7 @@ module _ (run : Run) (carried : Carried) (bridge : ℕ) where
       let b = from_offers t y cy in
       inr (a.comes_at.instant ∙ sym b.comes_at.instant, offers_behind x.source y.source w.0 a.place b.place a.is b.is))
 
-  -- all before an instant
+  -- and all before an instant
   pub until_pairs : (end : ℕ) → AllPairs CameBefore (until end)
   until_pairs end =
       pairs_below CameBefore at_instant end (λ t l. instant_pairs t) (λ s t x y l inside cx cy.
@@ -322,7 +322,7 @@ module _ (run : Run) (carried : Carried) (bridge : ℕ) where
       let same : a.offer ≡ b.offer = same_Some a.offer b.offer (sym a.is_there ∙ b.is_there) in
       a.instant ∙ ap (λ (offer : Offer). offer.at.0) same ∙ sym b.instant
 
-  -- so none is there twice
+  -- so no source occurs twice
   until_once : (end : ℕ) → AllPairs (λ (a b : Came). a.source ≢ b.source) (until end)
   until_once end =
       pairs_weaker CameBefore (λ (a b : Came). a.source ≢ b.source) (until end) (λ a b ca cb before same.
@@ -333,7 +333,7 @@ module _ (run : Run) (carried : Carried) (bridge : ℕ) where
         | inr e ↦ not_itself a.source (subst (λ (s : Source). IsSourceBefore a.source s) (sym same) e.1)
       ]) (until_pairs end)
 
--- what comes to a bridge is exactly what is to come there
+-- what arrives at a bridge is exactly what is due there
 pub bridges_receive_what_comes : BridgesReceiveWhatComes
 bridges_receive_what_comes run carried bridge end = record {
   came = until run carried bridge end;

@@ -1,4 +1,4 @@
--- What comes to a port is exactly what is to come there.
+-- What arrives at a port is exactly what is due there.
 use Rattle.std.proofs.Common.{◌≡◌, ℕ, ◌+◌, ◌-◌, ◌*◌, ◌<◌, ◌≤◌, ◌⊎◌, Bool, true, false, cond, List, Some, sym, refl, ap, ap₂, ◌∙◌, inl, inr, arith, subst}
 use Rattle.std.proofs.Common.{get_or, ◌/◌}
 use Rattle.std.proofs.Math.Nat.{mul-le-mul_right}
@@ -48,11 +48,11 @@ one_verdict d tables bridge earlier [] = refl
 one_verdict d tables bridge earlier (x ∷ xs) =
     ap (λ (ys : List Received). x ∷ ys) (one_verdict d tables bridge (earlier ++ police d tables bridge earlier x ∷ []) xs)
 
--- in the order in which they come
+-- in the order of arrival
 pub verdicts_are_on_what_comes : VerdictsAreOnWhatComes
 verdicts_are_on_what_comes run carried bridge end = one_verdict run.domain run.tables bridge [] (received_before run carried bridge end)
 
--- so the verdicts stand by instant
+-- so the verdicts are in order of instant
 policed_pairs : (run : Run) (carried : Carried) (bridge end : ℕ) →
     AllPairs (λ (p q : Policed). p.received.at ≤ q.received.at) (policed_before run carried bridge end)
 policed_pairs run carried bridge end =
@@ -65,17 +65,17 @@ policed_pairs run carried bridge end =
     pairs_from_map R (λ (p : Policed). p.received) (policed_before run carried bridge end)
     (subst (λ (xs : List Received). AllPairs R xs) (sym (verdicts_are_on_what_comes run carried bridge end)) by_received)
   where
-    -- what comes before isn't later
+    -- a frame that is before another isn't later
     not_later : (a b : Came) → CameBefore a b → a.received.at ≤ b.received.at
     not_later a b before = elim before [ inl l ↦ omega (arith, l) | inr e ↦ omega (arith, e.0) ]
 
 -- ---- a port
 
--- a numbered background frame
+-- a background frame with its number
 abbrev as_backed : ℕ × Background → Backed
 as_backed e = record { frame = e.0; background = e.1 }
 
--- stands at its number's place
+-- is at its number's position
 backed_at_place : (background : List Background) (x : Backed) → Contains (numbered_background background) x →
     StandsAt (λ (y : Backed). y.frame) (λ (y : Backed). y.background) background x
 backed_at_place background = numbered_at as_backed (λ (y : Backed). y.frame) (λ (y : Backed). y.background) (λ e. refl) (λ e. refl) background
@@ -87,7 +87,7 @@ record IsQueuedFor (d : Domain) (l : ℕ) (x : Received) (verdict : Verdict) (q 
   by_link : Contains (goes_to row (came_by x.way)) l
   is : queued_frame d x row ≡ q
 
--- a queued frame is so for that
+-- a queued frame is queued for such a reason
 queued_for : (d : Domain) (l : ℕ) (x : Received) (verdict : Verdict) (q : QueuedFrame) → Contains (queued_by d l x verdict) q → IsQueuedFor d l x verdict q
 queued_for d l x (Queued row) q c =
     let w = contains_if_there (list_any (λ next. next == l) (goes_to row (came_by x.way))) (queued_frame d x row ∷ []) q c in
@@ -102,7 +102,7 @@ queued_for d l x (DroppedFor reason) q c = absurd (contains_none q c)
 queued_for d l x LacksRow q c = absurd (contains_none q c)
 queued_for d l x ExceedsGate q c = absurd (contains_none q c)
 
--- and what goes on by the link is queued
+-- and a frame that goes on by the link is queued
 is_queued : (d : Domain) (l : ℕ) (x : Received) (verdict : Verdict) (row : Row) → verdict ≡ Queued row → Contains (goes_to row (came_by x.way)) l →
     Contains (queued_by d l x verdict) (queued_frame d x row)
 is_queued d l x verdict row e c = subst (λ (v : Verdict). Contains (queued_by d l x v) (queued_frame d x row)) (sym e)
@@ -122,7 +122,7 @@ queued_pairs R make d l x (DroppedFor reason) = pairs_none R
 queued_pairs R make d l x LacksRow = pairs_none R
 queued_pairs R make d l x ExceedsGate = pairs_none R
 
--- a list whose elements stay
+-- mapping the identity
 map_itself : {X : Type 0} (xs : List X) → map (λ (x : X). x) xs ≡ xs
 map_itself [] = refl
 map_itself {X} (x ∷ xs) = ap (λ (ys : List X). x ∷ ys) (map_itself xs)
@@ -133,39 +133,39 @@ later_cycle n s t some l =
     let next : s / n + 1 ≤ t / n = omega (arith, l) in
     omega (arith, mul-le-mul_right n next, cycle_upto n s some, cycle_from n t)
 
--- an instant before the end of some cycles is in one of them
+-- an instant before the end of n cycles is in one of them
 of_cycles : (n cycles t : ℕ) → 0 < n → t < cycles * n → t / n < cycles
 of_cycles n cycles t some l = elim (cases_lt (t / n) cycles) [
   | inl k ↦ k
   | inr g ↦ absurd (omega (arith, mul-le-mul_right n g, cycle_from n t, l))
 ]
 
--- a cycle of some ends with them at the latest
+-- each of n cycles ends no later than the last
 cycle_within : (n cycles cycle : ℕ) → cycle < cycles → (cycle + 1) * n ≤ cycles * n
 cycle_within n cycles cycle l = let next : cycle + 1 ≤ cycles = omega (arith, l) in mul-le-mul_right n next
 
--- origins in order
+-- background frames precede streams' frames
 background_first : (a b : Origin) (s t i j : ℕ) → a ≡ OfBackground i → b ≡ OfBridge j → IsOriginBefore a s b t
 background_first a b s t i j ea eb =
     subst (λ (o : Origin). IsOriginBefore o s b t) (sym ea) (subst (λ (o : Origin). IsOriginBefore (OfBackground i) s o t) (sym eb) tt)
 
--- background frames by instant and place
+-- background frames are ordered by instant and index
 background_before : (a b : Origin) (s t i j : ℕ) → a ≡ OfBackground i → b ≡ OfBackground j → (s < t) ⊎ ((s ≡ t) × (i < j)) → IsOriginBefore a s b t
 background_before a b s t i j ea eb h =
     subst (λ (o : Origin). IsOriginBefore o s b t) (sym ea) (subst (λ (o : Origin). IsOriginBefore (OfBackground i) s o t) (sym eb) h)
 
--- and streams' frames by place
+-- and streams' frames by index
 bridge_before : (a b : Origin) (s t i j : ℕ) → a ≡ OfBridge i → b ≡ OfBridge j → i < j → IsOriginBefore a s b t
 bridge_before a b s t i j ea eb h =
     subst (λ (o : Origin). IsOriginBefore o s b t) (sym ea) (subst (λ (o : Origin). IsOriginBefore (OfBridge i) s o t) (sym eb) h)
 
--- no origin is before itself at one instant
+-- no origin precedes itself at one instant
 no_origin_twice : (o : Origin) (s t : ℕ) → s ≡ t → IsOriginBefore o s o t → ⊥
 no_origin_twice (OfBackground i) s t e h = elim h [ inl a ↦ omega (arith, a, e) | inr b ↦ omega (arith, b.1) ]
 no_origin_twice (OfBridge i) s t e h = omega (arith, h)
 
 module _ (run : Run) (carried : Carried) (l : ℕ) where
-  -- a background frame, with its place
+  -- a background frame, with its index
   abbrev backed_as : Backed → CameToPort
   backed_as x = record { origin = OfBackground (x.frame - 1); queued = backed_frame x }
 
@@ -177,19 +177,19 @@ module _ (run : Run) (carried : Carried) (l : ℕ) where
   abbrev backed_cycle : ℕ → List CameToPort
   backed_cycle cycle = each_below (λ offset. backed_came (cycle * run.domain.cycle_time + offset)) run.domain.cycle_time
 
-  -- what is queued of a frame that the bridge received, with its place
+  -- what is queued for a frame that the bridge received, with its index
   abbrev through : ℕ → QueuedFrame → CameToPort
   through place q = record { origin = OfBridge place; queued = q }
 
-  -- those of a frame
+  -- what is queued for one policed frame
   abbrev gone : ℕ × Policed → List CameToPort
   gone e = map (through e.0) (queued_by run.domain l e.1.received e.1.verdict)
 
-  -- all that it received up to the end of a cycle
+  -- all that the bridge received up to the end of a cycle
   abbrev policed_upto : ℕ → List Policed
   policed_upto cycle = policed_before run carried (bridge_of run.domain l) ((cycle + 1) * run.domain.cycle_time)
 
-  -- whether one is of a cycle
+  -- whether a frame is of a cycle
   abbrev is_of : ℕ → CameToPort → Bool
   is_of cycle c = cycle_of run.domain c.queued.arrival.at.0 == cycle
 
@@ -197,11 +197,11 @@ module _ (run : Run) (carried : Carried) (l : ℕ) where
   abbrev gone_in : ℕ → List CameToPort
   gone_in cycle = filter (is_of cycle) (flat_map gone (enumerate_from 0 (policed_upto cycle)))
 
-  -- what comes to the port in a cycle, and in the first cycles
+  -- what arrives at the port in a cycle
   abbrev in_cycle : ℕ → List CameToPort
   in_cycle cycle = backed_cycle cycle ++ gone_in cycle
 
-  -- and in the first ones
+  -- and in the first cycles
   abbrev upto : ℕ → List CameToPort
   upto cycles = each_below in_cycle cycles
 
@@ -209,7 +209,7 @@ module _ (run : Run) (carried : Carried) (l : ℕ) where
   abbrev frame_of : CameToPort → QueuedFrame
   frame_of c = c.queued
 
-  -- without their places these are what comes to the port
+  -- without the indices these are the background frames that arrive at the port
   backed_is : (cycle : ℕ) → map frame_of (backed_cycle cycle) ≡ backed_in run.domain run.background l cycle
   backed_is cycle =
       let first = cycle * run.domain.cycle_time in
@@ -217,7 +217,7 @@ module _ (run : Run) (carried : Carried) (l : ℕ) where
       ∙ same_below (λ offset. map frame_of (backed_came (first + offset))) (λ offset. backed_at run.background l (first + offset)) run.domain.cycle_time
       (λ offset k. map-map frame_of backed_as (filter (is_backed_at l (first + offset)) (numbered_background run.background)))
 
-  -- streams' frames too
+  -- and the streams' frames that do
   gone_is : (n : ℕ) (policed : List Policed) → map frame_of (flat_map gone (enumerate_from n policed)) ≡ queued_to run.domain l policed
   gone_is n [] = refl
   gone_is n (p ∷ policed) =
@@ -243,14 +243,14 @@ module _ (run : Run) (carried : Carried) (l : ℕ) where
       map_below frame_of in_cycle cycles
       ∙ same_below (λ cycle. map frame_of (in_cycle cycle)) (comes_in run carried l) cycles (λ cycle k. cycle_is_all cycle)
 
-  -- a background frame at an instant
+  -- a background frame of the port's link at an instant
   record IsBackedCame (t : ℕ) (c : CameToPort) : Type 0 where
     place : ℕ
     is : c.origin ≡ OfBackground place
     comes : ComesOfBackground run l place c.queued
     instant : came_at c ≡ t
 
-  -- a background frame comes as it is to
+  -- a background frame in the list is such
   from_backed : (t : ℕ) (c : CameToPort) → Contains (backed_came t) c → IsBackedCame t c
   from_backed t c h =
       let all = numbered_background run.background in
@@ -275,7 +275,7 @@ module _ (run : Run) (carried : Carried) (l : ℕ) where
         instant = eqb-true e.0.background.at.0 t g.1;
       })
 
-  -- one in a cycle
+  -- a background frame in a cycle
   record IsBackedIn (cycle : ℕ) (c : CameToPort) : Type 0 where
     place : ℕ
     is : c.origin ≡ OfBackground place
@@ -283,7 +283,7 @@ module _ (run : Run) (carried : Carried) (l : ℕ) where
     from : cycle * run.domain.cycle_time ≤ came_at c
     before : came_at c < cycle * run.domain.cycle_time + run.domain.cycle_time
 
-  -- so do those of a cycle
+  -- those of a cycle are such
   from_backed_in : (cycle : ℕ) (c : CameToPort) → Contains (backed_cycle cycle) c → IsBackedIn cycle c
   from_backed_in cycle c h =
       let first = cycle * run.domain.cycle_time in
@@ -291,7 +291,7 @@ module _ (run : Run) (carried : Carried) (l : ℕ) where
       let b = from_backed (first + w.0) c w.2 in
       record { place = b.place; is = b.is; comes = b.comes; from = omega (arith, b.instant); before = omega (arith, b.instant, w.1) }
 
-  -- a frame that went on in a cycle, by its place among those that the bridge received up to the end of the cycle
+  -- a frame that went on in a cycle, by its index among those that the bridge received up to the end of the cycle
   record IsGoneIn (cycle : ℕ) (c : CameToPort) : Type 0 where
     place : ℕ
     policed : Policed
@@ -300,7 +300,7 @@ module _ (run : Run) (carried : Carried) (l : ℕ) where
     queued : IsQueuedFor run.domain l policed.received policed.verdict c.queued
     of_cycle : cycle_of run.domain (came_at c) ≡ cycle
 
-  -- a frame that went on has its place
+  -- a frame that went on has its index
   from_gone : (cycle : ℕ) (c : CameToPort) → Contains (gone_in cycle) c → IsGoneIn cycle c
   from_gone cycle c h =
       let all = enumerate_from 0 (policed_upto cycle) in
@@ -320,7 +320,7 @@ module _ (run : Run) (carried : Carried) (l : ℕ) where
       }
 
   module _ (some : 0 < run.domain.cycle_time) (cycles : ℕ) where
-    -- what stands at a place of those up to the end of a cycle stands there of all
+    -- an index among those up to the end of a cycle is the same among all
     in_all : (cycle place : ℕ) (policed : Policed) → cycle < cycles → slice_get (policed_upto cycle) place ≡ Some policed →
         slice_get (policed_before run carried (bridge_of run.domain l) (cycles * run.domain.cycle_time)) place ≡ Some policed
     in_all cycle place policed inside e =
@@ -329,7 +329,7 @@ module _ (run : Run) (carried : Carried) (l : ℕ) where
         ap (λ (ps : List Policed). slice_get ps place) f.is
         ∙ slice_get_front (policed_upto cycle) f.rest place (slice_get_within (policed_upto cycle) place policed e) ∙ e
 
-    -- and the other way round, where it comes by then
+    -- and conversely, if the frame arrives by then
     in_front : (cycle place : ℕ) (policed : Policed) → cycle < cycles → policed.received.at < (cycle + 1) * run.domain.cycle_time →
         slice_get (policed_before run carried (bridge_of run.domain l) (cycles * run.domain.cycle_time)) place ≡ Some policed →
         slice_get (policed_upto cycle) place ≡ Some policed
@@ -361,7 +361,7 @@ module _ (run : Run) (carried : Carried) (l : ℕ) where
           of_stream = sym (ap (λ (q : QueuedFrame). q.stream) g.queued.is);
         }
 
-    -- so what has come to the port comes from its origin, early enough
+    -- so each frame in a cycle's list arrives from its origin, early enough
     from_cycle : (cycle : ℕ) (c : CameToPort) → cycle < cycles → Contains (in_cycle cycle) c →
         ComesToPort run carried l (cycles * run.domain.cycle_time) c.origin c.queued × (cycle_of run.domain (came_at c) ≡ cycle)
     from_cycle cycle c inside h =
@@ -377,7 +377,7 @@ module _ (run : Run) (carried : Carried) (l : ℕ) where
           ))
         ]
 
-    -- and so in the first cycles
+    -- and in the list of the first cycles
     from_upto : (c : CameToPort) → Contains (upto cycles) c →
         ComesToPort run carried l (cycles * run.domain.cycle_time) c.origin c.queued × (came_at c < cycles * run.domain.cycle_time)
     from_upto c h =
@@ -387,7 +387,7 @@ module _ (run : Run) (carried : Carried) (l : ℕ) where
         let whole : cycle_of run.domain (came_at c) * time ≡ w.0 * time = ap (λ (k : ℕ). k * time) r.1 in
         (r.0, omega (arith, cycle_upto time (came_at c) some, whole, cycle_within time cycles w.0 w.1))
 
-    -- and what does has come
+    -- and each such frame is in the list
     to_background : (place : ℕ) (q : QueuedFrame) → ComesOfBackground run l place q → q.arrival.at.0 < cycles * run.domain.cycle_time →
         Contains (backed_cycle (cycle_of run.domain q.arrival.at.0)) (record { origin = OfBackground place; queued = q })
     to_background place q b early =
@@ -461,7 +461,7 @@ module _ (run : Run) (carried : Carried) (l : ℕ) where
 
     -- ---- in order
 
-    -- the background frames of a cycle
+    -- the background frames of a cycle are in order
     backed_in_order : (cycle : ℕ) → AllPairs (StandsBefore run.domain) (backed_cycle cycle)
     backed_in_order cycle =
         let time = run.domain.cycle_time in
@@ -492,7 +492,7 @@ module _ (run : Run) (carried : Carried) (l : ℕ) where
           background_before x.origin y.origin (came_at x) (came_at y) a.place b.place a.is b.is (inl (omega (arith, a.instant, b.instant, less))),
         ))
 
-    -- the streams' frames of a cycle
+    -- the streams' frames of a cycle are
     gone_in_order : (cycle : ℕ) → AllPairs (StandsBefore run.domain) (gone_in cycle)
     gone_in_order cycle =
         let all = enumerate_from 0 (policed_upto cycle) in
@@ -507,7 +507,7 @@ module _ (run : Run) (carried : Carried) (l : ℕ) where
         (λ e f u v ce cf less cu cv. bridge_before u.origin v.origin (came_at u) (came_at v) e.0 f.0 (origin e u cu) (origin f v cv) less)
         (enum_pairs 0 (policed_upto cycle))))
 
-    -- all of a cycle
+    -- all of a cycle are
     cycle_in_order : (cycle : ℕ) → AllPairs (StandsBefore run.domain) (in_cycle cycle)
     cycle_in_order cycle =
         pairs_append (StandsBefore run.domain) (backed_cycle cycle) (gone_in cycle) (backed_in_order cycle) (gone_in_order cycle) (λ x y cx cy.
@@ -518,7 +518,7 @@ module _ (run : Run) (carried : Carried) (l : ℕ) where
           background_first x.origin y.origin (came_at x) (came_at y) a.place b.place a.is b.is,
         ))
 
-    -- and of the first cycles
+    -- and those of the first cycles are
     upto_in_order : AllPairs (StandsBefore run.domain) (upto cycles)
     upto_in_order =
         pairs_below (StandsBefore run.domain) in_cycle cycles (λ cycle k. cycle_in_order cycle) (λ j k x y less inside cx cy.
@@ -536,7 +536,7 @@ module _ (run : Run) (carried : Carried) (l : ℕ) where
         let same : a.policed ≡ b.policed = same_Some a.policed b.policed (sym a.is_received ∙ b.is_received) in
         a.instant ∙ ap (λ (p : Policed). p.received.at) same ∙ sym b.instant
 
-    -- so none is there twice
+    -- so no origin occurs twice
     upto_once : AllPairs (λ (a b : CameToPort). a.origin ≢ b.origin) (upto cycles)
     upto_once =
         pairs_weaker (StandsBefore run.domain) (λ (a b : CameToPort). a.origin ≢ b.origin) (upto cycles) (λ a b ca cb before same.
@@ -550,7 +550,7 @@ module _ (run : Run) (carried : Carried) (l : ℕ) where
               (subst (λ (o : Origin). IsOriginBefore a.origin (came_at a) o (came_at b)) (sym same) e.1)
         ]) upto_in_order
 
-    -- frames of one kind stand by instant
+    -- frames of one kind are ordered by instant
     not_later_at : (a b : Origin) (q r : QueuedFrame) → ComesToPort run carried l (cycles * run.domain.cycle_time) a q →
         ComesToPort run carried l (cycles * run.domain.cycle_time) b r → IsOriginBefore a q.arrival.at.0 b r.arrival.at.0 → AreOfOneKind a b →
         q.arrival.at.0 ≤ r.arrival.at.0
@@ -565,7 +565,7 @@ module _ (run : Run) (carried : Carried) (l : ℕ) where
         let second : get_or policed j y.policed ≡ y.policed = get_or_from_slice_get policed j y.policed y.policed y.is_received in
         omega (arith, le, ap (λ (p : Policed). p.received.at) first, ap (λ (p : Policed). p.received.at) second, x.instant, y.instant)
 
-    -- so all of one kind do
+    -- so all frames of one kind are
     upto_by_instant : AllPairs (λ (a b : CameToPort). AreOfOneKind a.origin b.origin → came_at a ≤ came_at b) (upto cycles)
     upto_by_instant =
         pairs_weaker (StandsBefore run.domain) (λ (a b : CameToPort). AreOfOneKind a.origin b.origin → came_at a ≤ came_at b) (upto cycles)
@@ -574,7 +574,7 @@ module _ (run : Run) (carried : Carried) (l : ℕ) where
           | inr e ↦ not_later_at a.origin b.origin a.queued b.queued (from_upto a ca).0 (from_upto b cb).0 e.1 kind
         ]) upto_in_order
 
--- what comes to a port is exactly what is to come there
+-- what arrives at a port is exactly what is due there
 pub ports_get_what_comes : PortsGetWhatComes
 ports_get_what_comes run carried l cycles some = record {
   came = upto run carried l cycles;

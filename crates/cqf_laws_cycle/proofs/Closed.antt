@@ -1,4 +1,4 @@
--- Arrivals whose gate is closed since they came change nothing.
+-- Arrivals whose gate has been closed since they arrived change nothing.
 use Rattle.std.proofs.Common.{ℕ, ◌<◌, List, sym, subst, append_assoc, append-nil}
 use Rattle.std.specs.Prelude.{[], ◌∷◌, ◌++◌, Contains}
 use Rattle.cqf_lists.proofs.Members.{contains_here, contains_later}

@@ -1,4 +1,4 @@
--- What comes to a bridge and to its ports in a cycle stands behind what came before it, and so do the verdicts on it.
+-- What arrives at a bridge and at its ports in a cycle follows what arrived before it, and so do the verdicts on it.
 use Rattle.std.proofs.Common.{◌≡◌, ℕ, ◌+◌, ◌*◌, ◌<◌, ◌≤◌, Bool, List, sym, ap, ◌∙◌, arith, append_assoc, append-nil, eq-eqb, ne_eqb, Contains}
 use Rattle.std.specs.Prelude.{[], ◌++◌, ◌==◌, filter, false, suc}
 use Rattle.std.specs.List.{flat_map}
@@ -23,17 +23,17 @@ use Rattle.cqf_laws_cycle.specs.BridgeCycle.{policed_in, policed_of, received_in
 use Rattle.cqf_laws_cycle.specs.PortCycle.{waits_in}
 
 module _ (run : Run) (carried : Carried) where
-  -- all that becomes of what came to a bridge before a cycle
+  -- the verdicts on all that arrived at a bridge before a cycle
   abbrev so_far : ℕ → ℕ → List Policed
   so_far bridge cycle = policed_before run carried bridge (cycle * run.domain.cycle_time)
 
-  -- a frame that comes in a cycle is of the cycle
+  -- a frame that arrives in a cycle is of the cycle
   pub policed_when : (bridge cycle : ℕ) (earlier : List Policed) (p : Policed) → Contains (policed_in run carried bridge cycle earlier) p →
       cycle_of run.domain p.received.at ≡ cycle
   policed_when bridge cycle earlier p h =
       received_in_when run carried bridge cycle p.received (police_member run.domain run.tables bridge earlier (received_in run carried bridge cycle) p h)
 
-  -- a frame that came before a cycle isn't
+  -- a frame that arrived before a cycle isn't
   came_before : (bridge cycle : ℕ) (p : Policed) → Contains (so_far bridge cycle) p → p.received.at < cycle * run.domain.cycle_time
   came_before bridge cycle p h =
       let begins = cycle * run.domain.cycle_time in
@@ -53,7 +53,7 @@ module _ (run : Run) (carried : Carried) where
   abbrev own : ℕ → ℕ → List QueuedFrame
   own l cycle = queued_to run.domain l (policed_of run carried (bridge_of run.domain l) cycle)
 
-  -- of what is queued by the end of a cycle, that of the cycle
+  -- among what is queued by the end of a cycle, that of the cycle
   pub queued_in_cycle : (l cycle : ℕ) → queued_in run carried l cycle ≡ own l cycle
   queued_in_cycle l cycle =
       let d = run.domain in
@@ -90,7 +90,7 @@ module _ (run : Run) (carried : Carried) where
   port_goes_on l cycle = waits_on l cycle ∙ ap (λ (qs : List QueuedFrame). waits_in run carried l cycle ++ qs) (queued_in_cycle l cycle)
 
   module _ (cycles cycle bridge place : ℕ) (within_run : cycle < cycles) where
-    -- whether a frame is of the cycle and of the offer at the place
+    -- whether a frame is of the cycle and of the offer at the index
     abbrev test : Policed → Bool
     test = is_of_place run.domain cycle place
 
@@ -99,13 +99,13 @@ module _ (run : Run) (carried : Carried) where
     fails p differ = and_left (cycle_of run.domain p.received.at == cycle) (p.received.frame == place + 1)
         (ne_eqb (cycle_of run.domain p.received.at) cycle differ)
 
-    -- nor is one of before
+    -- nor is an earlier one
     none_earlier : filter test (so_far bridge cycle) ≡ []
     none_earlier =
         filter_none test (so_far bridge cycle) (λ p h. fails p (λ e.
         omega (arith, came_before bridge cycle p h, cycle_from run.domain.cycle_time p.received.at, ap (λ (c : ℕ). c * run.domain.cycle_time) e)))
 
-    -- what comes in a cycle is all of the cycle
+    -- all frames of the cycle arrive in it
     of_the_cycle : filter test (so_far bridge cycles) ≡ filter test (policed_of run carried bridge cycle)
     of_the_cycle =
         let d = run.domain in
@@ -126,7 +126,7 @@ module _ (run : Run) (carried : Carried) where
         ∙ filter-append test (so_far bridge cycle) these
         ∙ ap (λ (ps : List Policed). ps ++ filter test these) none_earlier
 
-  -- so the drops of a cycle are among what comes in it
+  -- so the drops of a cycle are among what arrives in it
   pub drops_of_the_cycle : (cycles cycle bridge places : ℕ) → cycle < cycles →
       drops_in run.domain places (λ b. so_far b cycles) cycle bridge ≡ drops_in run.domain places (λ b. policed_of run carried b cycle) cycle bridge
   drops_of_the_cycle cycles cycle bridge places within_run =

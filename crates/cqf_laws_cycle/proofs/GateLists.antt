@@ -17,18 +17,18 @@ use Rattle.cqf_laws_cycle.specs.Compiled.{PortListIsOpen, PortListSends, GateGiv
 use Rattle.cqf_laws_cycle.specs.Compiled.{IsIn, open_class}
 use Rattle.cqf_units.proofs.Cycles.{in_round, parity}
 
--- the states so long after the beginning of a round
+-- the states at an offset in a round: before the guard band of an even cycle
 before_guard : (w g o : ℕ) → o < w → states_in ((191, w) ∷ (0, g) ∷ (127, w) ∷ (0, g) ∷ []) o ≡ 191
 before_guard w g o h = let e : ltb o w ≡ true = lt-ltb o w h in rw e
 
--- the guard time of an even cycle
+-- in the guard band of an even cycle
 in_guard : (w g o : ℕ) → w ≤ o → o < w + g → states_in ((191, w) ∷ (0, g) ∷ (127, w) ∷ (0, g) ∷ []) o ≡ 0
 in_guard w g o from upto =
     let e : ltb o w ≡ false = le-ltb o w from in
     let f : ltb (o - w) g ≡ true = lt-ltb (o - w) g (omega arith) in
     rw (e, f)
 
--- an odd cycle
+-- in an odd cycle
 before_second : (w g o : ℕ) → w + g ≤ o → o < w + g + w → states_in ((191, w) ∷ (0, g) ∷ (127, w) ∷ (0, g) ∷ []) o ≡ 127
 before_second w g o from upto =
     let e : ltb o w ≡ false = le-ltb o w (omega arith) in
@@ -36,7 +36,7 @@ before_second w g o from upto =
     let h : ltb (o - w - g) w ≡ true = lt-ltb (o - w - g) w (omega arith) in
     rw (e, f, h)
 
--- the guard time of an odd cycle
+-- in the guard band of an odd cycle
 in_second : (w g o : ℕ) → w + g + w ≤ o → o < w + g + w + g → states_in ((191, w) ∷ (0, g) ∷ (127, w) ∷ (0, g) ∷ []) o ≡ 0
 in_second w g o from upto =
     let e : ltb o w ≡ false = le-ltb o w (omega arith) in
@@ -45,13 +45,13 @@ in_second w g o from upto =
     let k : ltb (o - w - g - w) g ≡ true = lt-ltb (o - w - g - w) g (omega arith) in
     rw (e, f, h, k)
 
--- the place in the round, of the list as it is compiled
+-- the offset in the round of the compiled list
 place_in_round : (n g c t : ℕ) → g < n → IsIn n c t → t % round_of (port_list n g) ≡ (c % 2) * n + (t - c * n)
 place_in_round n g c t short inside =
     let whole : 0 + (n - g) + g + (n - g) + g ≡ n + n = omega arith in
     ap (λ x. t % x) whole ∙ in_round n c t inside.0 inside.1
 
--- in a cycle the states are those of its class, up to the guard time
+-- in a cycle the states are those of its class, until the guard band begins
 pub states_sending : (n g c t : ℕ) → g < n → IsIn n c t → t < guard_from n g c → states_at (port_list n g) t ≡ (if c % 2 == 0 then 191 else 127)
 states_sending n g c t short inside early =
     let place = place_in_round n g c t short inside in
@@ -64,15 +64,15 @@ states_sending n g c t short inside early =
           ap (λ x. states_in (port_list n g) x) o ∙ before_second (n - g) g (n + (t - c * n)) (omega arith) (omega arith) ∙ rw e
     ]
   where
-    -- in an even cycle the place in the round is that in the cycle
+    -- in an even cycle the offset in the round is that in the cycle
     even : (n b r : ℕ) → b ≡ 0 → b * n + r ≡ r
     even n b r e = rw e (omega arith)
 
-    -- in an odd cycle it is one cycle further
+    -- in an odd cycle it is one cycle more
     odd : (n b r : ℕ) → b ≡ 1 → b * n + r ≡ n + r
     odd n b r e = rw e (omega arith)
 
--- in the guard time all gates are closed
+-- in the guard band all gates are closed
 pub states_in_guard : (n g c t : ℕ) → g < n → IsIn n c t → guard_from n g c ≤ t → states_at (port_list n g) t ≡ 0
 states_in_guard n g c t short inside late =
     let place = place_in_round n g c t short inside in
@@ -85,15 +85,15 @@ states_in_guard n g c t short inside late =
           ap (λ x. states_in (port_list n g) x) o ∙ in_second (n - g) g (n + (t - c * n)) (omega arith) (omega arith)
     ]
   where
-    -- in an even cycle the place in the round is that in the cycle
+    -- in an even cycle the offset in the round is that in the cycle
     even : (n b r : ℕ) → b ≡ 0 → b * n + r ≡ r
     even n b r e = rw e (omega arith)
 
-    -- in an odd cycle it is one cycle further
+    -- in an odd cycle it is one cycle more
     odd : (n b r : ℕ) → b ≡ 1 → b * n + r ≡ n + r
     odd n b r e = rw e (omega arith)
 
--- no states, no open class
+-- if no bit is set, no class is open
 no_bit : (class : ℕ) → IsBitSet 0 class → ⊥
 no_bit class set = set (omega (arith, and_le_l 0 (2 ^ class)))
 
@@ -101,7 +101,7 @@ no_bit class set = set (omega (arith, and_le_l 0 (2 ^ class)))
 abbrev is_sent : ℕ → ℕ → Bool
 is_sent stream_class class = (class == stream_class) || ltb class 6
 
--- states of eight gates open the class of streams and those of background frames, where each of the eight bits says so
+-- states of eight gates open exactly the class of streams and those of background frames, if this holds for each of the eight bits
 bits_are_sent : (states stream_class class : ℕ) → states < 2 ^ 8 → stream_class < 8 → agree_below (λ k. bit_at states k == 1) (is_sent stream_class) 8 ≡ true →
     IsBitSet states class ↔ ((class ≡ stream_class) ⊎ (class < 6))
 bits_are_sent states stream_class class small few agree = (
@@ -109,7 +109,7 @@ bits_are_sent states stream_class class small few agree = (
   λ either. (bit_set_by_shift states class).0 (shr_and_one states class ∙ eqb-true (bit_at states class) 1 (same_test (low either) ∙ passes either)),
 )
   where
-    -- each of the eight bits is set exactly where its class is sent
+    -- each of the eight bits is set exactly if its class is sent
     same_test : class < 8 → (bit_at states class == 1) ≡ is_sent stream_class class
     same_test below = agree_below_at (λ k. bit_at states k == 1) (is_sent stream_class) 8 class agree below
 
@@ -157,11 +157,11 @@ port_list_opens n g c t class short inside = elim (cases_lt t (guard_from n g c)
       (λ set. absurd (no_bit class (subst (λ x. IsBitSet x class) s set)), λ both. absurd (omega (arith, both.1)))
 ]
 
--- a gate is open to an end exactly where that is not after the guard time's first instant
+-- a gate is open to an end exactly if the end is not after the guard band's first instant
 pub port_list_sends_until : PortListSends
 port_list_sends_until n g c t end class some short inside more = (there, back)
   where
-    -- a gate open to an end is of a class that the cycle sends, and the end is not after the guard time's first instant
+    -- if a gate is open to an end, it is of a class that the cycle sends, and the end is not after the guard band's first instant
     there : IsOpenThrough (port_list n g) class t end → IsSentIn c class × (end ≤ guard_from n g c)
     there through =
         let here = (port_list_opens n g c t class short inside).0 (through t (omega arith) more) in
@@ -174,7 +174,7 @@ port_list_sends_until n g c t end class some short inside more = (there, back)
           | inr fits ↦ (here.0, fits)
         ]
 
-    -- the gate of a class that the cycle sends is open to each end that is not after the guard time's first instant
+    -- the gate of a class that the cycle sends is open to each end that is not after the guard band's first instant
     back : IsSentIn c class × (end ≤ guard_from n g c) → IsOpenThrough (port_list n g) class t end
     back both s from upto =
         let s_inside : IsIn n c s = (omega (arith, inside.0), omega (arith, both.1)) in
@@ -191,7 +191,7 @@ gate_gives n r pace depth t some =
     by_parity : (c : ℕ) → 6 + c % 2 ≡ given_class c
     by_parity c = elim (parity c) [ inl e ↦ rw e | inr e ↦ rw e ]
 
--- the gate counts by the cycle: one round and one place are one cycle
+-- the gate counts by the cycle: the same round and the same index in it mean the same cycle
 pub gate_counts : GateCountsCycles
 gate_counts n r pace depth s t some =
     let count = gate_cycles pace in
@@ -199,7 +199,7 @@ gate_counts n r pace depth s t some =
     let rounds = ap₂ (λ x y. x == y) (gate_round_at n r pace depth s some) (gate_round_at n r pace depth t some) in
     ap₂ (λ x y. x && y) rounds places ∙ parts count (s / n) (t / n)
   where
-    -- two cycles are one exactly where their rounds are one and their places in them are
+    -- two cycles are the same exactly if their rounds and their indices in the rounds are
     parts : (m c e : ℕ) → ((c / m == e / m) && (c % m == e % m)) ≡ (c == e)
     parts m c e = elim (cases_eq c e) [
       | inl same ↦ and_from (c / m == e / m) (c % m == e % m) (eq-eqb (c / m) (e / m) (ap (λ x. x / m) same)) (eq-eqb (c % m) (e % m) (ap (λ x. x % m) same))

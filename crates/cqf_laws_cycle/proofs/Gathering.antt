@@ -1,4 +1,4 @@
--- The frames of a cycle, gathered and brought into order, stand in the order in which they are taken.
+-- The frames of a cycle, gathered and sorted, are in the order in which they are taken.
 use Rattle.std.proofs.Common.{◌≡◌, ℕ, ◌+◌, ◌*◌, ◌/◌, ◌<◌, Bool, cond, List, length, sym, refl, ap, ap₂, ◌∙◌, inl, inr, arith, subst, true, eq-eqb, eqb-true}
 use Rattle.std.proofs.Common.{ne_eqb, Contains}
 use Rattle.std.specs.Prelude.{[], ◌++◌, ◌==◌, ◌&&◌, map, filter}
@@ -26,7 +26,7 @@ use Rattle.cqf_laws_cycle.specs.BridgeCycle.{received_in}
 use Rattle.cqf_laws_cycle.specs.Gathered.{AreWholeIn, IsInOrderOf, backed_for, gathered_in, is_backed_for, is_backed_in, is_for_link, is_offered_in}
 use Rattle.cqf_laws_cycle.specs.Gathered.{offered_for}
 
--- members of one cycle that are brought into order of instant are, instant by instant, those that were gathered
+-- a stable sort by instant of the members of one cycle is, instant by instant, what was gathered
 pub sorted_by_instant : {A : Type 0} (at : A → ℕ) (cycle_time cycle : ℕ) (gathered sorted : List A) → 0 < cycle_time →
     ((x : A) → Contains gathered x → at x / cycle_time ≡ cycle) → IsInOrderOf at gathered sorted →
     sorted ≡ each_below (λ offset. filter (λ x. at x == cycle * cycle_time + offset) gathered) cycle_time
@@ -45,19 +45,19 @@ sorted_by_instant {A} at cycle_time cycle gathered sorted some whole is =
         let own : Contains (filter same sorted) x = contains_filter same sorted x h (eq-eqb (at x) (at x) refl) in
         whole x (contains_from_filter same gathered x (subst (λ (xs : List A). Contains xs x) (is.stable (at x)) own)).0
 
-    -- it is its instants
+    -- it is the sequence of its instants
     keyed : sorted ≡ each_below (λ t. filter (λ (x : A). at x == t) sorted) (cycle * cycle_time + cycle_time)
     keyed =
         by_key at (cycle * cycle_time + cycle_time) sorted is.in_order
         (λ x h. omega (arith, cycle_upto cycle_time (at x) some, ap (λ (n : ℕ). n * cycle_time) (of_cycle x h)))
 
-    -- none of which is before the cycle
+    -- none of them is before the cycle
     sooner : each_below (λ t. filter (λ (x : A). at x == t) sorted) (cycle * cycle_time) ≡ []
     sooner =
         none_below (λ t. filter (λ (x : A). at x == t) sorted) (cycle * cycle_time) (λ t l. filter_none (λ (x : A). at x == t) sorted (λ x h.
         ne_eqb (at x) t (λ e. omega (arith, e, l, cycle_from cycle_time (at x), ap (λ (n : ℕ). n * cycle_time) (of_cycle x h)))))
 
--- of what one test picks at the instants of a cycle, that of one instant
+-- what a test picks in a cycle, restricted to one instant
 pub picked_then : {A : Type 0} (mine : A → Bool) (at : A → ℕ) (cycle_time cycle t : ℕ) (xs : List A) → t / cycle_time ≡ cycle →
     filter (λ x. at x == t) (filter (λ x. mine x && (at x / cycle_time == cycle)) xs) ≡ filter (λ x. mine x && (at x == t)) xs
 picked_then {A} mine at cycle_time cycle t xs here =
@@ -74,7 +74,7 @@ picked_then {A} mine at cycle_time cycle t xs here =
     sym (ap (λ (b : Bool). b && (at x == t)) w.0)) in
     same ∙ sym fewer
 
--- so what it picks of a cycle, brought into order of instant, is what it picks instant by instant
+-- so a stable sort by instant of what it picks in a cycle is what it picks instant by instant
 picked_in_order : {A : Type 0} (mine : A → Bool) (at : A → ℕ) (cycle_time cycle : ℕ) (xs sorted : List A) → 0 < cycle_time →
     IsInOrderOf at (filter (λ x. mine x && (at x / cycle_time == cycle)) xs) sorted →
     sorted ≡ each_below (λ offset. filter (λ x. mine x && (at x == cycle * cycle_time + offset)) xs) cycle_time
@@ -102,7 +102,7 @@ background_in_order d background bridge cycle sorted some is =
     picked_in_order (λ (x : Backed). leaves d x.background.link bridge) (λ (x : Backed). x.background.at.0) d.cycle_time cycle
     (numbered_background background) sorted some is
 
--- of a bridge's background frames at an instant, those of a link that leaves it
+-- among a bridge's background frames at an instant, those of a link that leaves it
 link_then : (d : Domain) (background : List Background) (l t : ℕ) → l < length d.links →
     filter (is_for_link l) (filter (is_backed_for d (bridge_of d l) t) (numbered_background background)) ≡ filter (is_backed_at l t)
     (numbered_background background)
@@ -121,7 +121,7 @@ link_then d background l t h =
     sym (and_true (x.background.link == l) (x.background.at.0 == t) w.1)) in
     same ∙ sym fewer
   where
-    -- beside what holds a test is itself
+    -- a conjunction with a true test is the other test
     and_true : (a b : Bool) → b ≡ true → (a && b) ≡ a
     and_true a b e = elim (cases_Bool a) [ inl t ↦ and_from a b t e ∙ sym t | inr f ↦ and_left a b f ∙ sym f ]
 
@@ -138,7 +138,7 @@ ports_background d background l cycle h =
     (λ offset k. ap (map backed_frame) (link_then d background l (first + offset) h))
 
 module _ (run : Run) (batches : Carried) (bridge cycle : ℕ) where
-  -- of what a link brings, that of one instant
+  -- among what a link brings, that of one instant
   relayed_then : (t m : ℕ) → filter (λ (x : Received). x.at == t)
       (cond (enters run.domain m bridge) (map (sent_received run.domain m) (batches m)) []) ≡ relayed_at run.domain batches bridge t m
   relayed_then t m =
@@ -154,7 +154,7 @@ module _ (run : Run) (batches : Carried) (bridge cycle : ℕ) where
         | inr passes ↦ ap (filter comes) (cond-false (enters d m bridge) frames [] passes) ∙ sym (cond-false (enters d m bridge) then [] passes)
       ]
 
-  -- of the cycle's offers, those of one instant
+  -- among the cycle's offers, those of one instant
   offered_then : (offset : ℕ) → offset < run.domain.cycle_time →
       filter (λ (x : Received). x.at == cycle * run.domain.cycle_time + offset)
       (map offer_received (offered_for run.domain run.offers bridge cycle)) ≡ offered_at run.offers bridge (cycle * run.domain.cycle_time + offset)
@@ -173,7 +173,7 @@ module _ (run : Run) (batches : Carried) (bridge cycle : ℕ) where
       ∙ ap (map offer_received) (filter_one then at d.cycle_time offset inside
       (λ k x differ c. ne_eqb x.offer.at.0 t (λ e. differ (omega (arith, bears k x c, e)))) ∙ all)
 
-  -- of all that is gathered, what comes at one instant of the cycle
+  -- among all that is gathered, what arrives at one instant of the cycle
   gathered_then : (offset : ℕ) → offset < run.domain.cycle_time →
       filter (λ (x : Received). x.at == cycle * run.domain.cycle_time + offset) (gathered_in run batches bridge cycle) ≡ received_at run batches bridge
       (cycle * run.domain.cycle_time + offset)
@@ -213,7 +213,7 @@ module _ (run : Run) (batches : Carried) (bridge cycle : ℕ) where
             ap (λ (y : Received). cycle_of d y.at) (sym w.2) ∙ ap (cycle_of d) at ∙ here
       ]
 
-  -- brought into order it is what is taken
+  -- sorted, it is what is taken
   pub sorted_is_taken : (sorted : List Received) → 0 < run.domain.cycle_time → AreWholeIn run.domain batches bridge cycle →
       IsInOrderOf (λ (x : Received). x.at) (gathered_in run batches bridge cycle) sorted → sorted ≡ received_in run batches bridge cycle
   sorted_is_taken sorted some whole is =

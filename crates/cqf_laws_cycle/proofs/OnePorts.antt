@@ -1,4 +1,4 @@
--- A port whose streams' frames come in cycles, within the link's budget, is one cycle late beside any background frames.
+-- A port at which streams' frames arrive in cycles, within the link's budget, is one cycle late beside any background frames.
 use Rattle.std.proofs.Common.{◌≡◌, ℕ, zero, suc, ◌+◌, ◌-◌, ◌*◌, ◌/◌, ◌<◌, ◌≤◌, Bool, true, false, if◌then◌else◌, leb, le-leb, List, length, take, get_or, inl}
 use Rattle.std.proofs.Common.{inr, sym, ap, ◌∙◌, subst, arith, refl, sum_by, AllPairs, Contains, ◌==◌, le_refl, mul-le-mul_left, mul-le-mul_right}
 use Rattle.std.proofs.Common.{le-div_iff_mul-le, eq-eqb, ne_eqb, add-one, take-take, le_trans}
@@ -17,7 +17,7 @@ use Rattle.cqf_model.proofs.Legal.{ends_later}
 use Rattle.cqf_units.proofs.Cycles.{cycle_below, cycle_from, cycle_is, cycle_upto, cycles_ordered, from_next}
 use Rattle.cqf_laws_cycle.proofs.GateLists.{classes_take_turns, port_list_sends_until, sends_no_own}
 
--- two starts at one instant are one
+-- two starts at the same instant are the same
 one_at : (starts : List Transmission) (p q s : ℕ) → AllPairs (λ (a b : Transmission). a.1 < b.1) starts → Contains starts (p, s) → Contains starts (q, s) →
     p ≡ q
 one_at starts p q s in_order first second = elim (cases_order first.0 second.0) [
@@ -31,7 +31,7 @@ one_at starts p q s in_order first second = elim (cases_order first.0 second.0) 
   ]
 ]
   where
-    -- of two instants that are one, the first isn't before the second
+    -- two equal instants aren't ordered
     clash : {a b : ℕ} → a ≡ s → b ≡ s → a < b → ⊥
     clash ea eb l = omega (arith, ea, eb, l)
 
@@ -39,25 +39,25 @@ one_at starts p q s in_order first second = elim (cases_order first.0 second.0) 
 filled : (n c before with_it wire s first : ℕ) → with_it ≡ before + wire → first ≡ (c + 1) * n + before → first + wire ≤ s → (c + 1) * n + with_it ≤ s
 filled n c before with_it wire s first total is_due free = omega (arith, total, is_due, free)
 
--- one that adds nothing leaves it as it was
+-- a frame that adds nothing leaves it as it was
 unfilled : (n c before with_it s : ℕ) → with_it ≡ before → (c + 1) * n + before ≤ s → (c + 1) * n + with_it ≤ s
 unfilled n c before with_it s same so_far = subst (λ z. (c + 1) * n + z ≤ s) (sym same) so_far
 
 module _ (n g r : ℕ) (arrivals : List Arrival) (cycles upto : ℕ) (starts : List Transmission)
     (port : IsWithinBudget n g r arrivals upto) (legal : AreSent n g r arrivals cycles starts) where
-  -- the cycle of a place
+  -- the cycle of an index
   abbrev cyc : ℕ → ℕ
   cyc p = instant_of arrivals p / n
 
-  -- its slot
+  -- the slot of the frame at an index
   abbrev wires : ℕ → ℕ
   wires p = slot_of (octets_of arrivals p) r
 
-  -- when a place is due
+  -- when it is due
   abbrev due_at : ℕ → ℕ
   due_at p = due n r arrivals p
 
-  -- the place holds a stream's frame
+  -- the arrival at the index is a stream's frame
   abbrev Streams : ℕ → Type 0
   Streams p = StreamsAt arrivals p
 
@@ -65,17 +65,17 @@ module _ (n g r : ℕ) (arrivals : List Arrival) (cycles upto : ℕ) (starts : L
   some_cycle : 0 < n
   some_cycle = omega (arith, port.guard_short)
 
-  -- of streams what comes later comes in no earlier cycle
+  -- later streams' frames arrive in no earlier cycle
   later : (p q : ℕ) → Streams p → Streams q → p < q → q < length arrivals → cyc p ≤ cyc q
   later p q p_streams q_streams order inside =
       cycles_ordered n (instant_of arrivals p) (instant_of arrivals q) some_cycle (port.come.in_order p q no_arrival order inside p_streams q_streams)
 
-  -- what a stream's place adds to the load of its cycle
+  -- what a stream's frame adds to the load of its cycle
   own_wire : (p c : ℕ) → Streams p → cyc p ≡ c → slot_in r n c (get_or arrivals p no_arrival) ≡ wires p
   own_wire p c streams same = cond-true (cyc p == c) (if leb 6 (class_of arrivals p) then wires p else 0) 0 (eq-eqb (cyc p) c same)
       ∙ cond-true (leb 6 (class_of arrivals p)) (wires p) 0 (le-leb 6 (class_of arrivals p) streams)
 
-  -- a place of another cycle adds nothing
+  -- a frame of another cycle adds nothing
   other_wire : (p c : ℕ) → (cyc p ≡ c → ⊥) → slot_in r n c (get_or arrivals p no_arrival) ≡ 0
   other_wire p c differ = cond-false (cyc p == c) (if leb 6 (class_of arrivals p) then wires p else 0) 0 (ne_eqb (cyc p) c differ)
 
@@ -87,15 +87,15 @@ module _ (n g r : ℕ) (arrivals : List Arrival) (cycles upto : ℕ) (starts : L
       nothing true counts wire is_false = cond-false counts wire 0 is_false
       nothing false counts wire is_false = refl
 
-  -- one place more
+  -- the load with one more frame
   load_more : (k c : ℕ) → k < length arrivals → busy r n c (take (suc k) arrivals) ≡ busy r n c (take k arrivals) + slot_in r n c (get_or arrivals k no_arrival)
   load_more k c inside = ap (λ z. busy r n c (take z arrivals)) (sym (add-one k)) ∙ sum_by_more (slot_in r n c) arrivals k no_arrival inside
 
-  -- with it, the load before it is within the whole load
+  -- with its own slot, the load before a frame is within the whole load
   own_part : (p : ℕ) → Streams p → p < length arrivals → busy r n (cyc p) (take p arrivals) + wires p ≤ busy r n (cyc p) arrivals
   own_part p streams inside = omega (arith, sum_by_more_le (slot_in r n (cyc p)) arrivals p no_arrival inside, own_wire p (cyc p) streams refl)
 
-  -- and within the load before a later place of its cycle
+  -- and within the load before a later frame of its cycle
   earlier_part : (q p : ℕ) → Streams q → q < p → p < length arrivals → busy r n (cyc q) (take q arrivals) + wires q ≤ busy r n (cyc q) (take p arrivals)
   earlier_part q p streams order inside =
       let f = slot_in r n (cyc q) in
@@ -105,7 +105,7 @@ module _ (n g r : ℕ) (arrivals : List Arrival) (cycles upto : ℕ) (starts : L
       ap (sum_by f) (take-take (q + 1) p arrivals (omega (arith, order))) in
       omega (arith, more, whole, part, own_wire q (cyc q) streams refl)
 
-  -- the gap behind it is over by the guard time, and it is due in the next cycle
+  -- the gap after it is over when the guard band begins, and it is due in the next cycle
   over : (p : ℕ) → p < length arrivals → Streams p → cyc p < upto → due_at p + wires p ≤ guard_from n g (cyc p + 1)
   over p inside streams good =
       omega (arith, port.loads (cyc p) good, own_part p streams inside)
@@ -118,12 +118,12 @@ module _ (n g r : ℕ) (arrivals : List Arrival) (cycles upto : ℕ) (starts : L
   next : (p : ℕ) → p < length arrivals → Streams p → cyc p < upto → due_at p / n ≡ cyc p + 1
   next p inside streams good = let is_in = due_in p inside streams good in cycle_is n (cyc p + 1) (due_at p) is_in.0 is_in.1
 
-  -- what starts in a cycle has an open class, and is sent before the guard time
+  -- what starts in a cycle has an open class, and is sent before the guard band
   sent_in : (p s : ℕ) → Contains starts (p, s) → IsSentIn (s / n) (class_of arrivals p) × (ending_of s (octets_of arrivals p) r ≤ guard_from n g (s / n))
   sent_in p s c = (port_list_sends_until n g (s / n) s (ending_of s (octets_of arrivals p) r) (class_of arrivals p) port.some_guard port.guard_short
       (cycle_from n s, cycle_upto n s some_cycle) (ends_later s (octets_of arrivals p) r port.some_octet)).0 (legal.eligible p s c)
 
-  -- and the gap behind it is over when the next cycle begins
+  -- and the gap after it is over when the next cycle begins
   free_by : (p s : ℕ) → Contains starts (p, s) → idle_after s (octets_of arrivals p) r ≤ (s / n + 1) * n
   free_by p s c = omega (arith, (sent_in p s c).1, port.gap_short, port.guard_short, slot_joins (octets_of arrivals p) r)
 
@@ -131,7 +131,7 @@ module _ (n g r : ℕ) (arrivals : List Arrival) (cycles upto : ℕ) (starts : L
   free_before : (p s c t : ℕ) → Contains starts (p, s) → s / n < c → c * n ≤ t → idle_after s (octets_of arrivals p) r ≤ t
   free_before p s c t started less from = le_trans (free_by p s started) (from_next n (s / n) c t less from)
 
-  -- a stream's frame starts in a later cycle than it comes
+  -- a stream's frame starts in a later cycle than it arrives
   starts_later : (p s : ℕ) → Contains starts (p, s) → Streams p → cyc p + 1 ≤ s / n
   starts_later p s c streams =
       let first = legal.first p s c in
@@ -151,7 +151,7 @@ module _ (n g r : ℕ) (arrivals : List Arrival) (cycles upto : ℕ) (starts : L
   starts_from : (p s : ℕ) → Contains starts (p, s) → Streams p → (cyc p + 1) * n ≤ s
   starts_from p s c streams = from_next n (cyc p) (s / n) s (omega (arith, starts_later p s c streams)) (cycle_from n s)
 
-  -- the streams' frames of a cycle fill the next from its beginning: where those before a place start when they are due, no
+  -- the streams' frames of a cycle fill the next cycle from its beginning: if those before an index start when they are due, no
   -- other start is among them
   behind : (q s c m : ℕ) → Contains starts (q, s) → (c + 1) * n ≤ s → m ≤ length arrivals →
       ((k : ℕ) → k < m → Streams k → cyc k ≡ c → Contains starts (k, due_at k) × (k ≡ q → ⊥)) → (c + 1) * n + busy r n c (take m arrivals) ≤ s
@@ -178,7 +178,7 @@ module _ (n g r : ℕ) (arrivals : List Arrival) (cycles upto : ℕ) (starts : L
         ]
       ]
 
-  -- a place before another one, no later in its cycle, is over when that one is due
+  -- a frame with a lower index, no later in its cycle, is over when the other one is due
   sooner : (q p : ℕ) → Streams q → Streams p → q < p → p < length arrivals → cyc p < upto → due_at q + wires q ≤ due_at p
   sooner q p q_streams p_streams order inside good =
       let q_inside : q < length arrivals = omega (arith, order, inside) in
@@ -193,7 +193,7 @@ module _ (n g r : ℕ) (arrivals : List Arrival) (cycles upto : ℕ) (starts : L
             omega (arith, over q q_inside q_streams (omega (arith, no_later, good)), mul-le-mul_right n less)
       ]
 
-  -- it starts when it is due, where those before it do
+  -- it starts when it is due, if those before it do
   step : (p : ℕ) → ((q : ℕ) → q < p → q < length arrivals → Streams q → cyc q < upto → cyc q + 1 < cycles → Contains starts (q, due_at q)) →
       p < length arrivals → Streams p → cyc p < upto → cyc p + 1 < cycles → Contains starts (p, due_at p)
   step p ih inside streams good early =
@@ -223,14 +223,14 @@ module _ (n g r : ℕ) (arrivals : List Arrival) (cycles upto : ℕ) (starts : L
       some_wire : (q : ℕ) → 0 < wires q
       some_wire q = slot_some (octets_of arrivals q) r port.some_octet
 
-      -- what starts from the next cycle on, and isn't a stream's place before, is behind those
+      -- what starts from the next cycle on, and isn't an earlier stream's frame, starts after those
       not_among : (q s : ℕ) → Contains starts (q, s) → (cyc p + 1) * n ≤ s → ((k : ℕ) → k < p → Streams k → k ≡ q → ⊥) → t ≤ s
       not_among q s c from apart = behind q s (cyc p) p c from (omega (arith, inside)) (λ k l k_streams same. (before k l k_streams, apart k l k_streams))
 
       not_before : (s : ℕ) → Contains starts (p, s) → t ≤ s
       not_before s c = not_among p s c (starts_from p s c streams) (λ k l k_streams e. omega (arith, e, l))
 
-      -- a later place of the streams doesn't start up to then
+      -- a later stream's frame doesn't start up to then
       overtakes : (q s : ℕ) → Contains starts (q, s) → Streams q → p < q → s ≤ t → ⊥
       overtakes q s c q_streams order upto_t =
           let q_inside = (legal.first q s c).waits.inside in
@@ -296,12 +296,12 @@ module _ (n g r : ℕ) (arrivals : List Arrival) (cycles upto : ℕ) (starts : L
       w : (q : ℕ) × Contains starts (q, t)
       w = legal.work_conserving t p in_run idle first eligible
 
-  -- the same by induction on the place
+  -- the same by induction on the index
   each_before : (m p : ℕ) → p < m → p < length arrivals → Streams p → cyc p < upto → cyc p + 1 < cycles → Contains starts (p, due_at p)
   each_before zero p l = absurd (omega (arith, l))
   each_before (suc m) p l = step p (λ q lq. each_before m q (omega (arith, lq, l)))
 
-  -- each place of the streams starts when it is due
+  -- each stream's frame starts when it is due
   each : (p : ℕ) → p < length arrivals → Streams p → cyc p < upto → cyc p + 1 < cycles → Contains starts (p, due_at p)
   each p = each_before (suc p) p (omega arith)
 
@@ -311,7 +311,7 @@ module _ (n g r : ℕ) (arrivals : List Arrival) (cycles upto : ℕ) (starts : L
       let in_run = cycle_below n s cycles (legal.before_end q s c) in
       each p inside streams (omega (arith, less, early)) (omega (arith, less, in_run))
 
-  -- and of streams nothing starts but what is due
+  -- and no stream's frame starts at another time
   only : (p s : ℕ) → Contains starts (p, s) → Streams p → s / n ≤ upto → (cyc p < upto) × (s ≡ due_at p)
   only p s c streams early =
       let is_later = starts_later p s c streams in
@@ -321,7 +321,7 @@ module _ (n g r : ℕ) (arrivals : List Arrival) (cycles upto : ℕ) (starts : L
   pub port_is_late : AreDue n g r arrivals cycles upto starts
   port_is_late = record { each = each; only = only; next = next; over = over }
 
-  -- a background frame starts behind each stream's frame of an earlier cycle
+  -- a background frame starts after each stream's frame of an earlier cycle
   background_behind : (p s other : ℕ) → Contains starts (p, s) → class_of arrivals p < 6 → s / n ≤ upto → other < length arrivals → Streams other →
       cyc other < s / n → due_at other + wires other ≤ s
   background_behind p s other c low early inside streams less =
@@ -338,7 +338,7 @@ module _ (n g r : ℕ) (arrivals : List Arrival) (cycles upto : ℕ) (starts : L
       parts : (before with_it wire : ℕ) → with_it ≡ before + wire → (cyc other + 1) * n + with_it ≤ s → (cyc other + 1) * n + before + wire ≤ s
       parts before with_it wire total among = omega (arith, total, among)
 
-  -- so of the streams' frames only one of the cycle itself can wait
+  -- so only a stream's frame of the cycle itself can wait
   none_waits : (p s other : ℕ) → Contains starts (p, s) → class_of arrivals p < 6 → s / n ≤ upto → Streams other → Waits arrivals starts other s →
       cyc other ≡ s / n
   none_waits p s other c low early streams waits =

@@ -18,7 +18,7 @@ use Rattle.cqf_model.proofs.Drops.{dropped_at}
 use Rattle.cqf_model.proofs.Links.{bridge_within, leaves_its_bridge}
 use Rattle.cqf_laws_cycle.specs.PageLaws.{HaveTheSamePages, IsSomeBook, book_of_pages, drops_of_pages, is_on_link, on_links_of, starts_of_pages}
 
--- each drop of a bridge in a cycle bears both
+-- each drop of a bridge in a cycle has this bridge and this cycle
 drop_of : (d : Domain) (places : ℕ) (policed : ℕ → List Policed) (cycle bridge : ℕ) (x : Dropped) → Contains (drops_in d places policed cycle bridge) x →
     (x.cycle.0 ≡ cycle) × (x.bridge ≡ bridge)
 drop_of d places policed cycle bridge x h =
@@ -40,7 +40,7 @@ drops_on_page d cycles places policed bridge cycle in_bridges in_cycles =
     ∙ filter_each test (drops_in d places policed cycle bridge) (λ x h.
     and_from (x.bridge == bridge) (x.cycle.0 == cycle) (eq-eqb x.bridge bridge (own x h).1) (eq-eqb x.cycle.0 cycle (own x h).0))
 
--- what is sent of one kind in each cycle on each link, and what a book has of it, which bears its cycle and its link
+-- what is sent of one kind in each cycle on each link, and the book's record of it, which has its cycle and its link
 module _ {A : Type 0} (by : ℕ → ℕ → A → Started) (bears_cycle : (cycle link : ℕ) (x : A) → (by cycle link x).cycle.0 ≡ cycle)
     (bears_link : (cycle link : ℕ) (x : A) → (by cycle link x).link ≡ link) (d : Domain) (sends : ℕ → ℕ → List A) where
   -- the starts on a link in a cycle
@@ -57,11 +57,11 @@ module _ {A : Type 0} (by : ℕ → ℕ → A → Started) (bears_cycle : (cycle
       let s = contains_from_map (by cycle link) (sends cycle link) x h in
       (sym (ap (λ (y : Started). y.cycle.0) s.2) ∙ bears_cycle cycle link s.0, sym (ap (λ (y : Started). y.link) s.2) ∙ bears_link cycle link s.0)
 
-  -- the starts on a link in a cycle, where it leaves the bridge
+  -- the starts on a link in a cycle, if the link leaves the bridge
   abbrev from_bridge : ℕ → ℕ → ℕ → List Started
   from_bridge bridge cycle link = if leaves d link bridge then on_link cycle link else []
 
-  -- of what a link sends in a cycle the page has all or nothing
+  -- the page has all or nothing of what a link sends in a cycle
   link_on_page : (bridge cycle link : ℕ) →
       filter (λ (s : Started). leaves d s.link bridge && (s.cycle.0 == cycle)) (on_link cycle link) ≡ from_bridge bridge cycle link
   link_on_page bridge cycle link =
@@ -153,7 +153,7 @@ book_is_pages d cycles book some i =
     (cycles * d.cycle_time))) in
     record { starts = sent i; background = backed i; drops = dropped i }
 
--- the same starts on each page are the same starts
+-- the same starts on each page give the same starts
 same_page_starts : (d : Domain) (cycles : ℕ) (page other : ℕ → ℕ → List Started) → IsAccepted d →
     ((bridge cycle : ℕ) → bridge < length d.bridges → cycle < cycles → page bridge cycle ≡ other bridge cycle) →
     starts_of_pages d cycles page ≡ starts_of_pages d cycles other
@@ -164,7 +164,7 @@ same_page_starts d cycles page other accepted same =
     same_below (of page cycle) (of other cycle) links (λ l in_links.
     ap (filter (is_on_link l)) (same (bridge_of d l) cycle (bridge_within d l accepted in_links) in_cycles)))
 
--- and the same drops are
+-- and so for drops
 same_page_drops : (d : Domain) (cycles : ℕ) (page other : ℕ → ℕ → List Dropped) →
     ((bridge cycle : ℕ) → bridge < length d.bridges → cycle < cycles → page bridge cycle ≡ other bridge cycle) →
     drops_of_pages d cycles page ≡ drops_of_pages d cycles other
@@ -187,7 +187,7 @@ same_pages d cycles page other accepted same i = record {
       (λ b c h k. ap (λ (x : Contents). x.drops) (same b c h k)) i;
 }
 
--- and two books with the same pages are one
+-- and two books with the same pages are equal
 pub one_book : (d : Domain) (cycles : ℕ) (book other : Contents) → IsAccepted d → IsSomeBook d cycles book → IsSomeBook d cycles other →
     HaveTheSamePages d cycles book other → book ≡ other
 one_book d cycles book other accepted is also same =

@@ -1,4 +1,4 @@
--- What a port sends in a cycle hangs on what came to it before the cycle, and on the background frames of the cycle.
+-- What a port sends in a cycle depends only on what arrived at it before the cycle, and on the background frames of the cycle.
 use Rattle.std.proofs.Common.{◌≡◌, ℕ, ◌+◌, ◌*◌, ◌<◌, ◌≤◌, ◌⊎◌, Bool, true, List, length, sym, refl, ap, ◌∙◌, inl, inr, arith, subst, eq-eqb, ne_eqb, eqb-true}
 use Rattle.std.proofs.Common.{Contains}
 use Rattle.std.specs.Prelude.{[], ◌∷◌, ◌++◌, ◌==◌, filter, nat_lt, slice_index_or}
@@ -70,7 +70,7 @@ queued_waits gives opens d l t policed q short h from upto is_open =
     let sends = (opens d.cycle_time (guard_of d l) c t q.arrival.class short (begins, omega (arith, upto))).0 is_open in
     gives_no_open c (subst (λ (class : ℕ). (class ≡ open_class c) ⊎ (class < 6)) given sends.0)
 
--- of what is queued in a cycle each gate is closed up to the cycle's end
+-- each gate of what is queued in a cycle is closed until the cycle's end
 closed_in_cycle : GateGivesClass → PortListIsOpen → (run : Run) (carried : Carried) (l cycle : ℕ) → guard_of run.domain l < run.domain.cycle_time → (x : Arrival) →
     Contains (arrivals_of (queued_in run carried l cycle)) x →
     IsClosedUntil (record { entries = compiled_lists run.domain l; octet_time = octet_time_of run.domain l }) ((cycle + 1) * run.domain.cycle_time) x
@@ -93,18 +93,18 @@ module _ (d : Domain) (entries : List Entry) (end l : ℕ) (front more : List Qu
   abbrev rules : PortRules
   rules = record { entries = entries; octet_time = octet_time_of d l }
 
-  -- the arrivals are those of the front and of the others
+  -- the arrivals are those of the first part and those of the rest
   parts : arrivals_of (front ++ more) ≡ arrivals_of front ++ arrivals_of more
   parts = map-append (λ (x : QueuedFrame). x.arrival) front more
 
-  -- a transmission that is legal for the front is of a frame of it
+  -- a transmission that is legal for the first part is of a frame of it
   kept : (starts : List Transmission) → AreLegal rules (arrivals_of front) end starts → (x : Transmission) → Contains starts x →
       slice_index_or (front ++ more) x.0 no_frame ≡ slice_index_or front x.0 no_frame
   kept starts legal x h =
       let inside : x.0 < length front = omega (arith, (legal.first x.0 x.1 h).waits.inside, length-map front (λ (q : QueuedFrame). q.arrival)) in
       get_or_append_left front more no_frame x.0 inside
 
-  -- what the front of a queue sends, where the gates of all behind it are closed
+  -- what the first part of a queue sends, if the gates of all that follows are closed
   pub fewer_sends : Sends d entries end l (front ++ more) sents backed → Sends d entries end l front sents backed
   fewer_sends s =
       let legal : AreLegal rules (arrivals_of front) end s.starts =
@@ -117,7 +117,7 @@ module _ (d : Domain) (entries : List Entry) (end l : ℕ) (front more : List Qu
         are_backed = s.are_backed ∙ backed_same (front ++ more) front s.starts (kept s.starts legal);
       }
 
-  -- and what the front sends is sent with them
+  -- and what the first part sends is sent with the rest
   pub more_sends : LateArrivalChangesNothing → Sends d entries end l front sents backed → Sends d entries end l (front ++ more) sents backed
   more_sends late s =
       record {
@@ -128,8 +128,8 @@ module _ (d : Domain) (entries : List Entry) (end l : ℕ) (front more : List Qu
         are_backed = s.are_backed ∙ sym (backed_same (front ++ more) front s.starts (kept s.starts s.legal));
       }
 
--- where a port sends up to the end of a cycle what its gate list demands for what it has when it sends the cycle, it sends
--- what that demands for all that comes by then
+-- if a port sends, up to the end of a cycle, what its gate list demands for what it has when it sends the cycle, it sends what the
+-- list demands for all that arrives by then
 pub sends_of_all : LateArrivalChangesNothing → GateGivesClass → PortListIsOpen →
     (run : Run) (carried : Carried) (cycle l : ℕ) (sents : List Sent) (backed : List Start) → guard_of run.domain l < run.domain.cycle_time →
     l < length run.domain.links →
@@ -157,7 +157,7 @@ module _ (run : Run) (cycles cycle l : ℕ) (net : Network) (compiled : IsCompil
   abbrev queue : List QueuedFrame
   queue = waits_in run net.carried l cycle
 
-  -- up to the end of the cycle the network is the legal one of a shorter run, and the same comes to the port
+  -- up to the end of the cycle the network is the legal one of a shorter run, and the same arrives at the port
   past : HaveOnePast run run.tables net.carried (carried_before last net.carried) (cycle + 1)
   past =
       let early = λ (sent : Sent). nat_lt sent.start.0 last in
@@ -197,7 +197,7 @@ module _ (run : Run) (cycles cycle l : ℕ) (net : Network) (compiled : IsCompil
         let rules : PortRules = record { entries = compiled_lists run.domain l; octet_time = octet_time_of run.domain l } in
         unique rules (arrivals_of queue) last sends_of_before.starts (before ++ made) sends_of_before.legal is.legal
 
-    -- of these the ones of the cycle
+    -- among these, the ones of the cycle
     made_in_cycle : filter (λ (x : Transmission). of_cycle x.1) (before ++ made) ≡ made
     made_in_cycle =
         let d = run.domain in
@@ -211,7 +211,7 @@ module _ (run : Run) (cycles cycle l : ℕ) (net : Network) (compiled : IsCompil
         eq-eqb (cycle_of d x.1) cycle (cycle_is d.cycle_time cycle x.1 (is.later x.0 x.1 h) (omega (arith, upto)))) in
         filter-append when before made ∙ ap (λ (xs : List Transmission). xs ++ filter when made) none_before ∙ all_made
 
-    -- so a port that has that alone starts in the cycle what its link sends in it
+    -- so a port that has only these frames starts in the cycle what its link sends in it
     pub batch_is_made : MakesTheBatch run net l cycle made
     batch_is_made =
         let in_cycle = λ (sent : Sent). of_cycle sent.start.0 in

@@ -1,4 +1,4 @@
--- What a link sends of streams beside background frames is what it may send where nothing but their frames comes.
+-- What a link sends of streams beside background frames is what it may send if only the streams' frames arrive.
 use Rattle.std.proofs.Common.{◌≡◌, ℕ, ◌*◌, ◌<◌, All, Bool, true, false, Contains, List, [], None, Option, Some, filter, get_or, is_some, length, inl, inr, sym}
 use Rattle.std.proofs.Common.{ap, ◌∙◌, subst, arith, refl, le-leb}
 use Rattle.std.proofs.lemmas.Bool.{cases_lt, leb-false, leb-true, lt-leb}
@@ -20,7 +20,7 @@ use Rattle.cqf_laws_cycle.specs.Beside.{IsToldByClass, StreamsAreSentAsAlone, is
 use Rattle.cqf_laws_cycle.specs.OnePort.{AreSent, IsWithinBudget}
 use Rattle.cqf_laws_cycle.proofs.Besides.{streams_start_as_alone}
 
--- what isn't none is there
+-- an option that isn't `None` has a value
 is_there : (stream : Option ℕ) → (stream ≡ None → ⊥) → is_some stream ≡ true
 is_there None some = absurd (some refl)
 is_there (Some stream) some = refl
@@ -34,7 +34,7 @@ not_backed t x (Some stream) some = refl
 abbrev has_stream_class : QueuedFrame → Bool
 has_stream_class x = is_streams x.arrival
 
--- where frames are told by their class, both tests are one
+-- if the class tells streams' frames apart, both tests are the same
 same_test : (x : QueuedFrame) → IsToldByClass x → has_stream_class x ≡ is_of_stream x
 same_test x told = elim (cases_lt x.arrival.class 6) [
   | inl low ↦ lt-leb 6 x.arrival.class low ∙ sym (ap is_some (told.1 low))
@@ -50,7 +50,7 @@ module _ (queued : List QueuedFrame) (told : All IsToldByClass queued) where
   same_alone : alone ≡ filter is_of_stream queued
   same_alone = filter_alike has_stream_class is_of_stream queued (λ x c. same_test x (All-contains IsToldByClass queued x told c))
 
-  -- the frame at a place and its arrival
+  -- the frame at an index and its arrival
   arrival_at : (p : ℕ) → p < length queued → get_or (arrivals_of queued) p no_arrival ≡ (get_or queued p no_frame).arrival
   arrival_at p inside = get_or-map (λ (x : QueuedFrame). x.arrival) queued p no_frame no_arrival inside
 

@@ -84,7 +84,7 @@ run_goes_on port ports late gives opens run cycles net more short legal one_more
       no_others = one_more.no_others;
     }
 
--- where something happens within a longer run, in a cycle of the shorter one, it happens before that one's end
+-- if something happens within a longer run, in a cycle of the shorter one, it happens before that one's end
 early : (t cycle cycles longer cycle_time : ℕ) → t < longer * cycle_time → cycle < cycles → (t / cycle_time == cycle) ≡ true →
     nat_lt t (cycles * cycle_time) ≡ true
 early t cycle cycles longer cycle_time within k e =
@@ -92,7 +92,7 @@ early t cycle cycles longer cycle_time within k e =
 
 -- the beginning of a run sends the same in its cycles
 module _ (run : Run) (lists : ℕ → List Entry) (cycles longer : ℕ) (net : Network) (legal : IsLegalNetwork run lists longer net) where
-  -- the batches of the first cycles are of the beginning
+  -- the batches of the first cycles are those of the run's beginning
   batch_kept : (l cycle : ℕ) → cycle < cycles →
       batch run.domain net.carried l cycle ≡ batch run.domain (network_before (cycles * run.domain.cycle_time) net).carried l cycle
   batch_kept l cycle k =
@@ -108,7 +108,7 @@ module _ (run : Run) (lists : ℕ → List Entry) (cycles longer : ℕ) (net : N
       (net.backed l)
       (λ x m e. early x.start.0 cycle cycles longer run.domain.cycle_time (backed_in_run run lists longer net legal l x m) k e)
 
--- what is sent before an instant, of that before a later one
+-- what is sent before an instant, among what is sent before a later one
 sent_before_less : (t n : ℕ) (sents : List Sent) → t ≤ n → sent_before t sents ≡ sent_before t (sent_before n sents)
 sent_before_less t n sents le =
     filter_weaker (λ (sent : Sent). nat_lt sent.start.0 t) (λ (sent : Sent). nat_lt sent.start.0 n) sents
@@ -187,7 +187,7 @@ run_is_cycles run carried bridge (suc cycles) =
     ∙ goes_on run carried bridge cycles
     ∙ ap (λ (ps : List Policed). ps ++ policed_of run carried bridge cycles) (run_is_cycles run carried bridge cycles)
 
--- what is lost in it is lost in one of them
+-- what is lost in a run is lost in one of its cycles
 pub lost_in_cycle : (run : Run) (carried : Carried) (cycles bridge : ℕ) (policed : Policed) → IsLost run carried cycles bridge policed →
     IsLostIn run carried cycles bridge policed
 lost_in_cycle run carried cycles bridge policed x =
@@ -195,7 +195,7 @@ lost_in_cycle run carried cycles bridge policed x =
     (subst (λ (ps : List Policed). Contains ps policed) (run_is_cycles run carried bridge cycles) x.came) in
     record { cycle = w.0; within_run = w.1; came = w.2; lost = x.lost }
 
--- and back
+-- and conversely
 pub lost_in_run : (run : Run) (carried : Carried) (cycles bridge : ℕ) (policed : Policed) → IsLostIn run carried cycles bridge policed →
     IsLost run carried cycles bridge policed
 lost_in_run run carried cycles bridge policed x =

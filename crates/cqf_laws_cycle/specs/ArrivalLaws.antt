@@ -1,5 +1,5 @@
--- Laws that say exactly what has come to a bridge and to a port, and in which order, in a planner's words (IEEE Std 802.1Q,
--- Annex T, for the cycle in which a frame is received and that in which it waits; the rest is the profile's).
+-- Laws that say exactly what has arrived at a bridge and at a port, and in which order, in a planner's words. IEEE Std 802.1Q,
+-- Annex T, gives the cycle in which a frame is received and the cycle in which it waits; the rest is this project's own rule.
 use Rattle.std.specs.Prelude.{ℕ, ◌≡◌, ◌≢◌, ◌+◌, ◌*◌, ◌<◌, ◌≤◌, ◌⊎◌, List, Some, None, map, slice_get, AllPairs, Contains}
 use Rattle.cqf_units.specs.Timing.{time_of}
 use Rattle.cqf_model.specs.declared.frames.Background.{Background}
@@ -16,14 +16,14 @@ use Rattle.cqf_laws_cycle.specs.Compiled.{given_class}
 
 -- ---- a bridge
 
--- where a frame that comes to a bridge is from: a link, with the place among the frames that the link carries, or the run's
--- offers, with the place among these
+-- where a frame that arrives at a bridge comes from: a link, with the index among the frames that the link carries, or the run's
+-- offers, with the index among these
 pub data Source : Type 0 where
   OfLink : ℕ → ℕ → Source
   OfOffers : ℕ → Source
 
--- a frame of a link that ends in the bridge comes there when 8 octets of preamble and start delimiter and its own octets have
--- been sent, and the link's delay is over: start + the time of (octets + 8) octets + delay, in nanoseconds
+-- a frame of a link that ends in the bridge arrives there when 8 octets of preamble and start delimiter and its own octets have
+-- been sent and the link's delay has passed: start + the time of (octets + 8) octets + delay, in nanoseconds
 pub record ComesByLink (run : Run) (carried : Carried) (bridge link place : ℕ) (x : Received) : Type 0 where
   pub sent : Sent
   pub is_carried : slice_get (carried link) place ≡ Some sent
@@ -33,7 +33,7 @@ pub record ComesByLink (run : Run) (carried : Carried) (bridge link place : ℕ)
   pub frame : x.frame ≡ sent.frame
   pub way : x.way ≡ Relayed link sent.stream
 
--- an offer at the bridge comes at its own instant. Its frame's number is its place among the offers, from 1
+-- an offer at the bridge arrives at its own instant. Its frame's number is its position among the offers, from 1
 pub record ComesOfOffer (run : Run) (bridge place : ℕ) (x : Received) : Type 0 where
   pub offer : Offer
   pub is_there : slice_get run.offers place ≡ Some offer
@@ -43,29 +43,30 @@ pub record ComesOfOffer (run : Run) (bridge place : ℕ) (x : Received) : Type 0
   pub frame : x.frame ≡ place + 1
   pub way : x.way ≡ AtEdge offer.stream
 
--- a frame comes to a bridge from a source
+-- a frame arrives at a bridge from a source
 abbrev pub Comes : Run → Carried → ℕ → Source → Received → Type 0
 Comes run carried bridge (OfLink link place) x = ComesByLink run carried bridge link place x
 Comes run carried bridge (OfOffers place) x = ComesOfOffer run bridge place x
 
--- of two sources at one instant the links come first, by number, the frames of one by their places; then the offers by theirs
+-- the order of two sources at one instant: links come first, by number, the frames of one link by index; then the offers by index
 abbrev pub IsSourceBefore : Source → Source → Type 0
 IsSourceBefore (OfLink l i) (OfLink m j) = (l < m) ⊎ ((l ≡ m) × (i < j))
 IsSourceBefore (OfLink l i) (OfOffers j) = Unit {0}
 IsSourceBefore (OfOffers i) (OfLink m j) = ⊥
 IsSourceBefore (OfOffers i) (OfOffers j) = i < j
 
--- a frame that has come, with its source
+-- a frame that has arrived, with its source
 pub record Came : Type 0 where
   pub source : Source
   pub received : Received
 
--- it comes earlier, or at the same instant from an earlier source
+-- a arrives earlier than b, or at the same instant from an earlier source
 abbrev pub CameBefore : Came → Came → Type 0
 CameBefore a b = (a.received.at < b.received.at) ⊎ ((a.received.at ≡ b.received.at) × IsSourceBefore a.source b.source)
 
--- some frames are exactly those that have come to a bridge before an instant: each comes from its source and is early enough,
--- what comes from a source and is early enough is among them, none is there twice, and they stand by instant, link and place
+-- these frames are exactly those that have arrived at a bridge before an instant: each arrives from its source early enough, each
+-- frame that arrives from a source early enough is among them, no source occurs twice, and they are ordered by instant, then by
+-- source
 pub record AreAllThatCome (run : Run) (carried : Carried) (bridge end : ℕ) (received : List Received) : Type 0 where
   pub came : List Came
   pub are : received ≡ map (λ (c : Came). c.received) came
@@ -75,24 +76,24 @@ pub record AreAllThatCome (run : Run) (carried : Carried) (bridge end : ℕ) (re
   pub once : AllPairs (λ (a b : Came). a.source ≢ b.source) came
   pub in_order : AllPairs CameBefore came
 
--- that is what a bridge receives
+-- this is what a bridge receives
 abbrev pub BridgesReceiveWhatComes : Type 0
 BridgesReceiveWhatComes = (run : Run) (carried : Carried) (bridge end : ℕ) → AreAllThatCome run carried bridge end (received_before run carried bridge end)
 
--- and there is one verdict on each, in the same order
+-- and there is one verdict on each frame, in the same order
 abbrev pub VerdictsAreOnWhatComes : Type 0
 VerdictsAreOnWhatComes = (run : Run) (carried : Carried) (bridge end : ℕ) →
     map (λ (p : Policed). p.received) (policed_before run carried bridge end) ≡ received_before run carried bridge end
 
 -- ---- a port
 
--- where a frame that comes to a port is from: the run's background frames, with the place among these, or the port's bridge,
--- with the place among all that the bridge has received
+-- where a frame that arrives at a port comes from: the run's background frames, with the index among these, or the port's bridge,
+-- with the index among all frames that the bridge has received
 pub data Origin : Type 0 where
   OfBackground : ℕ → Origin
   OfBridge : ℕ → Origin
 
--- a background frame of the port's link comes at its own instant, with its own class. Its number is its place among the
+-- a background frame of the port's link arrives at its own instant, with its own class. Its number is its position among the
 -- background frames, from 1
 pub record ComesOfBackground (run : Run) (l place : ℕ) (q : QueuedFrame) : Type 0 where
   pub background : Background
@@ -104,8 +105,8 @@ pub record ComesOfBackground (run : Run) (l place : ℕ) (q : QueuedFrame) : Typ
   pub frame : q.arrival.frame ≡ place + 1
   pub of_no_stream : q.stream ≡ None
 
--- a frame that its bridge received goes on with its stream's row, which leads from where it came to the port's link. It comes
--- to the port when it came to the bridge, with the class of streams that is given in that cycle
+-- a frame that its bridge received goes on with its stream's row, which leads from the way by which it came to the port's link. It
+-- arrives at the port when it arrived at the bridge, with the class that the stream gates give in that cycle
 pub record ComesThroughBridge (run : Run) (carried : Carried) (l end place : ℕ) (q : QueuedFrame) : Type 0 where
   pub policed : Policed
   pub is_received : slice_get (policed_before run carried (bridge_of run.domain l) end) place ≡ Some policed
@@ -118,21 +119,21 @@ pub record ComesThroughBridge (run : Run) (carried : Carried) (l end place : ℕ
   pub frame : q.arrival.frame ≡ policed.received.frame
   pub of_stream : q.stream ≡ Some row.no
 
--- a frame comes to a port from an origin, where its bridge has received up to an instant
+-- a frame arrives at a port from an origin, if its bridge has received frames up to the instant `end`
 abbrev pub ComesToPort : Run → Carried → ℕ → ℕ → Origin → QueuedFrame → Type 0
 ComesToPort run carried l end (OfBackground place) q = ComesOfBackground run l place q
 ComesToPort run carried l end (OfBridge place) q = ComesThroughBridge run carried l end place q
 
--- a frame that has come to a port, with its origin
+-- a frame that has arrived at a port, with its origin
 pub record CameToPort : Type 0 where
   pub origin : Origin
   pub queued : QueuedFrame
 
--- the instant at which it came
+-- the instant at which it arrived
 abbrev pub came_at : CameToPort → ℕ
 came_at c = c.queued.arrival.at.0
 
--- of two frames of one cycle the background frames stand first, by instant and then by place; then the streams' frames, in
+-- the order of two frames of one cycle: background frames come first, by instant and then by index; then the streams' frames, in
 -- the order in which the bridge received them
 abbrev pub IsOriginBefore : Origin → ℕ → Origin → ℕ → Type 0
 IsOriginBefore (OfBackground i) s (OfBackground j) t = (s < t) ⊎ ((s ≡ t) × (i < j))
@@ -140,22 +141,23 @@ IsOriginBefore (OfBackground i) s (OfBridge j) t = Unit {0}
 IsOriginBefore (OfBridge i) s (OfBackground j) t = ⊥
 IsOriginBefore (OfBridge i) s (OfBridge j) t = i < j
 
--- it comes in an earlier cycle, or stands earlier in the same one
+-- a arrives in an earlier cycle than b, or is earlier in the order of the same cycle
 abbrev pub StandsBefore : Domain → CameToPort → CameToPort → Type 0
 StandsBefore d a b =
     (cycle_of d (came_at a) < cycle_of d (came_at b))
     ⊎ ((cycle_of d (came_at a) ≡ cycle_of d (came_at b)) × IsOriginBefore a.origin (came_at a) b.origin (came_at b))
 
--- frames of one kind: both are of streams, or none is
+-- frames of one kind: both are of streams, or both are background frames
 abbrev pub AreOfOneKind : Origin → Origin → Type 0
 AreOfOneKind (OfBackground i) (OfBackground j) = Unit {0}
 AreOfOneKind (OfBackground i) (OfBridge j) = ⊥
 AreOfOneKind (OfBridge i) (OfBackground j) = ⊥
 AreOfOneKind (OfBridge i) (OfBridge j) = Unit {0}
 
--- some frames are exactly those that have come to a port in the first cycles: each comes from its origin and is early enough,
--- what comes from an origin and is early enough is among them, none is there twice, and they stand in that order. So frames of
--- one kind stand by instant; and frames of one class do, since no background frame of a run has a class of streams
+-- these frames are exactly those that have arrived at a port in the first cycles: each arrives from its origin early enough, each
+-- frame that arrives from an origin early enough is among them, no origin occurs twice, and they are in the order of
+-- `StandsBefore`. Frames of one kind are ordered by instant. So frames of one class are as well, since no background frame of a run
+-- has a class of streams
 pub record AreAllThatComeToPort (run : Run) (carried : Carried) (l cycles : ℕ) (queued : List QueuedFrame) : Type 0 where
   pub came : List CameToPort
   pub are : queued ≡ map (λ (c : CameToPort). c.queued) came
@@ -167,7 +169,7 @@ pub record AreAllThatComeToPort (run : Run) (carried : Carried) (l cycles : ℕ)
   pub in_order : AllPairs (StandsBefore run.domain) came
   pub by_instant : AllPairs (λ (a b : CameToPort). AreOfOneKind a.origin b.origin → came_at a ≤ came_at b) came
 
--- that is what comes to a port
+-- this is what arrives at a port
 abbrev pub PortsGetWhatComes : Type 0
 PortsGetWhatComes = (run : Run) (carried : Carried) (l cycles : ℕ) → 0 < run.domain.cycle_time →
     AreAllThatComeToPort run carried l cycles (comes_before run carried l cycles)

@@ -13,7 +13,7 @@ use Rattle.cqf_laws_cycle.specs.OnePort.{AreSent, IsWithinBudget}
 abbrev pub only_streams : List Arrival → List Arrival
 only_streams arrivals = filter is_streams arrivals
 
--- the place that the one at a place has among them: how many of them stand before it
+-- the index of an arrival among the streams' frames alone: the number of streams' frames before it
 abbrev pub place_alone : List Arrival → ℕ → ℕ
 place_alone arrivals place = length (only_streams (take place arrivals))
 
@@ -21,31 +21,31 @@ place_alone arrivals place = length (only_streams (take place arrivals))
 abbrev pub is_start_of_streams : List Arrival → Transmission → Bool
 is_start_of_streams arrivals start = is_streams (slice_index_or arrivals start.0 no_arrival)
 
--- the start with the place among the streams' frames
+-- the same start, with the index among the streams' frames alone
 abbrev pub start_alone : List Arrival → Transmission → Transmission
 start_alone arrivals start = (place_alone arrivals start.0, start.1)
 
--- the starts of streams' frames, with those places
+-- the starts of streams' frames, with these indices
 abbrev pub starts_alone : List Arrival → List Transmission → List Transmission
 starts_alone arrivals starts = map (start_alone arrivals) (filter (is_start_of_streams arrivals) starts)
 
--- where the streams' frames of each cycle are within the link's budget, their starts beside any background frames are legal
--- for them alone
+-- if the streams' frames of each cycle are within the link's budget, their starts beside any background frames are legal for them
+-- alone
 abbrev pub StreamsStartAsAlone : Type 0
 StreamsStartAsAlone = (cycle_time guard octet_time : ℕ) (arrivals : List Arrival) (cycles : ℕ) (starts : List Transmission) →
     IsWithinBudget cycle_time guard octet_time arrivals cycles →
     AreSent cycle_time guard octet_time arrivals cycles starts →
     AreSent cycle_time guard octet_time (only_streams arrivals) cycles (starts_alone arrivals starts)
 
--- a frame of a stream
+-- whether a frame is of a stream
 abbrev pub is_of_stream : QueuedFrame → Bool
 is_of_stream x = is_some x.stream
 
--- the frames that are of no stream are those of a class below 6
+-- the frame is of no stream exactly if its class is below 6
 abbrev pub IsToldByClass : QueuedFrame → Type 0
 IsToldByClass x = (x.stream ≡ None) ↔ (x.arrival.class < 6)
 
--- so what a link sends of streams beside background frames is what it may send where nothing but their frames comes
+-- so what a link sends of streams beside background frames is what it may send if only the streams' frames arrive
 abbrev pub StreamsAreSentAsAlone : Type 0
 StreamsAreSentAsAlone = (d : Domain) (cycles l : ℕ) (queued : List QueuedFrame) (sents : List Sent) (backed : List Start) →
     All IsToldByClass queued →

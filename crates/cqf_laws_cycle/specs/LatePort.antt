@@ -1,5 +1,5 @@
--- One port whose starts lag, each frame's by another time: it takes a frame up where an exact port would start it, starts it so much
--- later, and is free again so much later.
+-- One port whose starts lag, each frame's by its own time: it takes a frame up when an exact port would start it, starts it that
+-- much later, and is free again that much later.
 use Rattle.std.specs.Prelude.{ℕ, ◌≡◌, ◌+◌, ◌*◌, ◌<◌, ◌≤◌, ◌==◌, List, length, slice_index_or, sum_by, take, if◌then◌else◌, AllPairs, Contains}
 use Rattle.cqf_units.specs.Timing.{idle_after, slot_of, time_of, cycle_at}
 use Rattle.cqf_model.specs.declared.ports.Arrival.{Arrival}
@@ -13,20 +13,20 @@ use Rattle.cqf_laws_cycle.specs.OnePort.{ComeInCycles, StreamsAt}
 abbrev pub Lags : Type 0
 Lags = Arrival → ℕ
 
--- how long a frame takes of the link with it: its slot, and its lag
+-- how long a frame occupies the link: its slot plus its lag
 abbrev pub late_slot : Lags → ℕ → Arrival → ℕ
 late_slot late octet_time a = slot_of a.octets octet_time + late a
 
--- the instant from which the port may take a frame up again
+-- the instant from which the port may take the next frame up
 abbrev pub free_late : Lags → ℕ → List Arrival → ℕ → ℕ → ℕ
 free_late late octet_time arrivals place t = idle_after t (octets_of arrivals place) octet_time + late (slice_index_or arrivals place no_arrival)
 
--- no frame that was taken up before is on the wire still, nor the gap behind it
+-- each frame that was taken up before has been sent, and the gap after it is over
 abbrev pub IsIdleLate : Lags → ℕ → List Arrival → List Transmission → ℕ → Type 0
 IsIdleLate late octet_time arrivals taken t = (place s : ℕ) → Contains taken (place, s) → s < t → free_late late octet_time arrivals place s ≤ t
 
--- what a port takes up before the end, each frame with the instant at which it does: as an exact port starts them (`AreLegal` of
--- `Port`), but that it is free again so much later
+-- what a port takes up before the end, each frame with the instant at which it is taken up: as an exact port starts frames
+-- (`AreLegal` of `Port`), except that the port is free again later by the frame's lag
 pub record AreTakenUp (rules : PortRules) (late : Lags) (arrivals : List Arrival) (end : ℕ) (taken : List Transmission) : Type 0 where
   pub in_order : AllPairs (λ (a b : Transmission). a.1 < b.1) taken
   pub before_end : (place s : ℕ) → Contains taken (place, s) → s < end
@@ -39,7 +39,7 @@ pub record AreTakenUp (rules : PortRules) (late : Lags) (arrivals : List Arrival
   pub work_conserving : (t other : ℕ) → t < end → IsIdleLate late rules.octet_time arrivals taken t → IsFirst arrivals taken other t →
       IsEligible rules arrivals other t → (place : ℕ) × Contains taken (place, t)
 
--- how long a cycle's frames of streams take with their lags, and when one is due behind those before it
+-- how long a cycle's streams' frames take with their lags, and when a frame is due after those before it
 abbrev pub late_slot_in : Lags → ℕ → ℕ → ℕ → Arrival → ℕ
 late_slot_in late octet_time cycle_time cycle a =
     if cycle_at cycle_time a.at.0 == cycle then (if is_streams a then late_slot late octet_time a else 0) else 0
@@ -51,8 +51,8 @@ abbrev pub late_due : Lags → ℕ → ℕ → List Arrival → ℕ → ℕ
 late_due late cycle_time octet_time arrivals place = let cycle = cycle_of_place cycle_time arrivals place in
     (cycle + 1) * cycle_time + late_busy late octet_time cycle_time cycle (take place arrivals)
 
--- what the law asks: lags up to a bound, which has its place in the guard time beside the gap; and in each cycle so many frames of streams
--- that the next can send them before its guard time, with their lags
+-- what the law requires: lags up to a bound, which fits into the guard band beside the gap; and in each cycle before `upto` no more
+-- streams' frames than the next cycle can send, with their lags, before its guard band
 pub record IsWithinLateBudget (cycle_time guard octet_time lag : ℕ) (late : Lags) (arrivals : List Arrival) (upto : ℕ) : Type 0 where
   pub some_guard : 0 < guard
   pub guard_short : guard < cycle_time
@@ -66,8 +66,9 @@ abbrev pub AreTakenUpIn : ℕ → ℕ → ℕ → Lags → List Arrival → ℕ 
 AreTakenUpIn cycle_time guard octet_time late arrivals cycles taken =
     AreTakenUp (record { entries = port_list cycle_time guard; octet_time = octet_time }) late arrivals (cycles * cycle_time) taken
 
--- then the streams' frames of each cycle are taken up when they are due, lags and all, and no other is up to that cycle; each in the next
--- cycle, and it is over with its lag and gap by the guard time
+-- then the streams' frames of each cycle before `upto` are taken up when they are due, lags included, as far as the run goes, and
+-- up to that cycle no other stream's frame is. Each is due in the next cycle, and is over, with its lag and gap, when the guard
+-- band begins
 pub record AreLateDue (cycle_time guard octet_time : ℕ) (late : Lags) (arrivals : List Arrival) (cycles upto : ℕ) (taken : List Transmission) : Type 0 where
   pub each : (place : ℕ) → place < length arrivals → StreamsAt arrivals place → cycle_of_place cycle_time arrivals place < upto →
       cycle_of_place cycle_time arrivals place + 1 < cycles → Contains taken (place, late_due late cycle_time octet_time arrivals place)

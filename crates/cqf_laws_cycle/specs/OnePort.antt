@@ -1,4 +1,4 @@
--- One port whose streams' frames come in cycles, with background frames among them in any order of places.
+-- One port at which streams' frames arrive in cycles, with background frames at any positions among them.
 use Rattle.std.specs.Prelude.{ℕ, ◌≡◌, ◌+◌, ◌*◌, ◌<◌, ◌≤◌, List, length, AllPairs, Contains}
 use Rattle.cqf_units.specs.Timing.{ending_of, idle_after, time_of, cycle_at}
 use Rattle.cqf_model.specs.declared.ports.Arrival.{Arrival}
@@ -7,11 +7,11 @@ use Rattle.cqf_model.specs.Port.{Transmission, AreLegal, Waits, class_of, octets
 use Rattle.cqf_model.specs.Turn.{busy, cycle_of_place, due}
 use Rattle.cqf_laws_cycle.specs.Compiled.{given_class, guard_from}
 
--- a stream's frame: it has class 6 or 7, and a background frame one of 0 to 5
+-- a stream's frame: it has class 6 or 7; a background frame has one of classes 0 to 5
 abbrev pub IsStreams : Arrival → Type 0
 IsStreams a = 6 ≤ a.class
 
--- the arrival at a place is a stream's frame
+-- the arrival at an index is a stream's frame
 abbrev pub StreamsAt : List Arrival → ℕ → Type 0
 StreamsAt arrivals place = 6 ≤ class_of arrivals place
 
@@ -19,48 +19,48 @@ StreamsAt arrivals place = 6 ≤ class_of arrivals place
 abbrev pub BackgroundAt : List Arrival → ℕ → Type 0
 BackgroundAt arrivals place = class_of arrivals place < 6
 
--- the streams' frames come in order of instant, each with the class that the stream gates give in its cycle. Background
--- frames come when they like
+-- the streams' frames arrive in order of instant, each with the class that the stream gates give in its cycle. Background frames
+-- may arrive at any instant
 pub record ComeInCycles (cycle_time : ℕ) (arrivals : List Arrival) : Type 0 where
   pub in_order : AllPairs (λ (a b : Arrival). IsStreams a → IsStreams b → a.at.0 ≤ b.at.0) arrivals
   pub classes : (place : ℕ) → place < length arrivals → StreamsAt arrivals place →
       class_of arrivals place ≡ given_class (cycle_of_place cycle_time arrivals place)
 
--- when the wire is free again behind a stream's frame that starts when it is due
+-- when the wire is free again after a stream's frame that starts when it is due
 abbrev pub free_behind : ℕ → ℕ → List Arrival → ℕ → ℕ
 free_behind cycle_time octet_time arrivals place =
     idle_after (due cycle_time octet_time arrivals place) (octets_of arrivals place) octet_time
 
--- the streams' frames of each cycle before one start when they are due, as far as the run goes, and up to that cycle no
--- other stream's frame starts
+-- the streams' frames of each cycle before `upto` start when they are due, as far as the run goes, and up to that cycle no other
+-- stream's frame starts
 pub record AreDue (cycle_time guard octet_time : ℕ) (arrivals : List Arrival) (cycles upto : ℕ) (starts : List Transmission) : Type 0 where
   pub each : (place : ℕ) → place < length arrivals → StreamsAt arrivals place → cycle_of_place cycle_time arrivals place < upto →
       cycle_of_place cycle_time arrivals place + 1 < cycles → Contains starts (place, due cycle_time octet_time arrivals place)
   pub only : (place s : ℕ) → Contains starts (place, s) → StreamsAt arrivals place → cycle_at cycle_time s ≤ upto →
       (cycle_of_place cycle_time arrivals place < upto) × (s ≡ due cycle_time octet_time arrivals place)
-  -- that is in the next cycle, and the gap behind the frame is over by the guard time
+  -- the due instant is in the next cycle, and the gap after the frame is over when the guard band begins
   pub next : (place : ℕ) → place < length arrivals → StreamsAt arrivals place → cycle_of_place cycle_time arrivals place < upto →
       cycle_at cycle_time (due cycle_time octet_time arrivals place) ≡ cycle_of_place cycle_time arrivals place + 1
   pub over : (place : ℕ) → place < length arrivals → StreamsAt arrivals place → cycle_of_place cycle_time arrivals place < upto →
       free_behind cycle_time octet_time arrivals place ≤ guard_from cycle_time guard (cycle_of_place cycle_time arrivals place + 1)
 
--- each background frame keeps behind the streams'
+-- no background frame delays a stream's frame
 pub record KeepsBehind (cycle_time guard octet_time : ℕ) (arrivals : List Arrival) (upto : ℕ) (starts : List Transmission) : Type 0 where
-  -- it starts only when every stream's frame of an earlier cycle is sent, and the gap behind that is over
+  -- it starts only when every stream's frame of an earlier cycle has been sent and the gap after that is over
   pub behind : (place s other : ℕ) → Contains starts (place, s) → BackgroundAt arrivals place → cycle_at cycle_time s ≤ upto →
       other < length arrivals → StreamsAt arrivals other → cycle_of_place cycle_time arrivals other < cycle_at cycle_time s →
       free_behind cycle_time octet_time arrivals other ≤ s
-  -- so a stream's frame that waits then came in that very cycle, in which its class is closed
+  -- so a stream's frame that waits then arrived in that very cycle, in which its class is closed
   pub none_waits : (place s other : ℕ) → Contains starts (place, s) → BackgroundAt arrivals place → cycle_at cycle_time s ≤ upto →
       StreamsAt arrivals other → Waits arrivals starts other s → cycle_of_place cycle_time arrivals other ≡ cycle_at cycle_time s
-  -- it is sent before the guard time, and the gap behind it is over when the next cycle begins
+  -- it has been sent when the guard band begins, and the gap after it is over when the next cycle begins
   pub sent : (place s : ℕ) → Contains starts (place, s) → BackgroundAt arrivals place →
       ending_of s (octets_of arrivals place) octet_time ≤ guard_from cycle_time guard (cycle_at cycle_time s)
   pub over : (place s : ℕ) → Contains starts (place, s) → BackgroundAt arrivals place →
       idle_after s (octets_of arrivals place) octet_time ≤ (cycle_at cycle_time s + 1) * cycle_time
 
--- what the laws of one port ask: a guard time in which a least gap fits, and streams' frames that come in cycles, in each
--- cycle before one so many that the next can send them before its guard time. Of background frames nothing is asked
+-- what the laws of one port require: a guard band into which the gap fits, and streams' frames that arrive in cycles, in each cycle
+-- before `upto` no more than the next one can send before its guard band. Background frames are not restricted
 pub record IsWithinBudget (cycle_time guard octet_time : ℕ) (arrivals : List Arrival) (upto : ℕ) : Type 0 where
   pub some_guard : 0 < guard
   pub guard_short : guard < cycle_time
@@ -69,19 +69,19 @@ pub record IsWithinBudget (cycle_time guard octet_time : ℕ) (arrivals : List A
   pub come : ComeInCycles cycle_time arrivals
   pub loads : (cycle : ℕ) → cycle < upto → busy octet_time cycle_time cycle arrivals + guard ≤ cycle_time
 
--- the transmissions are legal under the compiled gate list, up to the end of so many cycles
+-- the transmissions are legal with the compiled gate list, up to the end of this number of cycles
 abbrev pub AreSent : ℕ → ℕ → ℕ → List Arrival → ℕ → List Transmission → Type 0
 AreSent cycle_time guard octet_time arrivals cycles starts =
     AreLegal (record { entries = port_list cycle_time guard; octet_time = octet_time }) arrivals (cycles * cycle_time) starts
 
--- a port is one cycle late: where what comes of streams in each cycle is within the link's budget, it leaves in the next
+-- a port is one cycle late: if the streams' frames that arrive in each cycle are within the link's budget, they leave in the next
 abbrev pub PortIsOneCycleLate : Type 0
 PortIsOneCycleLate = (cycle_time guard octet_time : ℕ) (arrivals : List Arrival) (cycles upto : ℕ) (starts : List Transmission) →
     IsWithinBudget cycle_time guard octet_time arrivals upto →
     AreSent cycle_time guard octet_time arrivals cycles starts →
     AreDue cycle_time guard octet_time arrivals cycles upto starts
 
--- and there no background frame is in a stream's way
+-- and no background frame delays a stream's frame there
 abbrev pub BackgroundKeepsBehind : Type 0
 BackgroundKeepsBehind = (cycle_time guard octet_time : ℕ) (arrivals : List Arrival) (cycles upto : ℕ) (starts : List Transmission) →
     IsWithinBudget cycle_time guard octet_time arrivals upto →

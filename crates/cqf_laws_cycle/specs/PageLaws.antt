@@ -16,12 +16,12 @@ use Rattle.cqf_model.specs.Traffic.{Carried, Policed}
 abbrev pub on_links_of : Domain → ℕ → (ℕ → List Started) → List Started
 on_links_of d bridge on_link = each_below (λ link. if leaves d link bridge then on_link link else []) (length d.links)
 
--- a bridge's page of a cycle says what streams' frames the bridge's own links send in it, by link
+-- a bridge's page of a cycle lists the streams' frames that the bridge's own links send in it, by link
 abbrev pub PageSaysWhatItsLinksSend : Type 0
 PageSaysWhatItsLinksSend = (d : Domain) (cycles : ℕ) (carried : Carried) (bridge cycle : ℕ) → cycle < cycles →
     page_starts d bridge cycle (starts_of d cycles carried) ≡ on_links_of d bridge (starts_in d carried cycle)
 
--- and what background frames
+-- and the background frames
 abbrev pub PageSaysTheBackground : Type 0
 PageSaysTheBackground = (d : Domain) (cycles : ℕ) (backed : ℕ → List Start) (bridge cycle : ℕ) → cycle < cycles →
     page_starts d bridge cycle (background_of d cycles backed) ≡ on_links_of d bridge (background_in d backed cycle)
@@ -52,7 +52,7 @@ book_of_pages d cycles page = record {
   drops = drops_of_pages d cycles (λ bridge cycle. (page bridge cycle).drops);
 }
 
--- a book of so many cycles of a domain, of whatever run and gate lists
+-- a book of this number of cycles of a domain, of any run and any gate lists
 pub record IsSomeBook (d : Domain) (cycles : ℕ) (book : Contents) : Type 0 where
   pub tables : List (List Row)
   pub offers : List Offer
@@ -70,7 +70,7 @@ abbrev pub HaveTheSamePages : Domain → ℕ → Contents → Contents → Type 
 HaveTheSamePages d cycles book other =
     (bridge cycle : ℕ) → bridge < length d.bridges → cycle < cycles → page_of d bridge cycle book ≡ page_of d bridge cycle other
 
--- then they are one book
+-- then they are equal
 abbrev pub SamePagesAreOneBook : Type 0
 SamePagesAreOneBook = (d : Domain) (cycles : ℕ) (book other : Contents) → IsAccepted d →
     IsSomeBook d cycles book → IsSomeBook d cycles other → HaveTheSamePages d cycles book other → book ≡ other

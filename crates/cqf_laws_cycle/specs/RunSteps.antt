@@ -20,8 +20,8 @@ silence = record { carried = λ l. []; backed = λ l. [] }
 abbrev pub RunBegins : Type 0
 RunBegins = (run : Run) (lists : ℕ → List Entry) → IsLegalNetwork run lists 0 silence
 
--- one cycle more: each link sends what its gate list demands, up to the end of that cycle, for what its port has by what
--- was sent before, when it sends the cycle
+-- one cycle more: up to the end of that cycle, each link sends what its gate list demands for what its port has, by what was sent
+-- before, when it sends the cycle
 pub record SendsOneMore (run : Run) (cycles : ℕ) (net more : Network) : Type 0 where
   pub sends : (l : ℕ) → l < length run.domain.links →
       Sends run.domain (compiled_lists run.domain l) ((cycles + 1) * run.domain.cycle_time) l (waits_in run net.carried l cycles)
@@ -34,13 +34,13 @@ RunGoesOn = (run : Run) (cycles : ℕ) (net more : Network) → ((l : ℕ) → g
     IsLegalNetwork run (compiled_lists run.domain) cycles net → SendsOneMore run cycles net more →
     IsLegalNetwork run (compiled_lists run.domain) (cycles + 1) more
 
--- what is sent in a cycle hangs on the tables of the cycles before it alone, since what comes in it waits: with another table
--- in its last cycle, and in later ones, a run's network stays legal
+-- what is sent in a cycle depends only on the tables of the cycles before it, since what arrives in a cycle waits: with other
+-- tables in its last cycle and in later ones, a run's network stays legal
 abbrev pub LastTableWaits : Type 0
 LastTableWaits = (run : Run) (others : List (List Row)) (cycles : ℕ) (net : Network) → HaveTheSameTables cycles run.tables others →
     IsCompiledNetwork run (cycles + 1) net → IsCompiledNetwork (with_tables run others) (cycles + 1) net
 
--- a longer run changes nothing of what was sent in a cycle of a shorter one, nor of what came to the bridges and the ports
+-- a longer run changes neither what was sent in a cycle of a shorter one nor what arrived at the bridges and the ports
 pub record KeepsItsCycles (run : Run) (others : List (List Row)) (cycles : ℕ) (net longer : Network) : Type 0 where
   pub sends : (l cycle : ℕ) → cycle < cycles → batch run.domain longer.carried l cycle ≡ batch run.domain net.carried l cycle
   pub sends_background : (l cycle : ℕ) → cycle < cycles →
@@ -51,13 +51,13 @@ pub record KeepsItsCycles (run : Run) (others : List (List Row)) (cycles : ℕ) 
   pub waits : (l cycle : ℕ) → cycle ≤ cycles →
       comes_before run longer.carried l cycle ≡ comes_before (with_tables run others) net.carried l cycle
 
--- so it is of each longer run with the same tables in the shorter one's cycles
+-- this holds for each longer run with the same tables in the shorter one's cycles
 abbrev pub LongerRunKeepsItsCycles : Type 0
 LongerRunKeepsItsCycles = (run : Run) (others : List (List Row)) (lists : ℕ → List Entry) (cycles longer : ℕ) (net more : Network) →
     IsShorter cycles longer run.tables others → IsLegalNetwork (with_tables run others) lists cycles net → IsLegalNetwork run lists longer more →
     KeepsItsCycles run others cycles net more
 
--- what becomes of all that comes to a bridge is, cycle by cycle, what becomes of what comes in each
+-- a bridge's verdicts on all that arrives are, cycle by cycle, its verdicts on what arrives in each cycle
 abbrev pub RunIsItsCycles : Type 0
 RunIsItsCycles = (run : Run) (carried : Carried) (bridge cycles : ℕ) →
     policed_before run carried bridge (cycles * run.domain.cycle_time) ≡ each_below (policed_of run carried bridge) cycles
@@ -69,7 +69,7 @@ pub record IsLostIn (run : Run) (carried : Carried) (cycles bridge : ℕ) (polic
   pub came : Contains (policed_of run carried bridge cycle) policed
   pub lost : IsLoss policed.verdict
 
--- what is lost inside in a run is what is lost in one of its cycles
+-- a frame is lost inside the network in a run exactly if it is lost in one of its cycles
 abbrev pub LossesAreOfCycles : Type 0
 LossesAreOfCycles = (run : Run) (carried : Carried) (cycles bridge : ℕ) (policed : Policed) →
     IsLost run carried cycles bridge policed ↔ IsLostIn run carried cycles bridge policed

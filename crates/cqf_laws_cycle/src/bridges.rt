@@ -2,14 +2,14 @@
 ghost use Rattle.cqf_laws_cycle.specs.BridgeCycle.{BatchIsWholeInItsCycle, BridgeGoesOn, CycleBringsItsBatches, DropsAreOfTheCycle, FramesKeepTheirOrder};
 ghost use Rattle.cqf_laws_cycle.specs.Gathered.{BackgroundStandsInOrder, DropsAreByFrame, FramesAreTakenInOrder, OffersStandInOrder, PortsGetTheirBackground};
 
-/// What becomes of all that came to a bridge by the end of a cycle is what became of it before the cycle, and then what
-/// becomes of the cycle's frames behind that.
+/// Proves that a bridge goes on from cycle to cycle: its verdicts on all that arrived by the end of a cycle are its verdicts on
+/// what arrived before the cycle, followed by those on the cycle's frames.
 pub fn bridge_goes_on()
     ensures { BridgeGoesOn }
 {}
 
-/// What a link sends in a cycle is whole in the next node within the cycle, so what comes to a bridge in a cycle is what
-/// its incoming links send in it and what is offered in it (IEEE 802.1Q, Annex T).
+/// Proves that what a link sends in a cycle has fully arrived in the next node within that cycle. So what arrives at a bridge in a
+/// cycle is what its incoming links send in it and what is offered in it (IEEE 802.1Q, Annex T).
 pub fn cycle_brings_its_batches()
     ensures whole { BatchIsWholeInItsCycle }
     ensures brings { CycleBringsItsBatches }
@@ -17,28 +17,27 @@ pub fn cycle_brings_its_batches()
     crate::port_list_sends();
 }
 
-/// The streams' frames of a link are whole in the next node in the order in which they were sent, at different instants.
+/// Proves that the streams' frames of a link arrive in the next node at different instants, in the order in which they were sent.
 pub fn frames_keep_their_order()
     ensures { FramesKeepTheirOrder }
 {}
 
-/// The drops of a cycle at a bridge are those among what comes to it in the cycle, and stand on its page by frame: brought
-/// into that order by a stable sort, the drops among the cycle's verdicts are the page's.
+/// Proves that the drops of a cycle at a bridge are those among the frames that arrive in the cycle. The bridge's page lists them
+/// by frame: a stable sort by frame of the drops among the cycle's verdicts gives the page's drops.
 pub fn drops_are_of_the_cycle()
     ensures among { DropsAreOfTheCycle }
     ensures sorted { DropsAreByFrame }
 {}
 
-/// The frames of a cycle, gathered by link and then by offer, and brought into order of instant by a stable sort, stand in
-/// the order in which the bridge takes them; and its offers of the cycle, brought into that order, stand in the order in
-/// which they are gathered.
+/// Proves that a stable sort by instant gives the order in which a bridge takes the frames of a cycle, if they are gathered by link
+/// and then by offer. It also gives the order in which the bridge's offers of the cycle are gathered.
 pub fn frames_are_taken_in_order()
     ensures offers { OffersStandInOrder }
     ensures taken { FramesAreTakenInOrder }
 {}
 
-/// The background frames of a bridge in a cycle, brought into order of instant by a stable sort, stand in the order in which
-/// its ports get them: each port gets those of its link.
+/// Proves that a stable sort by instant gives the order in which a bridge's ports get the background frames of a cycle: each port
+/// gets those of its link.
 pub fn background_comes_in_order()
     ensures sorted { BackgroundStandsInOrder }
     ensures ports { PortsGetTheirBackground }

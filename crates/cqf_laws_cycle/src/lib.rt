@@ -1,35 +1,37 @@
-//! Laws of one port under the compiled gate lists, what comes to it in a cycle leaves it in the next; and laws about a book
-//! and its pages, and about a run that goes on cycle by cycle.
+//! Laws of one port with the compiled gate lists: what arrives at it in a cycle leaves it in the next. Also laws about a book and
+//! its pages, and about a run that goes on cycle by cycle.
 //!
-//! Each law is a function that does nothing: its contract is a statement of `specs/` about the definitions of `cqf_model`,
-//! and its proof shows that the statement holds for each domain. A proof elsewhere uses the law by a call of the function.
+//! Each law is a function that does nothing. Its contract is a statement of `specs/` about the definitions of `cqf_model`, and its
+//! proof shows that the statement holds for each domain. To use a law, another proof calls the function.
 //!
-//! - **The lists.** In each cycle a port has one class of streams open, and the classes of background frames beside it, all
-//!   up to the guard time ([`port_list_is_open`]), and sends a frame of these exactly where it ends by then
-//!   ([`port_list_sends`]). The stream gates give what comes in a cycle the other class ([`gate_gives_class`]), which is the
-//!   one that the next cycle sends ([`classes_alternate`]), and count octets by the cycle ([`gate_counts_cycles`]).
-//! - **One port.** Where what comes of streams in each cycle is within the link's budget, it leaves in the next cycle, in its
-//!   order, and the gap behind the last frame is over by the guard time ([`port_is_one_cycle_late`]). Background frames may
-//!   come at any instant, with any octets: they start behind what came of streams in earlier cycles, and end before the
-//!   guard time ([`background_keeps_behind`]).
-//! - **Beside background frames.** So these change nothing for streams: the starts of streams' frames are legal for those
-//!   frames alone ([`streams_start_as_alone`]), and what a link carries of them is what it may carry where they come alone
+//! - **The lists.** In each cycle a port has one class of streams open, and the classes of background frames as well, all until the
+//!   guard band begins ([`port_list_is_open`]). It sends a frame of these classes exactly if the frame ends by then
+//!   ([`port_list_sends`]). The stream gates give what arrives in a cycle the other class ([`gate_gives_class`]), which is the one
+//!   that the next cycle sends ([`classes_alternate`]), and count octets by the cycle ([`gate_counts_cycles`]).
+//! - **One port.** If the streams' frames that arrive in each cycle are within the link's budget, they leave in the next cycle, in
+//!   their order, and the gap after the last frame is over when the guard band begins ([`port_is_one_cycle_late`]). The same holds
+//!   if each start lags by up to a bound ([`late_port_is_one_cycle_late`]). Background frames may arrive at any instant, with any
+//!   octets. They start after the streams' frames of earlier cycles, and end before the guard band ([`background_keeps_behind`]).
+//! - **Beside background frames.** So background frames change nothing for streams: the starts of the streams' frames are legal for
+//!   those frames alone ([`streams_start_as_alone`]), and what a link carries of them is what it may carry if they arrive alone
 //!   ([`streams_are_sent_as_alone`]).
-//! - **A port from cycle to cycle.** What its bridge queues to it in a cycle waits ([`queued_frames_wait`], [`port_goes_on`]),
-//!   so what the port sends in a cycle hangs on what came to it before and on the background frames of the cycle
-//!   ([`port_sends_what_came_before`]), which it gets in order ([`background_comes_in_order`]).
-//! - **A bridge.** It takes a cycle's frames behind those of the cycles before ([`bridge_goes_on`]), and these are what its
+//! - **A port from cycle to cycle.** What its bridge queues to it in a cycle waits ([`queued_frames_wait`], [`port_goes_on`],
+//!   [`closed_arrivals_change_nothing`]). So what the port sends in a cycle depends on what arrived at it before and on the
+//!   background frames of the cycle ([`port_sends_what_came_before`]), which it gets in order ([`background_comes_in_order`]).
+//! - **A bridge.** It takes a cycle's frames after those of the earlier cycles ([`bridge_goes_on`]). These frames are what its
 //!   incoming links send in the cycle and what is offered in it ([`cycle_brings_its_batches`]), in order of instant
-//!   ([`frames_are_taken_in_order`]).
-//! - **Arrivals.** What comes to a bridge and to a port is exactly the offers, background frames and links' frames that are to
-//!   come there, each once, at its instant and in order ([`arrivals_are_exact`]).
-//! - **A run.** It goes on from legal to legal ([`run_goes_on`]), and a longer one, or one with another last table, changes
-//!   nothing of its cycles ([`longer_run_keeps_its_cycles`], [`last_table_waits`]).
-//! - **A book.** Each page is of its bridge alone, and the pages together are the book ([`page_is_of_its_bridge`],
+//!   ([`frames_are_taken_in_order`]). The frames of a link keep their order ([`frames_keep_their_order`]), and the drops of a cycle
+//!   are among its frames ([`drops_are_of_the_cycle`]).
+//! - **Arrivals.** What arrives at a bridge and at a port is exactly the offers, background frames and links' frames that are due
+//!   there, each once, at its instant and in order ([`arrivals_are_exact`]).
+//! - **A run.** It goes on from legal to legal ([`run_goes_on`]) and is the sequence of its cycles ([`run_is_its_cycles`]). A
+//!   longer run, or one with another last table, changes nothing in its cycles ([`longer_run_keeps_its_cycles`],
+//!   [`last_table_waits`]).
+//! - **A book.** Each page is about its bridge alone, and the pages together are the book ([`page_is_of_its_bridge`],
 //!   [`book_is_its_pages`]).
 //!
 //! ```
-//! // here on, a proof knows that books of one domain with the same pages are equal
+//! // from here on, a proof knows that books of one domain with the same pages are equal
 //! cqf_laws_cycle::book_is_its_pages();
 //! ```
 #![tactic(auto)]

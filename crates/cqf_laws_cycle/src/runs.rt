@@ -1,8 +1,8 @@
 //! A run that goes on cycle by cycle.
 ghost use Rattle.cqf_laws_cycle.specs.RunSteps.{LastTableWaits, LongerRunKeepsItsCycles, LossesAreOfCycles, RunBegins, RunGoesOn, RunIsItsCycles};
 
-/// A run of no cycles sends nothing; and where each link sends in one more cycle what its gate list demands for what came to
-/// its port before the cycle and for the background frames of the cycle, the network of the run with that cycle is legal
+/// Proves that a run of no cycles sends nothing, and that the network of a run with one more cycle is legal if in that cycle each
+/// link sends what its gate list demands for what arrived at its port before the cycle and for the background frames of the cycle
 /// (IEEE 802.1Q, Annex T).
 pub fn run_goes_on()
     ensures begins { RunBegins }
@@ -15,8 +15,8 @@ pub fn run_goes_on()
     crate::port_list_is_open();
 }
 
-/// What is sent in a cycle hangs on the tables of the cycles before it: with another table in its last cycle the network of a
-/// run is the same (IEEE 802.1Q, Annex T).
+/// Proves that what is sent in a cycle depends only on the tables of the cycles before it: with another table in its last cycle,
+/// the network of a run is the same (IEEE 802.1Q, Annex T).
 pub fn last_table_waits()
     ensures { LastTableWaits }
 {
@@ -27,8 +27,8 @@ pub fn last_table_waits()
     crate::port_list_is_open();
 }
 
-/// A longer run, with the same tables in the cycles of a shorter one, sends the same in each of those cycles, and the same
-/// comes to each bridge and each port.
+/// Proves that a longer run with the same tables in the cycles of a shorter one sends the same in each of those cycles, and that
+/// the same arrives at each bridge and each port.
 pub fn longer_run_keeps_its_cycles()
     ensures { LongerRunKeepsItsCycles }
 {
@@ -36,8 +36,8 @@ pub fn longer_run_keeps_its_cycles()
     cqf_laws_network::the_past_alone_matters();
 }
 
-/// What becomes of all that comes to a bridge in a run is what becomes of it in the run's cycles, and what is lost inside
-/// in a run is lost in one of its cycles.
+/// Proves that a bridge's verdicts on all that arrives in a run are its verdicts in the run's cycles, and that a frame is lost
+/// inside the network in a run exactly if it is lost in one of the cycles.
 pub fn run_is_its_cycles()
     ensures cycles { RunIsItsCycles }
     ensures losses { LossesAreOfCycles }

@@ -20,11 +20,11 @@ use Rattle.cqf_model.specs.Port.{Transmission}
 use Rattle.cqf_laws_history.specs.BackgroundLaws.{BackgroundIsNumberedByPlace, BooksSayTheBackground, IsBackgroundOfRun}
 use Rattle.cqf_laws_history.specs.BackgroundLaws.{IsBackgroundStart, PortsSayTheirBackground, start_of_arrival}
 
--- a numbered frame
+-- a background frame with its number
 abbrev as_backed : ℕ × Background → Backed
 as_backed x = record { frame = x.0; background = x.1 }
 
--- the frame at a place, numbered from any number on
+-- the frame at a position, if the numbers start at n
 numbered_from : (n : ℕ) (background : List Background) (place : ℕ) (frame : Background) → slice_get background place ≡ Some frame →
     slice_get (map as_backed (enumerate_from n background)) place ≡ Some (as_backed (n + place, frame))
 numbered_from n [] place frame e = absurd cc
@@ -33,24 +33,24 @@ numbered_from n (x ∷ xs) (suc place) frame e =
     let same : n + 1 + place ≡ n + suc place = omega arith in
     numbered_from (n + 1) xs place frame e ∙ ap (λ (k : ℕ). Some (as_backed (k, frame))) same
 
--- a background frame's number is its place in its list, from 1
+-- a background frame's number is its position in its list, from 1
 pub numbered_by_place : BackgroundIsNumberedByPlace
 numbered_by_place background place frame e =
     let same : 1 + place ≡ place + 1 = omega arith in
     numbered_from 1 background place frame e ∙ ap (λ (k : ℕ). Some (as_backed (k, frame))) same
 
--- a transmission's background start is of a frame of no stream
+-- if a transmission gives a background start, its frame is of no stream
 backed_from : (t : ℕ) (a : Arrival) (stream : Option ℕ) (start : Start) → Contains (backed_by t a stream) start → (stream ≡ None)
     × (start ≡ start_of_arrival t a)
 backed_from t a None start c = (refl, sym (contains_one (start_of_arrival t a) start c))
 backed_from t a (Some number) start c = absurd (contains_none start c)
 
--- and a frame of no stream gives one
+-- and a frame of no stream gives such a start
 backed_there : (t : ℕ) (a : Arrival) (stream : Option ℕ) → stream ≡ None → Contains (backed_by t a stream) (start_of_arrival t a)
 backed_there t a None e = contains_here (start_of_arrival t a) []
 backed_there t a (Some number) e = absurd cc
 
--- what a port's transmissions send as background
+-- what a port's transmissions send as background frames
 started_background : (queued : List QueuedFrame) (starts : List Transmission) (start : Start) → Contains (flat_map (backed_of queued) starts) start
     → IsBackgroundStart queued starts start
 started_background queued starts start c =
@@ -74,27 +74,27 @@ background_started queued starts start is =
     (backed_there start.start.0 q.arrival q.stream is.of_no_stream) in
     subst (λ (s : Start). Contains (flat_map (backed_of queued) starts) s) (sym is.as_it_came) there
 
--- of what a port starts, just the frames of no stream are its background frames
+-- among the frames that a port starts, exactly the frames of no stream are its background frames
 pub ports_say : PortsSayTheirBackground
 ports_say d entries end l queued sents backed sends start = (
   λ c. started_background queued sends.starts start (subst (λ (xs : List Start). Contains xs start) sends.are_backed c),
   λ is. subst (λ (xs : List Start). Contains xs start) (sym sends.are_backed) (background_started queued sends.starts start is),
 )
 
--- a start in a cycle of the run, on a link, as a book tells it
+-- a start in a cycle of the run, on a link, as the book records it
 told : (d : Domain) (cycles cycle link : ℕ) (backed : ℕ → List Start) (start : Start) (s : Started) → cycle < cycles → link < length d.links
     → Contains (backed link) start → cycle_of d start.start.0 ≡ cycle → started_backed cycle link start ≡ s → IsBackgroundOfRun d cycles backed s
 told d cycles cycle link backed start s within on there same is = subst (λ (y : Started). IsBackgroundOfRun d cycles backed y) is
     (record { start = start; on_link = on; is_backed = there; cycle = sym same; within_run = within; frame = refl; octets = refl; instant = refl })
 
--- it has the number, octets and instant of the start
+-- the book's record has the number, octets and instant of the start
 as_told : (s : Started) (start : Start) → s.frame ≡ start.frame → s.octets ≡ start.octets → s.start ≡ start.start → started_backed s.cycle.0 s.link start ≡ s
 as_told s start frame octets instant =
     let made : ℕ → ℕ → Nanos → Started = λ f o t. record { cycle = s.cycle; link = s.link; frame = f; octets = o; start = t } in
     ap (λ (f : ℕ). made f start.octets start.start) (sym frame) ∙ ap (λ (o : ℕ). made s.frame o start.start) (sym octets)
     ∙ ap (λ (t : Nanos). made s.frame s.octets t) (sym instant)
 
--- what the background list of a run has
+-- what the background list of a run contains
 from_run : (d : Domain) (cycles : ℕ) (backed : ℕ → List Start) (s : Started) → Contains (background_of d cycles backed) s → IsBackgroundOfRun d cycles backed s
 from_run d cycles backed s c =
     let a = contains_from_below (λ cycle. each_below (background_in d backed cycle) (length d.links)) cycles s c in

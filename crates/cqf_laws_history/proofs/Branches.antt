@@ -1,4 +1,4 @@
--- What a branch has that isn't refused: known nodes, a link from each to the next, and no node twice.
+-- What holds for a branch that isn't refused: its nodes are known, a link goes from each to the next, and no node occurs twice.
 use Rattle.std.proofs.Common.{◌≡◌, ℕ, ◌+◌, ◌-◌, ◌<◌, ◌≤◌, Bool, true, false, List, Option, Some, None, length, get_or, sym, refl, ap, ◌∙◌, inl, inr, arith}
 use Rattle.std.proofs.Common.{subst}
 use Rattle.std.specs.Prelude.{[], ◌∷◌, ◌==◌, ◌&&◌, ◌||◌, is_none, nat_le, nat_lt, not, option_map, slice_get, take, unwrap_or, zero, suc, Contains}
@@ -33,7 +33,7 @@ pub record Goes (d : Domain) (l bridge : ℕ) (to : Node) : Type 0 where
   pub joins_is : (m : ℕ) → joins d m l ≡ enters d m bridge
   pub end_is : end_of d l ≡ Some to
 
--- a link to read past an end
+-- a link to read past the end of a list
 some_link : Link
 some_link = record { from = 0; to = Bridge 0; rate = Mb10; delay = 0; least = 0; guard = None }
 
@@ -63,7 +63,7 @@ pub record Between (d : Domain) (from to : Option Node) (l : ℕ) : Type 0 where
   pub to_is : to ≡ Some node
   pub goes : Goes d l bridge node
 
--- and so does one between two nodes
+-- a link that is found between two nodes of a branch goes between them
 between : (d : Domain) (from to : Option Node) (l : ℕ) → link_from d from to ≡ Some l → Between d from to l
 between d None to l e = absurd cc
 between d (Some (Bridge b)) None l e = absurd cc
@@ -73,19 +73,19 @@ between d (Some (Bridge b)) (Some n) l e = record { bridge = b; node = n; from_i
 
 -- ---- what isn't broken
 
--- where both don't hold and the first does, the second fails
+-- if the conjunction is false and the first is true, the second is false
 and_then_false : (x y : Bool) → (x && y) ≡ false → x ≡ true → y ≡ false
 and_then_false true y e t = e
 and_then_false false y e t = absurd cc
 
--- what it means that a branch isn't broken at a place
+-- what it means that a branch isn't broken at an index
 pub record NotBroken (d : Domain) (branch : Branch) (k : ℕ) : Type 0 where
   pub first : k ≡ 0 → is_bridge (node_at d branch 0) ≡ true
   pub linked : 1 ≤ k → k < length branch → is_none (link_at d branch (k - 1)) ≡ false
   pub last : k + 1 ≡ length branch → is_bridge (node_at d branch k) ≡ false
   pub few : k ≡ nodes_within d.limits → length branch ≤ k
 
--- what isn't broken there has each part of it
+-- each part of it holds
 not_broken : (d : Domain) (branch : Branch) (k : ℕ) → is_broken_at d branch k ≡ false → NotBroken d branch k
 not_broken d branch k e =
     let no_bridge_first = (k == 0) && not (is_bridge (node_at d branch 0)) in
@@ -103,43 +103,43 @@ not_broken d branch k e =
       few = λ z. ltb-false k (length branch) (and_then_false (k == nodes_within d.limits) (nat_lt k (length branch)) a.1 (eq-eqb k (nodes_within d.limits) z));
     }
 
--- a branch that isn't refused
+-- what holds for a branch that isn't refused
 pub record IsBranch (d : Domain) (branch : Branch) : Type 0 where
   pub known : (name : List ℕ) → Contains branch name → is_none (node_named d name) ≡ false
   pub whole : (k : ℕ) → k < length branch + 1 → NotBroken d branch k
   pub simple : (k : ℕ) → k < length branch + 1 → is_loop_at d branch k ≡ false
 
--- what is known, whole and simple is a branch
+-- a branch is such if its names are known and it is whole and simple
 pub is_branch : (d : Domain) (branch : Branch) → ((name : List ℕ) → Contains branch name → is_none (node_named d name) ≡ false) →
     ((k : ℕ) → k < length branch + 1 → is_broken_at d branch k ≡ false) → ((k : ℕ) → k < length branch + 1 → is_loop_at d branch k ≡ false) → IsBranch d branch
 is_branch d branch known whole simple = record { known = known; whole = λ k h. not_broken d branch k (whole k h); simple = simple }
 
--- what is there
+-- an option that isn't `None` has a value
 pub some_from : {X : Type 0} (o : Option X) → is_none o ≡ false → (x : X) × (o ≡ Some x)
 some_from None e = absurd cc
 some_from (Some x) e = (x, refl)
 
--- a node of a branch has its name there
+-- the name at an index, if there is a node
 pub name_at : (d : Domain) (branch : Branch) (k : ℕ) (node : Node) → node_at d branch k ≡ Some node → (name : List ℕ) × (slice_get branch k ≡ Some name) ×
     (node_named d name ≡ Some node)
 name_at d branch k node e = by_name (slice_get branch k) refl e
   where
-    -- where a node is there, a name is, and the node is the name's
+    -- if there is a node, there is a name, and the node is the name's
     by_name : (o : Option (List ℕ)) → slice_get branch k ≡ o → option_map_or (λ name. node_named d name) o None ≡ Some node → (name : List ℕ) ×
         (slice_get branch k ≡ Some name) × (node_named d name ≡ Some node)
     by_name None f g = absurd cc
     by_name (Some name) f g = (name, f, g)
 
--- the node at a place is that of its name
+-- the node at an index is that of the name there
 pub node_of_name : (d : Domain) (branch : Branch) (k : ℕ) (name : List ℕ) → slice_get branch k ≡ Some name → node_at d branch k ≡ node_named d name
 node_of_name d branch k name e = ap (λ (o : Option (List ℕ)). option_map_or (λ n. node_named d n) o None) e
 
--- no name stands twice
+-- no name occurs twice
 abbrev pub NoRepeat : Branch → Type 0
 NoRepeat branch = (i j : ℕ) (name : List ℕ) → slice_get branch i ≡ Some name → slice_get branch j ≡ Some name → i ≡ j
 
 module _ (d : Domain) (branch : Branch) (good : IsBranch d branch) where
-  -- a name stands at no two places
+  -- a name occurs at no two indices
   not_before : (i j : ℕ) (name : List ℕ) → i < j → slice_get branch i ≡ Some name → slice_get branch j ≡ Some name → ⊥
   not_before i j name before e f =
       let inside = slice_get_within branch j name f in
@@ -195,28 +195,28 @@ module _ (d : Domain) (branch : Branch) (good : IsBranch d branch) where
 
 -- ---- the hops of a branch
 
--- the hop at a place
+-- the hop at an index
 abbrev pub hop_made : Domain → Branch → ℕ → Hop
 hop_made d branch k = record { link = unwrap_or (link_at d branch k) 0; depth = k + 1; from = link_before d branch k }
 
--- a hop by a link that is there
+-- a hop by a link that exists
 hop_to_made : (depth : ℕ) (from o : Option ℕ) → is_none o ≡ false → hop_to depth from o ≡ record { link = unwrap_or o 0; depth = depth; from = from } ∷ []
 hop_to_made depth from None e = absurd cc
 hop_to_made depth from (Some l) e = refl
 
--- what isn't none is there
+-- an option that isn't `None` has its unwrapped value
 there_is : (o : Option ℕ) → is_none o ≡ false → o ≡ Some (unwrap_or o 0)
 there_is None e = absurd cc
 there_is (Some l) e = refl
 
 module _ (d : Domain) (branch : Branch) (good : IsBranch d branch) where
-  -- the hops along a branch are one for each place but the last
+  -- a branch has one hop for each index but the last
   made : hops_along d branch ≡ each_below (λ k. hop_made d branch k ∷ []) (length branch - 1)
   made =
       same_below (λ k. hop_to (k + 1) (link_before d branch k) (link_at d branch k)) (λ k. hop_made d branch k ∷ []) (length branch - 1)
       (λ k h. hop_to_made (k + 1) (link_before d branch k) (link_at d branch k) (linked d branch good k (omega (arith, h))))
 
-  -- each place but the last has its hop
+  -- each index but the last has its hop
   pub hop_there : (k : ℕ) → k + 1 < length branch → slice_get (hops_along d branch) k ≡ Some (hop_made d branch k)
   hop_there k h =
       let hops = each_below (λ j. hop_made d branch j ∷ []) (length branch - 1) in
@@ -224,7 +224,7 @@ module _ (d : Domain) (branch : Branch) (good : IsBranch d branch) where
       ∙ slice_get-get_or hops k (hop_made d branch k) (omega (arith, h, length-singles (hop_made d branch) (length branch - 1)))
       ∙ ap (λ (hop : Hop). Some hop) (get_or-singles (hop_made d branch) (length branch - 1) k (hop_made d branch k) (omega (arith, h)))
 
-  -- and the hops are those
+  -- and the hops are exactly these
   pub hop_is : (k : ℕ) (hop : Hop) → slice_get (hops_along d branch) k ≡ Some hop → (k + 1 < length branch) × (hop_made d branch k ≡ hop)
   hop_is k hop e =
       let inside = slice_get_within (hops_along d branch) k hop e in
@@ -233,7 +233,7 @@ module _ (d : Domain) (branch : Branch) (good : IsBranch d branch) where
       let h : k + 1 < length branch = omega (arith, inside, count) in
       (h, same_Some (hop_made d branch k) hop (sym (hop_there k h) ∙ e))
 
-  -- the hop at a place is by the link there
+  -- the hop at an index is by the link there
   pub link_is : (k : ℕ) → k + 1 < length branch → link_at d branch k ≡ Some (hop_made d branch k).link
   link_is k h = there_is (link_at d branch k) (linked d branch good k h)
 
@@ -256,9 +256,9 @@ module _ (d : Domain) (branch : Branch) (good : IsBranch d branch) where
         deeper = omega arith;
       }
 
--- ---- a hop hangs on the nodes up to its end alone
+-- ---- a hop depends only on the nodes up to its end
 
--- a front of a branch has the same links
+-- a prefix of a branch has the same links
 link_front : (d : Domain) (branch : Branch) (n k : ℕ) → k + 1 < n → link_at d (take n branch) k ≡ link_at d branch k
 link_front d branch n k h =
     let node : (j : ℕ) → j < n → node_at d (take n branch) j ≡ node_at d branch j =

@@ -1,4 +1,4 @@
--- A Seal stays at its place when entries follow, and so does the table that it closes.
+-- A Seal keeps its index when entries follow, and so does the table that it closes.
 use Rattle.std.proofs.Common.{◌≡◌, ℕ, ◌+◌, ◌<◌, Bool, cond, List, length, get_or, ap, ◌∙◌, inl, inr, arith, length-append}
 use Rattle.std.specs.Prelude.{[], ◌∷◌, ◌++◌, take, suc}
 use Rattle.std.proofs.lemmas.Bool.{cases_lt}

@@ -71,7 +71,7 @@ seal_lets_go_those_that_end d entries rows next state =
 
 -- ---- ends are soon
 
--- what an entry withdraws, it withdraws from its own cycle on
+-- an entry withdraws a stream from its own cycle on
 withdrawn_by : (effect number : ℕ) (act : Act) (reply : Reply) (w : Cycle) → Contains (withdrawal_by effect number act reply) w → w.0 ≡ effect
 withdrawn_by effect number (Admits asked) reply w c = absurd (contains_none w c)
 withdrawn_by effect number Seals reply w c = absurd (contains_none w c)
@@ -83,13 +83,13 @@ withdrawn_by effect number (Withdraws name) (Accepted receipt) w c = by_number (
     by_number true h = ap (λ (x : Cycle). x.0) (sym (contains_one (record { 0 = effect }) w h))
     by_number false h = absurd (contains_none w h)
 
--- so what stands at a place is withdrawn from the cycle on that is next there
+-- so an entry at an index withdraws a stream from the cycle on that is next to be closed there
 withdrawn_there : (effect number : ℕ) (o : Option Recorded) (w : Cycle) →
     Contains (option_map_or (λ (e : Recorded). withdrawal_by effect number e.act e.reply) o []) w → w.0 ≡ effect
 withdrawn_there effect number None w c = absurd (contains_none w c)
 withdrawn_there effect number (Some e) w c = withdrawn_by effect number e.act e.reply w c
 
--- no stream is withdrawn from a later cycle on than the next one
+-- no stream is withdrawn from a cycle on that is later than the next one to be closed
 withdrawn_so_far : (d : Domain) (entries : List Recorded) (row : Row) (w : Cycle) → Contains (streams_of d entries) row → row.withdrawn ≡ Some w →
     w.0 ≤ seals entries
 withdrawn_so_far d entries row w c e =
@@ -104,7 +104,7 @@ withdrawn_so_far d entries row w c e =
     let effect : w.0 ≡ sealed_before entries member.0 = withdrawn_there (sealed_before entries member.0) made.0.no (slice_get entries member.0) w member.2 in
     omega (arith, effect, sealed_more entries member.0 n (omega (arith, member.1)) (omega arith), ap seals all)
 
--- a tree's links are at most 64 deep
+-- a tree's links have hop numbers of at most 64
 residence_few : (d : Domain) (row : Row) → IsTree d row.tree.items → residence row ≤ 64
 residence_few d row tree =
     let met = (residence_met row tree.some).1 in
@@ -129,7 +129,7 @@ ends_are_soon d entries rows next row w legal state c e =
 
 -- ---- the slot
 
--- of 64 numbers behind one no other stands in the slot of the next
+-- among the 64 numbers after `cycle`, only the next one falls into its slot
 pub slot_tells : (cycle end : ℕ) → cycle < end → end ≤ cycle + 64 → (end == cycle + 1) ≡ (end % 128 == (cycle + 1) % 128)
 slot_tells cycle end later soon = elim (cases_Bool (end == cycle + 1)) [
   | inl t ↦ t ∙ sym (eq-eqb (end % 128) ((cycle + 1) % 128) (ap (λ (n : ℕ). n % 128) (eqb-true end (cycle + 1) t)))

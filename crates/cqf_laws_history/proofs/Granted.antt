@@ -1,4 +1,4 @@
--- What a request that isn't refused has; and that its branches are a tree.
+-- What holds for a request that isn't refused, and that its branches form a tree.
 use Rattle.std.proofs.Common.{◌≡◌, ℕ, ◌+◌, ◌<◌, ◌≤◌, Bool, true, false, List, Option, Some, None, length, sym, refl, ap, ◌∙◌, inl, inr, arith}
 use Rattle.std.specs.Prelude.{[], ◌∷◌, ◌&&◌, is_none, is_some, nat_le, nat_lt, not, option_map, position, Contains}
 use Rattle.std.specs.List.{flat_map, list_any}
@@ -29,21 +29,21 @@ use Rattle.cqf_laws_history.specs.StateLaws.{GrantedFindsRoom}
 use Rattle.cqf_laws_history.proofs.Branches.{IsBranch, first_is_bridge, is_branch, no_repeat}
 use Rattle.cqf_laws_history.proofs.Trees.{MakeATree, all_make_a_tree, tree_from, tree_is_branches}
 
--- a refusal that hangs on a test isn't due where the test fails
+-- a refusal that depends on a test isn't due if the test fails
 pub refused_if_none : (b : Bool) (refused : Refused) → refused_if b refused ≡ None → b ≡ false
 refused_if_none true refused e = absurd cc
 refused_if_none false refused e = refl
 
--- a refusal at a place isn't due where there is no such place
+-- a refusal at an index isn't due if there is no such index
 pub refused_at_none : (refused : ℕ → Refused) (o : Option ℕ) → refused_at refused o ≡ None → o ≡ None
 refused_at_none refused None e = refl
 refused_at_none refused (Some place) e = absurd cc
 
--- a bound that isn't reached
+-- a number below a bound
 below_bound : (bound n : ℕ) → nat_le bound n ≡ false → n < bound
 below_bound bound n h = grind (arith, common_steps)
 
--- what a request that isn't refused has
+-- what holds for a request that isn't refused
 pub record IsGranted (d : Domain) (rows : List Row) (asked : Asked) : Type 0 where
   pub named : is_name asked.name ≡ true
   pub least_octets : 64 ≤ asked.octets
@@ -104,7 +104,7 @@ granted d rows asked e =
 
 -- ---- its branches
 
--- where no place of the branches fails, none of a branch does
+-- if no index of the branches fails, none of a single branch does
 pub first_place_none : (fails : Branch → ℕ → Bool) (paths : List Branch) → first_place fails paths ≡ None → (branch : Branch) →
     Contains paths branch → (k : ℕ) →
     k < length branch + 1 → fails branch k ≡ false
@@ -117,7 +117,7 @@ first_place_none fails (x ∷ paths) e branch c k h =
       | inr later ↦ first_place_none fails paths (unmapped_none (λ place. length x + place) (first_place fails paths) parts.1) branch later k h
     ]
 
--- where a tree isn't broken, no branch of it is
+-- if a tree isn't broken, no branch of it is
 pub none_broken : (d : Domain) (paths : List Branch) → broken_place d paths ≡ None → first_place (is_broken_at d) paths ≡ None
 none_broken d [] e = absurd cc
 none_broken d (branch ∷ paths) e = e
@@ -127,7 +127,7 @@ pub first_branch : (d : Domain) (paths : List Branch) → broken_place d paths �
 first_branch d [] e = absurd cc
 first_branch d (branch ∷ paths) e = (branch, contains_here branch paths)
 
--- what some branches have that are a tree
+-- what holds for branches that form a tree
 pub record AreOfForm (d : Domain) (paths : List Branch) : Type 0 where
   pub known : position (λ name. is_none (node_named d name)) (flat_map (λ branch. branch) paths) ≡ None
   pub whole : broken_place d paths ≡ None
@@ -135,7 +135,7 @@ pub record AreOfForm (d : Domain) (paths : List Branch) : Type 0 where
   pub together : least (is_stray paths) (length paths) ≡ None
 
 module _ (d : Domain) (paths : List Branch) (g : AreOfForm d paths) where
-  -- each name is a node's
+  -- each name is that of a node
   none_unknown : list_any (λ name. is_none (node_named d name)) (flat_map (λ branch. branch) paths) ≡ false
   none_unknown = sym (position_any (λ name. is_none (node_named d name)) (flat_map (λ branch. branch) paths)) ∙ ap (λ (o : Option ℕ). is_some o) g.known
 
@@ -151,7 +151,7 @@ module _ (d : Domain) (paths : List Branch) (g : AreOfForm d paths) where
   pub form_trees : (xs ys : Branch) → Contains paths xs → Contains paths ys → MakeATree xs ys
   form_trees = all_make_a_tree paths (λ branch c. no_repeat d branch (form_branches branch c)) (least_none (is_stray paths) (length paths) g.together)
 
-  -- so all are a tree
+  -- so together they form a tree
   pub form_is_tree : IsTree d (tree_of d paths)
   form_is_tree =
       let one = first_branch d paths g.whole in
@@ -164,7 +164,7 @@ module _ (d : Domain) (paths : List Branch) (g : AreOfForm d paths) where
       bridge_of_node (Some (Station s)) e = absurd cc
 
 module _ (d : Domain) (rows : List Row) (asked : Asked) (g : IsGranted d rows asked) where
-  -- those of a request that isn't refused are so
+  -- this holds for the branches of a request that isn't refused
   of_form : AreOfForm d asked.paths
   of_form = record { known = g.known; whole = g.whole; simple = g.simple; together = g.together }
 
@@ -181,7 +181,7 @@ module _ (d : Domain) (rows : List Row) (asked : Asked) (g : IsGranted d rows as
 pub granted_is_a_tree : GrantedIsATree
 granted_is_a_tree d rows asked e = is_tree d rows asked (granted d rows asked e)
 
--- and the tree has their hops and no other
+-- and the tree has exactly their hops
 pub branches_of_tree : TreeIsItsBranches
 branches_of_tree d rows asked hop e =
     let g = granted d rows asked e in

@@ -1,4 +1,4 @@
--- One entry more: what it changes of the streams.
+-- What one more entry changes of the streams.
 use Rattle.std.proofs.Common.{◌≡◌, ◌≢◌, ℕ, ◌+◌, ◌<◌, ◌≤◌, Bool, true, false, cond, List, Option, Some, None, length, get_or, sym, refl, ap, ◌∙◌, inl, inr}
 use Rattle.std.proofs.Common.{arith, subst, append-nil, length-append}
 use std.Path.{fun_ext}
@@ -33,18 +33,18 @@ use Rattle.cqf_laws_history.proofs.Places.{SealAt, admitted_at, admitted_before,
 use Rattle.cqf_laws_history.proofs.Places.{withdrawn_at, withdrawn_before}
 use Rattle.cqf_laws_history.proofs.Sound.{AreDue, Sound, held_less, named_is_held, number_below, sound}
 
--- a Seal is one more
+-- a Seal adds one Seal
 pub seals_are_counted : SealsAreCounted
 seals_are_counted entries seat act reply =
     sum_by_push (λ (e : Recorded). cond (is_seal e.act) 1 0) entries (record { seat = seat; act = act; reply = reply })
 
 -- the parts of a history with one entry more
 module _ (entries : List Recorded) (e : Recorded) where
-  -- before the new entry stand the old ones
+  -- before the new entry are the old ones
   pub front_is : take (length entries) (entries ++ e ∷ []) ≡ entries
   front_is = take_at entries (e ∷ []) (length entries) refl
 
-  -- it stands behind them
+  -- it follows them
   pub last_is : slice_get (entries ++ e ∷ []) (length entries) ≡ Some e
   last_is = slice_get_behind entries e [] (length entries) refl
 
@@ -52,7 +52,7 @@ module _ (entries : List Recorded) (e : Recorded) where
   pub whole_is : take (suc (length entries)) (entries ++ e ∷ []) ≡ entries ++ e ∷ []
   whole_is = take_all (suc (length entries)) (entries ++ e ∷ []) (omega (arith, length-append entries (e ∷ [])))
 
--- answers that are due, with one more that is
+-- if a reply that is due is appended, all replies are due
 pub due_more : (d : Domain) (entries : List Recorded) (seat : ℕ) (act : Act) → AreDue d entries →
     AreDue d (with_entry entries seat act (reply_to d entries act))
 due_more d entries seat act due place x at =
@@ -78,7 +78,7 @@ history_goes_on d entries seat act legal few_seals few_calls =
       few_calls = omega (arith, count, few_calls, length-append entries (record { seat = seat; act = act; reply = reply } ∷ []));
     }
 
--- the streams before an entry and behind it
+-- the streams before an entry and after it
 module _ (d : Domain) (entries : List Recorded) (e : Recorded) where
   -- the streams without the new entry
   pub streams_before : streams_of d entries ≡ map (with_end (withdrawn_before (entries ++ e ∷ []) (length entries)))
@@ -92,7 +92,7 @@ module _ (d : Domain) (entries : List Recorded) (e : Recorded) where
   streams_behind = ap (streams_of d) (sym (whole_is entries e))
       ∙ streams_front (entries ++ e ∷ []) (suc (length entries)) (omega (arith, length-append entries (e ∷ []))) d
 
-  -- the Seals before the new entry are those of the old ones
+  -- before the new entry are the Seals of the old ones
   pub sealed_here : sealed_before (entries ++ e ∷ []) (length entries) ≡ seals entries
   sealed_here = ap seals (front_is entries e)
 
@@ -110,7 +110,7 @@ module _ (d : Domain) (entries : List Recorded) (e : Recorded) where
       (λ (x : Recorded). withdrawal_by (sealed_before (entries ++ e ∷ []) (length entries)) number x.act x.reply) o []) (last_is entries e)
       ∙ ap (λ (c : ℕ). withdrawal_by c number e.act e.reply) sealed_here
 
-  -- where it withdraws nothing, ends stay
+  -- if it withdraws nothing, the ends stay
   pub ends_same : ((number : ℕ) → withdrawal_by (seals entries) number e.act e.reply ≡ []) →
       withdrawn_before (entries ++ e ∷ []) (suc (length entries)) ≡ withdrawn_before (entries ++ e ∷ []) (length entries)
   ends_same none = fun_ext (λ number.
@@ -155,7 +155,7 @@ no_seal_refused d entries (Admits asked) refused e = refl
 no_seal_refused d entries (Withdraws name) refused e = refl
 no_seal_refused d entries Seals refused e = absurd cc
 
--- no Seal leaves the next cycle as it was
+-- an entry that is no Seal leaves the next cycle as it was
 pub seals_same : (entries : List Recorded) (seat : ℕ) (act : Act) (reply : Reply) → is_seal act ≡ false → seals (with_entry entries seat act reply)
     ≡ seals entries
 seals_same entries seat act reply none =
@@ -179,12 +179,12 @@ with_no_end w row none same =
     ap (λ (o : Option Cycle). let made : Row =
     record { no = row.no; name = row.name; octets = row.octets; pace = row.pace; tree = row.tree; admitted = row.admitted; withdrawn = o } in made) (same ∙ sym none)
 
--- what is nothing that it can be is none
+-- an option that can't have a value is `None`
 pub none_unless : (o : Option Cycle) → ((x : Cycle) → o ≡ Some x → ⊥) → o ≡ None
 none_unless None h = refl
 none_unless (Some x) h = absurd (h x refl)
 
--- a stream that is admitted now is held now
+-- a stream that is admitted in a cycle is held in it
 pub new_is_held : (d : Domain) (number effect : ℕ) (asked : Asked) →
     filter (λ (row : Row). is_held row effect) (granted_row d number effect asked ∷ []) ≡ granted_row d number effect asked ∷ []
 new_is_held d number effect asked =
@@ -195,7 +195,7 @@ new_is_held d number effect asked =
 pub seal_changes_no_stream : SealChangesNoStream
 seal_changes_no_stream d entries seat = streams_same d entries (record { seat = seat; act = Seals; reply = Sealed }) refl (λ number. refl)
 
--- a granted stream stands behind the others
+-- a granted stream is appended to the others
 pub granted_is_last : GrantedIsLast
 granted_is_last d entries seat asked legal none =
     let next = next_number d entries in
@@ -236,7 +236,7 @@ granted_is_held d entries rows next seat asked legal state free =
     (seals_same entries seat (Admits asked) (reply_to d entries (Admits asked)) refl) held (length-append (streams_of d entries) (new ∷ [])
     ∙ ap (λ (k : ℕ). k + 1) state.number)
 
--- what is kept of a mapped list, where the map changes nothing of the test
+-- filtering a mapped list, if the map doesn't change the test
 pub filter_mapped : (p : Row → Bool) (g : Row → Row) (xs : List Row) → ((x : Row) → Contains xs x → p (g x) ≡ p x) → filter p (map g xs) ≡ map g (filter p xs)
 filter_mapped p g [] h = refl
 filter_mapped p g (x ∷ xs) h =
@@ -244,12 +244,12 @@ filter_mapped p g (x ∷ xs) h =
     ∙ ap (λ (zs : List Row). cond (p x) (g x ∷ zs) zs) (filter_mapped p g xs (λ z k. h z (contains_later x xs z k)))
     ∙ map_kept (p x)
   where
-    -- a first element, kept or not, may be mapped before it is kept or behind
+    -- it makes no difference whether the first element is mapped before or after the filter
     map_kept : (b : Bool) → cond b (g x ∷ map g (filter p xs)) (map g (filter p xs)) ≡ map g (cond b (x ∷ filter p xs) (filter p xs))
     map_kept true = refl
     map_kept false = refl
 
--- a map after a map, against one that agrees on the members
+-- mapping twice, compared with one map that agrees on the members
 pub map_twice : (f g h : Row → Row) (xs : List Row) → ((x : Row) → Contains xs x → f x ≡ g (h x)) → map f xs ≡ map g (map h xs)
 map_twice f g h [] e = refl
 map_twice f g h (x ∷ xs) e =
@@ -259,7 +259,7 @@ map_twice f g h (x ∷ xs) e =
 pub sound_now : (d : Domain) (entries : List Recorded) → IsLegalHistory d entries → Sound d entries (length entries)
 sound_now d entries legal = sound d entries legal.replies (length entries) (omega arith)
 
--- all entries are before the end
+-- the first `length` entries are all entries
 pub all_is : (entries : List Recorded) → take (length entries) entries ≡ entries
 all_is entries = take_all (length entries) entries (omega arith)
 
@@ -283,7 +283,7 @@ tree_now d entries row legal h =
     let s = stream_of d entries row h in
     subst (λ (r : Row). IsTree d r.tree.items) s.2 ((sound_now d entries legal).trees s.0 s.1)
 
--- a Seal lets go of those whose last frame has left
+-- a Seal lets go the streams whose last frame has left
 pub seal_lets_go : SealLetsGo
 seal_lets_go d entries rows next seat legal state =
     let e : Recorded = record { seat = seat; act = Seals; reply = Sealed } in
@@ -308,7 +308,7 @@ seal_closes_table d entries rows next seat state =
     let last : place ≡ length entries = last_seal place at in
     ap (λ (k : ℕ). held_in d (take k all) (seals entries)) last ∙ ap (λ (xs : List Recorded). held_in d xs (seals entries)) (front_is entries e) ∙ state.held
   where
-    -- the Seal that was just entered stands behind all earlier entries
+    -- the Seal that was just entered follows all earlier entries
     last_seal : (place : ℕ) → SealAt (with_entry entries seat Seals Sealed) (seals entries) place → place ≡ length entries
     last_seal place at =
         let e : Recorded = record { seat = seat; act = Seals; reply = Sealed } in
@@ -324,20 +324,20 @@ seal_closes_table d entries rows next seat state =
 
 -- ---- a withdrawal
 
--- the first of a list that was empty and got one more
+-- the first element of a list that was empty and got one
 pub first_of_none : (front : List Cycle) (x : Cycle) → slice_get front 0 ≡ None → slice_get (front ++ x ∷ []) 0 ≡ Some x
 first_of_none front x e = ap (λ (xs : List Cycle). slice_get (xs ++ x ∷ []) 0) (nil_from_none front e)
 
--- a row by its end
+-- a row with this end
 abbrev row_ending : Row → Option Cycle → Row
 row_ending row end = record { no = row.no; name = row.name; octets = row.octets; pace = row.pace; tree = row.tree; admitted = row.admitted; withdrawn = end }
 
--- a row that is held without an end is held with an end from this cycle on
+-- a row that is held without an end is still held in this cycle if it ends from this cycle on
 pub held_with_end : (row : Row) (cycle number : ℕ) → 0 < residence row → (row.no ≡ number → row.withdrawn ≡ None) →
     is_held (ended_row number cycle row) cycle ≡ is_held row cycle
 held_with_end row cycle number long open_end = by_number (row.no == number) refl
   where
-    -- the row is held in the cycle as before, whether it has the number or not
+    -- this is so whether the row has the number or not
     by_number : (b : Bool) → (row.no == number) ≡ b → is_held (ended_row number cycle row) cycle ≡ is_held row cycle
     by_number false t = ap (λ (c : Bool). is_held (if c then row_ending row (Some (record { 0 = cycle })) else row) cycle) t
     by_number true t =
@@ -347,19 +347,19 @@ held_with_end row cycle number long open_end = by_number (row.no == number) refl
         ∙ ap (λ (b : Bool). nat_le row.admitted.0 cycle && b) (lt-ltb cycle (cycle + residence row) (omega (arith, long)))
         ∙ ap (λ (o : Option Cycle). nat_le row.admitted.0 cycle && option_map_or (λ (w : Cycle). nat_lt cycle (w.0 + residence row)) o true) (sym none)
 
--- a stream is withdrawn as its number is
+-- a stream's end is the withdrawal of its number
 pub end_of : (d : Domain) (entries : List Recorded) (row : Row) → Contains (streams_of d entries) row →
     row.withdrawn ≡ withdrawn_before entries (length entries) row.no
 end_of d entries row h =
     let s = stream_of d entries row h in
     ap (λ (r : Row). r.withdrawn) (sym s.2) ∙ ap (withdrawn_before entries (length entries)) (ap (λ (r : Row). r.no) s.2)
 
--- with one withdrawal more, a row ends where it has that number
+-- with one more withdrawal, exactly the row of that number ends
 pub ended_by : (v w : ℕ → Option Cycle) (number cycle : ℕ) → ((other : ℕ) → (number == other) ≡ true → v other ≡ Some (record { 0 = cycle })) →
     ((other : ℕ) → (number == other) ≡ false → v other ≡ w other) → (row : Row) → with_end v row ≡ ended_row number cycle (with_end w row)
 ended_by v w number cycle here elsewhere row = by_number (row.no == number) refl
   where
-    -- with one withdrawal more, the row ends so, whether it has the number or not
+    -- this is so whether the row has the number or not
     by_number : (b : Bool) → (row.no == number) ≡ b → with_end v row ≡ ended_row number cycle (with_end w row)
     by_number true t =
         ap (row_ending row) (here row.no (eq-eqb number row.no (sym (eqb-true row.no number t))))
@@ -368,7 +368,7 @@ ended_by v w number cycle here elsewhere row = by_number (row.no == number) refl
         ap (row_ending row) (elsewhere row.no (ne_eqb number row.no (λ e. eqb-false row.no number t (sym e))))
         ∙ ap (λ (c : Bool). if c then row_ending row (Some (record { 0 = cycle })) else with_end w row) (sym t)
 
--- a stream that is withdrawn ends in its place
+-- a withdrawn stream keeps its position and gets its end
 pub withdrawn_ends : WithdrawnEnds
 withdrawn_ends d entries seat name row legal found open_end =
     let c = seals entries in
@@ -422,7 +422,7 @@ withdrawn_is_held_on d entries rows next seat name row legal state found open_en
     (filter_mapped (λ (r : Row). is_held r c) (ended_row row.no c) (streams_of d entries) kept ∙ ap (map (ended_row row.no c)) state.held)
     (length-map (streams_of d entries) (ended_row row.no c) ∙ state.number)
 
--- ---- what held streams have
+-- ---- what holds for held streams
 
 -- held streams are sound
 pub held_sound : (d : Domain) (entries : List Recorded) → IsLegalHistory d entries →

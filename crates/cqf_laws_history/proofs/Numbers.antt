@@ -1,4 +1,4 @@
--- The streams of a history bear the numbers of their places, and what a withdrawal makes of them.
+-- Each stream of a history has its index as its number; and what a withdrawal changes.
 use Rattle.std.proofs.Common.{◌≡◌, ℕ, suc, zero, ◌+◌, ◌<◌, ◌∷◌, [], List, Option, Some, None, refl, sym, ap, ◌∙◌, arith}
 use Rattle.std.proofs.Common.{length, map, if◌then◌else◌, eq-eqb, ne_eqb, option_map}
 use Rattle.std.specs.Prelude.{slice_get, slice_set}
@@ -10,7 +10,7 @@ use Rattle.cqf_laws_history.specs.StateLaws.{ended_row}
 use Rattle.cqf_laws_history.proofs.Growth.{all_is, sound_now}
 use Rattle.cqf_laws_history.proofs.Places.{admitted_before, streams_front, with_end, withdrawn_before}
 
--- where rows bear the numbers of their places, from a number on, those of other numbers stay
+-- if rows are numbered by index from m on, the rows of other numbers stay
 pub others_stay : (xs : List Row) (m n c : ℕ) → ((k : ℕ) (row : Row) → slice_get xs k ≡ Some row → row.no ≡ m + k) → n < m → map (ended_row n c) xs ≡ xs
 others_stay [] m n c numbers below = refl
 others_stay (x ∷ xs) m n c numbers below =
@@ -18,7 +18,7 @@ others_stay (x ∷ xs) m n c numbers below =
     ∷ map (ended_row n c) xs)
     ∙ ap (λ ys. x ∷ ys) (others_stay xs (m + 1) n c (λ k row is. omega (arith, numbers (suc k) row is)) (omega (arith, below)))
 
--- and that of the number ends
+-- and the row of the number ends
 pub one_ends : (xs : List Row) (m n c k : ℕ) (row : Row) → ((k : ℕ) (row : Row) → slice_get xs k ≡ Some row → row.no ≡ m + k) → n ≡ m + k →
     slice_get xs k ≡ Some row → map (ended_row n c) xs ≡ slice_set xs k (record row { withdrawn = Some (record { 0 = c }) })
 one_ends [] m n c k row numbers at is = absurd (omega (arith, slice_get_within [] k row is))
@@ -32,7 +32,7 @@ one_ends (x ∷ xs) m n c (suc k) row numbers at is =
     ∷ map (ended_row n c) xs)
     ∙ ap (λ ys. x ∷ ys) (one_ends xs (m + 1) n c k row (λ k row is. omega (arith, numbers (suc k) row is)) (omega (arith, at)) is)
 
--- the streams of a legal history bear the numbers of their places
+-- each stream of a legal history has its index as its number
 pub numbered : (d : Domain) (entries : List Recorded) → IsLegalHistory d entries → (i : ℕ) (row : Row) → slice_get (streams_of d entries) i
     ≡ Some row → row.no ≡ i
 numbered d entries legal i row is =

@@ -24,21 +24,21 @@ use Rattle.cqf_laws_history.proofs.Places.{SealAt, admitted_at, admitted_before,
 use Rattle.cqf_laws_history.proofs.Places.{with_end, withdrawn_at, withdrawn_before}
 use Rattle.cqf_laws_history.proofs.Sound.{Sound, held_before, sound}
 
--- a table that is closed: the Seal's place, and the streams before it
+-- a closed table: the Seal's index, and the streams before it
 record Closed (d : Domain) (entries : List Recorded) (table : List Row) (cycle : ℕ) : Type 0 where
   place : ℕ
   seal : SealAt entries cycle place
   sound_there : Sound d entries place
   is : table ≡ filter (λ (row : Row). is_held row cycle) (map (with_end (withdrawn_before entries place)) (admitted_before d entries place))
 
--- a row of it: a stream that was admitted before the Seal
+-- a row of it comes from a stream that was admitted before the Seal
 record RowOf (d : Domain) (entries : List Recorded) (place cycle : ℕ) (row : Row) : Type 0 where
   stream : Row
   admitted_there : Contains (admitted_before d entries place) stream
   is : with_end (withdrawn_before entries place) stream ≡ row
   held : is_held row cycle ≡ true
 
--- a withdrawal is of no Seal, and its effect is the number of Seals before it
+-- an entry that withdraws is no Seal, and it takes effect in the cycle of the Seals before it
 effect_by : (effect number : ℕ) (act : Act) (reply : Reply) (x : Cycle) → Contains (withdrawal_by effect number act reply) x → (is_seal act ≡ false) ×
     (x.0 ≡ effect)
 effect_by effect number (Admits asked) reply x h = absurd (contains_none x h)
@@ -47,12 +47,12 @@ effect_by effect number (Withdraws name) (RefusedFor refused) x h = absurd (cont
 effect_by effect number (Withdraws name) Sealed x h = absurd (contains_none x h)
 effect_by effect number (Withdraws name) (Accepted receipt) x h = (refl, of_cycle (receipt.no == number) h)
   where
-    -- a list that has the effect at most contains no other cycle
+    -- a list that has at most this cycle contains no other
     of_cycle : (b : Bool) → Contains (if b then record { 0 = effect } ∷ [] else []) x → x.0 ≡ effect
     of_cycle true k = elim (contains_cases (record { 0 = effect }) [] x k) [ inl e ↦ ap (λ (c : Cycle). c.0) (sym e) | inr n ↦ absurd (contains_none x n) ]
     of_cycle false k = absurd (contains_none x k)
 
--- a withdrawal is no Seal, and its effect is the Seals before it
+-- an entry that withdraws is no Seal, and it takes effect in the cycle of the Seals before it
 effect_at : (entries : List Recorded) (number place : ℕ) (x : Cycle) (e : Recorded) → slice_get entries place ≡ Some e →
     Contains (withdrawn_at entries number place) x → (is_seal e.act ≡ false) × (x.0 ≡ sealed_before entries place)
 effect_at entries number place x e is h =
@@ -74,7 +74,7 @@ module _ (d : Domain) (entries : List Recorded) (cycles : ℕ) (legal : IsLegalH
             ∙ ap (filter (λ (row : Row). is_held row cycle)) (streams_front entries place within d);
       }
 
-  -- no table holds a row but that of a cycle that is run
+  -- only the table of a cycle that is run has rows
   run_cycle : (cycle : ℕ) (row : Row) → Contains (table_of (tables_of d entries cycles) cycle) row → cycle < cycles
   run_cycle cycle row h =
       elim (cases_lt cycle cycles) [
@@ -95,7 +95,7 @@ module _ (d : Domain) (entries : List Recorded) (cycles : ℕ) (legal : IsLegalH
       let made = contains_from_map (with_end (withdrawn_before entries t.place)) (admitted_before d entries t.place) row kept.0 in
       record { stream = made.0; admitted_there = made.1; is = made.2; held = kept.1 }
 
-  -- each pair in a table of something that any two held streams have
+  -- a relation of any two held streams holds for each pair in a table
   pairs_of_table : (R : Row → Row → Type 0) →
       ((place : ℕ) → Sound d entries place →
       AllPairs (λ (a b : Row). held_before entries place a ≡ true → held_before entries place b ≡ true →
@@ -115,13 +115,13 @@ module _ (d : Domain) (entries : List Recorded) (cycles : ℕ) (legal : IsLegalH
             subst (AllPairs R) (sym none) (pairs_none R))
       ]
 
-  -- what is admitted before a place is admitted before a later one
+  -- what is admitted before an index is admitted before a later one
   admitted_later : (n m : ℕ) → n ≤ m → (row : Row) → Contains (admitted_before d entries n) row → Contains (admitted_before d entries m) row
   admitted_later n m le row h =
       let more = each_front (admitted_at d entries) n m le in
       subst (λ (xs : List Row). Contains xs row) (sym more.is) (Contains-append_left (admitted_before d entries n) more.rest row h)
 
-  -- a number is that of one admitted stream
+  -- a number identifies one admitted stream
   one_admitted : (n : ℕ) → Sound d entries n → (a b : Row) → Contains (admitted_before d entries n) a → Contains (admitted_before d entries n) b → a.no ≡ b.no →
       a ≡ b
   one_admitted n s a b (i, h, e) (j, k, f) same =
@@ -131,7 +131,7 @@ module _ (d : Domain) (entries : List Recorded) (cycles : ℕ) (legal : IsLegalH
       let place : i ≡ j = sym (s.numbers i a there) ∙ same ∙ s.numbers j b here in
       same_Some a b (sym there ∙ ap (λ (k : ℕ). slice_get rows k) place ∙ here)
 
-  -- a live stream that is withdrawn later is so from a later cycle on
+  -- if a live stream is withdrawn later, it ends in a later cycle
   ends_later : (cycle n m : ℕ) (stream : Row) (x : Cycle) → n ≤ m → m ≤ length entries → SealAt entries cycle n →
       is_live (with_end (withdrawn_before entries n) stream) cycle ≡ true → withdrawn_before entries m stream.no ≡ Some x → cycle < x.0
   ends_later cycle n m stream x le within seal live e = by_front (withdrawn_before entries n stream.no) refl
@@ -161,7 +161,7 @@ module _ (d : Domain) (entries : List Recorded) (cycles : ℕ) (legal : IsLegalH
           ∙ ap (λ (b : Bool). sealed_before entries n + cond b 1 0) seal.seal in
           omega (arith, made.1, closed_more, seal.before, sealed_more entries (suc n) later.0 (omega (arith, apart, later.1)) (omega (arith, later.2, within)))
 
-  -- the Seals stand in the order of their cycles
+  -- the Seals are in the order of their cycles
   seals_in_order : (early late n m : ℕ) → early ≤ late → SealAt entries early n → SealAt entries late m → n ≤ m
   seals_in_order early late n m le a b =
       elim (cases_lt m n) [
@@ -171,7 +171,7 @@ module _ (d : Domain) (entries : List Recorded) (cycles : ℕ) (legal : IsLegalH
         | inr g ↦ g
       ]
 
-  -- a live stream is held for as many cycles more as its deepest link has depth
+  -- a live stream is held for as many cycles more as the hop number of its deepest link
   held_on : (cycle later n m : ℕ) (stream : Row) → n ≤ m → m ≤ length entries → SealAt entries cycle n → cycle ≤ later → later ≤ cycle + residence stream →
       is_live (with_end (withdrawn_before entries n) stream) cycle ≡ true → is_held (with_end (withdrawn_before entries m) stream) later ≡ true
   held_on cycle later n m stream le within seal after before live =
@@ -242,7 +242,7 @@ module _ (d : Domain) (entries : List Recorded) (cycles : ℕ) (legal : IsLegalH
             subst (λ (xs : List Row). link_cost xs l turn ≤ budget d l) (sym none) (omega arith))
       ]
 
-  -- the rows of a table stand by number
+  -- the rows of a table are sorted by number
   pub rows_ascend : (cycle : ℕ) → AllPairs (λ (a b : Row). a.no < b.no) (table_of (tables_of d entries cycles) cycle)
   rows_ascend cycle = pairs_of_table (λ (a b : Row). a.no < b.no) (λ place s i j e l m held_a held_b.
       let rows = admitted_before d entries place in

@@ -1,4 +1,4 @@
--- Which branches are refused as no tree, by pairs.
+-- Which branches are refused as no tree, stated by pairs.
 use Rattle.std.proofs.Common.{◌≡◌, ℕ, ◌+◌, ◌-◌, ◌<◌, ◌≤◌, ◌⊎◌, Bool, true, false, List, Option, Some, None, length, get_or, sym, refl, ap, ◌∙◌, inl, inr, arith}
 use Rattle.std.proofs.Common.{length-append, subst}
 use Rattle.std.specs.Prelude.{[], ◌∷◌, ◌++◌, ◌&&◌, if◌then◌else◌, is_none, is_some, nat_le, nat_lt, not, option_map, position, slice_get, take, zero, suc}
@@ -38,7 +38,7 @@ use Rattle.cqf_laws_history.proofs.Trees.{make_tree}
 
 -- ---- two branches
 
--- lists that are the same have the same first element
+-- equal lists have the same first element
 first_same : (x y : List ℕ) (xs ys : Branch) → x ∷ xs ≡ y ∷ ys → x ≡ y
 first_same x y xs ys e = cc
 
@@ -46,22 +46,22 @@ first_same x y xs ys e = cc
 rest_same : (x y : List ℕ) (xs ys : Branch) → x ∷ xs ≡ y ∷ ys → xs ≡ ys
 rest_same x y xs ys e = cc
 
--- branches part for good
+-- branches that part and have no common node from there on
 record Part (xs ys : Branch) : Type 0 where
   parting : ℕ
   there : PartAt xs ys parting
   apart : (name : List ℕ) → StandsFrom xs parting name → StandsFrom ys parting name → ⊥
 
--- what stands in a branch behind its first node stands in the rest
+-- a name that a branch has after its first node is in the rest of the branch
 stands_rest : (x : List ℕ) (xs : Branch) (place : ℕ) (name : List ℕ) → StandsFrom (x ∷ xs) (suc place) name → StandsFrom xs place name
 stands_rest x xs place name s = by_place s.stand s.behind s.is
   where
-    -- a place behind the first is one of the rest
+    -- an index after the first is one of the rest
     by_place : (stand : ℕ) → suc place ≤ stand → slice_get (x ∷ xs) stand ≡ Some name → StandsFrom xs place name
     by_place zero h e = absurd (omega (arith, h))
     by_place (suc stand) h e = record { stand = stand; behind = omega (arith, h); is = e }
 
--- one node more in front of both
+-- both branches with one more node at their beginning
 part_cons : (x y : List ℕ) (xs ys : Branch) → x ≡ y → Part xs ys → Part (x ∷ xs) (y ∷ ys)
 part_cons x y xs ys same r = record {
   parting = suc r.parting;
@@ -74,7 +74,7 @@ part_cons x y xs ys same r = record {
   apart = λ name s t. r.apart name (stands_rest x xs r.parting name s) (stands_rest y ys r.parting name t);
 }
 
--- branches without a common node, each of which has a node, part where they begin
+-- nonempty branches without a common node part at their first nodes
 part_here : (x y : List ℕ) (xs ys : Branch) → is_text x y ≡ false → are_apart (x ∷ xs) (y ∷ ys) ≡ true → Part (x ∷ xs) (y ∷ ys)
 part_here x y xs ys other e = record {
   parting = 0;
@@ -96,7 +96,7 @@ from_part [] ys e = absurd cc
 from_part (x ∷ xs) [] e = absurd cc
 from_part (x ∷ xs) (y ∷ ys) e = by_test (is_text x y) refl e (from_part xs ys)
   where
-    -- they part behind their first nodes, or there
+    -- they part after their first nodes, or there
     by_test : (b : Bool) → is_text x y ≡ b → (if b then part xs ys else are_apart (x ∷ xs) (y ∷ ys)) ≡ true → (part xs ys ≡ true → Part xs ys) →
         Part (x ∷ xs) (y ∷ ys)
     by_test true t f rest = part_cons x y xs ys (is_text_same x y t) (rest f)
@@ -114,7 +114,7 @@ are_apart_from xs ys apart = not_from_false (list_any (λ a. list_any (λ b. is_
     apart a.0 (record { stand = p.0; behind = omega arith; is = p.1 })
     (record { stand = q.0; behind = omega arith; is = q.1 ∙ ap (λ (n : List ℕ). Some n) (sym same) })))
 
--- and what passes it
+-- and branches that part for good pass the test
 to_part : (xs ys : Branch) (place : ℕ) → PartAt xs ys place →
     ((name : List ℕ) → StandsFrom xs place name → StandsFrom ys place name → ⊥) → part xs ys ≡ true
 to_part [] ys place there apart = absurd (omega (arith, there.first_goes_on))
@@ -137,7 +137,7 @@ to_part (x ∷ xs) (y ∷ ys) (suc place) there apart =
     (λ name s t. apart name (record { stand = suc s.stand; behind = omega (arith, s.behind); is = s.is })
     (record { stand = suc t.stand; behind = omega (arith, t.behind); is = t.is }))
 
--- branches that part behind a common node make one tree
+-- branches that have the same first node and then part make one tree
 one_tree : (x y : List ℕ) (xs ys : Branch) → x ≡ y → Part xs ys → MakeOneTree (x ∷ xs) (y ∷ ys)
 one_tree x y xs ys same r = record {
   parting = suc r.parting;
@@ -151,11 +151,11 @@ one_tree x y xs ys same r = record {
   apart = λ name s t. r.apart name (stands_rest x xs r.parting name s) (stands_rest y ys r.parting name t);
 }
 
--- and such as make one tree do so
+-- and if two branches make one tree, this holds for them
 rest_parts : (x y : List ℕ) (xs ys : Branch) (w : MakeOneTree (x ∷ xs) (y ∷ ys)) → (x ≡ y) × Part xs ys
 rest_parts x y xs ys w = by_place w.parting w.begin_alike w.part_there w.apart
   where
-    -- what parts behind its first node has the rest part
+    -- if branches part after their first nodes, their rests part
     by_place : (place : ℕ) → 0 < place → PartAt (x ∷ xs) (y ∷ ys) place →
         ((name : List ℕ) → StandsFrom (x ∷ xs) place name → StandsFrom (y ∷ ys) place name → ⊥) → (x ≡ y) × Part xs ys
     by_place zero some there apart = absurd (omega (arith, some))
@@ -174,7 +174,7 @@ rest_parts x y xs ys w = by_place w.parting w.begin_alike w.part_there w.apart
       },
     )
 
--- the test of two branches is what it means that they make one tree
+-- if the test passes, two branches make one tree
 tested : (xs ys : Branch) → make_a_tree xs ys ≡ true → MakeOneTree xs ys
 tested [] ys e = absurd cc
 tested (x ∷ xs) [] e = absurd cc
@@ -190,23 +190,23 @@ passes (x ∷ xs) (y ∷ ys) w =
     let r = rest_parts x y xs ys w in
     and_from (is_text x y) (part xs ys) (ap (is_text x) (sym r.0) ∙ is_text_itself x) (to_part xs ys r.1.parting r.1.there r.1.apart)
 
--- so the test is the statement
+-- so the test is equivalent to the statement
 pub pairs_are_tested : PairsAreTested
 pairs_are_tested xs ys = (tested xs ys, passes xs ys)
 
 -- ---- beginnings
 
--- a branch is another with more behind it
+-- one branch is a proper prefix of the other
 record IsBeginning (xs ys : Branch) : Type 0 where
   next : List ℕ
   rest : Branch
   is : ys ≡ xs ++ next ∷ rest
 
--- two branches are the same, or one begins the other, or they part
+-- two branches are equal, or one is a prefix of the other, or they part
 abbrev Compared : Branch → Branch → Type 0
 Compared xs ys = (xs ≡ ys) ⊎ (IsBeginning xs ys ⊎ (IsBeginning ys xs ⊎ ((place : ℕ) × PartAt xs ys place)))
 
--- one node more in front of both
+-- both branches with one more node at their beginning
 compared_cons : (x y : List ℕ) (xs ys : Branch) → x ≡ y → Compared xs ys → Compared (x ∷ xs) (y ∷ ys)
 compared_cons x y xs ys same c = elim c [
   | inl e ↦ inl (λ i. same i ∷ e i)
@@ -227,7 +227,7 @@ compared_cons x y xs ys same c = elim c [
   ]
 ]
 
--- any two branches are compared
+-- this holds for any two branches
 compare : (xs ys : Branch) → Compared xs ys
 compare [] [] = inl refl
 compare [] (y ∷ ys) = inr (inl (record { next = y; rest = ys; is = refl }))
@@ -247,7 +247,7 @@ compare (x ∷ xs) (y ∷ ys) = by_test (is_text x y) refl (compare xs ys)
       },
     )))
 
--- a branch that ends in a station begins no other
+-- a branch that ends in a station is no prefix of another
 begins_no_other : (d : Domain) (xs ys : Branch) → IsBranch d xs → IsBranch d ys → IsBeginning xs ys → ⊥
 begins_no_other d xs ys good_x good_y b =
     let k = length xs - 1 in
@@ -272,7 +272,7 @@ one_has_beginnings xs ys no_x no_y w = record {
       ∙ ap (λ (k : ℕ). take k ys) r.0;
 }
 
--- where branches part that have their beginnings once, they part for good
+-- if branches part that have their beginnings once, they part for good
 part_for_good : (xs ys : Branch) (place : ℕ) → HaveTheirBeginningsOnce xs ys → PartAt xs ys place → MakeOneTree xs ys
 part_for_good xs ys place h there = record {
   parting = place;
@@ -296,9 +296,9 @@ part_for_good xs ys place h there = record {
       ];
 }
 
--- ---- a request of which nothing earlier is refused
+-- ---- a request that no earlier refusal applies to
 
--- what is there isn't none
+-- an option that has a value isn't `None`
 not_none : {X : Type 0} (o : Option X) → (o ≡ None → ⊥) → is_none o ≡ false
 not_none None h = absurd (h refl)
 not_none (Some x) h = refl
@@ -310,7 +310,7 @@ branches d asked h branch c = is_branch d branch
     (λ k l. h.whole branch k c (omega (arith, l)))
     (λ k l. h.simple branch k c (omega (arith, l)))
 
--- of two of its branches it is the same to say that they make one tree, or that they have their beginnings once
+-- for two of its branches both statements are equivalent: they make one tree, they have their beginnings once
 pub pairs_have_their_beginnings : PairsHaveTheirBeginnings
 pairs_have_their_beginnings d asked xs ys h cx cy =
     let good_x = branches d asked h xs cx in
@@ -330,13 +330,13 @@ pairs_have_their_beginnings d asked xs ys h cx cy =
 
 -- ---- the first branch that makes no tree
 
--- a number is the least below a bound that passes a test
+-- the least number below a bound that passes a test
 record IsLeast (test : ℕ → Bool) (n k : ℕ) : Type 0 where
   inside : k < n
   passes : test k ≡ true
   below : (j : ℕ) → j < k → test j ≡ false
 
--- no number passes, or one is the least
+-- either no number passes, or one is the least
 least_there : (test : ℕ → Bool) (n : ℕ) → ((k : ℕ) → k < n → test k ≡ false) ⊎ ((k : ℕ) × IsLeast test n k)
 least_there test zero = inl (λ k l. absurd (omega (arith, l)))
 least_there test (suc n) = elim (least_there test n) [
@@ -350,7 +350,7 @@ least_there test (suc n) = elim (least_there test n) [
   ]
 ]
 
--- where none passes, nothing is listed
+-- if no number passes, nothing is listed
 none_least : (test : ℕ → Bool) (n : ℕ) → ((k : ℕ) → k < n → test k ≡ false) → least test n ≡ None
 none_least test n h = ap (λ (xs : List ℕ). slice_get xs 0)
     (none_below (λ k. if test k then k ∷ [] else []) n (λ k l. ap (λ (b : Bool). if b then k ∷ [] else []) (h k l)))
@@ -376,11 +376,11 @@ least_from test n k e = elim (least_there test n) [
   | inr r ↦ subst (λ (i : ℕ). IsLeast test n i) (same_Some r.0 k (sym (least_is test n r.0 r.1) ∙ e)) r.1
 ]
   where
-    -- nothing isn't something
+    -- `None` isn't `Some`
     never : (i : ℕ) → None ≡ Some i → ⊥
     never i h = cc
 
--- whether a branch is stray is whether one of those before it makes no tree with it
+-- a branch is stray exactly if one of the branches before it makes no tree with it
 stray_is : (paths : List Branch) (place : ℕ) (branch : Branch) → slice_get paths place ≡ Some branch →
     is_stray paths place ≡ list_any (λ b. not (make_a_tree b branch)) (take place paths)
 stray_is paths place branch e =
@@ -396,7 +396,7 @@ record IsStray (paths : List Branch) (place : ℕ) : Type 0 where
   there : slice_get paths earlier ≡ Some other
   no_tree : make_a_tree other branch ≡ false
 
--- a branch that the test calls stray is so
+-- if the test calls a branch stray, it is stray
 stray_there : (paths : List Branch) (place : ℕ) → place < length paths → is_stray paths place ≡ true → IsStray paths place
 stray_there paths place inside e =
     let here = entry_at paths place inside in
@@ -413,7 +413,7 @@ stray_there paths place inside e =
       no_tree = not-true (make_a_tree m.0 here.0) m.2;
     }
 
--- and one that is so is called stray
+-- and if it is stray, the test says so
 stray_from : (paths : List Branch) (place : ℕ) → IsStray paths place → is_stray paths place ≡ true
 stray_from paths place s =
     stray_is paths place s.branch s.here
@@ -430,7 +430,7 @@ not_stray paths i j xs ys l e f passed = tested xs ys (elim (cases_Bool (make_a_
       (stray_from paths j (record { branch = ys; here = f; earlier = i; before = l; other = xs; there = e; no_tree = n })))
 ])
 
--- the first stray branch is the least that the test calls so
+-- the first stray branch is the least index that the test calls stray
 first_from : (paths : List Branch) (place : ℕ) → IsLeast (is_stray paths) (length paths) place → IsFirstStray paths place
 first_from paths place w =
     let s = stray_there paths place w.inside w.passes in
@@ -445,7 +445,7 @@ first_from paths place w =
       first = λ i j xs ys l k e f. not_stray paths i j xs ys l e f (w.below j k);
     }
 
--- and the other way round
+-- and conversely
 first_to : (paths : List Branch) (place : ℕ) → IsFirstStray paths place → IsLeast (is_stray paths) (length paths) place
 first_to paths place w =
     let inside = slice_get_within paths place w.branch w.here in
@@ -468,7 +468,7 @@ first_to paths place w =
 
 -- ---- the refusal
 
--- what comes behind a refusal that isn't this one
+-- if the first of two refusals isn't this one, the second is
 passed : (a b : Option Refused) (r : Refused) → (a ≡ Some r → ⊥) → or_else a b ≡ Some r → (a ≡ None) × (b ≡ Some r)
 passed None b r other e = (refl, e)
 passed (Some x) b r other e = absurd (other e)
@@ -478,22 +478,22 @@ neither : (a b : Option Refused) (r : Refused) → (a ≡ Some r → ⊥) → (b
 neither None b r first second e = second e
 neither (Some x) b r first second e = first e
 
--- a refusal by a test, or at a place, of another kind
+-- a refusal by a test is of another kind
 other_if : (b : Bool) (x r : Refused) → (x ≡ r → ⊥) → refused_if b x ≡ Some r → ⊥
 other_if true x r other e = other (same_Some x r e)
 other_if false x r other e = cc
 
--- and so at a place
+-- and so is one at an index
 other_at : (f : ℕ → Refused) (o : Option ℕ) (r : Refused) → ((k : ℕ) → f k ≡ r → ⊥) → refused_at f o ≡ Some r → ⊥
 other_at f None r other e = cc
 other_at f (Some k) r other e = other k (same_Some (f k) r e)
 
--- the place of a refusal for no tree
+-- the index in a refusal for no tree
 at_place : (o : Option ℕ) (place : ℕ) → refused_at (λ branch. NotATree branch) o ≡ Some (NotATree place) → o ≡ Some place
 at_place None place e = absurd cc
 at_place (Some k) place e = let same : k ≡ place = cc in ap (λ (i : ℕ). Some i) same
 
--- the refusals that come behind that for no tree
+-- the refusals that follow the refusal for no tree
 abbrev later : Domain → List Row → Asked → Option Refused
 later d rows asked =
     or_else (refused_if (nat_lt (hops_within d.limits) (length (tree_of d asked.paths))) TooManyHops)
@@ -502,7 +502,7 @@ later d rows asked =
     (refused_at (λ l. BudgetShort l (left_on d rows (tree_of d asked.paths) (pace_of asked) l))
     (short_link d rows (cost_of asked.octets) (pace_of asked) (tree_of d asked.paths)))))
 
--- none of them is for no tree
+-- none of them is the refusal for no tree
 later_is_other : (d : Domain) (rows : List Row) (asked : Asked) (place : ℕ) → later d rows asked ≡ Some (NotATree place) → ⊥
 later_is_other d rows asked place =
     let budget_short = refused_at (λ l. BudgetShort l (left_on d rows (tree_of d asked.paths) (pace_of asked) l))
@@ -528,7 +528,7 @@ in_range asked = nat_le 64 asked.octets && nat_le asked.octets most_reserved
 abbrev unknown : Domain → Asked → Option ℕ
 unknown d asked = position (λ name. is_none (node_named d name)) (flat_map (λ branch. branch) asked.paths)
 
--- none of them is due
+-- none of these refusals is due
 record AreNone (d : Domain) (asked : Asked) : Type 0 where
   name : refused_if (not (is_name asked.name)) BadName ≡ None
   octets : refused_if (not (in_range asked)) BadOctets ≡ None
@@ -537,7 +537,7 @@ record AreNone (d : Domain) (asked : Asked) : Type 0 where
   whole : refused_at (λ place. BrokenPath place) (broken_place d asked.paths) ≡ None
   simple : refused_at (λ place. LoopingPath place) (first_place (is_loop_at d) asked.paths) ≡ None
 
--- where none of them is due, the others are what is left
+-- if none of them is due, the later refusals decide
 are_left : (d : Domain) (rows : List Row) (asked : Asked) → AreNone d asked → refusal_of d rows asked ≡ or_else (stray asked) (later d rows asked)
 are_left d rows asked n =
     let left = or_else (stray asked) (later d rows asked) in
@@ -553,7 +553,7 @@ are_left d rows asked n =
     ∙ ap (λ (o : Option Refused). or_else o simple) n.whole
     ∙ ap (λ (o : Option Refused). or_else o left) n.simple
 
--- a refusal is none of those before that for no tree
+-- the refusal is none of those before the refusal for no tree
 record IsLate (r : Refused) : Type 0 where
   name : BadName ≡ r → ⊥
   octets : BadOctets ≡ r → ⊥
@@ -562,7 +562,7 @@ record IsLate (r : Refused) : Type 0 where
   whole : (k : ℕ) → BrokenPath k ≡ r → ⊥
   simple : (k : ℕ) → LoopingPath k ≡ r → ⊥
 
--- a request that is refused so late is refused for nothing before that
+-- if a request is refused by such a later refusal, no earlier one applies
 came_to : (d : Domain) (rows : List Row) (asked : Asked) (r : Refused) → IsLate r → refusal_of d rows asked ≡ Some r →
     AreNone d asked × (or_else (stray asked) (later d rows asked) ≡ Some r)
 came_to d rows asked r late e =
@@ -585,14 +585,14 @@ came_to d rows asked r late e =
     let g = passed looping left r (other_at (λ k. LoopingPath k) (first_place (is_loop_at d) asked.paths) r late.simple) f.1 in
     (record { name = a.0; octets = b.0; pace = p.0; known = c.0; whole = f.0; simple = g.0 }, g.1)
 
--- that for no tree is so late, and so is that for too many hops
+-- the refusal for no tree is such a later one, and so is that for too many hops
 no_tree_is_late : (place : ℕ) → IsLate (NotATree place)
 no_tree_is_late place = record { name = λ e. cc; octets = λ e. cc; pace = λ e. cc; known = λ k e. cc; whole = λ k e. cc; simple = λ k e. cc }
 
 many_hops_are_late : IsLate TooManyHops
 many_hops_are_late = record { name = λ e. cc; octets = λ e. cc; pace = λ e. cc; known = λ k e. cc; whole = λ k e. cc; simple = λ k e. cc }
 
--- where nothing earlier is refused, a request is in order so far
+-- if no earlier refusal applies, the request is valid that far
 in_order : (d : Domain) (asked : Asked) → AreNone d asked → HasNoEarlierFault d asked
 in_order d asked n =
     let range = and_parts (nat_le 64 asked.octets) (nat_le asked.octets most_reserved)
@@ -617,7 +617,7 @@ in_order d asked n =
       simple = λ branch place c l. first_place_none (is_loop_at d) asked.paths not_looping branch c place (omega (arith, l));
     }
 
--- where no place fails, there is no first one
+-- if no index fails, there is no first one
 no_first_place : (fails : Branch → ℕ → Bool) (paths : List Branch) →
     ((branch : Branch) (place : ℕ) → Contains paths branch → place ≤ length branch → fails branch place ≡ false) → first_place fails paths ≡ None
 no_first_place fails [] h = refl
@@ -627,21 +627,21 @@ no_first_place fails (x ∷ paths) h =
     ∙ ap (λ (o : Option ℕ). option_map (λ place. length x + place) o)
     (no_first_place fails paths (λ branch place c l. h branch place (contains_later x paths branch c) l))
 
--- a tree of some branches is broken where one of them is
+-- the broken place of some branches is the first one of a broken branch
 broken_is : (d : Domain) (paths : List Branch) → 0 < length paths → broken_place d paths ≡ first_place (is_broken_at d) paths
 broken_is d [] h = absurd (omega (arith, h))
 broken_is d (branch ∷ paths) h = refl
 
--- where no element passes there is no first one
+-- if no element passes, there is no first one
 no_position : {X : Type 0} (p : X → Bool) (xs : List X) → list_any p xs ≡ false → position p xs ≡ None
 no_position p xs e = is_nothing (position p xs) (position_any p xs ∙ e)
   where
-    -- what isn't something is nothing
+    -- an option without a value is `None`
     is_nothing : (o : Option ℕ) → is_some o ≡ false → o ≡ None
     is_nothing None f = refl
     is_nothing (Some k) f = absurd cc
 
--- and a request that is in order so far is refused for nothing earlier
+-- and if a request is valid that far, no earlier refusal applies
 are_none : (d : Domain) (asked : Asked) → HasNoEarlierFault d asked → AreNone d asked
 are_none d asked h =
     let names = flat_map (λ (branch : Branch). branch) asked.paths in
@@ -667,12 +667,12 @@ stray_place : (d : Domain) (rows : List Row) (asked : Asked) (place : ℕ) → o
     least (is_stray asked.paths) (length asked.paths) ≡ Some place
 stray_place d rows asked place e = at_place (least (is_stray asked.paths) (length asked.paths)) place (first_one (stray asked) e)
   where
-    -- it isn't one of those behind it
+    -- it isn't one of those that follow
     first_one : (o : Option Refused) → or_else o (later d rows asked) ≡ Some (NotATree place) → o ≡ Some (NotATree place)
     first_one None f = absurd (later_is_other d rows asked place f)
     first_one (Some x) f = f
 
--- a request is refused for just the first branch that makes no tree, where nothing earlier is refused
+-- if no earlier refusal applies, a request is refused for exactly the first branch that makes no tree
 pub refused_as_no_tree : RefusedAsNoTree
 refused_as_no_tree d rows asked place = (
   λ e.
@@ -684,7 +684,7 @@ refused_as_no_tree d rows asked place = (
       (least_is (is_stray asked.paths) (length asked.paths) place (first_to asked.paths place w.1)),
 )
 
--- where a request is refused for no branch, none is stray
+-- if a request is refused for no branch, none is stray
 none_stray : (d : Domain) (rows : List Row) (asked : Asked) → HasNoEarlierFault d asked →
     ((place : ℕ) → refusal_of d rows asked ≡ Some (NotATree place) → ⊥) → (k : ℕ) → k < length asked.paths → is_stray asked.paths k ≡ false
 none_stray d rows asked h never = elim (least_there (is_stray asked.paths) (length asked.paths)) [
@@ -692,7 +692,7 @@ none_stray d rows asked h never = elim (least_there (is_stray asked.paths) (leng
   | inr r ↦ absurd (never r.0 ((refused_as_no_tree d rows asked r.0).1 (h, first_from asked.paths r.0 r.1)))
 ]
 
--- so it is refused for no branch just where each two make one tree
+-- so it is refused for no branch exactly if each two make one tree
 pub trees_are_made_of_pairs : TreesAreMadeOfPairs
 trees_are_made_of_pairs d rows asked h = (
   λ never i j b l inside.
@@ -709,7 +709,7 @@ trees_are_made_of_pairs d rows asked h = (
 
 -- ---- too many hops
 
--- a request that is refused for its hops has branches of the form of a tree
+-- the branches of a request that is refused for its hops have the form of a tree
 form_of_many : (d : Domain) (rows : List Row) (asked : Asked) → refusal_of d rows asked ≡ Some TooManyHops → AreOfForm d asked.paths
 form_of_many d rows asked e =
     let r = came_to d rows asked TooManyHops many_hops_are_late e in
@@ -722,7 +722,7 @@ form_of_many d rows asked e =
       together = refused_at_none (λ branch. NotATree branch) (least (is_stray asked.paths) (length asked.paths)) no_stray.0;
     }
 
--- and more hops than may be
+-- and they have more hops than a tree may have
 more_than_may : (d : Domain) (rows : List Row) (asked : Asked) → refusal_of d rows asked ≡ Some TooManyHops →
     hops_within d.limits < length (tree_of d asked.paths)
 more_than_may d rows asked e =
@@ -740,14 +740,14 @@ more_than_may d rows asked e =
     (other_at (λ l. BudgetShort l (left_on d rows (tree_of d asked.paths) (pace_of asked) l))
     (short_link d rows (cost_of asked.octets) (pace_of asked) (tree_of d asked.paths)) TooManyHops (λ k f. cc)))) no_stray.1
   where
-    -- where no later refusal is this one, its test holds
+    -- if no later refusal is this one, its test holds
     due : (b : Bool) → nat_lt (hops_within d.limits) (length (tree_of d asked.paths)) ≡ b → (rest : Option Refused) →
         (rest ≡ Some TooManyHops → ⊥) → or_else (refused_if b TooManyHops) rest ≡ Some TooManyHops →
         hops_within d.limits < length (tree_of d asked.paths)
     due true t rest other f = ltb-true (hops_within d.limits) (length (tree_of d asked.paths)) t
     due false t rest other f = absurd (other f)
 
--- where a tree may have as many hops as the domain has links, none has too many
+-- if a tree may have as many hops as the domain has links, none has too many
 pub links_bound_hops : LinksBoundHops
 links_bound_hops d rows asked room e =
     let tree = form_is_tree d asked.paths (form_of_many d rows asked e) in

@@ -1,4 +1,4 @@
--- The front of a history up to a place: its Seals, its withdrawals, and the streams that it admits.
+-- The first entries of a history, up to an index: their Seals, their withdrawals, and the streams that they admit.
 use Rattle.std.proofs.Common.{◌≡◌, ℕ, ◌+◌, ◌<◌, ◌≤◌, Bool, true, false, cond, List, Option, Some, None, length, get_or, sym, refl, ap, ◌∙◌, inl, inr, arith}
 use Rattle.std.proofs.Common.{subst, append-nil, length-append}
 use std.Path.{fun_ext}
@@ -18,24 +18,24 @@ use Rattle.cqf_lists.specs.Lists.{each_below}
 use Rattle.cqf_lists.proofs.EachBelow.{map_below, same_below}
 use Rattle.cqf_lists.proofs.Places.{slice_get-take}
 
--- how many Seals stand before a place
+-- the number of Seals before an index
 abbrev pub sealed_before : List Recorded → ℕ → ℕ
 sealed_before entries place = seals (take place entries)
 
--- what a history has withdrawn of a number at a place
+-- the withdrawals of a number by the entry at an index
 abbrev pub withdrawn_at : List Recorded → ℕ → ℕ → List Cycle
 withdrawn_at entries number place =
     option_map_or (λ (e : Recorded). withdrawal_by (seals (take place entries)) number e.act e.reply) (slice_get entries place) []
 
--- the stream that a history admits at a place, as if no stream were ever withdrawn
+-- the stream that the entry at an index admits, as if no stream were ever withdrawn
 abbrev pub admitted_at : Domain → List Recorded → ℕ → List Row
 admitted_at d entries place = option_map_or (λ (e : Recorded). stream_by d [] (seals (take place entries)) e.act e.reply) (slice_get entries place) []
 
--- the withdrawals of a number, and the streams, before a place
+-- the first withdrawal of a number before an index
 abbrev pub withdrawn_before : List Recorded → ℕ → ℕ → Option Cycle
 withdrawn_before entries place number = slice_get (each_below (withdrawn_at entries number) place) 0
 
--- the streams admitted before a place
+-- the streams admitted before an index
 abbrev pub admitted_before : Domain → List Recorded → ℕ → List Row
 admitted_before d entries place = each_below (admitted_at d entries) place
 
@@ -43,7 +43,7 @@ admitted_before d entries place = each_below (admitted_at d entries) place
 abbrev pub with_end : (ℕ → Option Cycle) → Row → Row
 with_end ends row = record { no = row.no; name = row.name; octets = row.octets; pace = row.pace; tree = row.tree; admitted = row.admitted; withdrawn = ends row.no }
 
--- a stream with its end is its row with the end that the withdrawals give it
+-- the streams of an entry are those without withdrawals, each with the end that the withdrawals give it
 stream_with_end : (d : Domain) (entries : List Recorded) (effect : ℕ) (act : Act) (reply : Reply) →
     stream_by d entries effect act reply ≡ map (with_end (λ number. slice_get (withdrawals entries number) 0)) (stream_by d [] effect act reply)
 stream_with_end d entries effect (Withdraws name) reply = refl
@@ -52,14 +52,14 @@ stream_with_end d entries effect (Admits asked) (RefusedFor refused) = refl
 stream_with_end d entries effect (Admits asked) Sealed = refl
 stream_with_end d entries effect (Admits asked) (Accepted receipt) = refl
 
--- what a list has at a place is mapped as the list is
+-- mapping what a list has at an index
 mapped_at : (o : Option Recorded) (f g : Recorded → List Row) (m : Row → Row) → ((e : Recorded) → f e ≡ map m (g e)) →
     option_map_or f o [] ≡ map m (option_map_or g o [])
 mapped_at None f g m h = refl
 mapped_at (Some e) f g m h = h e
 
 module _ (entries : List Recorded) (n : ℕ) (within : n ≤ length entries) where
-  -- what stands at a place of the first entries is what stands there of all
+  -- an entry among the first n ones is the same in the whole history
   in_front : {A : Type 0} (f : ℕ → Recorded → List A) (k : ℕ) → k < n →
       option_map_or (f (seals (take k (take n entries)))) (slice_get (take n entries) k) [] ≡ option_map_or (f (seals (take k entries)))
       (slice_get entries k) []
@@ -68,7 +68,7 @@ module _ (entries : List Recorded) (n : ℕ) (within : n ≤ length entries) whe
       ap (λ (o : Option Recorded). option_map_or (f (seals (take k (take n entries)))) o []) (slice_get-take entries n k h)
       ∙ ap (λ (xs : List Recorded). option_map_or (f (seals xs)) (slice_get entries k) []) shorter
 
-  -- a front has as many entries as its place
+  -- the first n entries are n
   count_front : length (take n entries) ≡ n
   count_front = length-take-le n entries within
 
@@ -95,25 +95,25 @@ module _ (entries : List Recorded) (n : ℕ) (within : n ≤ length entries) whe
       (fun_ext (λ number. ap (λ (cycles : List Cycle). slice_get cycles 0) (withdrawals_front number)))))
       ∙ sym (map_below (with_end (withdrawn_before entries n)) (admitted_at d entries) n)
 
--- each place within a history has an entry
+-- each index within a list has an element
 pub entry_at : {X : Type 0} (xs : List X) (n : ℕ) → n < length xs → (x : X) × (slice_get xs n ≡ Some x)
 entry_at [] n h = absurd (omega (arith, h))
 entry_at (x ∷ xs) zero h = (x, refl)
 entry_at (x ∷ xs) (suc n) h = entry_at xs n (omega (arith, h))
 
--- a front with one more
+-- a prefix with one more element
 take_entry : {X : Type 0} (xs : List X) (n : ℕ) (x : X) → slice_get xs n ≡ Some x → take (suc n) xs ≡ take n xs ++ x ∷ []
 take_entry [] n x e = absurd cc
 take_entry {X} (y ∷ xs) zero x e = ap (λ (z : X). z ∷ []) (same_Some y x e)
 take_entry {X} (y ∷ xs) (suc n) x e = ap (λ (zs : List X). y ∷ zs) (take_entry xs n x e)
 
--- one entry more is one Seal more where it is a Seal
+-- one more entry adds one Seal if it is a Seal
 pub sealed-suc : (entries : List Recorded) (n : ℕ) (e : Recorded) → slice_get entries n ≡ Some e →
     sealed_before entries (suc n) ≡ sealed_before entries n + cond (is_seal e.act) 1 0
 sealed-suc entries n e is =
     ap seals (take_entry entries n e is) ∙ sum_by_push (λ (x : Recorded). cond (is_seal x.act) 1 0) (take n entries) e
 
--- later places have as many Seals before them or more
+-- at least as many Seals precede a later index
 pub sealed_more : (entries : List Recorded) (n m : ℕ) → n ≤ m → m ≤ length entries → sealed_before entries n ≤ sealed_before entries m
 sealed_more entries n zero le within = let z : n ≡ 0 = omega (arith, le) in
     subst (λ (k : ℕ). sealed_before entries k ≤ sealed_before entries 0) (sym z) (omega arith)
@@ -124,7 +124,7 @@ sealed_more entries n (suc m) le within =
           omega (arith, sealed_more entries n m g (omega (arith, within)), sealed-suc entries m e.0 e.1)
     ]
 
--- a Seal that closes a cycle stands at a place
+-- the Seal at this index closes the cycle
 pub record SealAt (entries : List Recorded) (cycle place : ℕ) : Type 0 where
   pub inside : place < length entries
   pub entry : Recorded
@@ -132,16 +132,16 @@ pub record SealAt (entries : List Recorded) (cycle place : ℕ) : Type 0 where
   pub seal : is_seal entry.act ≡ true
   pub before : sealed_before entries place ≡ cycle
 
--- the place of a Seal, and nothing of another entry
+-- the index of a Seal, and nothing for another entry
 abbrev seal_listed : List Recorded → ℕ → List ℕ
 seal_listed entries place = option_map_or (λ (e : Recorded). if is_seal e.act then place ∷ [] else []) (slice_get entries place) []
 
--- the places of the Seals before a place
+-- the indices of the Seals before an index
 record SealPlaces (entries : List Recorded) (n : ℕ) : Type 0 where
   count : length (each_below (seal_listed entries) n) ≡ sealed_before entries n
   each : (cycle d : ℕ) → cycle < sealed_before entries n → SealAt entries cycle (get_or (each_below (seal_listed entries) n) cycle d)
 
--- one entry more
+-- the same with one more entry
 seal_places_more : (entries : List Recorded) (n : ℕ) (e : Recorded) (b : Bool) → n < length entries → slice_get entries n ≡ Some e → is_seal e.act ≡ b →
     SealPlaces entries n → SealPlaces entries (suc n)
 seal_places_more entries n e true within is b r =
@@ -175,14 +175,14 @@ seal_places_more entries n e false h is b r =
       each = λ cycle d h. subst (λ (xs : List ℕ). SealAt entries cycle (get_or xs cycle d)) (sym listed) (r.each cycle d (omega (arith, h, same)));
     }
 
--- the places of the Seals before any place
+-- the indices of the Seals before any index
 seal_places_are : (entries : List Recorded) (n : ℕ) → n ≤ length entries → SealPlaces entries n
 seal_places_are entries zero h = record { count = refl; each = λ cycle d l. absurd (omega (arith, l)) }
 seal_places_are entries (suc n) h =
     let e = entry_at entries n (omega (arith, h)) in
     seal_places_more entries n e.0 (is_seal e.0.act) (omega (arith, h)) e.1 refl (seal_places_are entries n (omega (arith, h)))
 
--- each cycle that was closed to changes was so by a Seal, which stands at its place in the list of their places
+-- the Seal that closed a cycle is at its index in the list of the Seals' indices
 pub seal_at : (entries : List Recorded) (cycle : ℕ) → cycle < seals entries → SealAt entries cycle (get_or (seal_places entries) cycle (length entries))
 seal_at entries cycle h =
     let all : take (length entries) entries ≡ entries = take_all (length entries) entries (omega arith) in

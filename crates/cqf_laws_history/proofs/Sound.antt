@@ -1,4 +1,4 @@
--- What the streams of a legal history have before each of its places.
+-- What holds for the streams of a legal history before each of its entries.
 use Rattle.std.proofs.Common.{◌≡◌, ◌≢◌, ℕ, ◌+◌, ◌<◌, ◌≤◌, ◌⊎◌, Bool, true, false, cond, ◌%◌, List, Option, Some, None, length, sym, refl, ap, ◌∙◌, inl, inr, arith}
 use Rattle.std.proofs.Common.{subst, append-nil, length-append}
 use Rattle.std.specs.Prelude.{[], ◌∷◌, ◌++◌, ◌==◌, ◌||◌, if◌then◌else◌, filter, find, map, nat_le, nat_lt, slice_get, take, zero, suc, AllPairs, Contains}
@@ -36,7 +36,7 @@ use Rattle.cqf_laws_history.proofs.Places.{withdrawn_before}
 
 -- ---- names
 
--- where no row has a name, none that is held has it
+-- if no row has a name, no member has it
 name_apart : (rows : List Row) (name : List ℕ) (row : Row) → list_any (λ (row : Row). is_text row.name name) rows ≡ false → Contains rows row → row.name ≢ name
 name_apart [] name row e h s = absurd (contains_none row h)
 name_apart (x ∷ rows) name row e h s =
@@ -48,11 +48,11 @@ name_apart (x ∷ rows) name row e h s =
 
 -- ---- costs
 
--- what rows cost is what the first costs and the rest
+-- the cost of rows is the cost of the first plus that of the rest
 link_cost-cons : (y : Row) (ys : List Row) (l turn : ℕ) → link_cost (y ∷ ys) l turn ≡ cost_on y l turn + link_cost ys l turn
 link_cost-cons y ys l turn = sum_by-cons (λ (row : Row). cost_on row l turn) y ys
 
--- rows that are kept of more cost no less
+-- if more rows are kept, they cost no less
 cost_cond : (b c : Bool) (y z : Row) (ys zs : List Row) (l turn : ℕ) → (b ≡ true → c ≡ true) → cost_on y l turn ≡ cost_on z l turn → link_cost ys l turn ≤ link_cost zs l turn →
     link_cost (cond b (y ∷ ys) ys) l turn ≤ link_cost (cond c (z ∷ zs) zs) l turn
 cost_cond true true y z ys zs l turn h e r =
@@ -67,7 +67,7 @@ cost_cond false true y z ys zs l turn h e r =
     kept
 cost_cond false false y z ys zs l turn h e r = r
 
--- where fewer rows are held they cost no more
+-- if fewer rows are held, they cost no more
 pub cost_less : (rows : List Row) (p q : Row → Bool) (v w : ℕ → Option Cycle) (l turn : ℕ) →
     ((row : Row) → Contains rows row → p (with_end v row) ≡ true → q (with_end w row) ≡ true) →
     link_cost (filter p (map (with_end v) rows)) l turn ≤ link_cost (filter q (map (with_end w) rows)) l turn
@@ -81,14 +81,14 @@ link_cost_one : (b : Bool) (row : Row) (l turn : ℕ) → link_cost (cond b (row
 link_cost_one true row l turn = omega arith
 link_cost_one false row l turn = omega arith
 
--- a link of a tree that has enough left takes the cost
+-- a link of a tree has at least the cost left
 room_on : (d : Domain) (rows : List Row) (tree : List Hop) (pace : Pace) (cost : ℕ) (links : List ℕ) (l : ℕ) → find (λ l. nat_lt (left_on d rows tree pace l) cost) links ≡ None →
     list_any (λ k. k == l) links ≡ true → cost ≤ left_on d rows tree pace l
 room_on d rows tree pace cost [] l e t = absurd cc
 room_on d rows tree pace cost (x ∷ links) l e t =
     room_case (nat_lt (left_on d rows tree pace x) cost) refl e (x == l) refl t (room_on d rows tree pace cost links l)
   where
-    -- the link has enough left where the first link has and the others have, whichever it is
+    -- the link has enough left if the first link and the others have, whichever of them it is
     room_case : (short : Bool) → nat_lt (left_on d rows tree pace x) cost ≡ short → (if short then Some x else find (λ l. nat_lt (left_on d rows tree pace l) cost) links) ≡ None →
         (here : Bool) → (x == l) ≡ here → (here || list_any (λ k. k == l) links) ≡ true →
         (find (λ l. nat_lt (left_on d rows tree pace l) cost) links ≡ None → list_any (λ k. k == l) links ≡ true → cost ≤ left_on d rows tree pace l) → cost ≤ left_on d rows tree pace l
@@ -98,7 +98,7 @@ room_on d rows tree pace cost (x ∷ links) l e t =
 
 -- ---- held streams
 
--- a stream that is held in a cycle was held in the one before, or is held with less withdrawn
+-- a stream that is held in a cycle was held in each earlier one since its admission, with no more withdrawals
 pub held_less : (row : Row) (v w : ℕ → Option Cycle) (c e : ℕ) → c ≤ e → row.admitted.0 ≤ c → (w row.no ≡ None) ⊎ (w row.no ≡ v row.no) →
     is_held (with_end v row) e ≡ true → is_held (with_end w row) c ≡ true
 held_less row v w c e le begun same h =
@@ -109,18 +109,18 @@ held_less row v w c e le begun same h =
       | inr equal ↦ ap (λ (o : Option Cycle). option_map_or (λ (x : Cycle). nat_lt c (x.0 + residence row)) o true) equal ∙ sooner (v row.no) parts.1
     ])
   where
-    -- a stream whose end lets it stay in a cycle was there in each earlier one
+    -- a stream whose end keeps it in a cycle was there in each earlier one
     sooner : (o : Option Cycle) → option_map_or (λ (x : Cycle). nat_lt e (x.0 + residence row)) o true ≡ true →
         option_map_or (λ (x : Cycle). nat_lt c (x.0 + residence row)) o true ≡ true
     sooner None t = refl
     sooner (Some x) t = lt-ltb c (x.0 + residence row) (omega (arith, le, ltb-true e (x.0 + residence row) t))
 
--- a withdrawal stays the first of its number
+-- the first withdrawal of a number stays the first
 end_stays : (entries : List Recorded) (n number : ℕ) →
     (withdrawn_before entries n number ≡ None) ⊎ (withdrawn_before entries n number ≡ withdrawn_before entries (suc n) number)
 end_stays entries n number = stays (withdrawn_before entries n number) refl
   where
-    -- where there is a withdrawal of the number, one entry more leaves it the first
+    -- if there is a withdrawal of the number, it stays the first when an entry follows
     stays : (o : Option Cycle) → withdrawn_before entries n number ≡ o →
         (withdrawn_before entries n number ≡ None) ⊎ (withdrawn_before entries n number ≡ withdrawn_before entries (suc n) number)
     stays None e = inl e
@@ -130,7 +130,7 @@ end_stays entries n number = stays (withdrawn_before entries n number) refl
 abbrev pub held_before : List Recorded → ℕ → Row → Bool
 held_before entries n row = is_held (with_end (withdrawn_before entries n) row) (sealed_before entries n)
 
--- what the streams have that a legal history admits before a place
+-- what holds for the streams that a legal history admits before an index
 pub record Sound (d : Domain) (entries : List Recorded) (n : ℕ) : Type 0 where
   pub numbers : (k : ℕ) (row : Row) → slice_get (admitted_before d entries n) k ≡ Some row → row.no ≡ k
   pub trees : (row : Row) → Contains (admitted_before d entries n) row → IsTree d row.tree.items
@@ -144,14 +144,14 @@ pub record Sound (d : Domain) (entries : List Recorded) (n : ℕ) : Type 0 where
   pub loads : (l turn : ℕ) → link_cost
       (filter (λ (row : Row). is_held row (sealed_before entries n)) (map (with_end (withdrawn_before entries n)) (admitted_before d entries n))) l turn ≤ budget d l
 
--- what is held behind an entry was held before it
+-- a stream that is held after an entry was held before it
 held_shrinks : (d : Domain) (entries : List Recorded) (n : ℕ) → suc n ≤ length entries → Sound d entries n → (row : Row) →
     Contains (admitted_before d entries n) row → held_before entries (suc n) row ≡ true → held_before entries n row ≡ true
 held_shrinks d entries n h s row k t =
     held_less row (withdrawn_before entries (suc n)) (withdrawn_before entries n) (sealed_before entries n) (sealed_before entries (suc n))
     (sealed_more entries n (suc n) (omega arith) h) (s.begun row k) (end_stays entries n row.no) t
 
--- an entry that admits nothing keeps all that
+-- an entry that admits nothing keeps all this
 sound_kept : (d : Domain) (entries : List Recorded) (n : ℕ) → suc n ≤ length entries → admitted_at d entries n ≡ [] →
     ((number : ℕ) (x : Cycle) → withdrawn_before entries (suc n) number ≡ Some x → number < length (admitted_before d entries n)) → Sound d entries n →
     Sound d entries (suc n)
@@ -181,7 +181,7 @@ sound_kept d entries n h none ends s =
           (sym same) (omega (arith, less, s.loads l turn));
     }
 
--- what stands in a list with one more behind
+-- the members of a list with one more at its end
 pushed_cases : (rows : List Row) (new row : Row) → Contains (rows ++ new ∷ []) row → Contains rows row ⊎ (new ≡ row)
 pushed_cases rows new row h =
     elim (Contains-append_cases rows (new ∷ []) row h) [
@@ -189,14 +189,14 @@ pushed_cases rows new row h =
       | inr k ↦ elim (contains_cases new [] row k) [ inl e ↦ inr e | inr none ↦ absurd (contains_none row none) ]
     ]
 
--- rows that are kept, with their withdrawals, have the paces of those that they are of
+-- rows that are kept, with their withdrawals, have valid paces
 kept_paced : (rows : List Row) (q : Row → Bool) (w : ℕ → Option Cycle) → ((row : Row) → Contains rows row → IsPaced row.pace) → (row : Row) →
     Contains (filter q (map (with_end w) rows)) row → IsPaced row.pace
 kept_paced rows q w paces row k =
     let m = contains_from_map (with_end w) rows row (contains_from_filter q (map (with_end w) rows) row k).0 in
     subst (λ (r : Row). IsPaced r.pace) m.2 (paces m.0 m.1)
 
--- a stream more that finds room on each link of its path
+-- one more stream that finds room on each link of its tree
 load_more : (d : Domain) (rows : List Row) (new : Row) (p q : Row → Bool) (v w : ℕ → Option Cycle) (l turn : ℕ) →
     ((row : Row) → Contains rows row → p (with_end v row) ≡ true → q (with_end w row) ≡ true) →
     ((row : Row) → Contains rows row → IsPaced row.pace) → IsPaced new.pace → link_cost (filter q (map (with_end w) rows)) l turn ≤ budget d l →
@@ -224,7 +224,7 @@ load_more d rows new p q v w l turn less paces own within room =
     ] in
     omega (arith, split, shrunk, single, fits)
 
--- an entry that admits a stream keeps all that
+-- an entry that admits a stream keeps all this
 sound_admitted : (d : Domain) (entries : List Recorded) (n : ℕ) (asked : Asked) → suc n ≤ length entries →
     admitted_at d entries n ≡ granted_row d (length (streams_of d (take n entries))) (sealed_before entries n) asked ∷ [] →
     ((number : ℕ) → withdrawn_before entries (suc n) number ≡ withdrawn_before entries n number) →
@@ -341,7 +341,7 @@ number_below d entries n stream s (k, h, e) =
     let there : slice_get rows k ≡ Some stream = slice_get-get_or rows k stream h ∙ ap (λ (r : Row). Some r) e in
     omega (arith, h, s.numbers k stream there)
 
--- an entry that withdraws a stream does so of an admitted one
+-- an entry withdraws an admitted stream only
 withdrawal_of_one : (d : Domain) (entries : List Recorded) (n : ℕ) (e : Recorded) (name : List ℕ) (found : Option Row) → n ≤ length entries →
     slice_get entries n ≡ Some e → e.act ≡ Withdraws name → e.reply ≡ withdraw_reply (sealed_before entries n) found →
     row_named (held_in d (take n entries) (sealed_before entries n)) name ≡ found → Sound d entries n → (number : ℕ) (x : Cycle) →
@@ -364,7 +364,7 @@ withdrawal_of_one d entries n e name (Some row) within is act reply found s numb
     of_this false t w = s.ends number x
         (sym (no_end_more entries n number e is (w ∙ ap (λ (b : Bool). if b then record { 0 = sealed_before entries n } ∷ [] else []) t)) ∙ f)
 
-    -- a number that is withdrawn is below that count, whatever end the row had
+    -- a number that is withdrawn is below that count, regardless of the row's end
     by_end : (o : Option Cycle) → e.reply ≡ withdraw_row (sealed_before entries n) row.no o → number < length (admitted_before d entries n)
     by_end None r = of_this (row.no == number) refl
         (ap (λ (a : Act). withdrawal_by (sealed_before entries n) number a e.reply) act
@@ -387,11 +387,11 @@ entry_sound d entries n e Seals h is act reply s =
     (λ number x f. s.ends number x
     (sym (no_end_more entries n number e is (ap (λ (a : Act). withdrawal_by (sealed_before entries n) number a e.reply) act)) ∙ f)) s
 
--- each answer is the one that is due
+-- each reply is the one that is due
 abbrev pub AreDue : Domain → List Recorded → Type 0
 AreDue d entries = (place : ℕ) (e : Recorded) → slice_get entries place ≡ Some e → e.reply ≡ reply_to d (take place entries) e.act
 
--- all that holds before each place of a legal history
+-- all this holds before each entry of a legal history
 pub sound : (d : Domain) (entries : List Recorded) → AreDue d entries → (n : ℕ) → n ≤ length entries → Sound d entries n
 sound d entries due zero h =
     record {

@@ -18,20 +18,20 @@ use Rattle.cqf_laws_history.specs.TrafficLaws.{FramesGoToNoOtherPort}
 use Rattle.cqf_laws_history.specs.TreeLaws.{FramesGoOnByTheirTree, FramesGoOnWhereALinkLeaves, GatesStandWhereLinksLeave, LeadsOn, OneGateABridge}
 use Rattle.cqf_laws_history.specs.TreeLaws.{ResidenceIsTheGreatestDepth, StreamsCostNothingElsewhere, StreamsCostOnceALink}
 
--- a number that is none of some isn't found among them
+-- a number that isn't in a list isn't found there
 not_among : (l : ℕ) (xs : List ℕ) → ¬ Contains xs l → list_any (λ k. k == l) xs ≡ false
 not_among l xs none = elim (cases_Bool (list_any (λ k. k == l) xs)) [
   | inr f ↦ f
   | inl t ↦ (let w = any_member (λ k. k == l) xs t in absurd (none (subst (λ (k : ℕ). Contains xs k) (eqb-true w.0 l w.2) w.1)))
 ]
 
--- a frame goes to no port whose hop doesn't follow
+-- a frame goes to no port that its stream doesn't take next
 pub no_other_port : FramesGoToNoOtherPort
 no_other_port d received row l none =
     ap (λ (b : Bool). flat_map (λ (x : Unit {0}). if b then queued_frame d received row ∷ [] else []) (tt ∷ []))
     (not_among l (goes_to row (came_by received.way)) none)
 
--- a stream costs of a link in the cycles of its turn there
+-- a stream costs its reservation on a link in its turns there
 pub costs_once : StreamsCostOnceALink
 costs_once row depth link cycle is turn =
     let hop = is.hop in
@@ -40,7 +40,7 @@ costs_once row depth link cycle is turn =
     ap (λ (b : Bool). if b then cost_of row.octets else 0)
     (member_any (λ (h : Hop). (h.link == link) && is_turn row.pace h.depth cycle) row.tree.items hop is.of_tree here)
 
--- and nothing else
+-- and nothing otherwise
 pub costs_nothing : StreamsCostNothingElsewhere
 costs_nothing row link cycle none =
     let at : Hop → Bool = λ hop. (hop.link == link) && is_turn row.pace hop.depth cycle in
@@ -53,12 +53,12 @@ costs_nothing row link cycle none =
           absurd (both_ways (is_turn row.pace w.0.depth cycle) (none w.0.depth is) both.1)
     ]
 
--- a way is the same as itself
+-- equal ways are the same
 itself : (a : Option ℕ) → same_way a a ≡ true
 itself None = refl
 itself (Some l) = eq-eqb l l refl
 
--- a frame goes on where its tree does
+-- a frame goes on by the links of its tree
 pub goes_on_by_tree : FramesGoOnByTheirTree
 goes_on_by_tree row way link = (
   λ c.
@@ -72,14 +72,14 @@ goes_on_by_tree row way link = (
       (contains_map (λ (hop : Hop). hop.link) (filter (λ (hop : Hop). same_way hop.from way) row.tree.items) leads.hop kept),
 )
 
--- a frame goes on from a bridge where a link that it goes on by leaves it
+-- a frame goes on from a bridge if one of the links by which it goes on leaves that bridge
 pub goes_on_where_leaves : FramesGoOnWhereALinkLeaves
 goes_on_where_leaves d row way bridge = (
   λ t. any_member (λ l. leaves d l bridge) (goes_to row way) t,
   λ w. member_any (λ l. leaves d l bridge) (goes_to row way) w.0 w.1 w.2,
 )
 
--- a stream has a gate where a link of its tree leaves
+-- a stream has a gate at each bridge that a link of its tree leaves
 pub gates_where_links_leave : GatesStandWhereLinksLeave
 gates_where_links_leave d row bridge = (
   λ c. contains_from_map (bridge_of d) (links_of row) bridge (once_from (λ a b. a == b) (map (bridge_of d) (links_of row)) bridge c),

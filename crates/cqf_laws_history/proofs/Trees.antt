@@ -23,7 +23,7 @@ use Rattle.cqf_laws_history.proofs.Branches.{no_repeat, stands, two_at_least}
 
 -- ---- branches that make a tree
 
--- where two branches have a name both, they are the same up to it
+-- if two branches have a common name, they are the same up to it
 abbrev pub Agree : Branch → Branch → Type 0
 Agree xs ys = (p q : ℕ) (name : List ℕ) → slice_get xs p ≡ Some name → slice_get ys q ≡ Some name → (p ≡ q) × (take (suc p) xs ≡ take (suc p) ys)
 
@@ -31,7 +31,7 @@ Agree xs ys = (p q : ℕ) (name : List ℕ) → slice_get xs p ≡ Some name →
 rest_no_repeat : (x : List ℕ) (xs : Branch) → NoRepeat (x ∷ xs) → NoRepeat xs
 rest_no_repeat x xs h i j name e f = omega (arith, h (suc i) (suc j) name e f)
 
--- branches that agree, with one name more in front
+-- branches that agree, with one more name at their beginning
 agree_cons : (x y : List ℕ) (xs ys : Branch) → x ≡ y → Agree xs ys → NoRepeat (x ∷ xs) → NoRepeat (y ∷ ys) → Agree (x ∷ xs) (y ∷ ys)
 agree_cons x y xs ys same rest no_x no_y zero zero name e f = (refl, ap (λ (z : List ℕ). z ∷ []) same)
 agree_cons x y xs ys same rest no_x no_y zero (suc q) name e f =
@@ -49,7 +49,7 @@ apart_agree xs ys e p q name f g =
     let not_in : list_any (λ y. is_text name y) ys ≡ false = none_member (λ x. list_any (λ y. is_text x y) ys) xs name none (contains_at xs p name f) in
     absurd (both_ways (is_text name name) (none_member (λ y. is_text name y) ys name not_in (contains_at ys q name g)) (is_text_itself name))
   where
-    -- where the opposite of a test holds, the test fails
+    -- if the negation of a test holds, the test fails
     none_of : (b : Bool) → not b ≡ true → b ≡ false
     none_of true h = absurd cc
     none_of false h = refl
@@ -67,12 +67,12 @@ part_agree (x ∷ xs) (y ∷ ys) e no_x no_y =
     by_test true t f rest = agree_cons x y xs ys (is_text_same x y t) (rest f) no_x no_y
     by_test false t f rest = apart_agree (x ∷ xs) (y ∷ ys) f
 
--- and they begin alike
+-- they also begin alike
 pub record MakeATree (xs ys : Branch) : Type 0 where
   pub begin : slice_get xs 0 ≡ slice_get ys 0
   pub agree : Agree xs ys
 
--- branches that the test calls a tree make one
+-- if the test says that branches make a tree, they do
 pub make_tree : (xs ys : Branch) → make_a_tree xs ys ≡ true → NoRepeat xs → NoRepeat ys → MakeATree xs ys
 make_tree [] ys e no_x no_y = absurd cc
 make_tree (x ∷ xs) [] e no_x no_y = absurd cc
@@ -84,13 +84,13 @@ make_tree (x ∷ xs) (y ∷ ys) e no_x no_y =
       agree = agree_cons x y xs ys same (part_agree xs ys parts.1 (rest_no_repeat x xs no_x) (rest_no_repeat y ys no_y)) no_x no_y;
     }
 
--- they agree the other way round
+-- and conversely
 agree_sym : (xs ys : Branch) → Agree xs ys → Agree ys xs
 agree_sym xs ys h p q name e f =
     let r = h q p name f e in
     (sym r.0, ap (λ (k : ℕ). take (suc k) ys) (sym r.0) ∙ sym r.1 ∙ ap (λ (k : ℕ). take (suc k) xs) r.0)
 
--- any two branches of which none is stray make a tree
+-- if no branch is stray, any two branches make a tree
 pub all_make_a_tree : (paths : List Branch) → ((branch : Branch) → Contains paths branch → NoRepeat branch) →
     ((k : ℕ) → k < length paths → is_stray paths k ≡ false) → (xs ys : Branch) → Contains paths xs → Contains paths ys → MakeATree xs ys
 all_make_a_tree paths once none xs ys cx cy =
@@ -106,7 +106,7 @@ all_make_a_tree paths once none xs ys cx cy =
       ]
     ]
   where
-    -- of two branches that stand at different places, the earlier makes a tree with the later
+    -- of two branches at different indices, the earlier makes a tree with the later
     before : (i j : ℕ) (x y : Branch) → i < j → slice_get paths i ≡ Some x → slice_get paths j ≡ Some y → make_a_tree x y ≡ true
     before i j x y l e f =
         let here : list_any (λ b. not (make_a_tree b y)) (take j paths) ≡ false =
@@ -134,7 +134,7 @@ record Of (d : Domain) (paths : List Branch) (hop : Hop) : Type 0 where
   inside : k + 1 < length branch
   is : hop_made d branch k ≡ hop
 
--- a way that isn't from the edge came by a link
+-- a hop that follows no link has no link before it
 no_some : {X : Type 0} (x : X) (o : Option X) → o ≡ None → o ≡ Some x → ⊥
 no_some x o e f = absurd cc
 
@@ -145,7 +145,7 @@ is_bridge_node (Station s) bridge e = absurd cc
 
 module _ (d : Domain) (paths : List Branch) (branches : (branch : Branch) → Contains paths branch → IsBranch d branch)
     (trees : (xs ys : Branch) → Contains paths xs → Contains paths ys → MakeATree xs ys) where
-  -- a hop of all is one of a branch
+  -- a hop of all branches is a hop of one
   of_all : (hop : Hop) → Contains (flat_map (hops_along d) paths) hop → Of d paths hop
   of_all hop c =
       let b = contains_from_flat (hops_along d) paths hop c in
@@ -153,18 +153,18 @@ module _ (d : Domain) (paths : List Branch) (branches : (branch : Branch) → Co
       let is = hop_is d b.0 (branches b.0 b.1) place.0 hop place.1 in
       record { branch = b.0; of_paths = b.1; k = place.0; inside = is.0; is = is.1 }
 
-  -- and one of a branch is of all
+  -- and a hop of one is a hop of all
   all_of : (branch : Branch) (k : ℕ) → Contains paths branch → k + 1 < length branch → Contains (flat_map (hops_along d) paths) (hop_made d branch k)
   all_of branch k c h =
       contains_flat (hops_along d) paths branch (hop_made d branch k) c
       (contains_at (hops_along d branch) k (hop_made d branch k) (hop_there d branch (branches branch c) k h))
 
-  -- what a hop's link does
+  -- where a hop's link goes
   goes_at : (branch : Branch) (k : ℕ) → Contains paths branch → k + 1 < length branch →
       Between d (node_at d branch k) (node_at d branch (k + 1)) (hop_made d branch k).link
   goes_at branch k c h = stands d branch (branches branch c) k h
 
-  -- hops to one node are one hop
+  -- hops to the same node are the same hop
   same_end : (xs ys : Branch) (j k : ℕ) → Contains paths xs → Contains paths ys → j + 1 < length xs → k + 1 < length ys →
       end_of d (hop_made d xs j).link ≡ end_of d (hop_made d ys k).link → hop_made d xs j ≡ hop_made d ys k
   same_end xs ys j k cx cy hx hy e =
@@ -181,13 +181,13 @@ module _ (d : Domain) (paths : List Branch) (branches : (branch : Branch) → Co
       ∙ hop_front d ys (suc (j + 1)) j (omega arith)
       ∙ ap (hop_made d ys) place
 
-  -- a link is in one hop
+  -- a link is in one hop only
   one_hop : (a b : Hop) → Of d paths a → Of d paths b → end_of d a.link ≡ end_of d b.link → a ≡ b
   one_hop a b x y e =
       let ends : Hop → Option Node = λ (h : Hop). end_of d h.link in
       sym x.is ∙ same_end x.branch y.branch x.k y.k x.of_paths y.of_paths x.inside y.inside (ap ends x.is ∙ e ∙ ap ends (sym y.is)) ∙ y.is
 
-  -- so each hop is kept that stands among some
+  -- so each of these hops is kept
   kept : (hops : List Hop) → ((hop : Hop) → Contains hops hop → Of d paths hop) → (hop : Hop) → Contains hops hop →
       Contains (each_once (λ (a b : Hop). a.link == b.link) hops) hop
   kept hops of hop c =
@@ -211,9 +211,9 @@ module _ (d : Domain) (paths : List Branch) (branches : (branch : Branch) → Co
     λ w. kept (flat_map (hops_along d) paths) of_all hop (contains_flat (hops_along d) paths w.0 hop w.1 w.2),
   )
 
-  -- ---- what a tree has
+  -- ---- what holds for a tree
 
-  -- a hop stands behind the one that it follows
+  -- each hop comes after the hop that it follows
   behind : (place m : ℕ) (hop : Hop) → slice_get (tree_of d paths) place ≡ Some hop → hop.from ≡ Some m → (before : Hop) ×
       Contains (take place (tree_of d paths)) before × Follows d before hop
   behind place m hop at from =
@@ -240,7 +240,7 @@ module _ (d : Domain) (paths : List Branch) (branches : (branch : Branch) → Co
     first_is : (branch : Branch) → Contains paths branch → node_at d branch 0 ≡ Some (Bridge first)
     first_is branch c = ap (λ (o : Option (List ℕ)). option_map_or (λ name. node_named d name) o None) (trees branch one c is_one).begin ∙ begins_here
 
-    -- a hop that follows no link stands at depth 1, and its link leaves the first bridge
+    -- a hop that follows no link has hop number 1, and its link leaves the first bridge
     begin : (hop : Hop) → Contains (tree_of d paths) hop → hop.from ≡ None → (hop.depth ≡ 1) × (leaves d hop.link first ≡ true)
     begin hop c none = let w = of_tree hop c in at_first w.branch w.of_paths w.k w.inside w.is
       where

@@ -19,17 +19,17 @@ use Rattle.cqf_model.specs.Table.{cost_on, link_cost, links_in, uses}
 use Rattle.cqf_model.specs.Paces.{is_turn}
 use Rattle.std.proofs.lemmas.Bool.{and_parts}
 
--- a stream is offered in one cycle of a divisor of 80
+-- a stream is offered once every n cycles, for a divisor n of 80
 abbrev pub IsPaced : Pace → Type 0
 IsPaced pace = 80 % (pace.pause + 1) ≡ 0
 
--- it uses a link in a cycle as in the one of the first 80 that has the same remainder
+-- it uses a link in a cycle exactly if it does in the cycle of the first 80 with the same remainder
 pub uses_again : (tree : List Hop) (pace : Pace) (l cycle : ℕ) → IsPaced pace → uses tree pace l (cycle % 80) ≡ uses tree pace l cycle
 uses_again tree pace l cycle paced =
     ap (λ z. list_any (λ (hop : Hop). (hop.link == l) && ((pace.phase + hop.depth) % (pace.pause + 1) == z)) tree)
     (mod-mod_of_dvd (pace.pause + 1) cycle (dvd_of_mod-eq-zero (pace.pause + 1) paced))
 
--- and goes by a link that it uses
+-- a stream crosses each link that it uses
 pub used_is_crossed : (tree : List Hop) (pace : Pace) (l cycle : ℕ) → uses tree pace l cycle ≡ true → list_any (λ k. k == l) (links_in tree) ≡ true
 used_is_crossed tree pace l cycle t =
     let w = any_member (λ (hop : Hop). (hop.link == l) && is_turn pace hop.depth cycle) tree t in
@@ -42,7 +42,7 @@ costs_again rows l cycle paced =
     sum_le_members (λ (row : Row). cost_on row l cycle) (λ (row : Row). cost_on row l (cycle % 80)) rows
     (λ row m. le_of_eq (sym (ap (λ (b : Bool). if b then cost_of row.octets else 0) (uses_again row.tree.items row.pace l cycle (paced row m)))))
 
--- what is among some numbers is no more than the greatest
+-- a number of a list is at most the greatest
 most_from : (xs : List ℕ) (least : ℕ) → least ≤ fold max least xs
 most_from [] least = omega arith
 most_from (x ∷ xs) least = omega (arith, most_from xs (max least x))
@@ -54,7 +54,7 @@ most_of (y ∷ xs) least x c = elim (contains_cases y xs x c) [
   | inr k ↦ most_of xs (max least y) x k
 ]
 
--- what streams cost of a link in a cycle in which another uses it is no more than the most that they do in such a cycle
+-- the cost of the streams on a link, in a cycle in which another stream uses it, is at most the greatest such cost
 pub cost_within_most : (rows : List Row) (tree : List Hop) (pace : Pace) (l cycle : ℕ) → ((row : Row) → Contains rows row → IsPaced row.pace) →
     IsPaced pace → uses tree pace l cycle ≡ true → link_cost rows l cycle ≤ most_beside rows tree pace l
 cost_within_most rows tree pace l cycle paced own used =
@@ -67,7 +67,7 @@ cost_within_most rows tree pace l cycle paced own used =
     let most = most_of (each_below costs 80) 0 (link_cost rows l turn) (contains_below costs 80 turn (link_cost rows l turn) below here) in
     omega (arith, costs_again rows l cycle paced, most)
 
--- the same of rows that are made of a list
+-- the same for rows that are made from the elements of a list
 pub all_within_most : {X : Type 0} (row_of : X → Row) (xs : List X) (tree : List Hop) (pace : Pace) (l cycle : ℕ) →
     ((x : X) → Contains xs x → IsPaced (row_of x).pace) → IsPaced pace → uses tree pace l cycle ≡ true →
     sum_by (λ x. cost_on (row_of x) l cycle) xs
@@ -85,7 +85,7 @@ all_within_most {X} row_of xs tree pace l cycle each own used =
     le_of_eq (sym (ap (λ (b : Bool). if b then cost_of row.octets else 0) (uses_again row.tree.items row.pace l cycle (each x m))))) in
     omega (arith, again, most)
 
--- the pace of a request that isn't refused is one
+-- the pace of a request that isn't refused is of this kind
 pub paced : (every : ℕ) → 80 % every ≡ 0 → 80 % (every - 1 + 1) ≡ 0
 paced zero e = absurd (omega (arith, e, mod-zero 80))
 paced (suc every) e = let same : suc every - 1 + 1 ≡ suc every = omega arith in ap (λ z. 80 % z) same ∙ e

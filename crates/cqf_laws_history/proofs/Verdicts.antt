@@ -1,4 +1,4 @@
--- Each frame that came to a bridge has the verdict that is due by what came before it.
+-- Each frame that arrived at a bridge has the verdict that is due after the frames before it.
 use Rattle.std.proofs.Common.{◌≡◌, ℕ, true, List, refl, inl, inr, subst}
 use Rattle.std.specs.Prelude.{[], ◌∷◌, ◌++◌, Contains, Some}
 use Rattle.cqf_lists.proofs.Members.{contains_cases, contains_none}
@@ -11,11 +11,11 @@ use Rattle.cqf_model.specs.Traffic.{verdict_by, within_gate}
 use Rattle.cqf_laws_history.specs.TrafficLaws.{VerdictsHaveTheirReason, VerdictsInsideHaveTheirReason}
 
 module _ (d : Domain) (tables : List (List Row)) (bridge : ℕ) where
-  -- the verdict on a frame that came in a way, behind these
+  -- the verdict on a frame by its way, after these policed frames
   abbrev pub verdict_on : List Policed → Received → Way → Verdict
   verdict_on before x way = verdict_by d (table_of tables (cycle_of d x.at)) bridge (cycle_of d x.at) (λ (row : Row). within_gate d before row x) way
 
-  -- each frame of a list has its verdict behind some others
+  -- each frame of a list has its verdict after some others
   pub judged : (xs : List Received) (earlier : List Policed) (p : Policed) → Contains (police_all d tables bridge earlier xs) p → (before : List Policed) ×
       (p.verdict ≡ verdict_on before p.received p.received.way)
   judged [] earlier p h = absurd (contains_none p h)
@@ -26,7 +26,7 @@ module _ (d : Domain) (tables : List (List Row)) (bridge : ℕ) where
         | inr k ↦ judged xs (earlier ++ q ∷ []) p k
       ]
 
-  -- a frame that goes on leaves the bridge, however it came
+  -- a frame that goes on leaves the bridge, regardless of its way
   pub queued_leaves : VerdictsHaveTheirReason → VerdictsInsideHaveTheirReason → (before : List Policed) (x : Received) (way : Way) (row : Row) →
       verdict_on before x way ≡ Queued row → goes_on d row (came_by way) bridge ≡ true
   queued_leaves edge inside before x (AtEdge name) row e =

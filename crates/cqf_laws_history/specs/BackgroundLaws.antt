@@ -12,31 +12,32 @@ use Rattle.cqf_model.specs.Port.{Transmission}
 use Rattle.cqf_model.specs.Run.{Run}
 use Rattle.cqf_model.specs.declared.frames.Sent.{Sent}
 
--- a background frame's number is its place in its list, from 1
+-- a background frame's number is its position in its list, from 1
 abbrev pub BackgroundIsNumberedByPlace : Type 0
 BackgroundIsNumberedByPlace =
     (background : List Background) (place : ℕ) (frame : Background) → slice_get background place ≡ Some frame →
     slice_get (numbered_background background) place ≡ Some (record { frame = place + 1; background = frame })
 
--- an arrival that starts at an instant, as a background start tells it
+-- the background start of an arrival that starts at instant t
 abbrev pub start_of_arrival : ℕ → Arrival → Start
 start_of_arrival t arrival = record { start = record { 0 = t }; class = arrival.class; octets = arrival.octets; frame = arrival.frame }
 
--- it is the start of one of a port's frames that is of no stream
+-- start is the start of a frame of no stream, among the frames that a port has queued and started
 pub record IsBackgroundStart (queued : List QueuedFrame) (starts : List Transmission) (start : Start) : Type 0 where
   pub place : ℕ
   pub is_started : Contains starts (place, start.start.0)
   pub of_no_stream : (slice_index_or queued place no_frame).stream ≡ None
   pub as_it_came : start ≡ start_of_arrival start.start.0 (slice_index_or queued place no_frame).arrival
 
--- of what a port starts, just the frames of no stream are its background frames, each with its class, octets and number
+-- among the frames that a port starts, exactly the frames of no stream are its background frames, each with its class, octets and
+-- number
 abbrev pub PortsSayTheirBackground : Type 0
 PortsSayTheirBackground =
     (d : Domain) (entries : List Entry) (end l : ℕ) (queued : List QueuedFrame) (sents : List Sent) (backed : List Start) →
     (sends : Sends d entries end l queued sents backed) (start : Start) →
     Contains backed start ↔ IsBackgroundStart queued sends.starts start
 
--- it is the start of a background frame on one of the domain's links, in a cycle of the run
+-- s is the start of a background frame on one of the domain's links, in a cycle of the run
 pub record IsBackgroundOfRun (d : Domain) (cycles : ℕ) (backed : ℕ → List Start) (s : Started) : Type 0 where
   pub start : Start
   pub on_link : s.link < length d.links

@@ -1,4 +1,4 @@
--- Laws about which branches are refused as no tree, told by pairs of branches, in a planner's words.
+-- Laws about which branches are refused as no tree, stated by pairs of branches, in a planner's words.
 use Rattle.std.specs.Prelude.{ℕ, true, false, ◌≡◌, ◌≢◌, ◌≤◌, ◌<◌, ◌↔◌, List, length, take, slice_get, Some, None, AllPairs, Contains}
 use Rattle.cqf_units.specs.Name.{is_name}
 use Rattle.cqf_model.specs.declared.history.Refused.TheVariants.{NotATree, TooManyHops}
@@ -7,33 +7,33 @@ use Rattle.cqf_model.specs.Domain.{Domain, node_named}
 use Rattle.cqf_model.specs.History.{Asked, Branch, is_broken_at, is_loop_at, is_pace, make_a_tree, refusal_of}
 use Rattle.cqf_model.specs.Limits.{hops_within, least_reserved, most_reserved}
 
--- two branches part at a place: they have the same nodes before it, and there both go on, each to another node
+-- two branches part at an index: they have the same nodes before it, and both have a node there, but not the same one
 pub record PartAt (xs ys : Branch) (place : ℕ) : Type 0 where
   pub alike : take place xs ≡ take place ys
   pub first_goes_on : place < length xs
   pub second_goes_on : place < length ys
   pub differ : slice_get xs place ≢ slice_get ys place
 
--- a node stands in a branch at a place or behind it
+-- a branch has a node of this name at the index `place` or later
 pub record StandsFrom (branch : Branch) (place : ℕ) (name : List ℕ) : Type 0 where
   pub stand : ℕ
   pub behind : place ≤ stand
   pub is : slice_get branch stand ≡ Some name
 
--- two branches make one tree: they begin with one node at least that is the same, then part, and from there on no node of the
--- one is a node of the other
+-- two branches make one tree: they begin with at least one common node, then part, and from there on no node of the one is a node
+-- of the other
 pub record MakeOneTree (xs ys : Branch) : Type 0 where
   pub parting : ℕ
   pub begin_alike : 0 < parting
   pub part_there : PartAt xs ys parting
   pub apart : (name : List ℕ) → StandsFrom xs parting name → ¬ StandsFrom ys parting name
 
--- that is what the definition tests, whatever the branches
+-- this is what the definition tests, for any two branches
 abbrev pub PairsAreTested : Type 0
 PairsAreTested = (xs ys : Branch) → make_a_tree xs ys ≡ true ↔ MakeOneTree xs ys
 
--- no refusal fits a request that comes before that for branches which are no tree: its stream's name, octets and pace are in order,
--- it has a branch, each node is known, and each branch is whole and has no loop
+-- none of the refusals applies that precede the refusal for branches that are no tree: the name, octets and pace are valid, there
+-- is a branch, each node is known, and each branch is whole and has no loop
 pub record HasNoEarlierFault (d : Domain) (asked : Asked) : Type 0 where
   pub named : is_name asked.name ≡ true
   pub least_octets : least_reserved ≤ asked.octets
@@ -44,19 +44,19 @@ pub record HasNoEarlierFault (d : Domain) (asked : Asked) : Type 0 where
   pub whole : (branch : Branch) (place : ℕ) → Contains asked.paths branch → place ≤ length branch → is_broken_at d branch place ≡ false
   pub simple : (branch : Branch) (place : ℕ) → Contains asked.paths branch → place ≤ length branch → is_loop_at d branch place ≡ false
 
--- two branches begin with one node, are not the same, and each node that stands in both has the same nodes before it in both: so
--- no node that the one has behind another beginning is in the other
+-- two branches begin with the same node, differ, and each node of both has the same nodes before it in both. So no node that the
+-- one branch has after another beginning is in the other
 pub record HaveTheirBeginningsOnce (xs ys : Branch) : Type 0 where
   pub begin : slice_get xs 0 ≡ slice_get ys 0
   pub differ : xs ≢ ys
   pub same_before : (i j : ℕ) (name : List ℕ) → slice_get xs i ≡ Some name → slice_get ys j ≡ Some name → take i xs ≡ take j ys
 
--- of two branches of such a request it is the same to say so
+-- for two branches of such a request, both statements are equivalent
 abbrev pub PairsHaveTheirBeginnings : Type 0
 PairsHaveTheirBeginnings = (d : Domain) (asked : Asked) (xs ys : Branch) → HasNoEarlierFault d asked → Contains asked.paths xs → Contains asked.paths ys →
     MakeOneTree xs ys ↔ HaveTheirBeginningsOnce xs ys
 
--- a branch is the first that makes no tree with one before it: each two branches before it make one
+-- this branch is the first that makes no tree with a branch before it: each two branches before it make one tree
 pub record IsFirstStray (paths : List Branch) (place : ℕ) : Type 0 where
   pub branch : Branch
   pub here : slice_get paths place ≡ Some branch
@@ -67,16 +67,16 @@ pub record IsFirstStray (paths : List Branch) (place : ℕ) : Type 0 where
   pub no_tree : ¬ MakeOneTree other branch
   pub first : (i j : ℕ) (xs ys : Branch) → i < j → j < place → slice_get paths i ≡ Some xs → slice_get paths j ≡ Some ys → MakeOneTree xs ys
 
--- a request is refused for a branch just where no earlier refusal fits and the branch is the first such
+-- a request is refused for a branch as no tree exactly if no earlier refusal applies and the branch is the first such
 abbrev pub RefusedAsNoTree : Type 0
 RefusedAsNoTree = (d : Domain) (rows : List Row) (asked : Asked) (place : ℕ) →
     refusal_of d rows asked ≡ Some (NotATree place) ↔ (HasNoEarlierFault d asked × IsFirstStray asked.paths place)
 
--- so where no earlier refusal fits, a request is refused for no branch just where each two of its branches make one tree
+-- so if no earlier refusal applies, a request is refused for no branch exactly if each two of its branches make one tree
 abbrev pub TreesAreMadeOfPairs : Type 0
 TreesAreMadeOfPairs = (d : Domain) (rows : List Row) (asked : Asked) → HasNoEarlierFault d asked →
     ((place : ℕ) → refusal_of d rows asked ≢ Some (NotATree place)) ↔ AllPairs MakeOneTree asked.paths
 
--- where a tree may have as many hops as the domain has links, as in the profile, no request is refused for its hops
+-- if a tree may have as many hops as the domain has links, no request is refused for its hops
 abbrev pub LinksBoundHops : Type 0
 LinksBoundHops = (d : Domain) (rows : List Row) (asked : Asked) → length d.links ≤ hops_within d.limits → refusal_of d rows asked ≢ Some TooManyHops

@@ -1,4 +1,5 @@
--- One link, a stream of every 16 cycles that is held on it, and what is said of a second one by its pace and by the limits.
+-- An example: one link on which a stream of every 16 cycles is held, and the replies to requests for a second stream, by its pace
+-- and by the limits.
 use Rattle.std.specs.Prelude.{ℕ, ◌≡◌, List, [], ◌∷◌, Option, Some, None, codes}
 use Rattle.cqf_units.specs.declared.timing.Rate.TheVariants.{Mb1000}
 use Rattle.cqf_model.specs.declared.history.Refused.{Refused}
@@ -11,7 +12,7 @@ use Rattle.cqf_model.specs.History.{Asked, refusal_of}
 use Rattle.cqf_model.specs.Limits.{profile}
 use Rattle.cqf_laws_history.specs.StateLaws.{granted_row}
 
--- a gigabit link from bridge a to station s, within some limits
+-- a gigabit link from bridge a to station s, with some limits
 abbrev pub one_link : Limits → Domain
 one_link limits = record {
   limits = limits;
@@ -23,19 +24,19 @@ one_link limits = record {
   links = record { from = 0; to = Station 0; rate = Mb1000; delay = 500; least = 500; guard = None } ∷ [];
 }
 
--- a request for a stream over it that takes two thirds of its budget in the cycles of its own
+-- a request for a stream over this link that takes two thirds of the link's budget in the stream's own cycles
 abbrev pub asked_as : List ℕ → ℕ → ℕ → Asked
 asked_as name every phase = record { name = name; octets = 20000; every = every; phase = phase; paths = (codes "a" ∷ codes "s" ∷ []) ∷ [] }
 
--- x is held, in the fourth of 16 cycles
+-- x is held; it uses the fourth of each 16 cycles
 abbrev pub held : List Row
 held = granted_row (one_link profile) 0 0 (asked_as (codes "x") 16 3) ∷ []
 
--- what is said of y
+-- why y is refused, if it is
 abbrev pub said : Limits → ℕ → ℕ → Option Refused
 said limits every phase = refusal_of (one_link limits) held (asked_as (codes "y") every phase)
 
--- y is granted where no cycle is both of x and of y; and where it is, as many as may be are counted
+-- y is granted if no cycle is a cycle of both x and y, and if the limits allow its nodes, its hops and its number of streams
 pub record IsSaidOfTheSecond : Type 0 where
   pub other_phase : said profile 16 4 ≡ None
   pub other_half : said profile 2 0 ≡ None

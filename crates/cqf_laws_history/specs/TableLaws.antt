@@ -8,30 +8,30 @@ use Rattle.cqf_model.specs.History.{Act, Recorded, seals, table_at}
 use Rattle.cqf_model.specs.Table.{is_held, is_live, residence}
 use Rattle.cqf_laws_history.specs.StateLaws.{with_entry}
 
--- a withdrawn stream is held for as many cycles more as its deepest link is deep, so that its last frame leaves the last
--- bridge, and not a cycle longer
+-- a withdrawn stream is held from its admission until `residence` cycles after its withdrawal: as many cycles as the hop number of
+-- its deepest link, and not a cycle longer
 abbrev pub WithdrawnIsHeldForItsTree : Type 0
 WithdrawnIsHeldForItsTree =
     (row : Row) (cycle : ℕ) (w : Cycle) → row.withdrawn ≡ Some w →
     (is_held row cycle ≡ true ↔ ((row.admitted.0 ≤ cycle) × (cycle < w.0 + residence row)))
 
--- and a stream that isn't withdrawn is held from the cycle of its admission on
+-- a stream that isn't withdrawn is held from the cycle of its admission on
 abbrev pub OtherwiseItIsHeldOn : Type 0
 OtherwiseItIsHeldOn =
     (row : Row) (cycle : ℕ) → row.withdrawn ≡ None → (is_held row cycle ≡ true ↔ (row.admitted.0 ≤ cycle))
 
--- a withdrawn stream is live up to its withdrawal: from that cycle on none of its frames is taken at the edge
+-- a withdrawn stream is live in exactly the cycles from its admission until before its withdrawal
 abbrev pub WithdrawnIsLiveUntilThen : Type 0
 WithdrawnIsLiveUntilThen =
     (row : Row) (cycle : ℕ) (w : Cycle) → row.withdrawn ≡ Some w →
     (is_live row cycle ≡ true ↔ ((row.admitted.0 ≤ cycle) × (cycle < w.0)))
 
--- and a stream that isn't withdrawn is live from the cycle of its admission on
+-- a stream that isn't withdrawn is live from the cycle of its admission on
 abbrev pub OtherwiseItIsLive : Type 0
 OtherwiseItIsLive =
     (row : Row) (cycle : ℕ) → row.withdrawn ≡ None → (is_live row cycle ≡ true ↔ (row.admitted.0 ≤ cycle))
 
--- no later call changes the table of a cycle that is closed
+-- no later call changes the table of a closed cycle
 abbrev pub ClosedTablesStay : Type 0
 ClosedTablesStay =
     (d : Domain) (entries : List Recorded) (seat : ℕ) (act : Act) (reply : Reply) (cycle : ℕ) → cycle < seals entries →

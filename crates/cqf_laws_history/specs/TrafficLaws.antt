@@ -1,4 +1,4 @@
--- Laws about what becomes of a frame at a bridge, in a planner's words.
+-- Laws about what happens to a frame at a bridge, in a planner's words.
 use Rattle.std.specs.Prelude.{ℕ, Bool, true, false, ◌≡◌, ◌≢◌, ◌↔◌, List, [], ◌∷◌, Contains, Option, Some, None}
 use Rattle.cqf_model.specs.declared.frames.Reason.TheVariants.{Unknown, Withdrawn, OtherBridge, Octets}
 use Rattle.cqf_model.specs.declared.topology.Row.{Row}
@@ -9,14 +9,14 @@ use Rattle.cqf_model.specs.Table.{begins_at, goes_on, goes_to, is_live, row_name
 use Rattle.cqf_model.specs.Traffic.{AtEdge, Carried, DroppedFor, ExceedsGate, LacksRow, Policed, Queued, Received, Relayed, Verdict, came_by, policed_before}
 use Rattle.cqf_model.specs.Traffic.{verdict_by}
 
--- the row that stands for a name is live in the cycle
+-- the row of a name exists and is live in the cycle
 pub record HasLiveRow (named : Option Row) (cycle : ℕ) (row : Row) : Type 0 where
   pub is : named ≡ Some row
   pub live : is_live row cycle ≡ true
 
--- which verdict is due at the edge, by the row of the name: dropped as unknown where no row has the name; as withdrawn where
--- the row's stream isn't live; as of another bridge where its tree doesn't begin at this one; and for its octets where they
--- don't pass. Where nothing of this is so it goes on with that row. No other verdict is
+-- which verdict is due at the edge, by the row of the frame's name: dropped as unknown if no row has the name; as withdrawn if the
+-- row's stream isn't live; as of another bridge if its tree doesn't begin at this bridge; for its octets if they don't pass. If
+-- none of these holds, the frame goes on with that row. No other verdict is due
 abbrev pub IsDueAtEdge : Domain → ℕ → ℕ → (Row → Bool) → Option Row → Verdict → Type 0
 IsDueAtEdge d bridge cycle passes named (DroppedFor Unknown) = named ≡ None
 IsDueAtEdge d bridge cycle passes named (DroppedFor Withdrawn) = (row : Row) × (named ≡ Some row) × (is_live row cycle ≡ false)
@@ -27,15 +27,15 @@ IsDueAtEdge d bridge cycle passes named (Queued row) = HasLiveRow named cycle ro
 IsDueAtEdge d bridge cycle passes named LacksRow = ⊥
 IsDueAtEdge d bridge cycle passes named ExceedsGate = ⊥
 
--- an offer gets just the verdict that is due
+-- an offer gets exactly the verdict that is due
 abbrev pub VerdictsHaveTheirReason : Type 0
 VerdictsHaveTheirReason =
     (d : Domain) (table : List Row) (bridge cycle : ℕ) (passes : Row → Bool) (name : List ℕ) (verdict : Verdict) →
     (verdict_by d table bridge cycle passes (AtEdge name) ≡ verdict ↔ IsDueAtEdge d bridge cycle passes (row_named table name) verdict)
 
--- which verdict is due on a frame that came by a link, by the row of its stream's number: it lacks a row where none has the
--- number, or its tree doesn't go on from this bridge behind the link; it exceeds its gate where it doesn't pass; else it
--- goes on with that row. No other verdict is
+-- which verdict is due for a frame that came by a link, by the row of its stream's number: it lacks a row if no row has the number,
+-- or if the row's tree doesn't go on from this bridge after the link; it exceeds its gate if it doesn't pass; else it goes on with
+-- that row. No other verdict is due
 abbrev pub IsDueInside : Domain → ℕ → ℕ → (Row → Bool) → Option Row → Verdict → Type 0
 IsDueInside d bridge m passes found LacksRow = (row : Row) → found ≡ Some row → goes_on d row (Some m) bridge ≡ false
 IsDueInside d bridge m passes found ExceedsGate =
@@ -43,31 +43,31 @@ IsDueInside d bridge m passes found ExceedsGate =
 IsDueInside d bridge m passes found (Queued row) = (found ≡ Some row) × (goes_on d row (Some m) bridge ≡ true) × (passes row ≡ true)
 IsDueInside d bridge m passes found (DroppedFor reason) = ⊥
 
--- a frame that came by a link gets just the verdict that is due
+-- a frame that came by a link gets exactly the verdict that is due
 abbrev pub VerdictsInsideHaveTheirReason : Type 0
 VerdictsInsideHaveTheirReason =
     (d : Domain) (table : List Row) (bridge cycle m number : ℕ) (passes : Row → Bool) (verdict : Verdict) →
     (verdict_by d table bridge cycle passes (Relayed m number) ≡ verdict ↔ IsDueInside d bridge m passes (row_of table number) verdict)
 
--- a frame goes on only from a bridge that its stream's tree leaves, by the way that it came
+-- a frame goes on from a bridge only if its stream's tree leaves that bridge after the link by which the frame came, or at the edge
 abbrev pub QueuedFramesLeaveTheirBridge : Type 0
 QueuedFramesLeaveTheirBridge =
     (run : Run) (carried : Carried) (bridge end : ℕ) (p : Policed) (row : Row) → Contains (policed_before run carried bridge end) p →
     p.verdict ≡ Queued row → goes_on run.domain row (came_by p.received.way) bridge ≡ true
 
--- a frame that goes on with a row is queued, once, to each port by whose link the row's stream goes on
+-- a frame that goes on with a row is queued, once, at each port whose link the row's stream takes next
 abbrev pub FramesGoToEachPort : Type 0
 FramesGoToEachPort =
     (d : Domain) (received : Received) (row : Row) (l : ℕ) → Contains (goes_to row (came_by received.way)) l →
     queued_to d l (record { received = received; verdict = Queued row } ∷ []) ≡ queued_frame d received row ∷ []
 
--- and to no other
+-- and at no other port
 abbrev pub FramesGoToNoOtherPort : Type 0
 FramesGoToNoOtherPort =
     (d : Domain) (received : Received) (row : Row) (l : ℕ) → ¬ Contains (goes_to row (came_by received.way)) l →
     queued_to d l (record { received = received; verdict = Queued row } ∷ []) ≡ []
 
--- what doesn't go on is queued nowhere
+-- a frame that doesn't go on is queued nowhere
 abbrev pub OtherFramesGoNowhere : Type 0
 OtherFramesGoNowhere =
     (d : Domain) (p : Policed) (l : ℕ) → ((row : Row) → p.verdict ≢ Queued row) → queued_to d l (p ∷ []) ≡ []

@@ -30,12 +30,12 @@ use Rattle.cqf_laws_cycle.specs.RunSteps.{RunIsItsCycles}
 use Rattle.cqf_laws_instants.specs.TakenLaws.{AreItsBatches, SortedIsTaken, StandAsTaken}
 use Rattle.cqf_laws_instants.specs.QueueLaws.{behind, covering, covers, goes_by, goes_with, if_passes, offered_as, queued_with, row_with_name}
 
--- where the second of two tests fails, both together do
+-- if the second of two tests fails, the conjunction fails
 and_right : (a b : Bool) → b ≡ false → (a && b) ≡ false
 and_right true b e = e
 and_right false b e = refl
 
--- a row that passes is the one that was found, and passes
+-- if a row passes, it is the one that was found
 passed : (test : Row → Bool) (found : Option Row) (row : Row) → if_passes test found ≡ Some row → (found ≡ Some row) × (test row ≡ true)
 passed test None row e = absurd cc
 passed test (Some r) row e = by_test (test r) refl e
@@ -44,7 +44,7 @@ passed test (Some r) row e = by_test (test r) refl e
     by_test true is same = let one : r ≡ row = cc in (same, ap test (sym one) ∙ is)
     by_test false is same = absurd cc
 
--- the row that covers an offer is what the shift calls so
+-- the row that covers an offer is the one that covers it in the sense of the shift
 pub covering_covers : (run : Run) (x : Offered) (row : Row) → Contains (numbered run.offers) x → covering run x ≡ Some row ↔ IsCovered run x row
 covering_covers run x row inside = (to, from)
   where
@@ -99,16 +99,16 @@ uncovered_none run x Octets (row, r) =
     (and_right (begins_at run.domain row x.offer.bridge) (nat_le (asked_with run.domain run.offers x row) (reserved_in row 0 (offer_cycle run.domain x)))
     (lt-leb (asked_with run.domain run.offers x row) (reserved_in row 0 (offer_cycle run.domain x)) r.short)))
 
--- the name that an offer bears
+-- the name of an offer
 abbrev name_of : Way → List ℕ
 name_of (AtEdge name) = name
 name_of (Relayed m number) = []
 
--- what a frame is at the port of a link with such a row
+-- what a frame adds to the port of a link with such a row
 abbrev pub at_port : Run → ℕ → Received → Option Row → List QueuedFrame
 at_port run l x found = cond (goes_with l x.way found) (queued_with run.domain x found) []
 
--- where it goes on with a row
+-- if it goes on with a row
 at_port_some : (run : Run) (l : ℕ) (x : Received) (row : Row) (found : Option Row) → found ≡ Some row →
     queued_by run.domain l x (Queued row) ≡ at_port run l x found
 at_port_some run l x row found is = sym (ap (at_port run l x) is)
@@ -118,14 +118,14 @@ module _ (run : Run) (net : Network) (l : ℕ) (relayed : RelayedFramesAreQueued
   abbrev bridge : ℕ
   bridge = bridge_of run.domain l
 
-  -- what a verdict that is decided queues of an offer
+  -- what a decided verdict on an offer queues
   by_verdict : (x : Offered) (r : Received) (v : Verdict) → IsDecided run x v → queued_by run.domain l r v ≡ at_port run l r (covering run x)
   by_verdict x r (Queued row) covered = at_port_some run l r row (covering run x) ((covering_covers run x row covered.offered).1 covered)
   by_verdict x r (DroppedFor reason) uncovered = sym (ap (at_port run l r) (uncovered_none run x reason uncovered.is_reason))
   by_verdict x r LacksRow never = absurd never
   by_verdict x r ExceedsGate never = absurd never
 
-  -- each frame that comes is queued as it is said of it alone
+  -- each frame that arrives is queued as decided for it alone
   each : (p : Policed) → Contains (policed_before run net.carried bridge (end_of_run run)) p →
       queued_by run.domain l p.received p.verdict ≡ behind run l p.received
   each p came = by_way p.received.way refl
@@ -148,7 +148,7 @@ module _ (run : Run) (net : Network) (l : ℕ) (relayed : RelayedFramesAreQueued
           by_verdict x p.received p.verdict w.3
           ∙ ap (λ (y : Offered). at_port run l p.received (covering run y)) same
 
--- what is made of the verdicts on frames is what is made of the frames, where it is so of each
+-- if it holds for each frame, what is made of the verdicts on frames is what is made of the frames
 of_each : {Y : Type 0} (d : Domain) (tables : List (List Row)) (at : ℕ) (g : Policed → List Y) (f : Received → List Y) (earlier : List Policed)
     (xs : List Received) → ((p : Policed) → Contains (police_all d tables at earlier xs) p → g p ≡ f p.received) →
     flat_map g (police_all d tables at earlier xs) ≡ flat_map f xs
@@ -159,7 +159,7 @@ of_each {Y} d tables at g f earlier (x ∷ xs) same =
     ap₂ (λ (a b : List Y). a ++ b) (same p (contains_here p rest))
     (of_each d tables at g f (earlier ++ p ∷ []) xs (λ q c. same q (contains_later p rest q c)))
 
--- where what a test leaves out makes nothing, what is left makes all
+-- if the elements that a test leaves out make nothing, the others make all
 of_kept : {X Y : Type 0} (p : X → Bool) (f : X → List Y) (xs : List X) → ((x : X) → p x ≡ false → f x ≡ []) → flat_map f (filter p xs) ≡ flat_map f xs
 of_kept p f [] none = refl
 of_kept {X} {Y} p f (x ∷ xs) none = by_test (of_kept p f xs none) (p x) refl
@@ -189,7 +189,7 @@ module _ (queued : QueuedInItsCycle) (cycles : RunIsItsCycles) (relayed : Relaye
       (subst (λ (ps : List Policed). Contains ps p) (sym (cycles run net.carried here (length run.tables)))
       (contains_below (policed_of run net.carried here) (length run.tables) cycle p within_run c)))
 
-  -- and sorted in whatever way
+  -- and by any sort
   pub sorted_queued : SortedIsTaken → (batches : Carried) (sorted : List Received) → AreItsBatches run net (bridge_of run.domain l) cycle batches →
       IsPermutation (filter (goes_by run l) (gathered_in run batches (bridge_of run.domain l) cycle)) sorted → StandAsTaken sorted →
       queued_in run net.carried l cycle ≡ flat_map (behind run l) sorted

@@ -1,4 +1,4 @@
--- What a link sends of queued frames in turn, as a book has it.
+-- What a link sends of queued frames in turn, as a book records it.
 use Rattle.std.proofs.Common.{◌≡◌, ℕ, ◌+◌, ◌*◌, ◌<◌, ◌∷◌, [], ◌++◌, List, Option, Some, sym, ap, ◌∙◌, refl, Contains, map, length, arith}
 use Rattle.cqf_units.specs.Timing.{slot_of}
 use Rattle.cqf_model.specs.declared.frames.Sent.{Sent}
@@ -23,7 +23,7 @@ pub sent_one : (t : ℕ) (x : Arrival) (stream : Option ℕ) (number : ℕ) → 
     sent_by t x stream ≡ record { start = record { 0 = t }; frame = x.frame; stream = number; octets = x.octets } ∷ []
 sent_one t x stream number e = ap (sent_by t x) e
 
--- in turn, frames of streams are told one after the other
+-- the book records streams' frames in turn, one after the other
 turns_told : (cycle link t octet_time : ℕ) (xs : List QueuedFrame) → ((x : QueuedFrame) → Contains xs x → (number : ℕ) × (x.stream ≡ Some number)) →
     map (started cycle link) (in_turn_from t octet_time xs) ≡ starts_from cycle link t octet_time xs
 turns_told cycle link t octet_time [] of_streams = refl

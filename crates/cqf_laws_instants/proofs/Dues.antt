@@ -46,7 +46,7 @@ nil_of_none : {X : Type 0} (xs : List X) → ((x : X) → Contains xs x → ⊥)
 nil_of_none [] none = refl
 nil_of_none (x ∷ xs) none = absurd (none x (contains_here x xs))
 
--- sums of what is the same at each member
+-- sums of equal summands are equal
 sum_same : {X : Type 0} (f g : X → ℕ) (xs : List X) → ((x : X) → Contains xs x → f x ≡ g x) → sum_by f xs ≡ sum_by g xs
 sum_same f g xs same = omega (
   arith,
@@ -54,7 +54,7 @@ sum_same f g xs same = omega (
   sum_le_members g f xs (λ x c. omega (arith, same x c)),
 )
 
--- what is queued in a cycle came in it
+-- what is queued in a cycle arrived in it
 pub came_in : (run : Run) (carried : Carried) (l cycle : ℕ) (q : QueuedFrame) → Contains (queued_in run carried l cycle) q →
     cycle_of run.domain q.arrival.at.0 ≡ cycle
 came_in run carried l cycle q c =
@@ -63,7 +63,7 @@ came_in run carried l cycle q c =
     (queued_before run carried l ((cycle + 1) * run.domain.cycle_time)) q c).1
 
 module _ (laws : CycleLaws) (run : Run) (carried : Carried) (alone : IsRunAlone run carried) where
-  -- each frame that is queued in a cycle of the run is one of the link's queue
+  -- each frame that is queued in a cycle of the run is in the link's queue
   pub in_queue : (l cycle : ℕ) (q : QueuedFrame) → cycle < length run.tables → Contains (queued_in run carried l cycle) q →
       Contains (queued run carried (end_of_run run) l) q
   in_queue l cycle q in_run c =
@@ -71,7 +71,7 @@ module _ (laws : CycleLaws) (run : Run) (carried : Carried) (alone : IsRunAlone 
       (queue_by_cycles run carried l (length run.tables) (some_time laws run carried alone.planned))
       (contains_below (queued_in run carried l) (length run.tables) cycle q in_run c)
 
-  -- to a link that the domain lacks nothing is queued
+  -- to a link that the domain doesn't have nothing is queued
   pub none_queued : (l cycle : ℕ) → cycle < length run.tables → length run.domain.links ≤ l → queued_in run carried l cycle ≡ []
   none_queued l cycle in_run past = nil_of_none (queued_in run carried l cycle) (λ q c.
       let bridge = bridge_of run.domain l in
@@ -105,7 +105,7 @@ module _ (laws : CycleLaws) (run : Run) (carried : Carried) (alone : IsRunAlone 
     abbrev now : List QueuedFrame
     now = queued_in run carried l cycle
 
-    -- what is queued up to its end is the front of the queue
+    -- what is queued up to the cycle's end is a prefix of the queue
     front : Front (each_below (queued_in run carried l) (length run.tables)) (each_below (queued_in run carried l) (suc cycle))
         (λ x. (k : ℕ) × (suc cycle ≤ k) × (k < length run.tables) × Contains (queued_in run carried l k) x)
     front = each_front (queued_in run carried l) (suc cycle) (length run.tables) (omega (arith, in_run))
@@ -121,19 +121,19 @@ module _ (laws : CycleLaws) (run : Run) (carried : Carried) (alone : IsRunAlone 
         ∙ front.is
         ∙ append_assoc before now after
 
-    -- a frame at a place of the queue that is behind those before
+    -- a frame of the queue after those queued before the cycle
     behind : (k : ℕ) → get_or queue (length before + k) no_frame ≡ get_or (now ++ after) k no_frame
     behind k = ap (λ (xs : List QueuedFrame). get_or xs (length before + k) no_frame) parts ∙ get_or-append-add before (now ++ after) k no_frame
 
-    -- the queue is as long as the three
+    -- the queue is as long as the three parts
     long : length queue ≡ length before + (length now + length after)
     long = ap (λ (xs : List QueuedFrame). length xs) parts ∙ length-append before (now ++ after) ∙ ap (λ k. length before + k) (length-append now after)
 
-    -- one that is queued in the cycle
+    -- a frame that is queued in the cycle
     at_now : (k : ℕ) → k < length now → get_or queue (length before + k) no_frame ≡ get_or now k no_frame
     at_now k less = behind k ∙ get_or_append_left now after no_frame k less
 
-    -- a frame of the cycle stands at such a place
+    -- a frame of the cycle is at such an index
     place_in : (p : ℕ) → p < length queue → cycle_of d (get_or queue p no_frame).arrival.at.0 ≡ cycle →
         (k : ℕ) × (k < length now) × (p ≡ length before + k)
     place_in p inside is = elim (cases_lt p (length before)) [
@@ -158,15 +158,15 @@ module _ (laws : CycleLaws) (run : Run) (carried : Carried) (alone : IsRunAlone 
       ]
     ]
 
-    -- what the port sees at a place
+    -- what the port sees at an index
     seen : (p : ℕ) → p < length queue → get_or (arrivals_of queue) p no_arrival ≡ (get_or queue p no_frame).arrival
     seen p inside = get_or-map (λ (q : QueuedFrame). q.arrival) queue p no_frame no_arrival inside
 
-    -- each is a stream's
+    -- each is a stream's frame
     high : (q : QueuedFrame) → Contains queue q → 6 ≤ q.arrival.class
     high q c = subst (λ z. 6 ≤ z) (sym (queue_class laws run carried alone.planned l q c)) (gives_streams (cycle_of d q.arrival.at.0))
 
-    -- what one of the cycle adds to its load
+    -- what a frame of the cycle adds to its load
     adds : (q : QueuedFrame) → Contains now q → wire_in n cycle q.arrival ≡ wire q
     adds q c =
         let w = wire_of q.arrival.octets in
@@ -174,7 +174,7 @@ module _ (laws : CycleLaws) (run : Run) (carried : Carried) (alone : IsRunAlone 
         (eq-eqb (cycle_at n q.arrival.at.0) cycle (came_in run carried l cycle q c))
         ∙ cond-true (is_streams q.arrival) w 0 (le-leb 6 q.arrival.class (high q (in_queue l cycle q in_run c)))
 
-    -- the same of their slots
+    -- the same for their slots
     adds_slot : (q : QueuedFrame) → Contains now q → slot_in r n cycle q.arrival ≡ slot r q
     adds_slot q c =
         let w = slot r q in
@@ -189,14 +189,14 @@ module _ (laws : CycleLaws) (run : Run) (carried : Carried) (alone : IsRunAlone 
         cond-false (cycle_at n q.arrival.at.0 == cycle) (if is_streams q.arrival then slot r q else 0) 0
         (ne_eqb (cycle_at n q.arrival.at.0) cycle (λ e. omega (arith, e, at, from.1)))
 
-    -- the queue up to a place of the cycle
+    -- the queue up to a frame of the cycle
     up_to : (k : ℕ) → k < length now → take (length before + k) queue ≡ before ++ take k now
     up_to k less =
         ap (take (length before + k)) parts
         ∙ take-append-add before (now ++ after) k
         ∙ ap (λ (xs : List QueuedFrame). before ++ xs) (take-append-le k now after (omega (arith, less)))
 
-    -- and how long the cycle's frames take there
+    -- and how long the cycle's frames take up to there
     busy_at : (k : ℕ) → k < length now → busy r n cycle (take (length before + k) (arrivals_of queue)) ≡ sum_by (slot r) (take k now)
     busy_at k less =
         let f = λ (q : QueuedFrame). slot_in r n cycle q.arrival in
@@ -217,7 +217,7 @@ module _ (laws : CycleLaws) (run : Run) (carried : Carried) (alone : IsRunAlone 
         sum_map (wire_in n cycle) (λ (q : QueuedFrame). q.arrival) queue ∙ ap (sum_by f) parts ∙ sum_by-append f before (now ++ after) in
         omega (arith, whole, sum_by-append f now after, sum_same f wire now adds)
 
-    -- a place of the cycle is within the queue
+    -- an index of the cycle is within the queue
     inside_at : (k : ℕ) → k < length now → length before + k < length queue
     inside_at k less = omega (arith, less, long)
 
@@ -242,18 +242,18 @@ module _ (laws : CycleLaws) (run : Run) (carried : Carried) (alone : IsRunAlone 
     abbrev mine : List Transmission
     mine = filter (λ (x : Transmission). cycle_of d x.1 == cycle + 1) starts
 
-    -- those that are in turn
+    -- those in turn
     abbrev expected : List Transmission
     expected = turns (length before) ((cycle + 1) * n) r now
 
-    -- what starts from a place of the cycle in its turn is one of them
+    -- a frame of the cycle that starts in its turn is one of them
     in_turn : (z : Transmission) (k : ℕ) → k < length now → z.0 ≡ length before + k → z.1 ≡ (cycle + 1) * n + sum_by (slot r) (take k now) →
         Contains expected z
     in_turn z k less place instant =
         subst (λ (x : Transmission). Contains expected x) (sym (ap₂ (λ (a b : ℕ). (a, b)) place instant))
         (is_turn (length before) ((cycle + 1) * n) r now k less)
 
-    -- each of the next cycle is in turn
+    -- each transmission of the next cycle is in turn
     is_expected : (z : Transmission) → Contains mine z → Contains expected z
     is_expected z c =
         let m = contains_from_filter (λ (x : Transmission). cycle_of d x.1 == cycle + 1) starts z c in
@@ -267,7 +267,7 @@ module _ (laws : CycleLaws) (run : Run) (carried : Carried) (alone : IsRunAlone 
         start_due laws run carried alone l is_link z.0 z.1 m.0 ∙ ap (due n r (arrivals_of queue)) k.2 ∙ due_at k.0 k.1 in
         in_turn z k.0 k.1 k.2 instant
 
-    -- and each that is in turn is of the next cycle
+    -- and each transmission in turn is of the next cycle
     from_expected : cycle + 1 < length run.tables → (z : Transmission) → Contains expected z → Contains mine z
     from_expected goes_on z c =
         let t = turn_is (length before) ((cycle + 1) * n) r now z.0 z.1 c in
@@ -304,7 +304,7 @@ module _ (laws : CycleLaws) (run : Run) (carried : Carried) (alone : IsRunAlone 
         ∙ ap (flat_map (sent_of queue)) (same_starts goes_on)
         ∙ turns_send queue before now after (length before) ((cycle + 1) * n) r parts refl
 
-  -- the same where the domain lacks the link
+  -- the same if the domain doesn't have the link
   pub alone_is_due : (l cycle : ℕ) → cycle + 1 < length run.tables → batch run.domain carried l (cycle + 1)
       ≡ in_turn_from ((cycle + 1) * run.domain.cycle_time) (octet_time_of run.domain l) (queued_in run carried l cycle)
   alone_is_due l cycle in_run = elim (cases_lt l (length run.domain.links)) [
@@ -328,6 +328,6 @@ module _ (laws : CycleLaws) (run : Run) (carried : Carried) (alone : IsRunAlone 
 pub batch_is_due : CycleLaws → RunBesideIsRunAlone → BatchIsDue
 batch_is_due laws beside run net l cycle legal in_run = alone_is_due laws run net.carried (beside run net legal) l cycle in_run
 
--- and that of the first cycle
+-- and the law for the first cycle
 pub first_batch_is_empty : CycleLaws → RunBesideIsRunAlone → FirstBatchIsEmpty
 first_batch_is_empty laws beside run net l legal = alone_begins laws run net.carried (beside run net legal) l

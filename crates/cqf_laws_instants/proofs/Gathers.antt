@@ -26,7 +26,7 @@ use Rattle.cqf_laws_instants.specs.TakenLaws.{AreItsBatches, IsTakenBefore, Stan
 use Rattle.cqf_laws_instants.proofs.Ordered.{Either, sorted_is_one}
 use Rattle.cqf_laws_instants.proofs.Order.{by_sources, in_one_cycle, link_in_order, link_source, offer_source, offers_at_in_order, one_way}
 
--- frames of which each is taken before the later ones don't tie
+-- frames in the order in which they are taken don't tie
 pub loose : (xs : List Received) → AllPairs IsTakenBefore xs → AllPairs (Either IsTakenBefore) xs
 loose xs all = pairs_weaker IsTakenBefore (Either IsTakenBefore) xs (λ a b ca cb l. inl l) all
 
@@ -110,7 +110,7 @@ module _ (run : Run) (batches : Carried) (bridge cycle : ℕ) where
 
   module _ (few : length run.domain.links ≤ 4096)
       (ordered : (m : ℕ) → enters run.domain m bridge ≡ true → AllPairs (λ (a b : Sent). whole_at run.domain m a < whole_at run.domain m b) (batches m)) where
-    -- no two frames tie of what the links bring, each whole in its own order, and of offers of which no two tie
+    -- no two frames tie among what the links bring and offers without ties
     pub with_offers : (offers : List Offered) → AllPairs (Either IsTakenBefore) (map offer_received offers) →
         AllPairs (Either IsTakenBefore) (each_below brought (length run.domain.links) ++ map offer_received offers)
     with_offers offers apart =
@@ -129,7 +129,7 @@ module _ (run : Run) (batches : Carried) (bridge cycle : ℕ) where
         let w = contains_from_below brought links x cx in
         by_sources x y (omega (arith, few, w.1, source w.0 x w.2, offer_source offers y cy)))
 
-    -- so no two of what is gathered tie
+    -- so no two gathered frames tie
     pub gathered_apart : AllPairs (Either IsTakenBefore) (gathered_in run batches bridge cycle)
     gathered_apart =
         let d = run.domain in
@@ -140,13 +140,13 @@ module _ (run : Run) (batches : Carried) (bridge cycle : ℕ) where
         (λ offset l. offers_at_in_order run.offers bridge (instant offset))
         (λ j k x y less l cx cy. inl (omega (arith, less, offered_when run.offers bridge (instant j) x cx, offered_when run.offers bridge (instant k) y cy))))))
 
--- a list has what is taken in a cycle, and no two of its frames tie
+-- a list contains what is taken in a cycle, and no two of its frames tie
 pub record HasTheTaken (taken gathered : List Received) : Type 0 where
   pub has : (z : Received) → Contains taken z → Contains gathered z
   pub only : (z : Received) → Contains gathered z → Contains taken z
   pub apart : AllPairs (Either IsTakenBefore) gathered
 
--- of such a list what a test keeps, sorted in whatever way, is what it keeps of what is taken
+-- by any sort, what a test keeps of such a list is what it keeps of what is taken
 pub sorted_of : (taken gathered sorted : List Received) (passes : Received → Bool) → AllPairs IsTakenBefore taken → HasTheTaken taken gathered →
     IsPermutation (filter passes gathered) sorted → StandAsTaken sorted → sorted ≡ filter passes taken
 sorted_of taken gathered sorted passes ordered h moved none =
@@ -159,14 +159,14 @@ sorted_of taken gathered sorted passes ordered h moved none =
 
 module _ (whole : BatchIsWholeInItsCycle) (brings : CycleBringsItsBatches) (keeps : FramesKeepTheirOrder)
     (run : Run) (cycles cycle bridge : ℕ) (net : Network) (compiled : IsCompiledNetwork run cycles net) where
-  -- what comes to a bridge in a cycle is in order
+  -- what arrives at a bridge in a cycle is in order
   pub cycle_in_order : AllPairs IsTakenBefore (received_in run net.carried bridge cycle)
   cycle_in_order =
       in_one_cycle run net.carried bridge (few_links run.domain compiled.accepted)
       (λ m. keeps run (compiled_lists run.domain) cycles m net compiled.legal) cycle
 
   module _ (batches : Carried) (are : AreItsBatches run net bridge cycle batches) where
-    -- the frames of each link are whole one after the other
+    -- the frames of each link arrive fully one after the other
     pub batches_in_order : (m : ℕ) → enters run.domain m bridge ≡ true →
         AllPairs (λ (a b : Sent). whole_at run.domain m a < whole_at run.domain m b) (batches m)
     batches_in_order m here =
@@ -189,7 +189,7 @@ module _ (whole : BatchIsWholeInItsCycle) (brings : CycleBringsItsBatches) (keep
           apart = gathered_apart run batches bridge cycle (few_links run.domain compiled.accepted) batches_in_order;
         }
 
-    -- so sorted in whatever way it is that
+    -- so by any sort it is in that order
     pub sorted_taken : (passes : Received → Bool) (sorted : List Received) →
         IsPermutation (filter passes (gathered_in run batches bridge cycle)) sorted → StandAsTaken sorted →
         sorted ≡ filter passes (received_in run net.carried bridge cycle)

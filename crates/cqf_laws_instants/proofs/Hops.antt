@@ -1,4 +1,4 @@
--- A frame stands in a lane by its stream's tree.
+-- A frame is in a lane according to its stream's tree.
 use Rattle.cqf_model.specs.declared.topology.Pace.{Pace}
 use Rattle.std.specs.Prelude.{find}
 use Rattle.std.specs.Option.{option_map_or}
@@ -46,19 +46,19 @@ policed_each d tables at earlier (y ∷ xs) x h =
       | inr k ↦ let r = policed_each d tables at (earlier ++ p ∷ []) xs x k in (r.0, contains_later p rest r.0 r.1, r.2)
     ]
 
--- a frame as a port sees it, by its stream's reservation, pace, depth and number
+-- a frame as a port sees it, by its stream's reservation, pace, hop number and number
 abbrev frame_by : Domain → Received → ℕ → Pace → ℕ → ℕ → QueuedFrame
 frame_by d x octets pace depth number = record {
   arrival = record { at = record { 0 = x.at }; class = gate_class (stream_list d.cycle_time octets pace depth) x.at; octets = x.octets; frame = x.frame };
   stream = Some number;
 }
 
--- how deep a frame is by its stream's tree
+-- the hop number of a frame in its stream's tree
 abbrev depth_by : List Hop → Option ℕ → ℕ
 depth_by tree None = 0
 depth_by tree (Some m) = option_map_or (λ (hop : Hop). hop.depth) (find (λ (hop : Hop). hop.link == m) tree) 0
 
--- whether a tree has a link behind the way that a frame came
+-- whether a tree has a link after the way by which a frame came
 abbrev has_behind : ℕ → Received → List Hop → Bool
 has_behind l x tree = list_any (λ next. next == l) (links_in (filter (λ (hop : Hop). same_way hop.from (came_by x.way)) tree))
 
@@ -78,7 +78,7 @@ goes_by_tree run l x found row is same number =
 
 module _ (whole : BatchIsWholeInItsCycle) (brings : CycleBringsItsBatches) (keeps : FramesKeepTheirOrder) (cycles : RunIsItsCycles)
     (relayed : RelayedFramesAreQueuedOrLost) (run : Run) (net : Network) (legal : IsLegalRun run net) (means : MeansTheShift run net.carried) where
-  -- what a link sends in a cycle comes to the bridge in it
+  -- what a link sends in a cycle arrives at the bridge in it
   sent_comes : (bridge m cycle : ℕ) (sent : Sent) → enters run.domain m bridge ≡ true → Contains (batch run.domain net.carried m cycle) sent →
       Contains (received_in run net.carried bridge cycle) (sent_received run.domain m sent)
   sent_comes bridge m cycle sent enter inside =
@@ -99,7 +99,7 @@ module _ (whole : BatchIsWholeInItsCycle) (brings : CycleBringsItsBatches) (keep
         | inr past ↦ absurd (contains_none sent (subst (λ (xs : List Sent). Contains xs sent) (legal.legal.no_others m past).0 of_link))
       ]
 
-  -- so it goes on by its stream's tree, as any table has it
+  -- so it goes on by its stream's tree, by the row in any table
   pub relayed_by_tree : (l m cycle table : ℕ) (sent : Sent) (row : Row) → cycle < length run.tables → enters run.domain m (bridge_of run.domain l) ≡ true →
       Contains (batch run.domain net.carried m cycle) sent → Contains (table_of run.tables table) row → row.no ≡ sent.stream →
       GoesByTree run l (sent_received run.domain m sent) row
@@ -133,7 +133,7 @@ covered_by_tree run l x row at covered =
     goes_by_tree run l (offer_received x) row row (edge_row run l x at ∙ (covering_covers run x row covered.offered).1 covered)
     (record { name = refl; octets = refl; pace = refl; tree = refl }) refl
 
--- and one that none covers goes nowhere
+-- and an offer that no row covers goes nowhere
 pub uncovered_nowhere : (run : Run) (l : ℕ) (x : Offered) → x.offer.bridge ≡ bridge_of run.domain l → Contains (numbered run.offers) x →
     ((row : Row) → IsCovered run x row → ⊥) → goes_by run l (offer_received x) ≡ false
 uncovered_nowhere run l x at inside none = ap (goes_with l (AtEdge x.offer.stream)) (edge_row run l x at) ∙ by_row (covering run x) refl

@@ -38,17 +38,17 @@ use Rattle.cqf_laws_instants.proofs.Order.{link_source, offer_source}
 
 -- ---- keys
 
--- a frame has a key of its own: it isn't sooner than the beginning, and its source and its number are small
+-- a frame has a unique key: it is no sooner than the beginning, and its source and its number are small
 record HasKey (begins : ℕ) (x : Received) : Type 0 where
   from : begins ≤ x.at
   source : source_of x.way < 8192
   number : x.frame < 16777216
 
--- a frame that is taken before another has the smaller key
+-- a frame that is taken before another one has the smaller key
 smaller_key : (begins : ℕ) (a b : Received) → HasKey begins a → HasKey begins b → IsTakenBefore a b → key_of begins a < key_of begins b
 smaller_key begins a b x y h = omega (arith, x.from, x.source, x.number, y.from, y.source, y.number, h)
 
--- so what stands by its keys stands as it is taken
+-- so frames sorted by keys are in the order in which they are taken
 stand_by_keys : (begins : ℕ) (sorted : List Received) → ((x : Received) → Contains sorted x → HasKey begins x) → IsNonDecreasingBy (key_of begins) sorted →
     StandAsTaken sorted
 stand_by_keys begins sorted keys rise i j d less inside before =
@@ -59,9 +59,9 @@ stand_by_keys begins sorted keys rise i j d less inside before =
     let le : key_of begins a ≤ key_of begins b = rise i j d (omega (arith, less)) inside in
     omega (arith, l, le)
 
--- ---- offers by place
+-- ---- offers by index
 
--- two frames of one source that differ in their numbers don't tie
+-- two frames of the same source with different numbers don't tie
 by_numbers : (a b : Received) → source_of a.way ≡ source_of b.way → a.frame < b.frame → Either IsTakenBefore a b
 by_numbers a b same l = elim (cases_order a.at b.at) [
   | inl e ↦ inl (inr (e, inr (same, l)))
@@ -69,11 +69,11 @@ by_numbers a b same l = elim (cases_order a.at b.at) [
 ]
 
 module _ (run : Run) (bridge cycle : ℕ) where
-  -- the offers at the bridge in the cycle, by place
+  -- the offers at the bridge in the cycle, by index
   abbrev placed : List Offered
   placed = filter (is_offered_in run.domain bridge cycle) (numbered run.offers)
 
-  -- of which no two tie
+  -- no two of them tie
   placed_apart : AllPairs (Either IsTakenBefore) (map offer_received placed)
   placed_apart =
       pairs_map (Either IsTakenBefore) offer_received placed
@@ -81,7 +81,7 @@ module _ (run : Run) (bridge cycle : ℕ) where
       (λ a b ca cb l. by_numbers (offer_received a) (offer_received b) refl l)
       (AllPairs-filter (λ (a b : Offered). a.frame < b.frame) (is_offered_in run.domain bridge cycle) (numbered run.offers) (numbers_ascend run.offers)))
 
-  -- they are those that stand instant by instant
+  -- they are the same as instant by instant
   module _ (some : 0 < run.domain.cycle_time) where
     -- whether an offer is of an instant of the cycle
     abbrev then : ℕ → Offered → Bool
@@ -116,7 +116,7 @@ module _ (run : Run) (bridge cycle : ℕ) where
 
 -- ---- lanes
 
--- what a test keeps of a list that is made on a condition
+-- a filter and a conditional list commute
 kept_if : {X Y : Type 0} (f : X → Y) (p : Y → Bool) (xs : List X) (b : Bool) →
     cond b (map f (filter (λ (x : X). p (f x)) xs)) [] ≡ filter p (cond b (map f xs) [])
 kept_if f p xs true = sym (filter-map f p xs)
@@ -127,11 +127,11 @@ module _ (run : Run) (batches : Carried) (l cycle : ℕ) where
   abbrev here : ℕ
   here = bridge_of run.domain l
 
-  -- what comes to it, the offers by place
+  -- what arrives at it, with the offers by index
   abbrev whole_list : List Received
   whole_list = each_below (brought run batches here cycle) (length run.domain.links) ++ map offer_received (placed run here cycle)
 
-  -- the lane is what goes on of that
+  -- the lane is what goes on of these
   lane_kept : lane_of run batches l cycle ≡ filter (goes_by run l) whole_list
   lane_kept =
       let d = run.domain in
@@ -148,11 +148,11 @@ module _ (run : Run) (batches : Carried) (l cycle : ℕ) where
 module _ (whole : BatchIsWholeInItsCycle) (brings : CycleBringsItsBatches) (keeps : FramesKeepTheirOrder)
     (run : Run) (cycles l cycle : ℕ) (net : Network) (compiled : IsCompiledNetwork run cycles net)
     (batches : Carried) (are : AreItsBatches run net (bridge_of run.domain l) cycle batches) where
-  -- what comes to the bridge in the cycle
+  -- what arrives at the bridge in the cycle
   abbrev taken : List Received
   taken = received_in run net.carried (bridge_of run.domain l) cycle
 
-  -- the list with the offers by place has it
+  -- the list with the offers by index contains it
   placed_has : HasTheTaken taken (whole_list run batches l cycle)
   placed_has =
       let d = run.domain in
@@ -191,7 +191,7 @@ module _ (whole : BatchIsWholeInItsCycle) (brings : CycleBringsItsBatches) (keep
         let s = means.only sent.frame m (cycle_of run.domain sent.start.0) (record { sent = sent; is_sent = h; is_frame = refl; is_cycle = refl }) in
         omega (arith, few, s.is_frame, (numbered_member run.offers s.x s.covered.offered).2)
 
-    -- each frame that comes has a key
+    -- each frame that arrives has a key
     all_keys : (x : Received) → Contains (whole_list run batches l cycle) x → HasKey (cycle * run.domain.cycle_time) x
     all_keys x h =
         let d = run.domain in
@@ -224,7 +224,7 @@ module _ (whole : BatchIsWholeInItsCycle) (brings : CycleBringsItsBatches) (keep
               }
         ]
 
-    -- so the lane sorted by its keys is what of it goes on, as it is taken
+    -- so the lane sorted by its keys is what goes on of it, in the order in which it is taken
     pub lane_sorted : (sorted : List Received) → IsPermutation (lane_of run batches l cycle) sorted →
         IsNonDecreasingBy (key_of (cycle * run.domain.cycle_time)) sorted → sorted ≡ filter (goes_by run l) taken
     lane_sorted sorted moved rise =

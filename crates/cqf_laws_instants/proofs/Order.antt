@@ -1,4 +1,4 @@
--- What comes to a bridge in a cycle is in order of its frames' keys.
+-- What arrives at a bridge in a cycle is in order of its frames' keys.
 use Rattle.std.proofs.Common.{◌≡◌, ℕ, ◌+◌, ◌*◌, ◌<◌, ◌≤◌, List, length, inl, inr, refl, sym, ap, ◌∙◌, arith, AllPairs, Contains}
 use Rattle.std.proofs.Common.{eqb-true}
 use Rattle.std.specs.Prelude.{◌==◌, map, filter}
@@ -25,14 +25,14 @@ use Rattle.cqf_laws_instants.proofs.Ordered.{Either}
 pub one_way : (a b : Received) → IsTakenBefore a b → IsTakenBefore b a → ⊥
 one_way a b h k = omega (arith, h, k)
 
--- frames of two sources never tie
+-- frames of different sources never tie
 pub by_sources : (a b : Received) → source_of a.way < source_of b.way → Either IsTakenBefore a b
 by_sources a b l = elim (cases_order a.at b.at) [
   | inl e ↦ inl (inr (e, inl l))
   | inr o ↦ elim o [ inl sooner ↦ inl (inl sooner) | inr later ↦ inr (inl later) ]
 ]
 
--- what a link sends comes in this order where it is whole in its own
+-- what a link sends is in this order if it arrives fully in the link's own order
 pub link_in_order : (d : Domain) (m : ℕ) (sents : List Sent) → AllPairs (λ (a b : Sent). whole_at d m a < whole_at d m b) sents →
     AllPairs IsTakenBefore (map (sent_received d m) sents)
 link_in_order d m sents all =
@@ -40,7 +40,7 @@ link_in_order d m sents all =
     (pairs_weaker (λ (a b : Sent). whole_at d m a < whole_at d m b) (λ (a b : Sent). IsTakenBefore (sent_received d m a) (sent_received d m b)) sents
     (λ a b ca cb l. inl l) all)
 
--- the offers at a bridge at one instant come by their numbers
+-- the offers at a bridge at one instant are ordered by number
 pub offers_at_in_order : (offers : List Offer) (bridge t : ℕ) → AllPairs IsTakenBefore (offered_at offers bridge t)
 offers_at_in_order offers bridge t =
     let here = filter (is_offered_at bridge t) (numbered offers) in
@@ -52,13 +52,13 @@ offers_at_in_order offers bridge t =
     (λ a b ca cb l. inr (when a ca ∙ sym (when b cb), inr (refl, l)))
     (AllPairs-filter (λ (a b : Offered). a.frame < b.frame) (is_offered_at bridge t) (numbered offers) (numbers_ascend offers)))
 
--- what a link brings has its number
+-- what a link brings has the link's number as its source
 pub link_source : (d : Domain) (m : ℕ) (sents : List Sent) (x : Received) → Contains (map (sent_received d m) sents) x → source_of x.way ≡ m
 link_source d m sents x h =
     let w = contains_from_map (sent_received d m) sents x h in
     sym (ap (λ (y : Received). source_of y.way) w.2)
 
--- and what is offered stands behind every link
+-- and the source number of an offer is greater than that of every link
 pub offer_source : (offers : List Offered) (x : Received) → Contains (map offer_received offers) x → source_of x.way ≡ 4096
 offer_source offers x h =
     let w = contains_from_map offer_received offers x h in
@@ -66,14 +66,14 @@ offer_source offers x h =
 
 module _ (run : Run) (carried : Carried) (bridge : ℕ) (few : length run.domain.links ≤ 4096)
     (ordered : (m : ℕ) → AllPairs (λ (a b : Sent). whole_at run.domain m a < whole_at run.domain m b) (carried m)) where
-  -- what a link brings at an instant has its number
+  -- what a link brings at an instant has the link's number as its source
   relayed_source : (t m : ℕ) (x : Received) → Contains (relayed_at run.domain carried bridge t m) x → source_of x.way ≡ m
   relayed_source t m x h =
       let d = run.domain in
       let whole = filter (λ (sent : Sent). whole_at d m sent == t) (carried m) in
       link_source d m whole x (contains_if (enters d m bridge) (map (sent_received d m) whole) x h)
 
-  -- what comes at an instant is in order
+  -- what arrives at an instant is in order
   at_one_instant : (t : ℕ) → AllPairs IsTakenBefore (received_at run carried bridge t)
   at_one_instant t =
       let d = run.domain in
@@ -96,7 +96,7 @@ module _ (run : Run) (carried : Carried) (bridge : ℕ) (few : length run.domain
         inl (omega (arith, few, w.1, relayed_source t w.0 x w.2, offer_source (filter (is_offered_at bridge t) (numbered run.offers)) y cy)),
       ))
 
-  -- so is what comes in a cycle
+  -- and so is what arrives in a cycle
   pub in_one_cycle : (cycle : ℕ) → AllPairs IsTakenBefore (received_in run carried bridge cycle)
   in_one_cycle cycle =
       let first = cycle * run.domain.cycle_time in

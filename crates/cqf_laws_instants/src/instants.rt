@@ -1,18 +1,18 @@
 //! Laws about the instants at which a link sends the frames of a cycle.
 //!
-//! Each law is a function that ends at once: its contract is a statement of `specs/` about the definitions of `cqf_model`,
-//! and its proof shows that the statement holds. A proof elsewhere uses the law by a call of the function.
+//! Each law is a function that ends at once. Its contract is a statement of `specs/` about the definitions of `cqf_model`, and its
+//! proof shows that the statement holds. To use a law, another proof calls the function.
 //!
 //! ```
-//! // here on, a proof knows at which instants the frames of a cycle start
+//! // from here on, a proof knows at which instants the frames of a cycle start
 //! cqf_laws_instants::batch_is_due();
 //! ```
 
 ghost use Rattle.cqf_laws_instants.specs.Instants.{BatchIsDue, BatchIsShort, FirstBatchIsEmpty, QueueHasRoom, StartsAreInTurn};
 
-/// What was queued to a link in a cycle it sends in the next one, in turn: the first frame starts when the cycle begins, and
-/// each other when the one before it and the gap behind that are over. In the first cycle it sends nothing (IEEE 802.1Q,
-/// Annex T, and the profile).
+/// Proves that a link sends in each cycle what was queued to it in the cycle before, in turn: the first frame starts when the cycle
+/// begins, and each other frame when the one before it and the gap after that are over. In the first cycle the link sends nothing
+/// (IEEE 802.1Q, Annex T, and this project's own rules).
 pub fn batch_is_due()
     ensures due { BatchIsDue }
     ensures starts { StartsAreInTurn }
@@ -25,7 +25,7 @@ pub fn batch_is_due()
     cqf_laws_shift::run_beside_is_run_alone();
 }
 
-/// The frames that a link sends in a cycle are no more than have room in its budget.
+/// Proves that a link sends no more frames in a cycle than its budget has room for.
 pub fn batch_is_short()
     ensures { BatchIsShort }
 {
@@ -37,8 +37,8 @@ pub fn batch_is_short()
     cqf_laws_shift::gates_mean_the_shift();
 }
 
-/// What is queued to a link in a cycle of the run has room there: all of it is sent before the guard time of the next
-/// cycle, if the run goes on to it.
+/// Proves that what is queued to a link in a cycle of the run has room there: all of it is sent before the guard band of the next
+/// cycle, if the run has that cycle.
 pub fn queue_has_room()
     ensures { QueueHasRoom }
 {

@@ -1,13 +1,13 @@
 //! Laws about the order in which a bridge takes the frames of a cycle, and about what it queues to its links.
 //!
-//! - The frames of a cycle are taken in order of their keys, and no two have one key, so they may be sorted in whatever way
+//! - The frames of a cycle are taken in order of their keys, and no two have the same key, so any sort will do
 //!   ([`sorted_is_taken`]).
-//! - What a cycle queues to a link is decided of each frame alone ([`what_a_cycle_queues`]).
-//! - So a link's lane, which is put together link by link and then offer by offer, and sorted by one number for each frame, is
-//!   what the cycle queues to the link; each frame stands in it by its stream's tree ([`lane_is_queued`]).
+//! - Whether a cycle queues a frame to a link is decided for each frame alone ([`what_a_cycle_queues`]).
+//! - So a link's lane, which is put together link by link and then offer by offer, and sorted by one number for each frame, is what
+//!   the cycle queues to the link. Each frame is in it according to its stream's tree ([`lane_is_queued`]).
 //!
 //! ```
-//! // here on, a proof knows that the frames of a cycle, sorted by their keys, stand as they are taken
+//! // from here on, a proof knows that the frames of a cycle, sorted by their keys, are in the order in which they are taken
 //! cqf_laws_instants::sorted_is_taken();
 //! ```
 
@@ -15,8 +15,8 @@ ghost use Rattle.cqf_laws_instants.specs.LaneLaws.{CoveredGoByTheirTree, LaneIsQ
 ghost use Rattle.cqf_laws_instants.specs.QueueLaws.{CoveringCovers, SortedIsQueued, WhatACycleQueues};
 ghost use Rattle.cqf_laws_instants.specs.TakenLaws.{CycleIsTakenInOrder, SortedIsTaken};
 
-/// The frames of a cycle are taken in order of instant, of the number of the link, an offer standing behind every link, and
-/// of the frame's number, and no two tie; so they may be sorted in whatever way.
+/// Proves that the frames of a cycle are taken in order of instant, then link number, with an offer after every link, then frame
+/// number, and that no two tie. So any sort of them gives this order.
 pub fn sorted_is_taken()
     ensures order { CycleIsTakenInOrder }
     ensures sorted { SortedIsTaken }
@@ -25,8 +25,8 @@ pub fn sorted_is_taken()
     cqf_laws_cycle::frames_keep_their_order();
 }
 
-/// What a cycle queues to a link is those of the frames that come to its bridge that go on by it: an offer that is covered, by
-/// a link of depth 1, and a frame that a link brought by the links that its stream's tree has behind that one.
+/// Proves that a cycle queues to a link exactly those frames arriving at its bridge that go on by it: a covered offer goes on by
+/// the links of hop number 1, and a frame that a link brought goes on by the links that follow that link in its stream's tree.
 pub fn what_a_cycle_queues()
     ensures covering { CoveringCovers }
     ensures queues { WhatACycleQueues }
@@ -39,7 +39,8 @@ pub fn what_a_cycle_queues()
     sorted_is_taken();
 }
 
-/// A link's lane, sorted by keys, is what a cycle queues to the link; a frame stands in it by the tree of its stream.
+/// Proves that a link's lane, sorted by keys, is what a cycle queues to the link. A frame is in it exactly if its stream's tree has
+/// the link there.
 pub fn lane_is_queued()
     ensures lane { LaneIsQueued }
     ensures relayed { RelayedGoByTheirTree }

@@ -7,7 +7,7 @@ use Rattle.cqf_laws_shift.specs.Books.{BookSaysTheShift}
 use Rattle.cqf_laws_shift.specs.Run.{with_background}
 use Rattle.cqf_laws_loose.specs.LooseLaws.{LooseGatesMeanTheShift, LooseNetworkLeavesByTheBook, SlackChangesNoCycle}
 
--- the shift hangs on no background frame
+-- the shift doesn't depend on background frames
 pub shift_with : (run : Run) (background : List Background) (cycles frame link cycle : ℕ) → InShift run cycles frame link cycle →
     InShift (with_background run background) cycles frame link cycle
 shift_with run background cycles frame link cycle s = record {

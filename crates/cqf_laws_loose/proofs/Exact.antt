@@ -25,7 +25,7 @@ sent_least laws run carried {heard} alone link sent is_link c =
     (least laws run heard alone.planned alone.meets (fed laws run carried alone) (bridge_of run.domain link)) s.inside in
     omega (arith, enough, s.octets)
 
--- what is sent comes within the bounds
+-- what is sent arrives within the bounds
 comes_within : (d : Domain) (slack : Slack) (l : ℕ) (sent : Sent) → 64 ≤ sent.octets → slack.least l ≤ delay_of d l → ComesWithin d slack l sent sent
 comes_within d slack l sent long short =
     let more = time_grows 72 (sent.octets + 8) (octet_time_of d l) (omega (arith, long)) in

@@ -41,7 +41,7 @@ NoSooner d noted = (l : ℕ) (sent : Sent) → l < length d.links → cycle_of d
 
 module _ (run : Run) (noted : ℕ → Sent → Sent) (later : NoSooner run.domain noted) (carried other : Carried) (cycles : ℕ)
     (alike : CarryTheSame run.domain (cycles * run.domain.cycle_time) carried other) where
-  -- what is whole before a cycle was sent before it
+  -- what has fully arrived before a cycle was sent before it
   sent_sooner : (m : ℕ) (sent : Sent) (u : ℕ) → m < length run.domain.links → u < cycles * run.domain.cycle_time → whole_at run.domain m (noted m sent) ≡ u →
       sent.start.0 < cycles * run.domain.cycle_time
   sent_sooner m sent u h early is =
@@ -52,7 +52,7 @@ module _ (run : Run) (noted : ℕ → Sent → Sent) (later : NoSooner run.domai
       let ends : (sent.start.0 / n + 1) * n ≤ cycles * n = mul-le-mul_right n (omega (arith, sooner)) in
       omega (arith, ends, cycle_upto n sent.start.0 some)
 
-  -- so what is heard at an instant before it is the same
+  -- so what is heard at an instant before the cycle is the same
   relayed_same : (bridge u m : ℕ) → m < length run.domain.links → u < cycles * run.domain.cycle_time →
       relayed_at run.domain (heard_by noted carried) bridge u m ≡ relayed_at run.domain (heard_by noted other) bridge u m
   relayed_same bridge u m h early =
@@ -70,7 +70,7 @@ module _ (run : Run) (noted : ℕ → Sent → Sent) (later : NoSooner run.domai
       filter-map (noted m) whole (carried m) ∙ ap (map (noted m)) same ∙ sym (filter-map (noted m) whole (other m)) in
       ap (λ (sents : List Sent). cond (enters d m bridge) (map (sent_received d m) sents) []) mapped
 
-  -- and what comes to a bridge
+  -- and so is what arrives at a bridge
   received_same : (bridge u : ℕ) → u < cycles * run.domain.cycle_time →
       received_at run (heard_by noted carried) bridge u ≡ received_at run (heard_by noted other) bridge u
   received_same bridge u early =
@@ -85,7 +85,7 @@ module _ (run : Run) (noted : ℕ → Sent → Sent) (later : NoSooner run.domai
       ap (λ (xs : List Received). queued_to run.domain l (police_all run.domain run.tables b [] xs))
       (same_below (received_at run (heard_by noted carried) b) (received_at run (heard_by noted other) b) n (λ u less. received_same b u (omega (arith, less, upto))))
 
-  -- and what comes to it before the cycle
+  -- and what arrives at it before the cycle
   pub comes_same : (l : ℕ) → comes_before run (heard_by noted carried) l cycles ≡ comes_before run (heard_by noted other) l cycles
   comes_same l =
       let d = run.domain in
@@ -94,7 +94,7 @@ module _ (run : Run) (noted : ℕ → Sent → Sent) (later : NoSooner run.domai
       ap (λ (xs : List QueuedFrame). backed_in d run.background l cycle ++ filter (λ (x : QueuedFrame). cycle_of d x.arrival.at.0 == cycle) xs)
       (queued_same l ((cycle + 1) * d.cycle_time) upto))
 
--- a network that goes so for some cycles
+-- a network that goes like this for some cycles
 abbrev pub GoesSo : Run → (ℕ → Sent → Sent) → ℕ → Network → Type 0
 GoesSo run noted cycles net = IsNetworkBy run (compiled_lists run.domain) cycles net (heard_by noted net.carried)
 
@@ -108,7 +108,7 @@ module _ (exist : LegalStartsExist) (late : LateArrivalChangesNothing) (port : P
   abbrev starts : ℕ → List QueuedFrame → ℕ → List Transmission
   starts l queued end = (exist (rules l) (arrivals_of queued) end).0
 
-  -- that is legal
+  -- these starts are legal
   sends_some : (l : ℕ) (queued : List QueuedFrame) (end : ℕ) →
       Sends run.domain (compiled_lists run.domain l) end l queued (flat_map (sent_of queued) (starts l queued end)) (flat_map (backed_of queued) (starts l queued end))
   sends_some l queued end = record {
@@ -118,7 +118,7 @@ module _ (exist : LegalStartsExist) (late : LateArrivalChangesNothing) (port : P
     are_backed = refl;
   }
 
-  -- a link that the domain has sends so, and another nothing
+  -- a link of the domain sends this, and any other link nothing
   abbrev only_links : {X : Type 0} → ℕ → List X → List X
   only_links {X} l xs = if nat_lt l (length run.domain.links) then xs else []
 
@@ -131,7 +131,7 @@ module _ (exist : LegalStartsExist) (late : LateArrivalChangesNothing) (port : P
         only_links l (flat_map (backed_of queued) (starts l queued ((cycles + 1) * run.domain.cycle_time)));
   }
 
-  -- goes on so
+  -- it goes on like this
   goes_on : (cycles : ℕ) (net : Network) → GoesSo run noted cycles net → GoesSo run noted (cycles + 1) (one_more cycles net)
   goes_on cycles net so = record { sends = sends; no_others = no_others }
     where
@@ -206,7 +206,7 @@ module _ (exist : LegalStartsExist) (late : LateArrivalChangesNothing) (port : P
     no_others = λ l past. (refl, refl);
   }
 
-  -- so there is one
+  -- so there is such a network
   pub network_so : (cycles : ℕ) → (net : Network) × GoesSo run noted cycles net
   network_so zero = (record { carried = λ l. []; backed = λ l. [] }, begins)
   network_so (suc cycles) =
@@ -214,7 +214,7 @@ module _ (exist : LegalStartsExist) (late : LateArrivalChangesNothing) (port : P
       let e : cycles + 1 ≡ suc cycles = omega arith in
       (one_more cycles before.0, subst (λ z. GoesSo run noted z (one_more cycles before.0)) e (goes_on cycles before.0 before.1))
 
--- each frame is heard as it may be
+-- each frame is heard within the bounds
 pub transit_heard : (d : Domain) (slack : Slack) (noted : ℕ → Sent → Sent) → IsAcceptedWith d slack → IsTransit d slack noted → (l : ℕ) (sent : Sent) →
     l < length d.links → IsHeardAs d l sent (noted l sent)
 transit_heard d slack noted accepted transit l sent h = elim (cases_lt sent.octets 64) [

@@ -1,4 +1,4 @@
--- A network whose ports' starts lag is a loose one.
+-- A network whose ports start frames later than exact ports do is a loose one.
 use Rattle.std.proofs.Common.{◌≡◌, ◌∙◌, ℕ, ◌+◌, ◌≤◌, ap, arith, refl}
 use Rattle.cqf_units.specs.Timing.{ending_of, time_of}
 use Rattle.cqf_model.specs.declared.frames.Sent.{Sent}
@@ -7,7 +7,7 @@ use Rattle.cqf_model.specs.Loose.{ComesWithin, Slack}
 use Rattle.cqf_model.specs.Traffic.{whole_at}
 use Rattle.cqf_laws_loose.specs.LagLaws.{ComesBehind, LaggingIsLoose, StartsWithin}
 
--- what comes behind a start that lags comes within the bounds of the start that it lags behind
+-- what is heard of a start that lags is within the bounds of the start of the exact port
 comes_within : (d : Domain) (slack : Slack) (lag l : ℕ) (sent begun heard : Sent) → StartsWithin lag sent begun → ComesBehind d slack lag l begun heard →
     ComesWithin d slack l sent heard
 comes_within d slack lag l sent begun heard starts comes =

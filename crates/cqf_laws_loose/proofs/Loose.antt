@@ -14,7 +14,7 @@ use Rattle.cqf_laws_shift.proofs.RunsBeside.{run_as}
 use Rattle.cqf_laws_loose.specs.LooseLaws.{LooseGatesMeanTheShift}
 use Rattle.cqf_laws_loose.specs.LooseRuns.{IsLooseRun}
 
--- what comes within the bounds is heard in its cycle, and in time
+-- what arrives within the bounds is heard in its cycle, and in time
 pub heard_as : (d : Domain) (slack : Slack) (l : ℕ) (sent heard : Sent) → IsAcceptedWith d slack → l < length d.links → ComesWithin d slack l sent heard →
     IsHeardAs d l sent heard
 heard_as d slack l sent heard accepted is_link comes =

@@ -1,4 +1,4 @@
--- When a frame is whole at a link's end, by the clock there.
+-- When a frame has fully arrived at a link's end, by the clock there.
 use Rattle.std.proofs.Common.{◌≡◌, ℕ, ◌+◌, ◌*◌, ◌/◌, ◌<◌, ◌≤◌, List, inl, inr, sym, ap, ◌∙◌, subst, arith, le-leb, eq-eqb, ◌==◌, if◌then◌else◌}
 use Rattle.std.proofs.Common.{Contains, get_or, le_trans, length, take, mul-le-mul_right}
 use Rattle.std.proofs.lemmas.Bool.{cases_lt, cond-true}
@@ -33,7 +33,7 @@ use Rattle.cqf_laws_loose.specs.LooseRuns.{IsLooseRun}
 use Rattle.cqf_laws_loose.proofs.Exact.{sent_least}
 use Rattle.cqf_laws_loose.proofs.Loose.{loose_is_heard}
 
--- a frame of a stream that is queued at a place has its slot in its cycle behind those before it
+-- a stream's frame that is queued at an index has its slot in its cycle, after those before it
 own_part : (r n c : ℕ) (xs : List Arrival) (p : ℕ) → p < length xs → 6 ≤ (get_or xs p no_arrival).class → (get_or xs p no_arrival).at.0 / n ≡ c →
     busy r n c (take p xs) + slot_of (get_or xs p no_arrival).octets r ≤ busy r n c xs
 own_part r n c xs p inside high in_cycle =
@@ -46,7 +46,7 @@ own_part r n c xs p inside high in_cycle =
     behind : (before part slot all : ℕ) → before + part ≤ all → part ≡ slot → before + slot ≤ all
     behind before part slot all more own = omega (arith, more, own)
 
--- and its octets of the wire among those of its cycle
+-- and its wire octets are among those of its cycle
 own_wire : (n c : ℕ) (xs : List Arrival) (p : ℕ) → p < length xs → 6 ≤ (get_or xs p no_arrival).class → (get_or xs p no_arrival).at.0 / n ≡ c →
     wire_of (get_or xs p no_arrival).octets ≤ load n c xs
 own_wire n c xs p inside high in_cycle =
@@ -59,15 +59,15 @@ own_wire n c xs p inside high in_cycle =
     behind : (before part wire all : ℕ) → before + part ≤ all → part ≡ wire → wire ≤ all
     behind before part wire all more own = omega (arith, more, own)
 
--- a start behind what is before it, and its own slot, are within the span of the cost
+-- a start after what is before it, and its own slot, are within the span of the cost
 over_by : (begins start before slot all span : ℕ) → start ≡ begins + before → before + slot ≤ all → all ≤ span → start + slot ≤ begins + span
 over_by begins start before slot all span due part within = omega (arith, due, part, within)
 
 module _ (laws : CycleLaws) (run : Run) (carried : Carried) {heard : Carried} (alone : IsRunAs run carried heard) (link : ℕ)
     (is_link : link < length run.domain.links) (sent : Sent) (c : Contains (carried link) sent) (before : ℕ)
     (is : cycle_of run.domain sent.start.0 ≡ before + 1) where
-  -- by its own bridge's clock a frame starts in its cycle, and is over within what was held when it was queued, in which a shortest
-  -- frame has its place
+  -- by its own bridge's clock a frame starts in its cycle, and is over within the cost that was held when it was queued; this cost
+  -- has room for a shortest frame
   pub starts_within : ((before + 1) * run.domain.cycle_time ≤ sent.start.0) ×
       (sent.start.0 + slot_of sent.octets (octet_time_of run.domain link) ≤
       (before + 1) * run.domain.cycle_time + span_of (link_cost (table_of run.tables before) link (before + 1)) (octet_time_of run.domain link))
@@ -115,7 +115,7 @@ module _ (laws : CycleLaws) (run : Run) (carried : Carried) {heard : Carried} (a
       some_cost : (octets whole takes cost : ℕ) → octets ≡ whole → 64 ≤ whole → wire_of octets ≤ takes → takes ≤ cost → 84 ≤ cost
       some_cost octets whole takes cost same long part upto = omega (arith, same, long, part, upto)
 
--- from when a frame is over to when it is whole
+-- from the end of a frame to its full arrival
 whole_about : (d : Domain) (slack : Slack) (link cycle cost : ℕ) (sent h : Sent) → 64 ≤ sent.octets → ComesWithin d slack link sent h →
     cycle * d.cycle_time ≤ sent.start.0 →
     sent.start.0 + slot_of sent.octets (octet_time_of d link) ≤ cycle * d.cycle_time + span_of cost (octet_time_of d link) → 84 ≤ cost →
@@ -137,14 +137,14 @@ module _ (laws : CycleLaws) (run : Run) (slack : Slack) (net : Network) (heard :
   abbrev alone : IsRunAs run net.carried heard
   alone = run_as laws run net heard (loose_is_heard run slack net heard is)
 
-  -- a link that the domain lacks sends nothing
+  -- a link that the domain doesn't have sends nothing
   the_link : (link : ℕ) (sent : Sent) → Contains (net.carried link) sent → link < length run.domain.links
   the_link link sent c = elim (cases_lt link (length run.domain.links)) [
     | inl inside ↦ inside
     | inr past ↦ absurd (contains_none sent (subst (λ z. Contains z sent) (is.loose.goes.no_others link past).0 c))
   ]
 
-  -- what is heard of a frame's number is that frame, within the bounds
+  -- what is heard with a frame's number is that frame, within the bounds
   pub comes_so : (link : ℕ) (sent h : Sent) → Contains (net.carried link) sent → Contains (heard link) h → h.frame ≡ sent.frame →
       ComesWithin run.domain slack link sent h
   comes_so link sent h c ch frames =
@@ -154,7 +154,7 @@ module _ (laws : CycleLaws) (run : Run) (slack : Slack) (net : Network) (heard :
       let one : r.0 ≡ sent = sent_once laws run net.carried alone link is_link r.0 sent r.1 c (sym within.frame ∙ ap (λ (z : Sent). z.frame) r.2 ∙ frames) in
       subst (λ (z : Sent). ComesWithin run.domain slack link z h) one (subst (λ (z : Sent). ComesWithin run.domain slack link r.0 z) r.2 within)
 
-  -- so it is whole within what was held
+  -- so it arrives fully within the held cost
   pub timely : (link before : ℕ) (sent h : Sent) → Contains (net.carried link) sent → Contains (heard link) h → h.frame ≡ sent.frame →
       cycle_of run.domain sent.start.0 ≡ before + 1 →
       IsWholeAbout run.domain slack link (before + 1) (link_cost (table_of run.tables before) link (before + 1)) (whole_at run.domain link h)
@@ -168,7 +168,7 @@ module _ (laws : CycleLaws) (run : Run) (slack : Slack) (net : Network) (heard :
 pub loose_frames_are_timely : CycleLaws → LooseFramesAreTimely
 loose_frames_are_timely laws run slack net heard link before sent h is c ch frames at = timely laws run slack net heard is link before sent h c ch frames at
 
--- so many cycles behind an offer's own
+-- the hop number times the cycle time after the offer
 pub latency_about : (d : Domain) (slack : Slack) (link depth cost at cycle whole : ℕ) → 0 < d.cycle_time → cycle ≡ cycle_of d at + depth →
     IsWholeAbout d slack link cycle cost whole → IsLatencyAbout d slack link depth cost at whole
 latency_about d slack link depth cost at cycle whole some is about =

@@ -1,4 +1,4 @@
--- Where frames come through in given ways, there is one loose network.
+-- If frames arrive in given ways, there is only one loose network.
 use Rattle.cqf_model.proofs.Links.{guard_within}
 use Rattle.std.proofs.Common.{◌≡◌, ℕ, ◌+◌, ◌-◌, ◌*◌, ◌<◌, ◌≤◌, List, length, sym, refl, ap, ◌∙◌, inl, inr, arith, subst}
 use Rattle.std.specs.Prelude.{[], ◌++◌, nat_lt, zero, suc}
@@ -36,7 +36,7 @@ module _ (exist : LegalStartsExist) (late : LateArrivalChangesNothing) (port : P
   abbrev starts : ℕ → List QueuedFrame → ℕ → List Transmission
   starts l queued end = (exist (record { entries = compiled_lists run.domain l; octet_time = octet_time_of run.domain l }) (arrivals_of queued) end).0
 
-  -- that is legal
+  -- these starts are legal
   sends_some : (l : ℕ) (queued : List QueuedFrame) (end : ℕ) →
       Sends run.domain (compiled_lists run.domain l) end l queued (flat_map (sent_of queued) (starts l queued end)) (flat_map (backed_of queued) (starts l queued end))
   sends_some l queued end = record {

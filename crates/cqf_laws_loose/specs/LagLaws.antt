@@ -1,4 +1,4 @@
--- Networks whose ports' starts lag behind those of exact ports.
+-- Networks whose ports start frames later than exact ports do.
 use Rattle.std.specs.Prelude.{ℕ, ◌≡◌, ◌+◌, ◌<◌, ◌≤◌, map, length, Contains}
 use Rattle.cqf_units.specs.Timing.{ending_of}
 use Rattle.cqf_model.specs.declared.frames.Sent.{Sent}
@@ -8,7 +8,7 @@ use Rattle.cqf_model.specs.Network.{IsNetworkBy, Network, compiled_lists}
 use Rattle.cqf_model.specs.Run.{Run}
 use Rattle.cqf_model.specs.Traffic.{Carried, whole_at}
 
--- a frame as an exact port starts it, and as it is started: no sooner, and at most so much later
+-- a frame as an exact port starts it, and as it is started here: no sooner, and at most `lag` later
 pub record StartsWithin (lag : ℕ) (sent begun : Sent) : Type 0 where
   pub frame : begun.frame ≡ sent.frame
   pub stream : begun.stream ≡ sent.stream
@@ -16,7 +16,7 @@ pub record StartsWithin (lag : ℕ) (sent begun : Sent) : Type 0 where
   pub no_sooner : sent.start.0 ≤ begun.start.0
   pub no_later : begun.start.0 ≤ sent.start.0 + lag
 
--- what comes of it: the greatest delay that the domain states has room for the lag
+-- how a frame that lags is heard at the link's end: the greatest delay that the domain states has room for the lag
 pub record ComesBehind (d : Domain) (slack : Slack) (lag l : ℕ) (begun heard : Sent) : Type 0 where
   pub frame : heard.frame ≡ begun.frame
   pub stream : heard.stream ≡ begun.stream
@@ -25,7 +25,8 @@ pub record ComesBehind (d : Domain) (slack : Slack) (lag l : ℕ) (begun heard :
   pub shortest : ending_of begun.start.0 64 (octet_time_of d l) + slack.least l ≤ whole_at d l heard + slack.sync
   pub most : whole_at d l heard + lag ≤ ending_of begun.start.0 begun.octets (octet_time_of d l) + delay_of d l + slack.sync
 
--- a network whose ports start each frame at most so much later than an exact port does of what comes to it, each frame by another time
+-- a network whose ports start each frame at most `lag` later than an exact port does for the same arrivals, each frame by its own
+-- time
 pub record IsLaggingNetwork (run : Run) (slack : Slack) (lag : ℕ → ℕ) (net : Network) (heard : Carried) : Type 0 where
   pub goes : IsNetworkBy run (compiled_lists run.domain) (length run.tables) net heard
   pub begun : ℕ → Sent → Sent
@@ -35,7 +36,7 @@ pub record IsLaggingNetwork (run : Run) (slack : Slack) (lag : ℕ → ℕ) (net
   pub each : (l : ℕ) (sent : Sent) → l < length run.domain.links → Contains (net.carried l) sent →
       ComesBehind run.domain slack (lag l) l (begun l sent) (noted l (begun l sent))
 
--- it is a loose network: so all that is said of these is said of it, by the starts of exact ports
+-- it is a loose network, so all that holds for loose networks holds for it, by the starts of exact ports
 abbrev pub LaggingIsLoose : Type 0
 LaggingIsLoose = (run : Run) (slack : Slack) (lag : ℕ → ℕ) (net : Network) (heard : Carried) → IsLaggingNetwork run slack lag net heard →
     IsLooseNetwork run slack net heard

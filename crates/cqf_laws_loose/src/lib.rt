@@ -1,4 +1,4 @@
-//! Laws of networks whose bridges' clocks differ, and whose links delay by more and less: the gates mean the shift there too.
+//! Laws of networks whose bridges' clocks differ and whose links' delays vary: the gates mean the shift there too.
 #![tactic(auto)]
 
 ghost use Rattle.cqf_laws_loose.specs.LagLaws.{LaggingIsLoose};
@@ -7,7 +7,7 @@ ghost use Rattle.cqf_laws_loose.specs.LooseLaws.{LooseHistoryMeansTheShift, Loos
 ghost use Rattle.cqf_laws_loose.specs.LooseLaws.{LooseNetworkIsUnique};
 ghost use Rattle.cqf_laws_loose.specs.LooseLaws.{LooseNetworkExists, LooseNetworkLeavesByTheBook, SlackChangesNoCycle};
 
-/// In every loose network of an accepted domain the gates mean the shift.
+/// Proves that in every loose network of an accepted domain the gates mean the shift.
 pub fn loose_gates_mean_the_shift()
     ensures { LooseGatesMeanTheShift }
 {
@@ -17,15 +17,16 @@ pub fn loose_gates_mean_the_shift()
     cqf_laws_cycle::gate_counts_cycles();
 }
 
-/// So neither background frames nor delays nor clocks change the cycle in which a stream's frame leaves.
+/// Proves that neither background frames nor delays nor clocks change the cycle in which a stream's frame leaves.
 pub fn slack_changes_no_cycle()
     ensures { SlackChangesNoCycle }
 {
     loose_gates_mean_the_shift();
 }
 
-/// If all clocks agree and each link takes its greatest delay, the network is one of them: with any slack with which the domain is accepted
-/// and whose least delays are no more than the greatest, and so with the one that the domain states.
+/// Proves that a network in which all clocks agree and each link takes its greatest delay is a loose network. This holds for any
+/// slack with which the domain is accepted and whose least delays are at most the greatest, so it holds for the slack that the
+/// domain states.
 pub fn exact_is_loose()
     ensures any { ExactIsLoose }
     ensures stated { ExactHasItsSlack }
@@ -37,7 +38,8 @@ pub fn exact_is_loose()
     cqf_laws_cycle::gate_counts_cycles();
 }
 
-/// Each frame is whole at a link's end within what was held when it was queued, and the slack.
+/// Proves when each frame has fully arrived at a link's end: within the cost that was held when the frame was queued, and the
+/// slack.
 pub fn loose_frames_are_timely()
     ensures whole { LooseFramesAreTimely }
     ensures latency { LooseLatencyIsWithin }
@@ -48,7 +50,7 @@ pub fn loose_frames_are_timely()
     cqf_laws_cycle::gate_counts_cycles();
 }
 
-/// So they do in every loose network of a legal history.
+/// Proves that in every loose network of a legal history the gates mean the shift.
 pub fn loose_history_means_the_shift()
     ensures { LooseHistoryMeansTheShift }
 {
@@ -56,7 +58,7 @@ pub fn loose_history_means_the_shift()
     cqf_laws_history::tables_are_orderly();
 }
 
-/// However frames come through within the bounds, there is a network in which they do.
+/// Proves that for any way in which frames can arrive within the bounds, there is a network in which they arrive so.
 pub fn loose_network_exists()
     ensures { LooseNetworkExists }
 {
@@ -70,7 +72,7 @@ pub fn loose_network_exists()
     cqf_laws_cycle::port_list_is_open();
 }
 
-/// What leaves in a loose network, and in which cycle, is what the run's book says.
+/// Proves that what leaves in a loose network, and in which cycle, is what the run's book says.
 pub fn loose_network_leaves_by_the_book()
     ensures { LooseNetworkLeavesByTheBook }
 {
@@ -78,7 +80,7 @@ pub fn loose_network_leaves_by_the_book()
     cqf_laws_shift::book_says_the_shift();
 }
 
-/// And for one choice of transits, what its links carry of streams' frames is settled.
+/// Proves that for one choice of transits, the streams' frames that the links of a loose network carry are uniquely determined.
 pub fn loose_network_is_unique()
     ensures { LooseNetworkIsUnique }
 {
@@ -92,8 +94,8 @@ pub fn loose_network_is_unique()
     cqf_laws_cycle::port_list_is_open();
 }
 
-/// A network whose ports start each frame at most so much later than exact ports do, each frame by another time, is a loose one, where the
-/// greatest delays have room for that.
+/// Proves that a network whose ports start each frame later than exact ports do, by the frame's own lag up to a bound, is a loose
+/// network if the greatest delays have room for that bound.
 pub fn lagging_network_is_loose()
     ensures { LaggingIsLoose }
 {}

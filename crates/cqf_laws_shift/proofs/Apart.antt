@@ -1,4 +1,4 @@
--- No two starts of a book are of one frame on one link.
+-- No two starts of a book are of the same frame on the same link.
 use Rattle.std.proofs.Common.{◌≡◌, ℕ, ◌<◌, List, sym, ap, ◌∙◌, subst, arith, AllPairs, length, ◌==◌}
 use Rattle.std.proofs.lemmas.List.Kept.{AllPairs-filter}
 use Rattle.cqf_lists.specs.Lists.{each_below}
@@ -17,7 +17,7 @@ use Rattle.cqf_laws_shift.proofs.Runs.{sends, sent_at, sents_are}
 use Rattle.cqf_laws_shift.proofs.Singles.{sent_once}
 use Rattle.cqf_laws_shift.proofs.Octets.{IsOfSent, of_sent}
 
--- two starts aren't of one frame on one link
+-- two starts aren't of the same frame on the same link
 abbrev pub AreApart : Started → Started → Type 0
 AreApart a b = a.frame ≡ b.frame → a.link ≡ b.link → ⊥
 
@@ -29,7 +29,7 @@ module _ (laws : CycleLaws) (run : Run) (carried : Carried) {heard : Carried} (a
       subst (AllPairs (λ (a b : Sent). a.start.0 < b.start.0)) (sym (sents_are laws run carried alone link is_link))
       (pairs_map (λ (a b : Sent). a.start.0 < b.start.0) (sent_at (queued run heard (end_of_run run) link)) s.starts s.legal.in_order)
 
-  -- and no two of one frame
+  -- and no two of the same frame
   pub sents_apart : (link : ℕ) → link < length run.domain.links → AllPairs (λ (a b : Sent). a.frame ≡ b.frame → ⊥) (carried link)
   sents_apart link is_link =
       pairs_weaker (λ (a b : Sent). a.start.0 < b.start.0) (λ (a b : Sent). a.frame ≡ b.frame → ⊥) (carried link)
@@ -38,7 +38,7 @@ module _ (laws : CycleLaws) (run : Run) (carried : Carried) {heard : Carried} (a
       omega (arith, less, ap (λ (z : Sent). z.start.0) one))
       (sents_ascend link is_link)
 
-  -- of one batch
+  -- nor in one batch
   batch_apart : (cycle link : ℕ) → link < length run.domain.links → AllPairs AreApart (starts_in run.domain carried cycle link)
   batch_apart cycle link is_link =
       let in_cycle = λ (z : Sent). cycle_of run.domain z.start.0 == cycle in
@@ -48,7 +48,7 @@ module _ (laws : CycleLaws) (run : Run) (carried : Carried) {heard : Carried} (a
       (λ a b ca cb differ frames links. differ frames)
       (AllPairs-filter apart in_cycle (carried link) (sents_apart link is_link)))
 
-  -- of one frame on one link there is one cycle
+  -- for one frame on one link there is one cycle
   one_cycle : (link j k : ℕ) (a b : Started) → link < length run.domain.links → IsOfSent run carried j link a → IsOfSent run carried k link b →
       a.frame ≡ b.frame → j ≡ k
   one_cycle link j k a b is_link x y frames =
@@ -56,7 +56,7 @@ module _ (laws : CycleLaws) (run : Run) (carried : Carried) {heard : Carried} (a
       (ap (λ (z : Started). z.frame) x.is ∙ frames ∙ ap (λ (z : Started). z.frame) (sym y.is)) in
       sym x.in_cycle ∙ ap (λ (z : Sent). cycle_of run.domain z.start.0) one ∙ y.in_cycle
 
-  -- of all batches
+  -- nor in all batches
   pub starts_apart : (cycles : ℕ) → AllPairs AreApart (starts_of run.domain cycles carried)
   starts_apart cycles =
       let links = length run.domain.links in

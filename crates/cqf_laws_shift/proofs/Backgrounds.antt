@@ -21,7 +21,7 @@ use Rattle.cqf_laws_shift.proofs.QueuesByCycles.{queue_by_cycles}
 abbrev quiet : Run → Run
 quiet run = with_background run []
 
--- what its links send where they carry so much
+-- the network whose links carry these streams' frames and no background frames
 abbrev sends_no_background : Carried → Network
 sends_no_background carried = record { carried = carried; backed = λ l. [] }
 
@@ -30,7 +30,7 @@ module _ (run : Run) (carried : Carried) (some : 0 < run.domain.cycle_time) wher
   abbrev d : Domain
   d = run.domain
 
-  -- what comes to a port without background frames is what is queued to it
+  -- if there are no background frames, what arrives at a port is what is queued to it
   comes_queued : (l cycles : ℕ) → comes_before (quiet run) carried l cycles ≡ queued_before run carried l (cycles * d.cycle_time)
   comes_queued l cycles =
       same_below (comes_in (quiet run) carried l) (queued_in run carried l) cycles (λ c less.
@@ -68,7 +68,7 @@ module _ (run : Run) (carried : Carried) (some : 0 < run.domain.cycle_time) wher
             ))));
       }
 
--- so of two runs that differ in background frames alone, the links carry the same
+-- so in two runs that differ only in background frames, the links carry the same
 pub background_changes_no_start : LegalNetworkIsUnique → RunBesideIsRunAlone → BackgroundChangesNoStart
 background_changes_no_start unique beside run background net other one two =
     let some : 0 < run.domain.cycle_time = omega (arith, one.accepted.cycle_least) in

@@ -1,4 +1,4 @@
--- What comes to a bridge, whatever its links carry: by which way, in which order, and each offer once.
+-- What arrives at a bridge, regardless of what its links carry: by which way, in which order, and each offer once.
 use Rattle.std.proofs.Common.{◌≡◌, ℕ, zero, suc, ◌+◌, ◌<◌, ◌≤◌, ◌⊎◌, ◌∷◌, [], List, Bool, true, false, inl, inr, sym, ap, ap₂, ◌∙◌, subst, arith, refl}
 use Rattle.std.proofs.Common.{AllPairs, Contains, map, filter, sum_by, length, get_or, eq-eqb, eqb-true, ◌==◌, ◌&&◌, if◌then◌else◌, le_trans, nat_lt}
 use Rattle.std.specs.List.{enumerate_from}
@@ -22,7 +22,7 @@ use Rattle.cqf_lists.proofs.EachBelow.{contains_below, contains_from_below}
 use Rattle.cqf_lists.proofs.Pairs.{one_of_pairs, pairs_below, pairs_map, pairs_members}
 use Rattle.cqf_lists.proofs.Sums.{sum_at_most_one, sum_by_keys, sum_filter, sum_le_below, sum_le_members, sum_map, sum_none}
 
--- an element with its place
+-- an element with its index
 pub placed_member : {X : Type 0} (n : ℕ) (xs : List X) (k : ℕ) (x : X) → Contains (enumerate_from n xs) (k, x) → Contains xs x × (n ≤ k) × (k < n + length xs)
 placed_member n [] k x c = absurd (contains_none (k, x) c)
 placed_member {X} n (y ∷ xs) k x c = elim (contains_cases (n, y) (enumerate_from (n + 1) xs) (k, x) c) [
@@ -33,7 +33,7 @@ placed_member {X} n (y ∷ xs) k x c = elim (contains_cases (n, y) (enumerate_fr
   | inr h ↦ let r = placed_member (n + 1) xs k x h in (contains_later y xs x r.0, omega (arith, r.1), omega (arith, r.2))
 ]
 
--- a numbered offer is one of the offers, and its number is its place, from 1
+-- a numbered offer is one of the offers, and its number is its position, from 1
 pub numbered_member : (offers : List Offer) (x : Offered) → Contains (numbered offers) x → Contains offers x.offer × (0 < x.frame) ×
     (x.frame < 1 + length offers)
 numbered_member offers x c =
@@ -54,7 +54,7 @@ numbers_ascend offers i j e l inside = pairs_map (λ (a b : Offered). a.frame < 
     the_offered : ℕ × Offer → Offered
     the_offered x = record { frame = x.0; offer = x.1 }
 
-    -- the places ascend
+    -- the positions ascend
     places : AllPairs (λ (a b : ℕ × Offer). a.0 < b.0) (enumerate_from 1 offers)
     places i j e l inside =
         let j_in : j < length offers = omega (arith, inside, length-enumerate_from 1 offers) in
@@ -63,13 +63,13 @@ numbers_ascend offers i j e l inside = pairs_map (λ (a b : Offered). a.frame < 
         let at_j : (get_or (enumerate_from 1 offers) j e).0 ≡ 1 + j = ap (λ (z : ℕ × Offer). z.0) (get_or-enumerate_from 1 offers j e j_in) in
         omega (arith, at_i, at_j, l)
 
--- so a number is of one offer
+-- so a number identifies one offer
 pub one_number : (offers : List Offer) (x y : Offered) → Contains (numbered offers) x → Contains (numbered offers) y → x.frame ≡ y.frame → x ≡ y
 one_number offers x y cx cy same =
     one_of_pairs (λ (a b : Offered). a.frame < b.frame) (numbered offers) x y (numbers_ascend offers) cx cy (λ l. absurd (omega (arith, l, same)))
     (λ l. absurd (omega (arith, l, same)))
 
--- frames of a number that were offered
+-- whether an offered frame has this number, as 1 or 0
 abbrev pub offered_counts : ℕ → Way → ℕ → ℕ
 offered_counts frame (AtEdge name) number = if number == frame then 1 else 0
 offered_counts frame (Relayed m stream) number = 0
@@ -79,19 +79,19 @@ module _ (run : Run) (carried : Carried) (end : ℕ) where
   abbrev d : Domain
   d = run.domain
 
-  -- what comes to a bridge
+  -- what arrives at a bridge
   abbrev pub came : ℕ → List Received
   came bridge = received_before run carried bridge end
 
-  -- what becomes of it
+  -- the verdicts on it
   abbrev pub policed : ℕ → List Policed
   policed bridge = policed_before run carried bridge end
 
-  -- the port of a link
+  -- what is queued to the port of a link
   abbrev pub queued : ℕ → List QueuedFrame
   queued m = queued_before run carried m end
 
-  -- a frame comes to a bridge by a link
+  -- a frame arrives at a bridge by a link
   pub record IsRelayed (bridge : ℕ) (x : Received) : Type 0 where
     pub m : ℕ
     pub is_link : m < length run.domain.links
@@ -137,7 +137,7 @@ module _ (run : Run) (carried : Carried) (end : ℕ) where
             omega (arith, eqb-true r.0.offer.at.0 t parts.1, early);
       }
 
-  -- each frame came in one of the two ways
+  -- each frame arrived in one of these two ways
   pub came_how : (bridge : ℕ) (x : Received) → Contains (came bridge) x → IsRelayed bridge x ⊎ IsOfferedHere bridge x
   came_how bridge x c =
       let t = contains_from_below (received_at run carried bridge) end x c in
@@ -146,7 +146,7 @@ module _ (run : Run) (carried : Carried) (end : ℕ) where
         | inr o ↦ inr (offered_by bridge t.0 x t.1 o)
       ]
 
-  -- and what a link sends comes to the bridge in which it ends
+  -- and what a link sends arrives at the bridge in which it ends
   pub relayed_comes : (bridge m : ℕ) (sent : Sent) → m < length d.links → enters d m bridge ≡ true → Contains (carried m) sent → whole_at d m sent < end →
       Contains (came bridge) (sent_received d m sent)
   relayed_comes bridge m sent is_link here inside early =
@@ -160,7 +160,7 @@ module _ (run : Run) (carried : Carried) (end : ℕ) where
       (Contains-append_left (each_below (relayed_at d carried bridge t) (length d.links)) (offered_at run.offers bridge t) (sent_received d m sent)
       (contains_below (relayed_at d carried bridge t) (length d.links) m (sent_received d m sent) is_link here_at))
 
-  -- all that comes is in order of instant
+  -- all that arrives is in order of instant
   pub sorted : (bridge : ℕ) → AllPairs (λ (a b : Received). a.at ≤ b.at) (came bridge)
   sorted bridge =
       pairs_below (λ (a b : Received). a.at ≤ b.at) (received_at run carried bridge) end
@@ -168,7 +168,7 @@ module _ (run : Run) (carried : Carried) (end : ℕ) where
       (λ a b ca cb. omega (arith, received_when run carried bridge t a ca, received_when run carried bridge t b cb)))
       (λ s t a b less l ca cb. omega (arith, received_when run carried bridge s a ca, received_when run carried bridge t b cb, less))
 
-  -- an offer stands once among what comes to a bridge
+  -- an offer occurs once among what arrives at a bridge
   pub offers_single : (bridge frame : ℕ) → sum_by (λ (x : Received). offered_counts frame x.way x.frame) (came bridge) ≤ 1
   offers_single bridge frame =
       le_trans (sum_le_below f g (received_at run carried bridge) (λ t. filter (λ (x : Offered). x.offer.at.0 == t) placed) end here_at)

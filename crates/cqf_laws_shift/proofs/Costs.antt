@@ -7,7 +7,7 @@ use Rattle.cqf_units.specs.Timing.{wire_of, cost_of}
 use Rattle.cqf_laws_shift.specs.Cost.{WireWithinCost}
 
 module _ {X : Type 0} (test : X → Bool) (octets : X → ℕ) where
-  -- of those that pass a test, the wire octets are the octets and 20 for each
+  -- the wire octets of the frames that pass a test are their octets plus 20 for each
   counted : (xs : List X) → sum_by (λ x. if test x then wire_of (octets x) else 0) xs ≡ sum_by (λ x. if test x then octets x else 0) xs + 20 * sum_by
       (λ x. if test x then 1 else 0) xs
   counted [] = refl
@@ -26,7 +26,7 @@ module _ {X : Type 0} (test : X → Bool) (octets : X → ℕ) where
       one true n = omega arith
       one false n = refl
 
-  -- and where none is shorter than the shortest frame, there are so many octets that
+  -- and if no frame is shorter than the shortest one, they have at least 64 octets each
   enough : (xs : List X) → All (λ x. 64 ≤ octets x) xs → 64 * sum_by (λ x. if test x then 1 else 0) xs ≤ sum_by (λ x. if test x then octets x else 0) xs
   enough [] least = omega arith
   enough (x ∷ xs) least =

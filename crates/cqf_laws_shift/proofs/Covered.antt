@@ -1,4 +1,4 @@
--- What the gates of a bridge decide on an offer is what the reservations decide, by the offers before it alone.
+-- What the gates of a bridge decide on an offer is what the reservations decide, by only the offers before it.
 use Rattle.cqf_model.specs.Table.{depth_behind, reserved_in}
 use Rattle.cqf_model.specs.Traffic.{came_by}
 use Rattle.std.proofs.Common.{◌≡◌, ℕ, ◌+◌, ◌<◌, ◌∷◌, [], ◌++◌, List, Bool, true, false, Some, None, inl, inr, sym, ap, ap₂, ◌∙◌, subst, arith, refl, Contains}
@@ -21,7 +21,7 @@ use Rattle.cqf_laws_shift.proofs.Policing.{taken}
 use Rattle.cqf_laws_shift.proofs.Trees.{one_beginning, one_way_at, same_goes_on}
 use Rattle.cqf_laws_shift.proofs.Verdicts.{IsQueuedBy, QueuedAtEdge, edge_passes, queued_of, queued_row, queued_says}
 
--- two tests that pass together are one
+-- two tests that imply each other are equal
 same_tests : (a b : Bool) → (a ≡ true → b ≡ true) → (b ≡ true → a ≡ true) → a ≡ b
 same_tests true true to from = refl
 same_tests true false to from = sym (to refl)
@@ -52,12 +52,12 @@ found_by_name d tables orderly c row name inside named =
     found.1 ∙ ap Some (one_of_pairs (λ (a b : Row). a.name ≡ b.name → ⊥) (table_of tables c) found.0 row (orderly.names c) member.0 inside
     (λ apart. apart names) (λ apart. apart (sym names)))
 
--- the frame was offered at the edge
+-- whether the frame was offered at the edge
 abbrev pub is_offered : Way → Bool
 is_offered (AtEdge name) = true
 is_offered (Relayed m number) = false
 
--- what a frame that comes to a bridge takes of a row's reservation, behind what was taken
+-- what is taken of a row's reservation after a frame that arrives at a bridge
 abbrev take_by : Domain → ℕ → Row → ℕ → ℕ → ℕ → ℕ → Way → ℕ
 take_by d bridge row c so_far at octets (AtEdge name) =
     if ((cycle_of d at == c) && is_text row.name name && begins_at d row bridge) && nat_le (so_far + octets) (reserved_in row 0 c) then so_far + octets else so_far
@@ -65,12 +65,12 @@ take_by d bridge row c so_far at octets (Relayed m number) = so_far
 
 module _ (reserves : GateIsReservation) (d : Domain) (some : 0 < d.cycle_time) (tables : List (List Row)) (orderly : AreOrderly d tables) (bridge c : ℕ)
     (row : Row) (inside : Contains (table_of tables c) row) (live : is_live row c ≡ true) (here : begins_at d row bridge ≡ true) where
-  -- rows of the table that have one number are one
+  -- rows of the table with the same number are equal
   one_row : (q : Row) → Contains (table_of tables c) q → q.no ≡ row.no → q ≡ row
   one_row q member same = one_of_pairs (λ (a b : Row). a.no ≡ b.no → ⊥) (table_of tables c) q row (orderly.numbers c) member inside (λ apart. apart same)
       (λ apart. apart (sym same))
 
-  -- a frame more: what it takes of the row is what it would of the reservation
+  -- one more frame takes of the row what it takes of the reservation
   police_takes : (earlier : List Policed) (x : Received) →
       octets_before d row.no c (earlier ++ police d tables bridge earlier x ∷ []) ≡ take_by d bridge row c
       (octets_before d row.no c earlier) x.at x.octets x.way
@@ -88,7 +88,7 @@ module _ (reserves : GateIsReservation) (d : Domain) (some : 0 < d.cycle_time) (
       passes : Row → Bool
       passes r = within_gate d earlier r x
 
-      -- what the frame's verdict stands on
+      -- what the frame's verdict is based on
       says : (q : Row) → p.verdict ≡ Queued q → IsQueuedBy d (table_of tables cx) bridge cx x.way q × (passes q ≡ true)
       says q e = queued_says d (table_of tables cx) bridge cx passes x.way q e
 
@@ -160,7 +160,7 @@ module _ (reserves : GateIsReservation) (d : Domain) (some : 0 < d.cycle_time) (
       go (AtEdge name) way = pushed ∙ grown (is_queued_of row.no p.verdict && (cx == c)) _ so_far x.octets (offered name way)
       go (Relayed m number) way = pushed ∙ grown (is_queued_of row.no p.verdict && (cx == c)) false so_far x.octets (relayed m number way)
 
-  -- so what all that comes takes is what the reservation gives one after the other
+  -- so all that arrives takes what the reservation gives, one frame after the other
   all_takes : (earlier : List Policed) (xs : List Received) →
       octets_before d row.no c (earlier ++ police_all d tables bridge earlier xs) ≡ fold
       (λ so_far (x : Received). take_by d bridge row c so_far x.at x.octets x.way) (octets_before d row.no c earlier) xs
@@ -172,7 +172,7 @@ module _ (reserves : GateIsReservation) (d : Domain) (some : 0 < d.cycle_time) (
       ∙ all_takes more xs
       ∙ ap (λ z. fold (λ so_far (x : Received). take_by d bridge row c so_far x.at x.octets x.way) z xs) (police_takes earlier x)
 
-  -- and among the offers of the whole domain those at this bridge alone count
+  -- and among the offers of the whole domain, only those at this bridge count
   taken_here : (offers : List Offered) →
       taken_by d row c offers ≡ fold (λ so_far (y : Offered). take_by d bridge row c so_far y.offer.at.0 y.offer.octets (AtEdge y.offer.stream)) 0
       (filter (λ (y : Offered). y.offer.bridge == bridge) offers)
@@ -198,7 +198,7 @@ module _ (reserves : GateIsReservation) (d : Domain) (some : 0 < d.cycle_time) (
             absurd (false≢true (sym other ∙ eq-eqb y.offer.bridge bridge (one_beginning d row (orderly.trees c row inside) y.offer.bridge bridge there here)))
       ]
 
-  -- so behind frames whose offers are those at this bridge among some, the row's octets are what those offers take
+  -- so if the offers among some frames are these offers at this bridge, the row's octets are what these offers take
   pub octets_are_taken : (before : List Received) (offers : List Offered) →
       filter (λ (x : Received). is_offered x.way) before ≡ map offer_received (filter (λ (y : Offered). y.offer.bridge == bridge) offers) →
       octets_before d row.no c (police_all d tables bridge [] before) ≡ taken_by d row c offers

@@ -1,4 +1,4 @@
--- Each offer comes to its bridge behind the offers before it, so the gates there decide on it what the reservations do.
+-- Each offer arrives at its bridge after the offers before it, so the gates there decide on it what the reservations do.
 use Rattle.cqf_model.specs.Table.{reserved_in}
 use Rattle.std.proofs.Common.{◌≡◌, ℕ, ◌+◌, ◌<◌, ◌≤◌, ◌∷◌, [], ◌++◌, List, Bool, true, false, not, Option, Some, None, inl, inr, sym, ap, ap₂, ◌∙◌, subst, arith}
 use Rattle.std.proofs.Common.{refl, AllPairs, Contains, filter, map, sum_by, length, get_or, eq-eqb, ◌==◌, nat_le, nat_lt, lt-ltb, le-ltb, leb-true, le-leb}
@@ -32,7 +32,7 @@ use Rattle.cqf_laws_shift.proofs.Covered.{is_offered, octets_are_taken}
 use Rattle.cqf_laws_shift.proofs.Policing.{received_list}
 use Rattle.cqf_laws_shift.proofs.Verdicts.{edge_no_loss, edge_passes, edge_queued}
 
--- the offer's frames among all that comes to a bridge
+-- whether a frame was offered, not brought by a link
 abbrev keep : Received → Bool
 keep x = is_offered x.way
 
@@ -58,7 +58,7 @@ no_relayed d carried bridge t n =
 each_offer : (xs : List Offered) → filter keep (map offer_received xs) ≡ map offer_received xs
 each_offer xs = filter_each keep (map offer_received xs) (λ x c. let r = contains_from_map offer_received xs x c in ap keep (sym r.2))
 
--- of all that comes to a bridge, the offers
+-- the offers among all that arrives at a bridge
 pub offers_received : (run : Run) (carried : Carried) (bridge end : ℕ) →
     filter keep (received_before run carried bridge end) ≡ each_below (offered_at run.offers bridge) end
 offers_received run carried bridge end =
@@ -69,7 +69,7 @@ offers_received run carried bridge end =
     (each_offer (filter (is_offered_at bridge t) (numbered run.offers))))
 
 module _ (offers : List Offer) (x : Offered) where
-  -- the instant and the bridge of the offer
+  -- the instant of the offer
   abbrev t : ℕ
   t = x.offer.at.0
 
@@ -77,23 +77,23 @@ module _ (offers : List Offer) (x : Offered) where
   abbrev bridge : ℕ
   bridge = x.offer.bridge
 
-  -- those offered there at its instant
+  -- whether an offer is made at its bridge at its instant
   abbrev together : Offered → Bool
   together y = is_offered_at bridge t y
 
-  -- those offered there at all
+  -- whether an offer is made at its bridge
   abbrev at_bridge : Offered → Bool
   at_bridge y = y.offer.bridge == bridge
 
-  -- those offered at its instant
+  -- whether an offer is made at its instant
   abbrev at_instant : Offered → Bool
   at_instant y = y.offer.at.0 == t
 
-  -- those of a smaller number
+  -- whether an offer has a smaller number
   abbrev smaller : Offered → Bool
   smaller y = nat_lt y.frame x.frame
 
-  -- of those at its instant, the ones of a smaller number are those that stand before it
+  -- among the offers at its instant, those of a smaller number are those before it in the list
   pub smaller_before : (before after : List Offered) → numbered offers ≡ before ++ (x ∷ after) → filter smaller (offers_at offers t) ≡ filter at_instant before
   smaller_before before after parts =
       ap (λ z. filter smaller (filter at_instant z)) parts
@@ -120,7 +120,7 @@ module _ (offers : List Offer) (x : Offered) where
             omega (arith, less)
       ]
 
-  -- the offers before one, of those at its bridge
+  -- the offers before it, among those at its bridge
   pub offers_before_here : (before after : List Offered) → numbered offers ≡ before ++ (x ∷ after) →
       map offer_received (filter at_bridge (offers_before offers x)) ≡ each_below (offered_at offers bridge) t ++ map offer_received (filter together before)
   offers_before_here before after parts =
@@ -139,14 +139,14 @@ module _ (offers : List Offer) (x : Offered) where
       same_instant = ap (λ z. map offer_received (filter at_bridge z)) (smaller_before before after parts)
           ∙ ap (map offer_received) (filter_twice at_bridge at_instant before)
 
--- where an offer comes: behind the offers before it at its bridge, and relayed frames
+-- an offer arrives after exactly the offers before it at its bridge, besides relayed frames
 pub record ComesBehind (run : Run) (carried : Carried) (end : ℕ) (x : Offered) : Type 0 where
   pub before : List Received
   pub after : List Received
   pub parts : received_before run carried x.offer.bridge end ≡ before ++ (offer_received x ∷ after)
   pub offers : filter keep before ≡ map offer_received (filter (λ (y : Offered). y.offer.bridge == x.offer.bridge) (offers_before run.offers x))
 
--- each offer before the end comes so
+-- this holds for each offer before the end
 pub comes_behind : (run : Run) (carried : Carried) (end : ℕ) (x : Offered) → Contains (numbered run.offers) x → x.offer.at.0 < end →
     ComesBehind run carried end x
 comes_behind run carried end x inside early = record {
@@ -172,7 +172,7 @@ comes_behind run carried end x inside early = record {
     bridge : ℕ
     bridge = x.offer.bridge
 
-    -- what comes to that bridge at an instant
+    -- what arrives at that bridge at an instant
     f : ℕ → List Received
     f = received_at run carried bridge
 
@@ -184,7 +184,7 @@ comes_behind run carried end x inside early = record {
     together : Offered → Bool
     together y = is_offered_at bridge t y
 
-    -- the offers of the list before this one, and those behind it
+    -- the offers of the list before this one, and those after it
     split : (before after : List Offered) × (numbered run.offers ≡ before ++ (x ∷ after))
     split = parted_at (numbered run.offers) x inside
 
@@ -192,11 +192,11 @@ comes_behind run carried end x inside early = record {
     first : List Offered
     first = split.0
 
-    -- those behind it
+    -- those after it
     second : List Offered
     second = split.1
 
-    -- what comes before the end is what comes before the instant, then at it, then after it
+    -- what arrives before the end is what arrives before the instant, then at it, then after it
     rest : (after : List Received) × (each_below f end ≡ each_below f t ++ (f t ++ after))
     rest = parted_below f t end early
 
@@ -204,7 +204,7 @@ comes_behind run carried end x inside early = record {
     passes : together x ≡ true
     passes = and_from (x.offer.bridge == bridge) (x.offer.at.0 == t) (eq-eqb bridge bridge refl) (eq-eqb t t refl)
 
-    -- what is offered there at that instant is the offer between those before it and those behind it in the list
+    -- what is offered there at that instant is what the list has before the offer, the offer, and what the list has after it
     at_once : offered_at run.offers bridge t ≡ map offer_received (filter together first) ++ (offer_received x ∷ map offer_received (filter together second))
     at_once =
         ap (λ z. map offer_received (filter together z)) split.2
@@ -213,11 +213,11 @@ comes_behind run carried end x inside early = record {
         ∙ ap (λ z. map offer_received (filter together first) ++ map offer_received z)
         (cond-true (together x) (x ∷ filter together second) (filter together second) passes)
 
-    -- in lists that follow one another, an element has the same before it and the same behind it, however they are joined
+    -- concatenation is associative around an element
     joined : (a b c : List Received) (y : Received) (e r : List Received) → a ++ ((b ++ (c ++ (y ∷ e))) ++ r) ≡ ((a ++ b) ++ c) ++ (y ∷ (e ++ r))
     joined a b c y e r = simp append_assoc
 
--- the first reason that fits, or that the offer goes on, by the offers before it alone
+-- the verdict on the offer, by only the offers before it
 abbrev pub judged : Run → Offered → Verdict
 judged run x = edge_verdict run.domain x.offer.bridge (offer_cycle run.domain x) (λ row. nat_le (asked_with run.domain run.offers x row) (reserved_in row 0 (offer_cycle run.domain x)))
     (row_for run.domain run.tables x)
@@ -227,14 +227,14 @@ abbrev edge_by : Row → Bool → Bool → Bool → Verdict
 edge_by row live here fits =
     if not live then DroppedFor Withdrawn else (if not here then DroppedFor OtherBridge else (if not fits then DroppedFor Octets else Queued row))
 
--- two tests that agree on each row that is live and begins here give one verdict
+-- two tests that agree on each row that is live and begins here give the same verdict
 edge_same : (d : Domain) (bridge cycle : ℕ) (one two : Row → Bool) (found : Option Row) →
     ((row : Row) → found ≡ Some row → is_live row cycle ≡ true → begins_at d row bridge ≡ true → one row ≡ two row) →
     edge_verdict d bridge cycle one found ≡ edge_verdict d bridge cycle two found
 edge_same d at cycle one two None same = refl
 edge_same d at cycle one two (Some row) same = choice (is_live row cycle) (begins_at d row at) (one row) (two row) (same row refl)
   where
-    -- two tests that agree where the row is live and begins here give one verdict
+    -- two tests that agree if the row is live and begins here give the same verdict
     choice : (live here a b : Bool) → (live ≡ true → here ≡ true → a ≡ b) → edge_by row live here a ≡ edge_by row live here b
     choice true true a b e = ap (edge_by row true true) (e refl refl)
     choice true false a b e = refl
@@ -249,11 +249,11 @@ module _ (run : Run) (x : Offered) where
   abbrev cycle : ℕ
   cycle = offer_cycle run.domain x
 
-  -- whether a row has the octets left that the offer asks for
+  -- whether a row has the octets left that the offer requires
   abbrev fits : Row → Bool
   fits row = nat_le (asked_with run.domain run.offers x row) (reserved_in row 0 (offer_cycle run.domain x))
 
-  -- so says a verdict by which an offer goes on
+  -- if the verdict lets the offer go on, the offer is covered
   pub judged_queued : (row : Row) → Contains (numbered run.offers) x → judged run x ≡ Queued row → IsCovered run x row
   judged_queued row inside e =
       let q = edge_queued d x.offer.bridge cycle fits (row_for d run.tables x) row e in
@@ -265,18 +265,18 @@ module _ (run : Run) (x : Offered) where
         within = leb-true (asked_with d run.offers x row) (reserved_in row 0 cycle) q.1;
       }
 
-  -- and a covered offer has it
+  -- and a covered offer has such a verdict
   pub covered_judged : (row : Row) → IsCovered run x row → judged run x ≡ Queued row
   covered_judged row covered =
       edge_passes d x.offer.bridge cycle fits (row_for d run.tables x) row
       (record { is = covered.named; live = covered.live; here = covered.first_bridge })
       (le-leb (asked_with d run.offers x row) (reserved_in row 0 cycle) covered.within)
 
-  -- so says a verdict by which it is dropped
+  -- if the verdict drops the offer, the offer isn't covered, for that reason
   pub judged_dropped : (reason : Reason) → Contains (numbered run.offers) x → judged run x ≡ DroppedFor reason → IsUncovered run x reason
   judged_dropped reason inside e = record { offered = inside; is_reason = go (row_for run.domain run.tables x) refl e }
     where
-      -- where the row that the offer names leads to a drop, the drop's reason is the first that fits
+      -- if the row that the offer names leads to a drop, the drop's reason is the first that applies
       choice : (row : Row) (live here short : Bool) → row_for d run.tables x ≡ Some row → is_live row cycle ≡ live → begins_at d row x.offer.bridge ≡ here →
           fits row ≡ short → edge_by row live here short ≡ DroppedFor reason → IsReason run x reason
       choice row true true true named a b c e = absurd (cc)
@@ -290,12 +290,12 @@ module _ (run : Run) (x : Offered) where
           let is : Withdrawn ≡ reason = cc in
           subst (IsReason run x) is (row, record { named = named; not_live = a })
 
-      -- the reason of a drop is the first that fits, whether the offer names a row or none
+      -- this holds whether the offer names a row or not
       go : (found : Option Row) → row_for d run.tables x ≡ found → edge_verdict d x.offer.bridge cycle fits found ≡ DroppedFor reason → IsReason run x reason
       go None named e = let is : Unknown ≡ reason = cc in subst (IsReason run x) is named
       go (Some row) named e = choice row (is_live row cycle) (begins_at d row x.offer.bridge) (fits row) named refl refl refl e
 
-  -- and an offer that isn't covered has it
+  -- and an offer that isn't covered has such a verdict
   pub uncovered_judged : (reason : Reason) → IsUncovered run x reason → judged run x ≡ DroppedFor reason
   uncovered_judged reason uncovered = go reason uncovered.is_reason
     where
@@ -303,7 +303,7 @@ module _ (run : Run) (x : Offered) where
       at_row : (row : Row) → row_for d run.tables x ≡ Some row → judged run x ≡ edge_verdict d x.offer.bridge cycle fits (Some row)
       at_row row named = ap (edge_verdict d x.offer.bridge cycle fits) named
 
-      -- the offer is dropped for the first reason that fits
+      -- the offer is dropped for the first reason that applies
       go : (reason : Reason) → IsReason run x reason → judged run x ≡ DroppedFor reason
       go Unknown named = ap (edge_verdict d x.offer.bridge cycle fits) named
       go Withdrawn (row, r) = at_row row r.named ∙ ap (λ z. edge_by row z (begins_at d row x.offer.bridge) (fits row)) r.not_live
@@ -311,7 +311,7 @@ module _ (run : Run) (x : Offered) where
       go Octets (row, r) = at_row row r.named ∙ ap₂ (λ y z. edge_by row y z (fits row)) r.live r.first_bridge
           ∙ ap (edge_by row true true) (lt-leb (asked_with d run.offers x row) (reserved_in row 0 cycle) r.short)
 
--- so the verdict is what the definitions say of the offer
+-- so the verdict is what the definitions say about the offer
 pub is_decided : (run : Run) (x : Offered) → Contains (numbered run.offers) x → IsDecided run x (judged run x)
 is_decided run x inside = go (judged run x) refl
   where
@@ -320,7 +320,7 @@ is_decided run x inside = go (judged run x) refl
     no_loss = edge_no_loss run.domain x.offer.bridge (offer_cycle run.domain x) (λ row. nat_le (asked_with run.domain run.offers x row) (reserved_in row 0 (offer_cycle run.domain x)))
         (row_for run.domain run.tables x)
 
-    -- each verdict that the offer may have is what the definitions say
+    -- this holds for each possible verdict
     go : (v : Verdict) → judged run x ≡ v → IsDecided run x v
     go (Queued row) e = judged_queued run x row inside e
     go (DroppedFor reason) e = judged_dropped run x reason inside e
@@ -329,7 +329,7 @@ is_decided run x inside = go (judged run x) refl
 
 module _ (reserves : GateIsReservation) (run : Run) (carried : Carried) (end : ℕ) (some : 0 < run.domain.cycle_time)
     (orderly : AreOrderly run.domain run.tables) where
-  -- each offer before the end has that verdict at its bridge
+  -- each offer before the end has this verdict at its bridge
   pub offer_policed : (x : Offered) → Contains (numbered run.offers) x → x.offer.at.0 < end →
       Contains (policed run carried end x.offer.bridge) (record { received = offer_received x; verdict = judged run x })
   offer_policed x inside early =

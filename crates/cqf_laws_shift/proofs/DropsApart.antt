@@ -1,4 +1,4 @@
--- No two drops of a book are of one frame.
+-- No two drops of a book are of the same frame.
 use Rattle.std.proofs.Common.{◌≡◌, ℕ, ◌+◌, ◌≤◌, ◌==◌, List, sym, ap, ◌∙◌, arith, AllPairs, Contains, filter, sum_by}
 use Rattle.std.proofs.Common.{length, eqb-true, if◌then◌else◌, inl, inr, refl}
 use Rattle.std.proofs.lemmas.Bool.{and_parts, cases_Bool, cond-true, cond-false}
@@ -22,11 +22,11 @@ use Rattle.cqf_laws_shift.proofs.Fed.{facts}
 use Rattle.cqf_laws_shift.proofs.Shifts.{dropped_uncovered}
 use Rattle.cqf_laws_shift.proofs.Singles.{counts_offer}
 
--- two drops aren't of one frame
+-- two drops aren't of the same frame
 abbrev pub DropsApart : Dropped → Dropped → Type 0
 DropsApart a b = a.frame ≡ b.frame → ⊥
 
--- whoever counts one for each of a list, and comes to one at most, has no two
+-- if counting 1 for each element of a list gives at most 1, the list has no two elements
 pairs_of_one : {X : Type 0} (R : X → X → Type 0) (xs : List X) → sum_by (λ (x : X). 1) xs ≤ 1 → AllPairs R xs
 pairs_of_one {X} R xs one i j d l inside = absurd (omega (arith, one, sum_two (λ (x : X). 1) xs i j d l inside))
 
@@ -35,11 +35,11 @@ module _ (laws : CycleLaws) (run : Run) (carried : Carried) (planned : IsPlanned
   abbrev d : Domain
   d = run.domain
 
-  -- what becomes of what comes to a bridge
+  -- the verdicts on what arrives at a bridge
   abbrev given : ℕ → List Policed
   given bridge = policed run carried (end_of_run run) bridge
 
-  -- the drops of a place come of an offer of its number, at its bridge and in its cycle
+  -- the drop comes from an offer of its number, at its bridge and in its cycle
   pub record IsOfOffer (cycle bridge : ℕ) (drop : Dropped) : Type 0 where
     pub x : Offered
     pub inside : Contains (numbered run.offers) x
@@ -47,7 +47,7 @@ module _ (laws : CycleLaws) (run : Run) (carried : Carried) (planned : IsPlanned
     pub here : bridge ≡ x.offer.bridge
     pub in_cycle : cycle ≡ offer_cycle run.domain x
 
-  -- so does each
+  -- this holds for each drop
   of_offer : (cycle bridge : ℕ) (drop : Dropped) → Contains (drops_in d (length run.offers) given cycle bridge) drop → IsOfOffer cycle bridge drop
   of_offer cycle bridge drop c =
       let from = dropped_at d (length run.offers) given cycle bridge drop c in
@@ -61,7 +61,7 @@ module _ (laws : CycleLaws) (run : Run) (carried : Carried) (planned : IsPlanned
         in_cycle = sym (eqb-true (cycle_of d from.p.received.at) cycle parts.0) ∙ ap (λ (z : Received). cycle_of d z.at) (sym u.0.is);
       }
 
-  -- two drops of one frame are at one bridge, and in one cycle
+  -- two drops of the same frame are at the same bridge and in the same cycle
   one_offer : (cycle other bridge from : ℕ) (a b : Dropped) → IsOfOffer cycle bridge a → IsOfOffer other from b → a.frame ≡ b.frame →
       (cycle ≡ other) × (bridge ≡ from)
   one_offer cycle other bridge from a b x y frames =
@@ -70,7 +70,7 @@ module _ (laws : CycleLaws) (run : Run) (carried : Carried) (planned : IsPlanned
         x.here ∙ ap (λ (z : Offered). z.offer.bridge) same ∙ sym y.here,
       )
 
-  -- what a frame of a number drops is no more than it counts as an offer of the number
+  -- what a frame of a number drops is at most what it counts as an offer of that number
   module _ (cycle bridge place : ℕ) where
     abbrev dropped_by : Policed → List Dropped
     dropped_by p = drop_by cycle bridge p.received p.verdict
@@ -98,7 +98,7 @@ module _ (laws : CycleLaws) (run : Run) (carried : Carried) (planned : IsPlanned
       | inr f ↦ omega (arith, cond-false (is_of_place d cycle place p) (sum_by (λ (x : Dropped). 1) (dropped_by p)) 0 f)
     ]
 
-    -- so a place drops one at most
+    -- so an index has at most one drop
     single : sum_by (λ (x : Dropped). 1) (drops_at d given cycle bridge place) ≤ 1
     single =
         let flat = sum_flat (λ (x : Dropped). 1) dropped_by (filter (is_of_place d cycle place) (given bridge)) in
@@ -109,7 +109,7 @@ module _ (laws : CycleLaws) (run : Run) (carried : Carried) (planned : IsPlanned
         let turn = ap (sum_by (λ (x : Received). offered_counts (place + 1) x.way x.frame)) (facts laws run carried planned bridge).in_turn in
         omega (arith, flat, of_kept, less, by_received, turn, offers_single run carried (end_of_run run) bridge (place + 1))
 
-  -- the drops of a place have its number
+  -- the drops of an index have its number
   place_is : (cycle bridge place : ℕ) (drop : Dropped) → Contains (drops_at d given cycle bridge place) drop → drop.frame ≡ place + 1
   place_is cycle bridge place drop c =
       let w = contains_from_flat (dropped_by cycle bridge place) (filter (is_of_place d cycle place) (given bridge)) drop c in
@@ -118,14 +118,14 @@ module _ (laws : CycleLaws) (run : Run) (carried : Carried) (planned : IsPlanned
       let f = dropped_for cycle bridge w.0.received w.0.verdict drop w.2 in
       ap (λ (z : Dropped). z.frame) (sym f.2) ∙ eqb-true w.0.received.frame (place + 1) parts.1
 
-  -- at a bridge in a cycle
+  -- no two at a bridge in a cycle
   here_apart : (cycle bridge : ℕ) → AllPairs DropsApart (drops_in d (length run.offers) given cycle bridge)
   here_apart cycle bridge =
       pairs_below DropsApart (drops_at d given cycle bridge) (length run.offers)
       (λ place l. pairs_of_one DropsApart (drops_at d given cycle bridge place) (single cycle bridge place))
       (λ j k a b less m ca cb frames. omega (arith, less, frames, place_is cycle bridge j a ca, place_is cycle bridge k b cb))
 
-  -- of all
+  -- nor among all
   pub drops_apart : AllPairs DropsApart (drops_of d (length run.tables) (length run.offers) given)
   drops_apart =
       let bridges = length d.bridges in

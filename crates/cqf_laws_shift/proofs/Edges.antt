@@ -25,15 +25,15 @@ module _ (counts : GateCountsCycles) (d : Domain) (row : Row) (depth t : ℕ) (s
   abbrev reserved : Policed → ℕ
   reserved q = if is_queued_of row.no q.verdict && (cycle_of d q.received.at == cycle_of d t) then q.received.octets else 0
 
-  -- the call that a frame is to its gate
+  -- the call that a frame makes to its gate
   abbrev call_of : Policed → Call
   call_of q = (q.received.at, q.received.octets)
 
-  -- the frames that passed the gate
+  -- whether a frame passed the gate
   abbrev kept : Policed → Bool
   kept q = is_queued_of row.no q.verdict
 
-  -- one frame more, by whether it passed
+  -- one more frame, by whether it passed
   one_more : (p : Policed) (earlier : List Policed) (b : Bool) → kept p ≡ b → sum_by counted (map call_of (filter kept earlier)) ≡ sum_by reserved earlier →
       sum_by counted (map call_of (filter kept (p ∷ earlier))) ≡ sum_by reserved (p ∷ earlier)
   one_more p earlier true e rest =

@@ -1,5 +1,5 @@
--- Where each link sends only what was queued to it, and no sooner: no frame is shorter than Ethernet's shortest, so what
--- comes to each port in a cycle is within the link's budget.
+-- Each link sends only what was queued to it, and no sooner. So no frame is shorter than Ethernet's shortest, and what arrives at
+-- each port in a cycle is within the link's budget.
 use Rattle.std.proofs.Common.{◌+◌}
 use Rattle.std.proofs.Common.{◌*◌, ◌/◌, List, subst}
 use Rattle.std.proofs.Common.{◌≡◌, ℕ, zero, suc, ◌<◌, ◌≤◌, inl, inr, ap, arith, All, AllPairs, Contains, length, le_trans, mul-le-mul_right, sym, ◌∙◌}
@@ -40,7 +40,7 @@ use Rattle.cqf_laws_shift.proofs.Trees.{GoesBy}
 abbrev pub number_of : QueuedFrame → ℕ
 number_of q = option_map_or (λ (number : ℕ). number) q.stream 0
 
--- what a link sends of a stream's queued frame that starts at an instant
+-- what a link sends if a queued frame starts at an instant
 abbrev pub sent_from : QueuedFrame → ℕ → Sent
 sent_from q t = record { start = record { 0 = t }; frame = q.arrival.frame; stream = number_of q; octets = q.arrival.octets }
 
@@ -55,12 +55,12 @@ pub record IsSentOf (run : Run) (heard : Carried) (m : ℕ) (sent : Sent) : Type
   pub stream : sent.stream ≡ row.no
   pub octets : sent.octets ≡ p.received.octets
 
--- each link does so, in a later cycle
+-- this holds for each link, and the frame was queued in an earlier cycle
 abbrev pub IsFed : Run → Carried → Carried → Type 0
 IsFed run carried heard = (m : ℕ) → m < length run.domain.links → (sent : Sent) → Contains (carried m) sent → (x : IsSentOf run heard m sent) ×
     (cycle_of run.domain x.p.received.at < cycle_of run.domain sent.start.0)
 
--- so it does where it sends a frame of its queue
+-- this holds if the link sends a frame of its queue
 pub sent_of_queue : (run : Run) (heard : Carried) (m : ℕ) (q : QueuedFrame) (t : ℕ) (sent : Sent) → Contains (queued run heard (end_of_run run) m) q →
     sent_from q t ≡ sent → (x : IsSentOf run heard m sent) × (queued_frame run.domain x.p.received x.row ≡ q)
 sent_of_queue run heard m q t sent c is =
@@ -78,14 +78,15 @@ sent_of_queue run heard m q t sent c is =
       from.is,
     )
 
--- and in a later cycle where the frame's cycle is earlier than that of its start
+-- and it was queued in an earlier cycle if the frame's cycle is earlier than that of its start
 pub sent_of_queue_later : (run : Run) (heard : Carried) (m : ℕ) (q : QueuedFrame) (t : ℕ) (sent : Sent) → sent_from q t ≡ sent →
     cycle_of run.domain q.arrival.at.0 < cycle_of run.domain t → (x : IsSentOf run heard m sent) → queued_frame run.domain x.p.received x.row ≡ q →
     cycle_of run.domain x.p.received.at < cycle_of run.domain sent.start.0
 sent_of_queue_later run heard m q t sent is later x is_q =
     omega (arith, later, ap (λ (z : QueuedFrame). z.arrival.at.0 / run.domain.cycle_time) is_q, ap (λ (z : Sent). z.start.0 / run.domain.cycle_time) is)
 
--- a port under the compiled gate list starts what is queued in a cycle in a later one: up to the end of its own its class is closed
+-- a port with the compiled gate list starts what is queued in a cycle in a later one: until the end of its own cycle its class is
+-- closed
 pub starts_later : GateGivesClass → (d : Domain) (l s : ℕ) (policed : List Policed) (q : QueuedFrame) → IsAccepted d → l < length d.links →
     Contains (queued_to d l policed) q → q.arrival.at.0 ≤ s →
     IsOpenThrough (port_list d.cycle_time (guard_of d l)) q.arrival.class s (ending_of s q.arrival.octets (octet_time_of d l)) →
@@ -101,7 +102,7 @@ starts_later gives d l s policed q accepted is_link c come open_on =
       | inr late ↦ omega (arith, le-div (q.arrival.at.0 / n + 1) s n some late)
     ]
 
--- what is heard of a link is what it sent, as it is heard
+-- what is heard from a link is what it sent, as it is heard
 pub record IsHeardFrom (d : Domain) (carried : Carried) (m : ℕ) (h : Sent) : Type 0 where
   pub sent : Sent
   pub inside : Contains (carried m) sent
@@ -136,11 +137,11 @@ module _ (laws : CycleLaws) (run : Run) (carried : Carried) (planned : IsPlanned
   pub before_end : (t : ℕ) → cycle_of run.domain t < length run.tables → t < end_of_run run
   before_end t in_run = omega (arith, cycle_upto d.cycle_time t some_time, mul-le-mul_right d.cycle_time in_run)
 
-  -- the facts about what becomes of what comes to a bridge
+  -- the facts about the verdicts on what arrives at a bridge
   pub facts : (bridge : ℕ) → Polices run.domain run.tables bridge (came run carried (end_of_run run) bridge) (policed run carried (end_of_run run) bridge)
   facts bridge = polices (gate_is_reservation laws.counts) run carried bridge end some_time planned.orderly
 
-  -- what links send as their ends hear it
+  -- what links send, as their ends hear it
   module _ {sends : Carried} (meets : AreHeard run.domain sends carried) (fed : IsFed run sends carried) where
     -- no frame is shorter than Ethernet's shortest, by induction on the cycle
     least_before : (t bridge : ℕ) (x : Received) → Contains (came run carried end bridge) x → cycle_of d x.at < t → 64 ≤ x.octets
@@ -159,13 +160,13 @@ module _ (laws : CycleLaws) (run : Run) (carried : Carried) (planned : IsPlanned
           omega (arith, offer.least, ap (λ (z : Received). z.octets) o.is)
     ]
 
-    -- so none of those with a verdict is
+    -- so no frame with a verdict is
     pub least : (bridge : ℕ) → All (λ (p : Policed). 64 ≤ p.received.octets) (policed run carried (end_of_run run) bridge)
     least bridge = all_from_members (λ (p : Policed). 64 ≤ p.received.octets) (policed run carried end bridge) (λ p c.
         least_before (suc (cycle_of d p.received.at)) bridge p.received
         (has_come d run.tables bridge (came run carried end bridge) (policed run carried end bridge) (facts bridge) p c) (omega arith))
 
-    -- what comes to a port in a cycle is within its link's budget
+    -- what arrives at a port in a cycle is within its link's budget
     pub within_budget : (m cycle : ℕ) → m < length run.domain.links →
         load run.domain.cycle_time cycle (arrivals_of (queued run carried (end_of_run run) m)) ≤ budget run.domain m
     within_budget m cycle is_link =
@@ -182,7 +183,7 @@ module _ (laws : CycleLaws) (run : Run) (carried : Carried) (planned : IsPlanned
         let size = All-contains (λ (p : Policed). 64 ≤ p.received.octets) (policed run carried end bridge) from.p (least bridge) from.inside in
         omega (arith, size, ap (λ (x : QueuedFrame). x.arrival.octets) from.is)
 
-    -- so what comes to it in a cycle is sent before the guard time of the next
+    -- so what arrives at it in a cycle can be sent before the guard band of the next
     pub within_time : (m cycle : ℕ) → m < length run.domain.links →
         busy (octet_time_of run.domain m) run.domain.cycle_time cycle (arrivals_of (queued run carried (end_of_run run) m)) + guard_of run.domain m
         ≤ run.domain.cycle_time

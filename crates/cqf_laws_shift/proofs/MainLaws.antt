@@ -51,7 +51,7 @@ module _ (laws : CycleLaws) (run : Run) (carried : Carried) {heard : Carried} (a
   abbrev d : Domain
   d = run.domain
 
-  -- a link that the domain lacks sends nothing
+  -- a link that the domain doesn't have sends nothing
   the_link : (link : ℕ) (sent : Sent) → Contains (carried link) sent → link < length run.domain.links
   the_link link sent c = elim (cases_lt link (length d.links)) [
     | inl inside ↦ inside
@@ -108,7 +108,7 @@ module _ (laws : CycleLaws) (run : Run) (carried : Carried) {heard : Carried} (a
           (least laws run heard alone.planned alone.meets (fed laws run carried alone) (bridge_of d link)) s.inside in
           omega (arith, enough, s.octets))
 
-      -- of a stream of the cycle's table, no more octets than its reservation
+      -- a stream of the cycle's table sends no more octets than its reservation
       octets_within : (row : Row) → Contains (table_of run.tables cycle) row →
           sum_by (sent_counts laws run carried alone link is_link (of_stream row.no) cycle) (carried link) ≤ row.octets
       octets_within row c = in_cycle cycle refl
@@ -204,7 +204,7 @@ module _ (laws : CycleLaws) (run : Run) (carried : Carried) {heard : Carried} (a
       at_edge table cycle fits way name is lost =
           edge_no_loss d bridge cycle fits (row_named table name) (subst (λ z. IsLoss (verdict_by d table bridge cycle fits z)) is lost)
 
-  -- each frame that came by no link is an offer's, with the verdict that the definitions say
+  -- each frame that came by no link is an offer, with the verdict that the definitions give
   edge_only : (bridge : ℕ) (p : Policed) → Contains (policed run heard (end_of_run run) bridge) p → came_by p.received.way ≡ None → (x : Offered) ×
       (x.offer.bridge ≡ bridge) × (offer_received x ≡ p.received) × IsDecided run x p.verdict
   edge_only bridge p c way =
@@ -235,7 +235,7 @@ module _ (laws : CycleLaws) (run : Run) (carried : Carried) {heard : Carried} (a
         cycle = place_timed laws run carried alone link is_link s.0.place sent.start.0 s.1;
       }
 
-  -- each is whole in the next node, by its clock, in its cycle
+  -- each arrives fully in the next node, by that node's clock, in its cycle
   whole : (link : ℕ) (sent h : Sent) → Contains (carried link) sent → Contains (heard link) h → h.frame ≡ sent.frame →
       cycle_of d (whole_at d link h) ≡ cycle_of d sent.start.0
   whole link sent h c ch frames =
@@ -246,7 +246,7 @@ module _ (laws : CycleLaws) (run : Run) (carried : Carried) {heard : Carried} (a
       let t = (sent_timed laws run carried alone link is_link sent c).1 in
       ap (λ (z : Sent). cycle_of d (whole_at d link z)) (sym r.2) ∙ ap (λ (z : Sent). cycle_of d (whole_at d link (alone.meets.noted link z))) one ∙ t.whole
 
-  -- so many cycles behind its offer, within one
+  -- the hop number times the cycle time after its offer, to within one cycle time
   latency : (link : ℕ) (sent h : Sent) → Contains (carried link) sent → Contains (heard link) h → h.frame ≡ sent.frame →
       (shift : InShift run (length run.tables) sent.frame link (cycle_of d sent.start.0)) →
       (shift.x.offer.at.0 + shift.depth * d.cycle_time < whole_at d link h + d.cycle_time) ×
@@ -260,7 +260,7 @@ module _ (laws : CycleLaws) (run : Run) (carried : Carried) {heard : Carried} (a
           let scaled = ap (λ z. z * n) cycle in
           (omega (arith, scaled, cycle_from n whole, cycle_upto n at some), omega (arith, scaled, cycle_upto n whole some, cycle_from n at))
 
-  -- no two that a link carries are of one frame
+  -- no two frames that a link carries are the same
   apart : (link : ℕ) → AllPairs (λ (a b : Sent). a.frame ≡ b.frame → ⊥) (carried link)
   apart link = elim (cases_lt link (length d.links)) [
     | inl inside ↦ sents_apart laws run carried alone link inside

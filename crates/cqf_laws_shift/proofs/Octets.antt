@@ -1,4 +1,4 @@
--- Each start of a book is of a frame that a link sends, so it has its offer's octets.
+-- Each start of a book is that of a frame that a link sends, so it has its offer's octets.
 use Rattle.std.proofs.Common.{◌≡◌, ℕ, ◌<◌, sym, ap, ◌∙◌, Contains, length, eqb-true, ◌==◌}
 use Rattle.cqf_lists.specs.Lists.{each_below}
 use Rattle.cqf_lists.proofs.Members.{contains_from_filter, contains_from_map}
@@ -17,21 +17,21 @@ use Rattle.cqf_laws_shift.proofs.Runs.{sent_timed}
 use Rattle.cqf_laws_shift.proofs.Ways.{on_way}
 
 module _ (run : Run) (carried : Carried) where
-  -- a start is of a frame that its link sends in its cycle
+  -- a start is that of a frame that its link sends in its cycle
   pub record IsOfSent (cycle link : ℕ) (s : Started) : Type 0 where
     pub sent : Sent
     pub inside : Contains (carried link) sent
     pub is : started cycle link sent ≡ s
     pub in_cycle : cycle_of run.domain sent.start.0 ≡ cycle
 
-  -- so is each of a batch
+  -- this holds for each start of a batch
   pub of_sent : (cycle link : ℕ) (s : Started) → Contains (starts_in run.domain carried cycle link) s → IsOfSent cycle link s
   of_sent cycle link s c =
       let made = contains_from_map (started cycle link) (batch run.domain carried link cycle) s c in
       let kept = contains_from_filter (λ (z : Sent). cycle_of run.domain z.start.0 == cycle) (carried link) made.0 made.1 in
       record { sent = made.0; inside = kept.0; is = made.2; in_cycle = eqb-true (cycle_of run.domain made.0.start.0) cycle kept.1 }
 
-  -- and each of a book, of a cycle of the run and a link of the domain
+  -- a start of a book is such, in a cycle of the run and on a link of the domain
   pub record IsOfBatch (cycles : ℕ) (s : Started) : Type 0 where
     pub cycle : ℕ
     pub link : ℕ

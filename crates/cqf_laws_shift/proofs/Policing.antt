@@ -1,4 +1,4 @@
--- What the policing of a bridge's frames gives: their order, what each verdict stands on, and what a reservation lets through.
+-- What the policing of a bridge's frames ensures: their order, what each verdict is based on, and what a reservation lets through.
 use Rattle.std.proofs.Common.{◌≡◌, ℕ, ◌+◌, ◌<◌, ◌≤◌, ◌∷◌, [], ◌++◌, List, true, inl, inr, sym, ap, ap₂, ◌∙◌, subst, arith, refl, Contains, map, sum_by}
 use Rattle.std.proofs.Common.{eqb-true, leb-true, ◌==◌, ◌&&◌, if◌then◌else◌, append_assoc, append-nil, zero-le}
 use Rattle.std.proofs.lemmas.Bool.{cases_Bool, cond-true, cond-false, and_parts}
@@ -26,7 +26,7 @@ abbrev pub taken : Domain → ℕ → ℕ → Policed → ℕ
 taken d number cycle p = if is_queued_of number p.verdict && (cycle_of d p.received.at == cycle) then p.received.octets else 0
 
 module _ (reserves : GateIsReservation) (d : Domain) (some : 0 < d.cycle_time) (tables : List (List Row)) (orderly : AreOrderly d tables) (bridge : ℕ) where
-  -- what passes of a row in a cycle is within its octets
+  -- what passes by a row in a cycle is within its octets
   one_passes : (cycle : ℕ) (row : Row) (earlier : List Policed) (x : Received) → Contains (table_of tables cycle) row →
       octets_before d row.no cycle earlier ≤ row.octets →
       octets_before d row.no cycle earlier + taken d row.no cycle (police d tables bridge earlier x) ≤ row.octets
@@ -57,7 +57,7 @@ module _ (reserves : GateIsReservation) (d : Domain) (some : 0 < d.cycle_time) (
           leb-true (octets_before d q.0.no c earlier + x.octets) (reserved_in q.0 depth c) (sym (reserves d earlier q.0 x some) ∙ says.1) in
           omega (arith, bound, reserved_within q.0 depth c, one.octets, ap₂ (λ a b. octets_before d a b earlier) q.2 in_cycle)
 
-  -- the same for all that comes
+  -- the same for all that arrives
   passes_within : (cycle : ℕ) (row : Row) (earlier : List Policed) (xs : List Received) → Contains (table_of tables cycle) row →
       octets_before d row.no cycle earlier ≤ row.octets →
       octets_before d row.no cycle (earlier ++ police_all d tables bridge earlier xs) ≤ row.octets
@@ -94,7 +94,7 @@ pub record Polices (d : Domain) (tables : List (List Row)) (bridge : ℕ) (xs : 
   pub turns : (p : Policed) (row : Row) → Contains policed p → p.verdict ≡ Queued row → 0 < p.received.octets →
       is_turn row.pace (depth_behind row (came_by p.received.way)) (cycle_of d p.received.at) ≡ true
 
--- the facts hold of what is decided on any frames
+-- the facts hold for the verdicts on any frames
 pub polices_all : GateIsReservation → (d : Domain) (tables : List (List Row)) (bridge : ℕ) (xs : List Received) → 0 < d.cycle_time → AreOrderly d tables →
     Polices d tables bridge xs (police_all d tables bridge [] xs)
 polices_all reserves d tables bridge xs some orderly = record {
@@ -110,15 +110,15 @@ pub polices : GateIsReservation → (run : Run) (carried : Carried) (bridge end 
 polices reserves run carried bridge end some orderly = polices_all reserves run.domain run.tables bridge (received_before run carried bridge end) some orderly
 
 module _ (d : Domain) (tables : List (List Row)) (bridge : ℕ) (xs : List Received) (policed : List Policed) (facts : Polices d tables bridge xs policed) where
-  -- who came has a verdict, and who has a verdict came
+  -- a frame that arrived has a verdict
   pub has_verdict : (x : Received) → Contains xs x → (p : Policed) × Contains policed p × (p.received ≡ x)
   has_verdict x c = contains_from_map (λ (p : Policed). p.received) policed x (subst (λ z. Contains z x) (sym facts.in_turn) c)
 
-  -- and who has a verdict came
+  -- a frame that has a verdict arrived
   pub has_come : (p : Policed) → Contains policed p → Contains xs p.received
   has_come p c = subst (λ z. Contains z p.received) facts.in_turn (contains_map (λ (q : Policed). q.received) policed p c)
 
-  -- what a frame that goes on stands on
+  -- what the verdict on a frame that goes on is based on
   pub is_queued_by : (p : Policed) (row : Row) → Contains policed p → p.verdict ≡ Queued row →
       IsQueuedBy d (table_of tables (cycle_of d p.received.at)) bridge (cycle_of d p.received.at) p.received.way row
   is_queued_by p row c e =

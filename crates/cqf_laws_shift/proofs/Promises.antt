@@ -53,7 +53,7 @@ book_says_the_shift laws beside run book accepted orderly offered background is_
     in_cycle : ℕ → List Started
     in_cycle cycle = each_below (starts_in d carried cycle) (length d.links)
 
-    -- what becomes of the frames that come to a bridge
+    -- the verdicts on the frames that arrive at a bridge
     given : ℕ → List Policed
     given bridge = policed run carried (end_of_run run) bridge
 
@@ -126,7 +126,7 @@ book_says_the_shift laws beside run book accepted orderly offered background is_
         let whole = contains_below (λ c. each_below (drops_in d (length run.offers) given c) (length d.bridges)) (length run.tables) cycle it in_run bridged in
         subst (λ z. Contains z x) (sym is_book.are_drops) (subst (λ z. Contains (drops_of d (length run.tables) (length run.offers) given) z) same whole)
 
-    -- no two starts are of one frame on one link
+    -- no two starts are of the same frame on the same link
     once_each : AllPairs AreApart book.starts
     once_each = subst (AllPairs AreApart) (sym is_book.are_starts) (starts_apart laws run carried alone (length run.tables))
 
@@ -135,7 +135,7 @@ book_says_the_shift laws beside run book accepted orderly offered background is_
     octets s x c inside frames =
         start_octets laws run carried alone (length run.tables) s (subst (λ (xs : List Started). Contains xs s) is_book.are_starts c) x inside frames
 
-    -- and no two drops are of one frame
+    -- and no two drops are of the same frame
     once_dropped : AllPairs DropsApart book.drops
     once_dropped = subst (AllPairs DropsApart) (sym is_book.are_drops) (drops_apart laws run carried alone.planned)
 

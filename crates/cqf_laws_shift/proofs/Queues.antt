@@ -1,4 +1,4 @@
--- What is queued to a port: whence it comes, its order and classes, and how much it is in a cycle.
+-- What is queued to a port: where it comes from, its order and classes, and how much it is in a cycle.
 use Rattle.std.proofs.Common.{◌≡◌, ℕ, ◌+◌, ◌/◌, ◌%◌, ◌<◌, ◌≤◌, ◌⊎◌, ◌∷◌, [], List, Bool, true, false, Option, inl, inr, sym, ap, ◌∙◌, subst, arith, refl, All}
 use Rattle.std.proofs.Common.{AllPairs, Contains, sum_by, eq-eqb, eqb-true, ◌==◌, ◌&&◌, if◌then◌else◌, le_trans, le_of_eq, zero-add}
 use Rattle.std.specs.List.{list_any}
@@ -23,7 +23,7 @@ use Rattle.cqf_laws_shift.proofs.Costs.{tested_wire_within_cost}
 use Rattle.cqf_laws_shift.proofs.Policing.{Polices, row_of_queued}
 use Rattle.cqf_laws_shift.proofs.Trees.{GoesBy, goes_by, by_goes, uses_next}
 
--- a frame is queued to the ports by whose links its stream goes on
+-- a frame is queued only to the ports whose links its stream takes next
 tested_goes : (row : Row) (way : Option ℕ) (l : ℕ) → list_any (λ next. next == l) (goes_to row way) ≡ true → GoesBy row way l
 tested_goes row way l t =
     let r = any_member (λ next. next == l) (goes_to row way) t in
@@ -77,7 +77,7 @@ queued_by_verdict d l x v q c = elim (one_or_none d l x v) [
   | inr none ↦ absurd (contains_none q (subst (λ z. Contains z q) none c))
 ]
 
--- whence a queued frame comes
+-- where a queued frame comes from
 pub record FromQueue (d : Domain) (l : ℕ) (policed : List Policed) (q : QueuedFrame) : Type 0 where
   pub p : Policed
   pub inside : Contains policed p
@@ -86,7 +86,7 @@ pub record FromQueue (d : Domain) (l : ℕ) (policed : List Policed) (q : Queued
   pub goes : GoesBy row (came_by p.received.way) l
   pub is : queued_frame d p.received row ≡ q
 
--- each queued frame comes so
+-- this holds for each queued frame
 pub queued_from : (d : Domain) (l : ℕ) (policed : List Policed) (q : QueuedFrame) → Contains (queued_to d l policed) q → FromQueue d l policed q
 queued_from d l policed q c =
     let r = contains_from_flat (λ (p : Policed). queued_by d l p.received p.verdict) policed q c in
@@ -113,7 +113,7 @@ wire_in_within cycle_time cycle a = elim (cases_Bool (a.at.0 / cycle_time == cyc
   | inr u ↦ inr (cond-false (a.at.0 / cycle_time == cycle) (if is_streams a then wire_of a.octets else 0) 0 u)
 ]
   where
-    -- a number or 0 is no more than the number
+    -- a number or 0 is at most the number
     at_most : (b : Bool) (n : ℕ) → (if b then n else 0) ≤ n
     at_most true n = omega arith
     at_most false n = omega arith
@@ -127,7 +127,7 @@ gives_streams cycle = either (cycle % 2 == 0)
     either true = omega arith
     either false = omega arith
 
--- the order of what is queued is that of the frames that came
+-- what is queued is in the order of the frames that arrived
 pub queue_in_order : (d : Domain) (l : ℕ) (policed : List Policed) → AllPairs (λ (p q : Policed). p.received.at ≤ q.received.at) policed →
     AllPairs (λ (a b : QueuedFrame). a.arrival.at.0 ≤ b.arrival.at.0) (queued_to d l policed)
 queue_in_order d l policed sorted =
@@ -160,7 +160,7 @@ module _ (d : Domain) (tables : List (List Row)) (bridge : ℕ) (xs : List Recei
   abbrev arrivals : List Arrival
   arrivals = arrivals_of (queued_to d l policed)
 
-  -- what comes in order is policed in order
+  -- what arrives in order is policed in order
   pub policed_sorted : AllPairs (λ (a b : Received). a.at ≤ b.at) xs → AllPairs (λ (p q : Policed). p.received.at ≤ q.received.at) policed
   policed_sorted sorted = pairs_from_map (λ (a b : Received). a.at ≤ b.at) (λ (p : Policed). p.received) policed
       (subst (λ z. AllPairs (λ (a b : Received). a.at ≤ b.at) z) (sym facts.in_turn) sorted)
@@ -173,7 +173,7 @@ module _ (d : Domain) (tables : List (List Row)) (bridge : ℕ) (xs : List Recei
       subst (λ (z : QueuedFrame). z.arrival.class ≡ given_class (z.arrival.at.0 / d.cycle_time)) from.is
       (gives d.cycle_time from.row.octets from.row.pace (depth_behind from.row (came_by from.p.received.way)) from.p.received.at some)
 
-  -- what a frame adds to the port's load of a cycle
+  -- what a frame adds to the port's load in a cycle
   adds : (cycle : ℕ) (x : Received) (v : Verdict) →
       ((row : Row) × (v ≡ Queued row) × GoesBy row (came_by x.way) l × (cycle_of d x.at ≡ cycle) ×
       (sum_by (λ (q : QueuedFrame). wire_in d.cycle_time cycle q.arrival) (queued_by d l x v) ≤ wire_of x.octets)) ⊎
@@ -191,7 +191,7 @@ module _ (d : Domain) (tables : List (List Row)) (bridge : ℕ) (xs : List Recei
         | inr none ↦ inr (ap (sum_by f) none)
       ]
 
-  -- what comes to the port in a cycle is within what the streams of the cycle's table cost
+  -- what arrives at the port in a cycle is within the cost of the streams of the cycle's table
   pub load_within_cost : ((cycle : ℕ) (row : Row) → Contains (table_of tables cycle) row → IsTree d row.tree.items) →
       All (λ (p : Policed). 64 ≤ p.received.octets) policed → (cycle : ℕ) →
       load d.cycle_time cycle arrivals ≤ link_cost (table_of tables cycle) l (cycle + 1)

@@ -1,4 +1,4 @@
--- What comes to a port beside background frames is, of the streams, what is queued to it.
+-- The streams' frames that arrive at a port beside background frames are those that are queued to it.
 use Rattle.std.proofs.Common.{◌≡◌, ℕ, zero, suc, ◌+◌, ◌*◌, ◌<◌, ◌⊎◌, [], ◌++◌, List, Bool, true, false, None, inl, inr, sym, ap, ap₂, ◌∙◌, subst, arith}
 use Rattle.std.proofs.Common.{Contains, filter, eq-eqb, ne_eqb, ◌==◌}
 use Rattle.std.specs.List.{enumerate_from}
@@ -35,7 +35,7 @@ module _ (run : Run) (carried : Carried) (l : ℕ) where
   abbrev b : ℕ
   b = bridge_of run.domain l
 
-  -- what is queued comes at the instant of a frame that came
+  -- what is queued arrives at the instant of a frame that arrived
   queued_at : (earlier : List Policed) (xs : List Received) (q : QueuedFrame) → Contains (queued_to d l (police_all d run.tables b earlier xs)) q →
       (x : Received) × Contains xs x × (q.arrival.at.0 ≡ x.at)
   queued_at earlier xs q c =
@@ -47,7 +47,7 @@ module _ (run : Run) (carried : Carried) (l : ℕ) where
             (sym from.is),
       )
 
-  -- what comes in a cycle
+  -- what arrives in a cycle
   abbrev in_cycle : ℕ → List Received
   in_cycle c = each_below (λ k. received_at run carried b (c * n + k)) n
 
@@ -65,7 +65,7 @@ module _ (run : Run) (carried : Carried) (l : ℕ) where
       ∙ flat_map-append (λ (p : Policed). queued_by d l p.received p.verdict) (police_all d run.tables b [] first)
       (police_all d run.tables b (policed_before run carried b (c * n)) (in_cycle c))
 
-  -- that is just what is queued in it
+  -- this is exactly what is queued in it
   pub queued_in_is : (c : ℕ) → 0 < n → queued_in run carried l c ≡ queued_now c
   queued_in_is c some =
       ap (filter same_cycle) (grows c)
@@ -111,11 +111,11 @@ module _ (run : Run) (carried : Carried) (l : ℕ) where
       let x = contains_from_map backed_frame (filter (is_backed_at l (c * d.cycle_time + k.0)) (numbered_background run.background)) q k.2 in
       (x.0, (contains_from_filter (is_backed_at l (c * d.cycle_time + k.0)) (numbered_background run.background) x.0 x.1).0, x.2)
 
-  -- a queued frame is of one
+  -- a queued frame is of a stream
   queued_some : (policed : List Policed) (q : QueuedFrame) → Contains (queued_to d l policed) q → is_of_stream q ≡ true
   queued_some policed q c = ap is_of_stream (sym (queued_from d l policed q c).is)
 
-  -- so the streams' frames that come to a port are what is queued to it
+  -- so the streams' frames that arrive at a port are those that are queued to it
   pub streams_that_come : (cycles : ℕ) → 0 < n → filter is_of_stream (comes_before run carried l cycles) ≡ queued_before run carried l (cycles * n)
   streams_that_come cycles some =
       filter_below is_of_stream (comes_in run carried l) cycles
@@ -128,7 +128,7 @@ module _ (run : Run) (carried : Carried) (l : ℕ) where
       (contains_from_filter (λ (x : QueuedFrame). cycle_of d x.arrival.at.0 == c) (queued_before run carried l ((c + 1) * n)) q m).0)))
       ∙ queue_by_cycles cycles some
 
-  -- each frame that comes is a background frame or a queued one
+  -- each frame that arrives is a background frame or a queued one
   pub comes_of : (cycles : ℕ) (q : QueuedFrame) → Contains (comes_before run carried l cycles) q →
       ((x : Background) × Contains run.background x × (q.stream ≡ None) × (q.arrival.class ≡ x.class)) ⊎ (is_of_stream q ≡ true)
   comes_of cycles q m =

@@ -43,7 +43,7 @@ module _ (laws : CycleLaws) (run : Run) (carried : Carried) {heard : Carried} (a
   abbrev end : ℕ
   end = end_of_run run
 
-  -- what becomes of what comes to a bridge
+  -- the verdicts on what arrives at a bridge
   abbrev given : ℕ → List Policed
   given bridge = policed run heard (end_of_run run) bridge
 
@@ -62,20 +62,20 @@ module _ (laws : CycleLaws) (run : Run) (carried : Carried) {heard : Carried} (a
       let from = queued_from d m (given (bridge_of d m)) q (Contains-get_or (waiting m) place no_frame inside) in
       subst (λ (z : QueuedFrame). sent_by t z.arrival z.stream ≡ sent_from z t ∷ []) from.is refl
 
-  -- a start is of a place in the queue
+  -- a start is of an index in the queue
   pub start_in_queue : (m : ℕ) (is_link : m < length run.domain.links) (place s : ℕ) → Contains (sends m is_link).starts (place, s) →
       place < length (queued run heard (end_of_run run) m)
   start_in_queue m is_link place s c =
       omega (arith, ((sends m is_link).legal.first place s c).waits.inside, length-map (waiting m) (λ (q : QueuedFrame). q.arrival))
 
-  -- so what a link sends are its transmissions
+  -- so what a link sends is what its transmissions send
   pub sents_are : (m : ℕ) (is_link : m < length run.domain.links) → carried m ≡ map (sent_at (queued run heard (end_of_run run) m)) (sends m is_link).starts
   sents_are m is_link =
       let s = sends m is_link in
       s.are_sent ∙ flat_map_ones (sent_of (waiting m)) (sent_at (waiting m)) s.starts
       (λ start c. sends_one m start.0 start.1 (start_in_queue m is_link start.0 start.1 c))
 
-  -- what a link sends was queued to it, in an earlier cycle, and at which place
+  -- what a link sends was queued to it in an earlier cycle, at this index
   pub record IsSentFor (m : ℕ) (sent : Sent) : Type 0 where
     pub from : IsSentOf run heard m sent
     pub later : cycle_of run.domain from.p.received.at < cycle_of run.domain sent.start.0
@@ -84,7 +84,7 @@ module _ (laws : CycleLaws) (run : Run) (carried : Carried) {heard : Carried} (a
     pub in_queue : place < length (queued run heard (end_of_run run) m)
     pub is : sent_at (queued run heard (end_of_run run) m) (place, sent.start.0) ≡ sent
 
-  -- each frame that a link sends was queued so
+  -- this holds for each frame that a link sends
   pub sent_for : (m : ℕ) (is_link : m < length run.domain.links) (sent : Sent) → Contains (carried m) sent → (x : IsSentFor m sent) ×
       Contains (sends m is_link).starts (x.place, sent.start.0)
   sent_for m is_link sent c =
@@ -119,7 +119,7 @@ module _ (laws : CycleLaws) (run : Run) (carried : Carried) {heard : Carried} (a
   pub fed : IsFed run carried heard
   fed m is_link sent c = let x = (sent_for m is_link sent c).0 in (x.from, x.later)
 
-  -- what is at a place of what the port sees
+  -- the arrival at an index of the queue
   seen : (m place : ℕ) → place < length (waiting m) → (q : QueuedFrame) × Contains (waiting m) q ×
       (get_or (arrivals_of (waiting m)) place no_arrival ≡ q.arrival)
   seen m place inside = (
@@ -136,11 +136,11 @@ module _ (laws : CycleLaws) (run : Run) (carried : Carried) {heard : Carried} (a
       let q = seen m place inside in
       subst (λ (z : Arrival). z.class ≡ given_class (z.at.0 / d.cycle_time)) (sym q.2) (queue_class laws run heard alone.planned m q.0 q.1)
 
-  -- so it is a stream's
+  -- so it is a stream's frame
   streams_at : (m place : ℕ) → place < length (waiting m) → StreamsAt (arrivals_of (waiting m)) place
   streams_at m place inside = subst (λ z. 6 ≤ z) (sym (class_at m place inside)) (gives_streams (cycle_of_place d.cycle_time (arrivals_of (waiting m)) place))
 
-  -- what the law of one port asks
+  -- what the law of one port requires
   within : (m : ℕ) → m < length d.links → IsWithinBudget d.cycle_time (guard_of d m) (octet_time_of d m) (arrivals_of (waiting m)) (length run.tables)
   within m is_link = record {
     some_guard = omega (arith, delay_within d m alone.planned.accepted is_link);
@@ -163,13 +163,13 @@ module _ (laws : CycleLaws) (run : Run) (carried : Carried) {heard : Carried} (a
       laws.late d.cycle_time (guard_of d m) (octet_time_of d m) (arrivals_of (waiting m)) (length run.tables) (length run.tables) (sends m is_link).starts
       (within m is_link) (sends m is_link).legal
 
-  -- what starts starts in the cycle after its arrival's, and is whole in the next node in its cycle
+  -- what starts does so in the cycle after its arrival's, and arrives fully in the next node in that cycle
   pub record IsTimed (m at : ℕ) (sent : Sent) : Type 0 where
     pub cycle : cycle_of run.domain sent.start.0 ≡ cycle_of run.domain at + 1
     pub whole : cycle_of run.domain (whole_at run.domain m (alone.meets.noted m sent)) ≡ cycle_of run.domain sent.start.0
     pub in_run : whole_at run.domain m (alone.meets.noted m sent) < end_of_run run
 
-  -- each start is timed so
+  -- this holds for each start
   timed : (m : ℕ) (is_link : m < length d.links) (sent : Sent) (place at : ℕ) → Contains (carried m) sent →
       Contains (sends m is_link).starts (place, sent.start.0) → place < length (waiting m) → instant_of (arrivals_of (waiting m)) place ≡ at → octets_of (arrivals_of (waiting m)) place ≡ sent.octets → IsTimed m at sent
   timed m is_link sent place at member c in_queue is_at is_octets =
@@ -224,13 +224,13 @@ module _ (laws : CycleLaws) (run : Run) (carried : Carried) {heard : Carried} (a
             (ap (λ (a : Arrival). a.octets) arrival ∙ ap (λ (z : QueuedFrame). z.arrival.octets) (sym x.at_place) ∙ sym x.from.octets),
       )
 
-  -- a start sends what is at its place
+  -- a start sends the frame at its index
   start_sent : (m : ℕ) (is_link : m < length run.domain.links) (place s : ℕ) → Contains (sends m is_link).starts (place, s) →
       Contains (carried m) (sent_at (queued run heard (end_of_run run) m) (place, s))
   start_sent m is_link place s c =
       subst (λ z. Contains z (sent_at (waiting m) (place, s))) (sym (sents_are m is_link)) (contains_map (sent_at (waiting m)) (sends m is_link).starts (place, s) c)
 
-  -- what is heard of a link was queued to its bridge in the cycle before that in which it is whole
+  -- what is heard from a link was queued to its bridge in the cycle before the one in which it arrives fully
   pub heard_timed : (m : ℕ) (is_link : m < length run.domain.links) (h : Sent) → Contains (heard m) h → (x : IsSentOf run heard m h) ×
       (cycle_of run.domain (whole_at run.domain m h) ≡ cycle_of run.domain x.p.received.at + 1)
   heard_timed m is_link h c =
@@ -261,7 +261,7 @@ module _ (laws : CycleLaws) (run : Run) (carried : Carried) {heard : Carried} (a
       (ap (λ (a : Arrival). a.at.0) arrival)
       (ap (λ (a : Arrival). a.octets) arrival)).cycle
 
-  -- the same, said of its arrival
+  -- the same for the cycle of its arrival
   pub place_timed : (m : ℕ) (is_link : m < length run.domain.links) (place s : ℕ) → Contains (sends m is_link).starts (place, s) →
       cycle_of run.domain s ≡ cycle_of_place run.domain.cycle_time (arrivals_of (queued run heard (end_of_run run) m)) place + 1
   place_timed m is_link place s c =

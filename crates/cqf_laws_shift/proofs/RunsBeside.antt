@@ -1,4 +1,4 @@
--- A legal run beside background frames is for the streams' frames a legal run of them alone.
+-- For the streams' frames, a legal run beside background frames is a legal run of them alone.
 use Rattle.std.proofs.Common.{◌≡◌, ℕ, ◌+◌, ◌*◌, ◌/◌, ◌<◌, ◌≤◌, [], List, Bool, true, false, Option, Some, None, inl, inr, sym, ap, ◌∙◌, subst, arith, refl, AllPairs}
 use Rattle.std.specs.Option.{option_map_or}
 use Rattle.std.proofs.Common.{Contains, filter, sum_by, length, get_or, is_some, ◌==◌, if◌then◌else◌, le_trans, le_of_eq, leb-true, map-id}
@@ -31,7 +31,7 @@ use Rattle.cqf_laws_shift.proofs.Fed.{IsFed, queue_class, queue_sorted, sent_fro
 use Rattle.cqf_laws_shift.proofs.Queues.{gives_streams}
 use Rattle.cqf_laws_shift.proofs.QueuesByCycles.{comes_of, streams_that_come}
 
--- a frame that sends something is of a stream, and sends this
+-- if a queued frame sends something, it is of a stream, and sends this
 sent_of_frame : (t : ℕ) (q : QueuedFrame) (stream : Option ℕ) (sent : Sent) → q.stream ≡ stream → Contains (sent_by t q.arrival stream) sent →
     (is_of_stream q ≡ true) × (sent_from q t ≡ sent)
 sent_of_frame t q None sent e c = absurd (contains_none sent c)
@@ -44,7 +44,7 @@ sent_of_frame t q (Some number) sent e c = (
     sent_numbered : ℕ → Sent
     sent_numbered number = record { start = record { 0 = t }; frame = q.arrival.frame; stream = number; octets = q.arrival.octets }
 
--- of an exact run what is sent is heard
+-- in an exact run, what is sent is heard
 exactly : (run : Run) (net : Network) → IsLegalRun run net → IsHeardRun run net net.carried
 exactly run net legal = record {
   accepted = legal.accepted;
@@ -74,7 +74,7 @@ module _ (laws : CycleLaws) (run : Run) (net : Network) (heard : Carried) (legal
   abbrev carried : Carried
   carried = net.carried
 
-  -- what it is given
+  -- what the run requires
   planned : IsPlanned run
   planned = record { accepted = legal.accepted; orderly = legal.orderly; offered = legal.offered }
 
@@ -82,7 +82,7 @@ module _ (laws : CycleLaws) (run : Run) (net : Network) (heard : Carried) (legal
   some : 0 < run.domain.cycle_time
   some = some_time laws run heard planned
 
-  -- what comes to a port
+  -- what arrives at a port
   abbrev comes : ℕ → List QueuedFrame
   comes m = comes_before run heard m (length run.tables)
 
@@ -94,11 +94,11 @@ module _ (laws : CycleLaws) (run : Run) (net : Network) (heard : Carried) (legal
   sends : (m : ℕ) → m < length d.links → Sends d (compiled_lists d m) (length run.tables * d.cycle_time) m (comes m) (carried m) (net.backed m)
   sends m inside = legal.legal.sends m inside
 
-  -- of what comes the streams' frames are what is queued
+  -- the streams' frames among what arrives are those that are queued
   streams : (m : ℕ) → filter is_of_stream (comes m) ≡ waiting m
   streams m = streams_that_come run heard m (length run.tables) some
 
-  -- so a stream's frame that comes is queued
+  -- so a stream's frame that arrives is queued
   stream_waits : (m : ℕ) (q : QueuedFrame) → Contains (comes m) q → is_of_stream q ≡ true → Contains (waiting m) q
   stream_waits m q c of_stream = subst (λ z. Contains z q) (streams m) (contains_filter is_of_stream (comes m) q c of_stream)
 
@@ -125,7 +125,7 @@ module _ (laws : CycleLaws) (run : Run) (net : Network) (heard : Carried) (legal
   class_waits : (m : ℕ) (q : QueuedFrame) → Contains (waiting m) q → 6 ≤ q.arrival.class
   class_waits m q c = subst (λ z. 6 ≤ z) (sym (queue_class laws run heard planned m q c)) (gives_streams (q.arrival.at.0 / d.cycle_time))
 
-  -- a frame is of a stream, with a stream's class, or of none, with another class
+  -- a frame is either of a stream, with a stream's class, or of none, with another class
   told : (m : ℕ) (q : QueuedFrame) → Contains (comes m) q → IsToldByClass q
   told m q c = elim (comes_of run heard m (length run.tables) q c) [
     | inl back ↦
@@ -143,7 +143,7 @@ module _ (laws : CycleLaws) (run : Run) (net : Network) (heard : Carried) (legal
     | inr of_stream ↦ of_stream
   ]
 
-  -- and one of no stream adds nothing to what a cycle's frames take
+  -- and a frame of no stream adds nothing to what a cycle's streams' frames take
   adds_none : (m cycle : ℕ) (q : QueuedFrame) → Contains (comes m) q → is_of_stream q ≡ false →
       slot_in (octet_time_of d m) d.cycle_time cycle q.arrival ≡ 0
   adds_none m cycle q c none = nothing (is_streams q.arrival) (q.arrival.at.0 / d.cycle_time == cycle) (slot_of q.arrival.octets (octet_time_of d m)) low
@@ -160,7 +160,7 @@ module _ (laws : CycleLaws) (run : Run) (net : Network) (heard : Carried) (legal
       nothing false true slot e = refl
       nothing false false slot e = refl
 
-  -- what comes to a port in a cycle is sent before the guard time of the next
+  -- what arrives at a port in a cycle can be sent before the guard band of the next
   loads : (m cycle : ℕ) → m < length d.links → busy (octet_time_of d m) d.cycle_time cycle (arrivals_of (comes m)) + guard_of d m ≤ d.cycle_time
   loads m cycle is_link = omega (arith, same, within_time laws run heard planned legal.meets fed m cycle is_link)
     where
@@ -180,7 +180,7 @@ module _ (laws : CycleLaws) (run : Run) (net : Network) (heard : Carried) (legal
           (le_of_eq (sym (sum_filter f is_of_stream (comes m)) ∙ ap (sum_by f) (streams m)
           ∙ sym (sum_map (slot_in (octet_time_of d m) d.cycle_time cycle) (λ (q : QueuedFrame). q.arrival) (waiting m)))))
 
-  -- and its streams' frames come in cycles
+  -- and its streams' frames arrive in cycles
   come : (m : ℕ) → ComeInCycles d.cycle_time (arrivals_of (comes m))
   come m = record { in_order = in_order; classes = classes }
     where
@@ -208,7 +208,7 @@ module _ (laws : CycleLaws) (run : Run) (net : Network) (heard : Carried) (legal
           subst (λ (z : Arrival). z.class ≡ given_class (z.at.0 / d.cycle_time)) (sym is)
           (class_of_frame (get_or (comes m) place no_frame) (Contains-get_or (comes m) place no_frame in_list) (subst (λ (z : Arrival). 6 ≤ z.class) is high))
 
-  -- so it is what the law of one port asks
+  -- so this meets what the law of one port requires
   within : (m : ℕ) → m < length d.links → IsWithinBudget d.cycle_time (guard_of d m) (octet_time_of d m) (arrivals_of (comes m)) (length run.tables)
   within m is_link = record {
     some_guard = omega (arith, delay_within d m legal.accepted is_link);
@@ -219,7 +219,7 @@ module _ (laws : CycleLaws) (run : Run) (net : Network) (heard : Carried) (legal
     loads = λ c less. loads m c is_link;
   }
 
-  -- and each link sends of the streams what it may send of them alone
+  -- and each link sends the streams' frames that it may send if they are alone
   sends_alone : (m : ℕ) → m < length d.links → SendsAlone d (end_of_run run) m (waiting m) (carried m)
   sends_alone m is_link =
       let s = laws.alone d (length run.tables) m (comes m) (carried m) (net.backed m) (all_from_members IsToldByClass (comes m) (told m)) (within m is_link)

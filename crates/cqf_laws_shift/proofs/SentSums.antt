@@ -1,4 +1,4 @@
--- What a link sends in a cycle, and what comes of it to the next bridge, counts no more than what was queued in the cycle before:
+-- What a link sends in a cycle, and what arrives of it at the next bridge, counts no more than what was queued in the cycle before,
 -- so a stream's octets are within its reservation.
 use Rattle.std.proofs.Common.{◌≡◌, ℕ, ◌+◌, ◌<◌, ◌≤◌, [], List, Bool, true, false, inl, inr, sym, ap, ◌∙◌, subst, arith, refl, AllPairs, Contains, map, filter}
 use Rattle.std.proofs.Common.{sum_by, length, get_or, eq-eqb, eqb-true, ◌==◌, ◌&&◌, if◌then◌else◌, le_trans, le_of_eq, zero-add, nat_lt, ne_eqb}
@@ -28,7 +28,7 @@ use Rattle.cqf_laws_shift.proofs.Queues.{one_or_none}
 use Rattle.cqf_laws_shift.proofs.Fed.{number_of}
 use Rattle.cqf_laws_shift.proofs.Runs.{sends, sent_at, sents_are, sent_timed, start_timed, start_in_queue}
 
--- an element stands at its place
+-- an element is at its index
 placed_at : {X : Type 0} (xs : List X) (k : ℕ) (e : X) → k < length xs → Contains (enumerate_from 0 xs) (k, get_or xs k e)
 placed_at {X} xs k e inside =
     let numbered : k < length (enumerate_from 0 xs) = omega (arith, inside, length-enumerate_from 0 xs) in
@@ -43,21 +43,21 @@ Weight = ℕ → ℕ → ℕ → ℕ
 abbrev pub of_stream : ℕ → Weight
 of_stream number frame stream octets = if stream == number then octets else 0
 
--- what counts of frames that came by a link
+-- what a frame counts if it came by this link
 abbrev pub by_link : ℕ → (ℕ → ℕ) → Way → ℕ
 by_link m weight (AtEdge name) = 0
 by_link m weight (Relayed link stream) = if link == m then weight stream else 0
 
 module _ (laws : CycleLaws) (run : Run) (carried : Carried) {heard : Carried} (alone : IsRunAs run carried heard) (m : ℕ) (is_link : m < length run.domain.links) (w : Weight) where
-  -- what a frame counts that the link sends in a cycle, that is queued to it, and that comes by it
+  -- what a frame counts that the link sends in a cycle
   abbrev pub sent_counts : ℕ → Sent → ℕ
   sent_counts cycle s = if cycle_of run.domain s.start.0 == cycle then w s.frame s.stream s.octets else 0
 
-  -- the same of a frame that is queued to it
+  -- what a frame counts that is queued to it
   abbrev pub queued_counts : ℕ → QueuedFrame → ℕ
   queued_counts cycle q = if cycle_of run.domain q.arrival.at.0 == cycle then w q.arrival.frame (number_of q) q.arrival.octets else 0
 
-  -- the same of a frame that comes by it
+  -- what a frame counts that arrives by it
   abbrev pub arriving_counts : ℕ → Received → ℕ
   arriving_counts cycle x = if cycle_of run.domain x.at == cycle then by_link m (λ stream. w x.frame stream x.octets) x.way else 0
 
@@ -115,7 +115,7 @@ module _ (laws : CycleLaws) (run : Run) (carried : Carried) {heard : Carried} (a
           (place, get_or q place no_frame) (placed_at q place no_frame inside) in
           omega (arith, term start c, own, cond-true (place == place) (queued_counts cycle (get_or q place no_frame)) 0 (eq-eqb place place refl))
 
-  -- what comes by the link to a bridge in a cycle is what the link sends
+  -- what arrives by the link at a bridge in a cycle is at most what the link sends
   pub arrives_within : (bridge cycle : ℕ) → sum_by (arriving_counts cycle) (came run heard (end_of_run run) bridge) ≤ sum_by (sent_counts cycle) (carried m)
   arrives_within bridge cycle =
       le_trans (sum_le_below f g (received_at run heard bridge) (λ t. filter (λ (s : Sent). whole_at run.domain m s == t) (heard m)) last at_instant)

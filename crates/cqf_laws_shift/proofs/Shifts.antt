@@ -41,7 +41,7 @@ module _ (laws : CycleLaws) (run : Run) (carried : Carried) {heard : Carried} (a
         within_run = omega (arith, cycle_below run.domain.cycle_time _ (length run.tables) s.1.in_run, s.1.whole);
       }
 
-  -- and what is in the shift its link sends
+  -- a link sends the frame in the cycle
   pub record IsSentInCycle (frame link cycle : ℕ) : Type 0 where
     pub is_link : link < length run.domain.links
     pub sent : Sent
@@ -89,7 +89,7 @@ module _ (laws : CycleLaws) (run : Run) (heard : Carried) (planned : IsPlanned r
           (sym (ap (verdict_by run.domain (table_of run.tables cycle) bridge cycle (λ k. within_gate run.domain earlier k b.x)) way)
           ∙ ap (λ (z : Policed). z.verdict) (sym b.is) ∙ e)
 
-  -- and what isn't covered is an offer that is dropped
+  -- an offer is dropped
   pub record IsDropped (x : Offered) (reason : Reason) : Type 0 where
     pub inside : Contains (policed run heard (end_of_run run) x.offer.bridge) (record { received = offer_received x; verdict = DroppedFor reason })
     pub is_bridge : x.offer.bridge < length run.domain.bridges

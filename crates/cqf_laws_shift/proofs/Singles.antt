@@ -25,7 +25,7 @@ use Rattle.cqf_laws_shift.proofs.SentSums.{Weight, arrives_within, arriving_coun
 use Rattle.cqf_laws_shift.proofs.Trees.{GoesBy, one_depth, one_way, same_goes}
 use Rattle.cqf_laws_shift.proofs.Ways.{covered_tree, on_way, queued_member, same_stream}
 
--- a frame counts where it has this number
+-- a frame counts if it has this number
 abbrev pub of_frame : ℕ → Weight
 of_frame frame number stream octets = if number == frame then 1 else 0
 
@@ -34,7 +34,7 @@ pub counts_offer : (frame : ℕ) (way : Way) (number : ℕ) → came_by way ≡ 
 counts_offer frame (AtEdge name) number e is = cond-true {A = ℕ} (number == frame) 1 0 (eq-eqb number frame is)
 counts_offer frame (Relayed m stream) number e is = absurd (cc)
 
--- and a frame of this number that came by the link does
+-- and a frame of this number that came by the link counts
 counts_relayed : (frame m octets : ℕ) (way : Way) (number : ℕ) → came_by way ≡ Some m → number ≡ frame →
     by_link m (λ stream. of_frame frame number stream octets) way ≡ 1
 counts_relayed frame m octets (AtEdge name) number e is = absurd (cc)
@@ -47,23 +47,23 @@ module _ (laws : CycleLaws) (run : Run) (carried : Carried) {heard : Carried} (a
   abbrev d : Domain
   d = run.domain
 
-  -- what becomes of what comes to a bridge
+  -- the verdicts on what arrives at a bridge
   abbrev given : ℕ → List Policed
   given b = policed run heard (end_of_run run) b
 
-  -- two covered offers of one number are one, by one row
+  -- two covered offers of the same number are the same, covered by the same row
   same_offer : (x y : Offered) (row late : Row) → IsCovered run x row → IsCovered run y late → x.frame ≡ y.frame → (x ≡ y) × (row ≡ late)
   same_offer x y row late first second frames =
       let same = one_number run.offers x y first.offered second.offered frames in
       (same, same_Some row late (sym first.named ∙ ap (row_for d run.tables) same ∙ second.named))
 
-  -- two frames of one number that are queued to one link are of one tree and of one cycle, and came one way
+  -- two frames of the same number that are queued to the same link are of the same tree and the same cycle, and came the same way
   pub record AreAlike (p q : Policed) (row late : Row) : Type 0 where
     pub tree : row.tree.items ≡ late.tree.items
     pub cycle : cycle_of run.domain p.received.at ≡ cycle_of run.domain q.received.at
     pub way : came_by p.received.way ≡ came_by q.received.way
 
-  -- so are they
+  -- this holds for them
   alike : (bridge other m : ℕ) (p q : Policed) (row late : Row) → Contains (given bridge) p → Contains (given other) q → p.verdict ≡ Queued row →
       q.verdict ≡ Queued late → GoesBy row (came_by p.received.way) m → GoesBy late (came_by q.received.way) m →
       p.received.frame ≡ q.received.frame → AreAlike p q row late
@@ -85,7 +85,7 @@ module _ (laws : CycleLaws) (run : Run) (carried : Carried) {heard : Carried} (a
             (same_goes late row (came_by q.received.way) m (sym tree) qg);
       }
 
-  -- what one frame counts at a port
+  -- what a frame counts at a port
   abbrev port_counts : (m cycle frame : ℕ) → Policed → ℕ
   port_counts m cycle frame p =
       sum_by (λ (q : QueuedFrame). if cycle_of d q.arrival.at.0 == cycle then of_frame frame q.arrival.frame (number_of q) q.arrival.octets else 0)
@@ -125,14 +125,14 @@ module _ (laws : CycleLaws) (run : Run) (carried : Carried) {heard : Carried} (a
             ]
       ]
 
-  -- at a port, in a cycle, beside one frame of a number
+  -- at a port, in a cycle, next to one frame of a number
   module _ (m cycle frame : ℕ) (p0 : Policed) (c0 : Contains (policed run heard (end_of_run run) (bridge_of run.domain m)) p0)
       (n0 : Counts m cycle frame p0.received p0.verdict) where
     -- the bridge of the port
     abbrev b : ℕ
     b = bridge_of run.domain m
 
-    -- what each counts is what it counts among those that came
+    -- what each frame counts is what it counts among those that arrived
     by_received : (h : Received → ℕ) → ((p : Policed) → Contains (given b) p → port_counts m cycle frame p ≤ h p.received) →
         sum_by (port_counts m cycle frame) (given b) ≤ sum_by h (came run heard (end_of_run run) b)
     by_received h each =
@@ -140,11 +140,11 @@ module _ (laws : CycleLaws) (run : Run) (carried : Carried) {heard : Carried} (a
         (subst (λ z. sum_by (port_counts m cycle frame) (given b) ≤ z) (sym (sum_map h (λ (p : Policed). p.received) (given b)))
         (sum_le_members (port_counts m cycle frame) (λ p. h p.received) (given b) each))
 
-    -- another came as it did
+    -- another one came the same way
     came_alike : (p : Policed) → Contains (given b) p → (n : Counts m cycle frame p.received p.verdict) → came_by p.received.way ≡ came_by p0.received.way
     came_alike p c n = (alike b b m p p0 n.row n0.row c c0 n.verdict n0.verdict n.goes n0.goes (n.is_frame ∙ sym n0.is_frame)).way
 
-    -- from the edge it came once
+    -- it came from the edge once
     from_edge : came_by p0.received.way ≡ None → sum_by (port_counts m cycle frame) (given b) ≤ 1
     from_edge edge = le_trans (by_received (λ x. offered_counts frame x.way x.frame) each) (offers_single run heard (end_of_run run) b frame)
       where
@@ -154,7 +154,7 @@ module _ (laws : CycleLaws) (run : Run) (carried : Carried) {heard : Carried} (a
           | inr n ↦ omega (arith, n.one, counts_offer frame p.received.way p.received.frame (came_alike p c n ∙ edge) n.is_frame)
         ]
 
-    -- and by a link once, where it was once at the port before
+    -- and by a link once, if it was at the port before once
     from_link : IsRelayed run heard (end_of_run run) b p0.received →
         ((before from : ℕ) (l : from < length d.links) → cycle ≡ before + 1 →
         sum_by (queued_counts laws run carried alone from l (of_frame frame) before) (queued run heard (end_of_run run) from) ≤ 1) →
@@ -182,7 +182,7 @@ module _ (laws : CycleLaws) (run : Run) (carried : Carried) {heard : Carried} (a
               omega (arith, n.one, value)
         ]
 
-  -- so it is at a port once in a cycle, where it was once at each port in the cycle before
+  -- so it is at a port once in a cycle, if it was at each port once in the cycle before
   single_step : (cycle m : ℕ) (is_link : m < length d.links) (frame : ℕ) →
       ((before from : ℕ) (l : from < length d.links) → cycle ≡ before + 1 →
       sum_by (queued_counts laws run carried alone from l (of_frame frame) before) (queued run heard (end_of_run run) from) ≤ 1) →
@@ -212,7 +212,7 @@ module _ (laws : CycleLaws) (run : Run) (carried : Carried) {heard : Carried} (a
       subst (λ z. sum_by (queued_counts laws run carried alone from l (of_frame frame) z) (queued run heard (end_of_run run) from) ≤ 1) same
       (single cycle from l frame))
 
-  -- what a link sends of one number it sends once
+  -- a link sends a frame of one number once
   pub sent_once : (m : ℕ) (is_link : m < length run.domain.links) (a b : Sent) → Contains (carried m) a → Contains (carried m) b → a.frame ≡ b.frame → a ≡ b
   sent_once m is_link a b ca cb frames =
       let bridge = bridge_of d m in

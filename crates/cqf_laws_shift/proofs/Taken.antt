@@ -22,11 +22,11 @@ use Rattle.cqf_laws_shift.proofs.Came.{numbers_ascend, one_number}
 use Rattle.cqf_laws_shift.proofs.Covered.{and_three, found_by_name, three_and}
 use Rattle.cqf_laws_shift.proofs.Decided.{smaller_before}
 
--- two offers have two numbers
+-- two offers have different numbers
 abbrev Apart : Offered → Offered → Type 0
 Apart a b = a.frame ≡ b.frame → ⊥
 
--- in order of instant, then number, each offer stands behind the offers before it
+-- in order of instant, then number, exactly the offers before an offer precede it
 offers_parted : (offers : List Offer) (z : Offered) (n : ℕ) → Contains (numbered offers) z → z.offer.at.0 < n → (after : List Offered) ×
     (each_below (offers_at offers) n ≡ offers_before offers z ++ (z ∷ after))
 offers_parted offers z n inside early =
@@ -43,15 +43,15 @@ offers_parted offers z n inside early =
           ∙ ap (λ w. (each_below (offers_at offers) t ++ w) ++ (z ∷ (filter here split.1 ++ rest.0))) (sym (smaller_before offers z split.0 split.1 split.2)),
     )
   where
-    -- in lists that follow one another, an element has the same before it and the same behind it, however they are joined
+    -- concatenation is associative around an element
     joined : (a b : List Offered) (y : Offered) (c r : List Offered) → a ++ ((b ++ (y ∷ c)) ++ r) ≡ (a ++ b) ++ (y ∷ (c ++ r))
     joined a b y c r = simp append_assoc
 
--- and none stands there twice
+-- and none occurs there twice
 offers_apart : (offers : List Offer) (n : ℕ) → AllPairs Apart (each_below (offers_at offers) n)
 offers_apart offers n = pairs_below Apart (offers_at offers) n (λ t l. within t) across
   where
-    -- no number stands twice among the offers of an instant
+    -- no number occurs twice among the offers of an instant
     within : (t : ℕ) → AllPairs Apart (offers_at offers t)
     within t i j e l inside same =
         absurd (omega (
@@ -61,7 +61,7 @@ offers_apart offers n = pairs_below Apart (offers_at offers) n (λ t l. within t
               (numbers_ascend offers) i j e l inside,
         ))
 
-    -- nor among those of two instants
+    -- nor among the offers of two instants
     across : (s t : ℕ) (a b : Offered) → s < t → t < n → Contains (offers_at offers s) a → Contains (offers_at offers t) b → Apart a b
     across s t a b less l ca cb same =
         let fa = contains_from_filter (λ (y : Offered). y.offer.at.0 == s) (numbered offers) a ca in
@@ -84,7 +84,7 @@ before_member offers x z c =
           (f.0, omega (arith, eqb-true z.offer.at.0 x.offer.at.0 f.1))
     ]
 
--- of the offers before one, those before one of them are the offers before that
+-- if z is among the offers before x, those that precede z there are exactly the offers before z
 before_those : (offers : List Offer) (x : Offered) → Contains (numbered offers) x → (before : List Offered) (z : Offered) (after : List Offered) →
     offers_before offers x ≡ before ++ (z ∷ after) → before ≡ offers_before offers z
 before_those offers x inside before z after parts =
@@ -118,11 +118,11 @@ taken_is_covered run row cycle x counts orderly inside live here counted =
     d : Domain
     d = run.domain
 
-    -- whether an offer asks for octets of the row in the cycle, and for no more than are left
+    -- whether an offer requires octets of the row in the cycle, and no more than are left
     tests : Offered → ℕ → Bool
     tests z taken = claims d row cycle z && nat_le (taken + z.offer.octets) (reserved_in row 0 cycle)
 
-    -- an offer that passes, behind what those before it take, is covered by the row in the cycle
+    -- an offer that passes after what those before it take is covered by the row in the cycle
     covers : (z : Offered) → Contains (numbered run.offers) z → tests z (taken_by d row cycle (offers_before run.offers z)) ≡ true → IsCoveredIn run row cycle z
     covers z member t =
         let both = and_parts (claims d row cycle z) (nat_le (taken_by d row cycle (offers_before run.offers z) + z.offer.octets) (reserved_in row 0 cycle)) t in
@@ -141,7 +141,7 @@ taken_is_covered run row cycle x counts orderly inside live here counted =
           in_cycle = same;
         }
 
-    -- an offer that the row covers in the cycle passes, behind what those before it take
+    -- an offer that the row covers in the cycle passes after what those before it take
     tested : (z : Offered) → IsCoveredIn run row cycle z → tests z (taken_by d row cycle (offers_before run.offers z)) ≡ true
     tested z c =
         let named = (find_member (λ (r : Row). is_text r.name z.offer.stream) (table_of run.tables (offer_cycle d z)) row c.covered.named).1 in
@@ -151,7 +151,7 @@ taken_is_covered run row cycle x counts orderly inside live here counted =
         (le-leb (taken_by d row cycle (offers_before run.offers z) + z.offer.octets) (reserved_in row 0 cycle)
         (subst (λ c. taken_by d row c (offers_before run.offers z) + z.offer.octets ≤ reserved_in row 0 c) c.in_cycle c.covered.within))
 
-    -- where the count is the octets if the test passes, and else 0, what is taken grows by the count
+    -- if the count is the octets exactly if the test passes, and else 0, what is taken grows by the count
     by_test : (b : Bool) (taken octets count : ℕ) → (b ≡ true → count ≡ octets) → (b ≡ false → count ≡ 0) →
         (if b then taken + octets else taken) ≡ taken + count
     by_test true taken octets count passed failed = omega (arith, passed refl)

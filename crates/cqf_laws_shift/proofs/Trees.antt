@@ -1,4 +1,4 @@
--- Links along a tree: which follows which, and how deep each stands.
+-- Links along a tree: which follows which, and their hop numbers.
 use Rattle.std.proofs.Common.{◌≡◌, ℕ, zero, suc, ◌+◌, ◌<◌, ◌≤◌, ◌∷◌, [], List, true, false, Option, Some, None, option_map, inl, inr, sym, ap, ◌∙◌, subst}
 use Rattle.std.proofs.Common.{arith, refl, max, fold, filter, take, slice_get, length, eq-eqb, eqb-true, ◌==◌, ◌&&◌, Contains}
 use Rattle.std.specs.Option.{option_map_or}
@@ -32,12 +32,12 @@ its_bridge d m bridge here = go (slice_get d.links m) here
 pub enters_one : (d : Domain) (m one two : ℕ) → enters d m one ≡ true → enters d m two ≡ true → one ≡ two
 enters_one d m one two = go (slice_get d.links m)
   where
-    -- a node is one bridge at most
+    -- a node is at most one bridge
     node : (to : Node) → node_is to one ≡ true → node_is to two ≡ true → one ≡ two
     node (Bridge b) first second = sym (eqb-true b one first) ∙ eqb-true b two second
     node (Station s) first second = absurd (cc)
 
-    -- the node in which a link ends is one bridge at most
+    -- the node in which a link ends is at most one bridge
     go : (o : Option Link) → option_map_or (λ (link : Link). node_is link.to one) o false ≡ true →
         option_map_or (λ (link : Link). node_is link.to two) o false ≡ true → one ≡ two
     go None first second = absurd (cc)
@@ -78,7 +78,7 @@ joined_enters d m l joined = go (slice_get d.links l) joined
     go None e = absurd (cc)
     go (Some link) e = e
 
--- and the other way round
+-- and conversely
 true_same_way : (a b : Option ℕ) → a ≡ b → same_way a b ≡ true
 true_same_way None None e = refl
 true_same_way None (Some m) e = absurd (cc)
@@ -94,7 +94,7 @@ contains_take (suc n) (y ∷ xs) x c = elim (contains_cases y (take n xs) x c) [
   | inr h ↦ contains_later y xs x (contains_take n xs x h)
 ]
 
--- no member is deeper than the deepest
+-- no hop has a greater hop number than the deepest
 deepest : (most : ℕ) (tree : List Hop) → most ≤ fold (λ most (hop : Hop). max most hop.depth) most tree
 deepest most [] = omega arith
 deepest most (hop ∷ tree) = omega (arith, deepest (max most hop.depth) tree)
@@ -107,14 +107,14 @@ within_deepest most (one ∷ tree) hop c = elim (contains_cases one tree hop c) 
   | inr h ↦ within_deepest (max most one.depth) tree hop h
 ]
 
--- a stream goes on by a link, from the link before or from the edge, by a hop of its tree
+-- a stream goes on by a link, after the link before or from the edge, by a hop of its tree
 pub record GoesBy (row : Row) (way : Option ℕ) (l : ℕ) : Type 0 where
   pub hop : Hop
   pub of_tree : Contains row.tree.items hop
   pub from : hop.from ≡ way
   pub is_link : hop.link ≡ l
 
--- what a frame goes on by are just those links
+-- a frame goes on only by such links
 pub goes_by : (row : Row) (way : Option ℕ) (l : ℕ) → Contains (goes_to row way) l → GoesBy row way l
 goes_by row way l c =
     let hop = contains_from_map (λ (hop : Hop). hop.link) (filter (λ (hop : Hop). same_way hop.from way) row.tree.items) l c in
@@ -128,29 +128,29 @@ by_goes row way l by =
     subst (λ z. Contains (goes_to row way) z) by.is_link
     (contains_map (λ (hop : Hop). hop.link) (filter (λ (hop : Hop). same_way hop.from way) row.tree.items) by.hop kept)
 
--- it goes on from a bridge by a link that leaves it
+-- if it goes on from a bridge, it does so by a link that leaves the bridge
 pub goes_on_by : (d : Domain) (row : Row) (way : Option ℕ) (bridge : ℕ) → goes_on d row way bridge ≡ true → (l : ℕ) × GoesBy row way l ×
     (leaves d l bridge ≡ true)
 goes_on_by d row way bridge e =
     let r = any_member (λ l. leaves d l bridge) (goes_to row way) e in
     (r.0, goes_by row way r.0 r.1, r.2)
 
--- and where there is such a link it goes on
+-- and if there is such a link, it goes on
 pub by_goes_on : (d : Domain) (row : Row) (way : Option ℕ) (l bridge : ℕ) → GoesBy row way l → leaves d l bridge ≡ true → goes_on d row way bridge ≡ true
 by_goes_on d row way l bridge by here = member_any (λ l. leaves d l bridge) (goes_to row way) l (by_goes row way l by) here
 
--- rows with one tree go by the same links, which stand at the same depths
+-- rows with the same tree go by the same links
 pub same_goes : (early late : Row) (way : Option ℕ) (l : ℕ) → early.tree.items ≡ late.tree.items → GoesBy early way l → GoesBy late way l
 same_goes early late way l tree by = record { hop = by.hop; of_tree = subst (λ z. Contains z by.hop) tree by.of_tree; from = by.from; is_link = by.is_link }
 
--- the same of the question whether they go on
+-- they go on from the same bridges
 pub same_goes_on : (d : Domain) (early late : Row) (way : Option ℕ) (bridge : ℕ) → early.tree.items ≡ late.tree.items → goes_on d early way bridge ≡ true →
     goes_on d late way bridge ≡ true
 same_goes_on d early late way bridge tree e =
     let r = goes_on_by d early way bridge e in
     by_goes_on d late way r.0 bridge (same_goes early late way r.0 tree r.1) r.2
 
--- and of the depths
+-- and have the same hop numbers
 pub same_hop : (early late : Row) (depth l : ℕ) → early.tree.items ≡ late.tree.items → IsHop early depth l → IsHop late depth l
 same_hop early late depth l tree at =
     record { hop = at.hop; of_tree = subst (λ z. Contains z at.hop) tree at.of_tree; is_depth = at.is_depth; is_link = at.is_link }
@@ -161,29 +161,29 @@ hop_crosses row depth l at =
     let on = contains_map (λ (hop : Hop). hop.link) row.tree.items at.hop at.of_tree in
     member_any (λ k. k == l) _ at.hop.link on (eq-eqb at.hop.link l at.is_link)
 
--- and in its turn used
+-- and used in its turn
 pub hop_uses : (row : Row) (depth l cycle : ℕ) → IsHop row depth l → is_turn row.pace depth cycle ≡ true → uses row.tree.items row.pace l cycle ≡ true
 hop_uses row depth l cycle at turn =
     member_any (λ (hop : Hop). (hop.link == l) && is_turn row.pace hop.depth cycle) row.tree.items at.hop at.of_tree
     (and_from (at.hop.link == l) (is_turn row.pace at.hop.depth cycle) (eq-eqb at.hop.link l at.is_link)
     (ap (λ k. is_turn row.pace k cycle) at.is_depth ∙ turn))
 
--- and is no deeper than the residence
+-- and its hop number is at most the residence
 pub hop_within : (row : Row) (depth l : ℕ) → IsHop row depth l → depth ≤ residence row
 hop_within row depth l at = omega (arith, within_deepest 0 row.tree.items at.hop at.of_tree, at.is_depth)
 
 module _ (d : Domain) (row : Row) (good : IsTree d row.tree.items) where
-  -- a link stands in a tree once
+  -- a link occurs in a tree once
   pub one_hop : (a b : Hop) → Contains row.tree.items a → Contains row.tree.items b → a.link ≡ b.link → a ≡ b
   one_hop a b ina inb same =
       one_of_pairs (λ (x y : Hop). end_of d x.link ≡ end_of d y.link → ⊥) row.tree.items a b good.reached_once ina inb
       (λ apart. apart (ap (end_of d) same)) (λ apart. apart (ap (end_of d) (sym same)))
 
-  -- so it has one depth
+  -- so it has one hop number
   pub one_depth : (j k l : ℕ) → IsHop row j l → IsHop row k l → j ≡ k
   one_depth j k l a b = sym a.is_depth ∙ ap (λ (h : Hop). h.depth) (one_hop a.hop b.hop a.of_tree b.of_tree (a.is_link ∙ sym b.is_link)) ∙ b.is_depth
 
-  -- and frames come to it one way
+  -- and frames reach it one way
   pub one_way : (one two : Option ℕ) (l : ℕ) → GoesBy row one l → GoesBy row two l → one ≡ two
   one_way one two l a b = sym a.from ∙ ap (λ (h : Hop). h.from) (one_hop a.hop b.hop a.of_tree b.of_tree (a.is_link ∙ sym b.is_link)) ∙ b.from
 
@@ -192,7 +192,7 @@ module _ (d : Domain) (row : Row) (good : IsTree d row.tree.items) where
   goes_inside way l by = subst (λ z. z < length d.links) by.is_link
       (All-contains (λ (hop : Hop). hop.link < length d.links) row.tree.items by.hop good.inside by.of_tree)
 
-  -- the same by the depth
+  -- the same by the hop number
   pub hop_inside : (depth l : ℕ) → IsHop row depth l → l < length d.links
   hop_inside depth l at = subst (λ z. z < length d.links) at.is_link
       (All-contains (λ (hop : Hop). hop.link < length d.links) row.tree.items at.hop good.inside at.of_tree)
@@ -205,7 +205,7 @@ module _ (d : Domain) (row : Row) (good : IsTree d row.tree.items) where
       let same : Some r.0.link ≡ Some m = sym r.2.from ∙ from in
       (r.0, contains_take c.0 row.tree.items r.0 r.1, cc, r.2)
 
-  -- no hop has depth 0
+  -- no hop has hop number 0
   pub depth_some : (hop : Hop) → Contains row.tree.items hop → 0 < hop.depth
   depth_some hop c = go hop.from refl
     where
@@ -213,18 +213,18 @@ module _ (d : Domain) (row : Row) (good : IsTree d row.tree.items) where
       go None e = omega (arith, (good.begins hop c e).0)
       go (Some m) e = omega (arith, (followed m hop c e).3.deeper)
 
-  -- the first links stand at depth 1
+  -- the first links have hop number 1
   pub first_hops_begin : (l : ℕ) → GoesBy row None l → IsHop row 1 l
   first_hops_begin l by = record { hop = by.hop; of_tree = by.of_tree; is_depth = (good.begins by.hop by.of_tree by.from).0; is_link = by.is_link }
 
-  -- what follows a link is one deeper
+  -- a link that follows another has the next hop number
   pub hops_follow : (k m l : ℕ) → IsHop row k m → GoesBy row (Some m) l → IsHop row (k + 1) l
   hops_follow k m l at by =
       let r = followed m by.hop by.of_tree by.from in
       let depth : r.0.depth ≡ k = one_depth r.0.depth k m (record { hop = r.0; of_tree = r.1; is_depth = refl; is_link = r.2 }) at in
       record { hop = by.hop; of_tree = by.of_tree; is_depth = r.3.deeper ∙ ap (λ z. z + 1) depth; is_link = by.is_link }
 
-  -- and what is deeper than 1 follows a link
+  -- and a link with a hop number greater than 1 follows a link
   pub hops_are_reached : (k l : ℕ) → 0 < k → IsHop row (k + 1) l → (m : ℕ) × IsHop row k m × GoesBy row (Some m) l
   hops_are_reached k l some at = go at.hop.from refl
     where
@@ -237,7 +237,7 @@ module _ (d : Domain) (row : Row) (good : IsTree d row.tree.items) where
             record { hop = at.hop; of_tree = at.of_tree; from = e; is_link = at.is_link },
           )
 
-  -- what stands at depth 1 is gone by from the edge
+  -- a link with hop number 1 is taken from the edge
   pub first_is_begun : (l : ℕ) → IsHop row 1 l → GoesBy row None l
   first_is_begun l at = go at.hop.from refl
     where
@@ -253,7 +253,7 @@ module _ (d : Domain) (row : Row) (good : IsTree d row.tree.items) where
       let r = followed m by.hop by.of_tree by.from in
       joined_enters d m l (subst (λ z. joins d m z ≡ true) by.is_link (subst (λ z. joins d z by.hop.link ≡ true) r.2 r.3.joined))
 
-  -- from a bridge in which a link of the tree ends it goes on behind that link
+  -- from a bridge in which a link of the tree ends, the stream goes on after that link
   pub goes_on_behind : (k m bridge : ℕ) → IsHop row k m → enters d m bridge ≡ true → goes_on d row (Some m) bridge ≡ true
   goes_on_behind k m bridge at here =
       let next = good.ends at.hop bridge at.of_tree (subst (λ z. enters d z bridge ≡ true) (sym at.is_link) here) in
@@ -261,14 +261,14 @@ module _ (d : Domain) (row : Row) (good : IsTree d row.tree.items) where
       let there = joined_leaves d m next.0.link bridge (subst (λ z. joins d z next.0.link ≡ true) at.is_link next.2.joined) here in
       by_goes_on d row (Some m) next.0.link bridge (record { hop = next.0; of_tree = next.1; from = from; is_link = refl }) there
 
-  -- what it goes on by from the edge leaves the first bridge
+  -- a link that is taken from the edge leaves the first bridge
   begins_first : (bridge : ℕ) → goes_on d row None bridge ≡ true → good.first ≡ bridge
   begins_first bridge e =
       let r = goes_on_by d row None bridge e in
       let leaving = (good.begins r.1.hop r.1.of_tree r.1.from).1 in
       sym (its_bridge d r.0 good.first (subst (λ z. leaves d z good.first ≡ true) r.1.is_link leaving)) ∙ its_bridge d r.0 bridge r.2
 
-  -- what it goes on by behind a link leaves the bridge in which that link ends, which is a link of the tree
+  -- a link that is taken after another one leaves the bridge in which that one ends, which is a link of the tree
   goes_on_enters : (m bridge : ℕ) → goes_on d row (Some m) bridge ≡ true → (before : Hop) × Contains row.tree.items before × (before.link ≡ m) ×
       (enters d before.link bridge ≡ true)
   goes_on_enters m bridge e =
@@ -281,14 +281,14 @@ module _ (d : Domain) (row : Row) (good : IsTree d row.tree.items) where
             (subst (λ z. enters d z (bridge_of d r.0) ≡ true) (sym b.2) (goes_into m r.0 r.1)),
       )
 
-  -- no link of the tree ends in the bridge in which it begins
+  -- no link of the tree ends in the bridge at which the tree begins
   not_both : (m bridge : ℕ) → goes_on d row None bridge ≡ true → goes_on d row (Some m) bridge ≡ true → ⊥
   not_both m bridge a b =
       let e = goes_on_enters m bridge b in
       false≢true (sym (All-contains (λ (hop : Hop). enters d hop.link good.first ≡ false) row.tree.items e.0 good.first_not_reached e.1)
       ∙ subst (λ z. enters d e.0.link z ≡ true) (sym (begins_first bridge a)) e.3)
 
-  -- frames come to a bridge one way
+  -- frames reach a bridge one way
   pub one_way_at : (one two : Option ℕ) (bridge : ℕ) → goes_on d row one bridge ≡ true → goes_on d row two bridge ≡ true → one ≡ two
   one_way_at None None bridge a b = refl
   one_way_at None (Some m) bridge a b = absurd (not_both m bridge a b)
@@ -305,7 +305,7 @@ module _ (d : Domain) (row : Row) (good : IsTree d row.tree.items) where
   pub one_beginning : (one two : ℕ) → goes_on d row None one ≡ true → goes_on d row None two ≡ true → one ≡ two
   one_beginning one two a b = sym (begins_first one a) ∙ begins_first two b
 
-  -- behind a link of the tree a frame is as deep as the link
+  -- after a link of the tree a frame has the link's hop number
   pub depth_is : (k m : ℕ) → IsHop row k m → depth_behind row (Some m) ≡ k
   depth_is k m at =
       let found = find_some (λ (hop : Hop). hop.link == m) row.tree.items at.hop at.of_tree (eq-eqb at.hop.link m at.is_link) in
@@ -313,7 +313,7 @@ module _ (d : Domain) (row : Row) (good : IsTree d row.tree.items) where
       let same = one_hop found.0 at.hop member.0 at.of_tree (eqb-true found.0.link m member.1 ∙ sym at.is_link) in
       ap (λ (o : Option Hop). option_map_or (λ (hop : Hop). hop.depth) o 0) found.1 ∙ ap (λ (hop : Hop). hop.depth) same ∙ at.is_depth
 
-  -- so the link by which it goes on is one deeper
+  -- so the link by which it goes on has the next hop number
   pub goes_deeper : (way : Option ℕ) (l : ℕ) → GoesBy row way l → IsHop row (depth_behind row way + 1) l
   goes_deeper None l by = first_hops_begin l by
   goes_deeper (Some m) l by =

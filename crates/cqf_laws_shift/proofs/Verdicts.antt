@@ -1,4 +1,4 @@
--- What a verdict says of the frame and its row.
+-- What a verdict implies about the frame and its row.
 use Rattle.std.proofs.Common.{◌≡◌, ℕ, List, Bool, true, false, not, Option, Some, None, sym, ap, ◌∙◌, refl, Contains, if◌then◌else◌, ◌==◌, eqb-true}
 use Rattle.cqf_model.specs.declared.frames.Reason.TheVariants.{Withdrawn, OtherBridge, Octets}
 use Rattle.cqf_model.specs.declared.topology.Row.{Row}
@@ -24,7 +24,7 @@ edge_choice r row true true false e = absurd (cc)
 edge_choice r row true false fits e = absurd (cc)
 edge_choice r row false here fits e = absurd (cc)
 
--- so says the verdict at the edge
+-- if the verdict at the edge lets the frame go on, this holds
 pub edge_queued : (d : Domain) (bridge cycle : ℕ) (fits : Row → Bool) (found : Option Row) (row : Row) → edge_verdict d bridge cycle fits found ≡ Queued row →
     QueuedAtEdge d bridge cycle found row × (fits row ≡ true)
 edge_queued d bridge cycle fits None row e = absurd (cc)
@@ -34,7 +34,7 @@ edge_queued d bridge cycle fits (Some r) row e =
       ap fits (sym c.3) ∙ c.2,
     )
 
--- and where there is such a row, and the test lets the frame pass, it goes on
+-- and if there is such a row, and the test lets the frame pass, the frame goes on
 edge_chosen : (row : Row) (live here fits : Bool) → live ≡ true → here ≡ true → fits ≡ true →
     (if not live then DroppedFor Withdrawn else (if not here then DroppedFor OtherBridge else (if not fits then DroppedFor Octets else Queued row)))
     ≡ Queued row
@@ -43,7 +43,7 @@ edge_chosen row true true false a b c = absurd (cc)
 edge_chosen row true false fits a b c = absurd (cc)
 edge_chosen row false here fits a b c = absurd (cc)
 
--- the same of the verdict
+-- the same for the verdict
 pub edge_passes : (d : Domain) (bridge cycle : ℕ) (fits : Row → Bool) (found : Option Row) (row : Row) → QueuedAtEdge d bridge cycle found row →
     fits row ≡ true → edge_verdict d bridge cycle fits found ≡ Queued row
 edge_passes d bridge cycle fits found row q passes =
@@ -61,7 +61,7 @@ inside_choice r row true true e = (refl, refl, cc)
 inside_choice r row true false e = absurd (cc)
 inside_choice r row false fits e = absurd (cc)
 
--- so says the verdict inside
+-- if the verdict inside lets the frame go on, this holds
 pub inside_queued : (d : Domain) (bridge m : ℕ) (fits : Row → Bool) (found : Option Row) (row : Row) → inside_verdict d bridge m fits found ≡ Queued row →
     QueuedInside d bridge m found row × (fits row ≡ true)
 inside_queued d bridge m fits None row e = absurd (cc)
@@ -78,34 +78,34 @@ inside_chosen row true true a b = refl
 inside_chosen row true false a b = absurd (cc)
 inside_chosen row false fits a b = absurd (cc)
 
--- and where there is such a row, and the test lets it pass, it goes on
+-- and if there is such a row, and the test lets the frame pass, the frame goes on
 pub inside_passes : (d : Domain) (bridge m : ℕ) (fits : Row → Bool) (found : Option Row) (row : Row) → QueuedInside d bridge m found row → fits row ≡ true →
     inside_verdict d bridge m fits found ≡ Queued row
 inside_passes d bridge m fits found row q passes =
     ap (inside_verdict d bridge m fits) q.is ∙ inside_chosen row (goes_on d row (Some m) bridge) (fits row) q.here passes
 
--- what the verdict on a frame stands on, by the way it came
+-- what the verdict on a frame is based on, by the frame's way
 abbrev pub IsQueuedBy : Domain → List Row → ℕ → ℕ → Way → Row → Type 0
 IsQueuedBy d table bridge cycle (AtEdge name) row = QueuedAtEdge d bridge cycle (row_named table name) row
 IsQueuedBy d table bridge cycle (Relayed m number) row = QueuedInside d bridge m (row_of table number) row
 
--- so says each verdict
+-- this holds for each verdict that lets a frame go on
 pub queued_says : (d : Domain) (table : List Row) (bridge cycle : ℕ) (fits : Row → Bool) (way : Way) (row : Row) →
     verdict_by d table bridge cycle fits way ≡ Queued row → IsQueuedBy d table bridge cycle way row × (fits row ≡ true)
 queued_says d table bridge cycle fits (AtEdge name) row e = edge_queued d bridge cycle fits (row_named table name) row e
 queued_says d table bridge cycle fits (Relayed m number) row e = inside_queued d bridge m fits (row_of table number) row e
 
--- a row that a verdict found is a row of the table, and where it came by a link, that of the stream's number
+-- a row that a verdict found is a row of the table
 pub queued_row : (d : Domain) (table : List Row) (bridge cycle : ℕ) (way : Way) (row : Row) → IsQueuedBy d table bridge cycle way row → Contains table row
 queued_row d table bridge cycle (AtEdge name) row q = (find_member (λ (r : Row). is_text r.name name) table row q.is).0
 queued_row d table bridge cycle (Relayed m number) row q = (find_member (λ (r : Row). r.no == number) table row q.is).0
 
--- and it has that number
+-- and if the frame came by a link, it has the number of the frame's stream
 pub queued_number : (d : Domain) (table : List Row) (bridge cycle m number : ℕ) (row : Row) → IsQueuedBy d table bridge cycle (Relayed m number) row →
     row.no ≡ number
 queued_number d table bridge cycle m number row q = eqb-true row.no number (find_member (λ (r : Row). r.no == number) table row q.is).1
 
--- the stream goes on from this bridge, by the way that the frame came
+-- the stream goes on from this bridge after the frame's way
 pub queued_goes_on : (d : Domain) (table : List Row) (bridge cycle : ℕ) (way : Way) (row : Row) → IsQueuedBy d table bridge cycle way row →
     goes_on d row (came_by way) bridge ≡ true
 queued_goes_on d table bridge cycle (AtEdge name) row q = q.here

@@ -1,4 +1,4 @@
--- Each frame inside is on the way of a covered offer, and none is lost.
+-- Each frame inside follows the path of a covered offer, and none is lost.
 use Rattle.cqf_laws_shift.proofs.Came.{numbered_member}
 use Rattle.cqf_model.specs.Table.{depth_behind}
 use Rattle.cqf_model.specs.Paces.{is_turn}
@@ -49,11 +49,11 @@ module _ (laws : CycleLaws) (run : Run) (carried : Carried) {heard : Carried} (a
   abbrev end : ℕ
   end = end_of_run run
 
-  -- what comes to a bridge
+  -- what arrives at a bridge
   abbrev come : ℕ → List Received
   come b = came run heard (end_of_run run) b
 
-  -- what becomes of it
+  -- the verdicts on it
   abbrev given : ℕ → List Policed
   given b = policed run heard (end_of_run run) b
 
@@ -89,7 +89,7 @@ module _ (laws : CycleLaws) (run : Run) (carried : Carried) {heard : Carried} (a
       Contains (table_of run.tables (cycle_of run.domain p.received.at)) row
   queued_member bridge p row c is = row_of_queued d run.tables bridge (come bridge) (given bridge) (known bridge) p row c is
 
-  -- and where the frame came by a link, the row is of the frame's stream
+  -- and if the frame came by a link, the row is of the frame's stream
   pub relayed_number : (bridge m number : ℕ) (p : Policed) (row : Row) → Contains (policed run heard (end_of_run run) bridge) p → p.verdict ≡ Queued row →
       p.received.way ≡ Relayed m number → row.no ≡ number
   relayed_number bridge m number p row c is way =
@@ -98,7 +98,7 @@ module _ (laws : CycleLaws) (run : Run) (carried : Carried) {heard : Carried} (a
       (subst (λ z. IsQueuedBy d (table_of run.tables e) bridge e z row) way
       (is_queued_by d run.tables bridge (come bridge) (given bridge) (known bridge) p row c is))
 
-  -- a queued frame is on the way of a covered offer: so deep, and so many cycles later
+  -- a queued frame is on the path of a covered offer, at this hop number, and that many cycles after the offer
   pub record IsOnWay (p : Policed) (row : Row) (l : ℕ) : Type 0 where
     pub x : Offered
     pub first_row : Row
@@ -110,7 +110,7 @@ module _ (laws : CycleLaws) (run : Run) (carried : Carried) {heard : Carried} (a
     pub at_depth : IsHop first_row depth l
     pub cycle : cycle_of run.domain p.received.at + 1 ≡ offer_cycle run.domain x + depth
 
-  -- by induction on the cycle: a frame that came by a link is one deeper than what the link before was sending
+  -- by induction on the cycle: a frame that came by a link has the next hop number after the link before
   on_way_before : (t bridge : ℕ) (p : Policed) (row : Row) (l : ℕ) → Contains (given bridge) p → p.verdict ≡ Queued row →
       GoesBy row (came_by p.received.way) l → cycle_of d p.received.at < t → IsOnWay p row l
   on_way_before zero bridge p row l c is goes early = absurd (omega (arith, early))
@@ -160,7 +160,7 @@ module _ (laws : CycleLaws) (run : Run) (carried : Carried) {heard : Carried} (a
       GoesBy row (came_by p.received.way) l → IsOnWay p row l
   on_way bridge p row l c is goes = on_way_before (suc (cycle_of d p.received.at)) bridge p row l c is goes (omega arith)
 
-  -- what goes on of a stream at a bridge that its tree enters by a link came by that link
+  -- a frame of a stream that goes on at a bridge which its tree enters by a link came by that link
   came_by_one : (bridge m number c e : ℕ) (row other : Row) (way : Way) → Contains (table_of run.tables c) row → Contains (table_of run.tables e) other →
       other.no ≡ row.no → row.no ≡ number →
       goes_on d row (Some m) bridge ≡ true → IsQueuedBy d (table_of run.tables e) bridge e way other → way ≡ Relayed m number
@@ -179,7 +179,7 @@ module _ (laws : CycleLaws) (run : Run) (carried : Carried) {heard : Carried} (a
       let number_is : stream ≡ number = sym (queued_number d (table_of run.tables e) bridge e link stream other q) ∙ same ∙ is in
       ap₂ Relayed link_is number_is
 
-  -- so what comes by a link stays within its stream's reservation
+  -- so what arrives by a link stays within its stream's reservation
   relayed_fits : (bridge m number cycle : ℕ) (is_link : m < length d.links) (row prev : Row) (before after : List Received) (y : Received) →
       Contains (table_of run.tables (cycle + 1)) row → row.no ≡ number → goes_on d row (Some m) bridge ≡ true →
       Contains (table_of run.tables cycle) prev → prev.no ≡ number → come bridge ≡ before ++ y ∷ after → y.way ≡ Relayed m number →
@@ -246,7 +246,7 @@ module _ (laws : CycleLaws) (run : Run) (carried : Carried) {heard : Carried} (a
       let member = find_member (λ (z : Row). z.no == row.no) (table_of run.tables c) found.0 found.1 in
       (found.0, found.1, member.0, eqb-true found.0.no row.no member.1)
 
-  -- a frame that comes by a link goes on: none is lost
+  -- a frame that arrives by a link goes on: none is lost
   pub relayed_goes_on : (bridge : ℕ) (p : Policed) → Contains (policed run heard (end_of_run run) bridge) p →
       IsRelayed run heard (end_of_run run) bridge p.received → (row : Row) × (p.verdict ≡ Queued row)
   relayed_goes_on bridge p c r =
@@ -292,7 +292,7 @@ module _ (laws : CycleLaws) (run : Run) (carried : Carried) {heard : Carried} (a
             ∙ inside_passes d bridge r.m (λ (k : Row). within_gate d earlier k b.x) (row_of (table_of run.tables (cycle + 1)) r.sent.stream) row leads passes,
       )
 
-  -- a covered frame comes to each port of its tree, in its turn
+  -- a covered frame arrives at each port of its tree, in its turn
   pub record IsQueuedOnWay (x : Offered) (row : Row) (depth l : ℕ) : Type 0 where
     pub p : Policed
     pub late : Row
@@ -326,7 +326,7 @@ module _ (laws : CycleLaws) (run : Run) (carried : Carried) {heard : Carried} (a
         cycle = refl;
       }
 
-  -- a frame of a covered offer that a link of its tree sent, and that goes on from the next bridge, is at each port there
+  -- if a link of the tree sent a frame of a covered offer, and it goes on from the next bridge, it is at each port there
   comes_as : (x : Offered) (row : Row) → IsCovered run x row → (k m l : ℕ) → GoesBy row (Some m) l → (sent : Sent) → sent.frame ≡ x.frame →
       sent.stream ≡ row.no → sent.octets ≡ x.offer.octets → cycle_of d (whole_at d m sent) ≡ offer_cycle d x + k →
       (p : Policed) → Contains (given (bridge_of d l)) p → p.received ≡ sent_received d m sent → (on : Row) → p.verdict ≡ Queued on →
@@ -375,7 +375,7 @@ module _ (laws : CycleLaws) (run : Run) (carried : Carried) {heard : Carried} (a
       (alike.frame ∙ sent.2 ∙ prior.frame) (alike.stream ∙ sent.3 ∙ prior.number) (alike.octets ∙ sent.4 ∙ prior.octets)
       (sent.5.whole ∙ sent.5.cycle ∙ prior.cycle) sent.5.in_run
 
-  -- by induction on the depth
+  -- by induction on the hop number
   pub comes_on : (x : Offered) (row : Row) → IsCovered run x row → (depth l : ℕ) → IsHop row depth l → offer_cycle run.domain x + depth < length run.tables →
       IsQueuedOnWay x row depth l
   comes_on x row covered zero l at in_run = absurd (omega (arith, depth_some d row (covered_tree x row covered) at.hop at.of_tree, at.is_depth))

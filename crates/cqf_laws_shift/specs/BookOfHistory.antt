@@ -9,10 +9,10 @@ use Rattle.cqf_model.specs.History.{IsLegalHistory, Recorded}
 use Rattle.cqf_model.specs.HistoryBook.{IsBookOfHistory, run_of_history}
 use Rattle.cqf_model.specs.Run.{AreBackground, AreOffers}
 
--- each frame that its reservation covers leaves its path's k-th bridge on each branch k cycles after its own cycle, once, no
--- other frame leaves, and every other offer is dropped at its edge, once, with its reason; of the network whose book it is
--- nothing is lost inside, and its loads, instants and latencies are as promised: for every accepted domain and legal history,
--- whatever is offered, and beside any background frames
+-- each frame that its reservation covers leaves its path's k-th bridge on each branch k cycles after its own cycle, once. No other
+-- frame leaves, and every other offer is dropped at its edge, once, with its reason. In the network whose book it is, nothing is
+-- lost inside, and loads, instants and latencies are as promised. This holds for every accepted domain, every legal history and any
+-- offers, beside any background frames
 abbrev pub BookOfHistorySaysTheShift : Type 0
 BookOfHistorySaysTheShift =
     (d : Domain) (entries : List Recorded) (offers : List Offer) (background : List Background) (cycles : ℕ) (book : Contents) →

@@ -8,8 +8,8 @@ use Rattle.cqf_model.specs.Run.{AreBackground, AreOffers, Run}
 use Rattle.cqf_model.specs.Table.{AreOrderly}
 use Rattle.cqf_laws_shift.specs.Run.{with_background}
 
--- for every accepted domain, the tables of a history, whatever is offered, and beside any background frames, the one-thread
--- book says the shift, and keeps all else that is promised of it and of its network
+-- for every accepted domain, the tables of a history and any offers, beside any background frames, the one-thread book says the
+-- shift and keeps all else that is promised of it and of its network
 abbrev pub BookSaysTheShift : Type 0
 BookSaysTheShift = (run : Run) (book : Contents) → IsAccepted run.domain → AreOrderly run.domain run.tables → AreOffers run.domain run.offers →
     AreBackground run.domain run.background → IsOneThreadBook run book → KeepsThePromise run book

@@ -1,4 +1,4 @@
--- The edge: what the stream gates of a bridge decide there is what the reservations alone decide.
+-- The edge: the stream gates of a bridge decide there what the reservations alone decide.
 use Rattle.std.specs.Prelude.{true, ℕ, ◌≡◌, ◌+◌, ◌<◌, List, ◌==◌, ◌&&◌, if◌then◌else◌, nat_le, sum_by, Contains}
 use Rattle.cqf_model.specs.declared.frames.Offered.{Offered}
 use Rattle.cqf_model.specs.declared.topology.Row.{Row}
@@ -10,19 +10,20 @@ use Rattle.cqf_model.specs.Traffic.{within_gate}
 use Rattle.cqf_model.specs.Promise.{IsPolicedAs}
 use Rattle.cqf_model.specs.Shift.{IsCovered, offer_cycle, offers_before, taken_by}
 
--- the octets of a row's frames in a cycle that went on, among the frames before
+-- the octets of a row's frames in a cycle that went on, among the earlier frames
 abbrev pub octets_before : Domain → ℕ → ℕ → List Policed → ℕ
 octets_before d number cycle earlier =
     sum_by (λ (p : Policed). if is_queued_of number p.verdict && (cycle_of d p.received.at == cycle) then p.received.octets else 0) earlier
 
--- behind whatever came before, the gate of a reservation lets a frame pass exactly where so many octets are left of the
--- reservation in the frame's cycle, where frames that came its way have their turn in it
+-- after any earlier frames, the gate of a reservation lets a frame pass exactly if the reservation has the frame's octets left in
+-- the frame's cycle. A reservation has octets only in the cycles in which frames at this hop number have their turn
 abbrev pub GateIsReservation : Type 0
 GateIsReservation = (d : Domain) (earlier : List Policed) (row : Row) (x : Received) → 0 < d.cycle_time →
     within_gate d earlier row x
     ≡ nat_le (octets_before d row.no (cycle_of d x.at) earlier + x.octets) (reserved_in row (depth_behind row (came_by x.way)) (cycle_of d x.at))
 
--- at any bridge, whatever the links bring, what becomes of each offer is what the reservations decide, reasons included
+-- at any bridge, regardless of what the links bring, the verdict on each offer before the end is what the reservations decide,
+-- including the reason
 abbrev pub EdgeIsCovered : Type 0
 EdgeIsCovered = (run : Run) (carried : Carried) (end : ℕ) (x : Offered) → 0 < run.domain.cycle_time → AreOrderly run.domain run.tables →
     Contains (numbered run.offers) x → x.offer.at.0 < end → (verdict : Verdict) × IsPolicedAs run carried end x verdict
@@ -32,13 +33,13 @@ pub record IsCoveredIn (run : Run) (row : Row) (cycle : ℕ) (x : Offered) : Typ
   pub covered : IsCovered run x row
   pub in_cycle : offer_cycle run.domain x ≡ cycle
 
--- a count of the octets of the offers that a row covers in a cycle, and of no others
+-- it counts the octets of the offers that a row covers in a cycle, and no others
 pub record CountsCovered (run : Run) (row : Row) (cycle : ℕ) (counts : Offered → ℕ) : Type 0 where
   pub covered : (x : Offered) → IsCoveredIn run row cycle x → counts x ≡ x.offer.octets
   pub others : (x : Offered) → Contains (numbered run.offers) x → ¬ IsCoveredIn run row cycle x → counts x ≡ 0
 
--- what is taken of a reservation before an offer is the octets of the covered offers before it: the one number by which
--- "covered" is defined is the sum over those that are covered
+-- what is taken of a reservation before an offer is the octets of the covered offers before it: the one number by which "covered"
+-- is defined is the sum over the covered offers
 abbrev pub TakenIsCovered : Type 0
 TakenIsCovered = (run : Run) (row : Row) (cycle : ℕ) (x : Offered) (counts : Offered → ℕ) → AreOrderly run.domain run.tables →
     Contains (table_of run.tables cycle) row → is_live row cycle ≡ true → Contains (numbered run.offers) x → CountsCovered run row cycle counts →

@@ -4,6 +4,6 @@ use Rattle.cqf_model.specs.Promise.{MeansTheShift}
 use Rattle.cqf_model.specs.Run.{Run}
 use Rattle.cqf_laws_shift.specs.Run.{IsLegalRun}
 
--- for every accepted domain, the tables of a history, whatever is offered, and beside any background frames
+-- for every accepted domain, the tables of a history and any offers, beside any background frames
 abbrev pub GatesMeanTheShift : Type 0
 GatesMeanTheShift = (run : Run) (net : Network) → IsLegalRun run net → MeansTheShift run net.carried

@@ -1,4 +1,4 @@
--- A run of a domain under the compiled gate lists.
+-- A run of a domain with the compiled gate lists.
 use Rattle.std.specs.Prelude.{◌≡◌, List, length}
 use Rattle.cqf_model.specs.declared.frames.Background.{Background}
 use Rattle.cqf_model.specs.Domain.{IsAccepted}
@@ -8,8 +8,8 @@ use Rattle.cqf_model.specs.Network.{IsLegalNetwork, Network, compiled_lists}
 use Rattle.cqf_laws_shift.specs.Alone.{IsRunAlone}
 
 -- the domain is accepted, the tables are those of a history, the offers are frames of Ethernet's sizes at its bridges, the
--- background frames are of classes that no stream has, and the network does what its gates say, over as many cycles as
--- there are tables
+-- background frames are of classes that no stream has, and the network does what its gates say, over as many cycles as there are
+-- tables
 pub record IsLegalRun (run : Run) (net : Network) : Type 0 where
   pub accepted : IsAccepted run.domain
   pub orderly : AreOrderly run.domain run.tables
@@ -17,7 +17,7 @@ pub record IsLegalRun (run : Run) (net : Network) : Type 0 where
   pub background : AreBackground run.domain run.background
   pub legal : IsLegalNetwork run (compiled_lists run.domain) (length run.tables) net
 
--- and beside any such background it is for the streams' frames a legal run of them alone
+-- for the streams' frames, a run beside any such background is a legal run of them alone
 abbrev pub RunBesideIsRunAlone : Type 0
 RunBesideIsRunAlone = (run : Run) (net : Network) → IsLegalRun run net → IsRunAlone run net.carried
 
@@ -25,7 +25,7 @@ RunBesideIsRunAlone = (run : Run) (net : Network) → IsLegalRun run net → IsR
 abbrev pub with_background : Run → List Background → Run
 with_background run background = record { domain = run.domain; tables = run.tables; offers = run.offers; background = background }
 
--- so background frames change no start of a stream's frame: of two runs that differ in them alone, the links carry the same
+-- so background frames change no start of a stream's frame: in two runs that differ only in them, the links carry the same
 abbrev pub BackgroundChangesNoStart : Type 0
 BackgroundChangesNoStart = (run : Run) (background : List Background) (net other : Network) →
     IsLegalRun run net → IsLegalRun (with_background run background) other → net.carried ≡ other.carried

@@ -1,7 +1,7 @@
 //! A run beside background frames.
 ghost use Rattle.cqf_laws_shift.specs.Run.{BackgroundChangesNoStart, RunBesideIsRunAlone};
 
-/// What the links carry of streams' frames beside any background frames is legal for the streams' frames alone.
+/// Proves that what the links carry of streams' frames beside any background frames is legal for the streams' frames alone.
 pub fn run_beside_is_run_alone()
     ensures { RunBesideIsRunAlone }
 {
@@ -11,8 +11,8 @@ pub fn run_beside_is_run_alone()
     cqf_laws_cycle::gate_counts_cycles();
 }
 
-/// So background frames change no start of a stream's frame: of two runs that differ in them alone, the links carry the same
-/// streams' frames, from the same instants on.
+/// Proves that background frames change no start of a stream's frame: in two runs that differ only in background frames, the links
+/// carry the same streams' frames, from the same instants on.
 pub fn background_changes_no_start()
     ensures { BackgroundChangesNoStart }
 {

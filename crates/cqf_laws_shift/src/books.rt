@@ -3,10 +3,12 @@ ghost use Rattle.cqf_laws_shift.specs.Books.{BackgroundChangesOneList, BookSaysT
 
 use crate::{background_changes_no_start, run_beside_is_run_alone};
 
-/// The starts of the one-thread book are exactly the shift, no frame twice on a link, each with the octets of its offer, and its
-/// drops exactly the offers that aren't covered, each once and with the first reason that fits. Of the very network whose starts,
-/// background frames and drops these are nothing is lost inside, and loads, instants and latencies are as promised: for every
-/// accepted domain, the tables of a history, whatever is offered, and beside any background frames.
+/// Proves that the one-thread book says the shift: for every accepted domain, the tables of a history and any offers, beside any
+/// background frames.
+///
+/// The starts of the book are exactly the shift: no frame occurs twice on a link, and each has the octets of its offer. The drops
+/// are exactly the offers that aren't covered, each once and with the first reason that applies. In the network whose starts,
+/// background frames and drops these are, nothing is lost inside, and loads, instants and latencies are as promised.
 pub fn book_says_the_shift()
     ensures { BookSaysTheShift }
 {
@@ -17,8 +19,8 @@ pub fn book_says_the_shift()
     run_beside_is_run_alone();
 }
 
-/// Background frames change of the one-thread book the background list alone: of two runs that differ in them alone, the books
-/// have the same starts and the same drops.
+/// Proves that background frames change only the background list of the one-thread book: the books of two runs that differ only in
+/// background frames have the same starts and the same drops.
 pub fn background_changes_one_list()
     ensures { BackgroundChangesOneList }
 {

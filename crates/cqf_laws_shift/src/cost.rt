@@ -1,7 +1,7 @@
-//! What reservations take of a link.
+//! What reservations cost of a link.
 ghost use Rattle.cqf_laws_shift.specs.Cost.{WireWithinCost};
 
-/// Frames within a reservation take no more of the wire in a cycle than the reservation's cost.
+/// Proves that frames within a reservation take no more of the wire in a cycle than the reservation's cost.
 pub fn wire_within_cost()
     ensures { WireWithinCost }
 {}

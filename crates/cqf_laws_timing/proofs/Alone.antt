@@ -1,4 +1,4 @@
--- Calls for streams of a list alone make a history that admits those alone.
+-- Calls that request only streams of a list make a history that admits only these.
 use Rattle.std.proofs.Common.{◌≡◌, ◌∙◌, ◌+◌, ◌<◌, ℕ, ◌∷◌, [], ◌++◌, List, inl, inr, refl, sym, subst, arith}
 use Rattle.std.proofs.Common.{Contains, drop, get_or, length, take, ◌==◌, eq-eqb}
 use Rattle.std.specs.Prelude.{replicate}
@@ -13,7 +13,7 @@ use Rattle.cqf_laws_history.specs.StateLaws.{with_entry}
 use Rattle.cqf_laws_timing.proofs.Listed.{admits_only_goes_on}
 use Rattle.cqf_laws_timing.specs.Asking.{AsksOnly, CallsAdmitOnly, SeatsAdmitOnly}
 
--- one after the other
+-- calls one after the other
 pub calls_admit_only : CallsAdmitOnly
 calls_admit_only d streams entries [] only asks = only
 calls_admit_only d streams entries (call ∷ calls) only asks =
@@ -21,7 +21,7 @@ calls_admit_only d streams entries (call ∷ calls) only asks =
     (admits_only_goes_on streams entries call.0 call.1 (reply_to d entries call.1) only (asks call (contains_here call calls)))
     (λ other c. asks other (contains_later call calls other c))
 
--- a Seal asks for nothing
+-- a Seal requests nothing
 seals_ask : (streams : List Asked) (cycles : ℕ) (act : Act) → Contains (replicate cycles Seals) act → AsksOnly streams act
 seals_ask streams cycles act c asked admits =
     let inside : c.0 < cycles = omega (arith, c.1, length-replicate {A = Act} cycles Seals) in
@@ -31,7 +31,7 @@ seals_ask streams cycles act c asked admits =
     is_seal_no_other : Seals ≡ Admits asked → ⊥
     is_seal_no_other e = cc
 
--- what an entry of a seat calls for is among what its calls ask
+-- the act of a seat's entry is among the acts of its calls
 among_acts : (number : ℕ) (entries : List Recorded) (acts : List Act) (e : Recorded) → acts_of (calls_by number entries) ≡ acts → Contains entries e →
     e.seat ≡ number → Contains acts e.act
 among_acts number entries acts e are c seat =
@@ -39,7 +39,7 @@ among_acts number entries acts e are c seat =
     (contains_map (λ (x : Recorded). x.act) (calls_by number entries) e
     (contains_filter (λ (x : Recorded). x.seat == number) entries e c (eq-eqb e.seat number seat)))
 
--- and at seats
+-- and calls at seats
 pub seats_admit_only : SeatsAdmitOnly
 seats_admit_only d streams opening entries asked cycles of only asks e one receipt c admits accepted =
     elim (Contains-append_cases (take (length opening) entries) behind e (subst (λ (xs : List Recorded). Contains xs e) (sym parted) c)) [
@@ -56,7 +56,7 @@ seats_admit_only d streams opening entries asked cycles of only asks e one recei
       ]
     ]
   where
-    -- what stands behind the opening part
+    -- what follows the opening part
     behind : List Recorded
     behind = drop (length opening) entries
 

@@ -46,7 +46,7 @@ use Rattle.cqf_laws_timing.specs.Covered.{IsAtItsEdge}
 use Rattle.cqf_laws_timing.specs.Traffic.{Conforms, IsTraffic, Traffic, needed, offers_named}
 use Rattle.cqf_laws_timing.proofs.Taking.{conforming_own_is_covered, conforming_stream_is_covered}
 
--- of a row that is two streams' of the list the bounds are the same
+-- if a row is that of two streams of the list, the bounds are the same
 pub bounds_alike : (d : Domain) (streams : List Asked) (row : Row) (of other : IsOfList d streams row) (link : ℕ) →
     most_beside_all d streams of.asked link ≡ most_beside_all d streams other.asked link
 bounds_alike d streams row of other link =
@@ -83,7 +83,7 @@ module _ (says : BookOfHistorySaysTheShift) (timely : HistoryIsTimely) (verdicts
   kept : KeepsThePromise run book
   kept = says d entries offers background cycles book over.accepted over.legal over.offered over.beside over.is_book
 
-  -- no drop is of it
+  -- no drop is of the offer
   pub not_dropped : (dropped : Dropped) → Contains book.drops dropped → dropped.frame ≢ x.frame
   not_dropped dropped c same =
       let of = kept.says.only_drops dropped c in
@@ -137,13 +137,13 @@ module _ (says : BookOfHistorySaysTheShift) (timely : HistoryIsTimely) (verdicts
 
 -- ---- which request a row is of
 
--- a row of a table is of a stream of the list that was granted
+-- a row of a table is that of a stream of the list that was granted
 pub record IsGrantedOfList (d : Domain) (streams : List Asked) (row : Row) : Type 0 where
   pub of : IsOfList d streams row
   pub rows : List Row
   pub free : refusal_of d rows of.asked ≡ None
 
--- an answer that accepts refuses nothing
+-- a reply that accepts refuses nothing
 none_refused : (number effect : ℕ) (receipt : Receipt) (o : Option Refused) → admit_reply number effect o ≡ Accepted receipt → o ≡ None
 none_refused number effect receipt None e = refl
 none_refused number effect receipt (Some refused) e = absurd cc
@@ -174,7 +174,7 @@ module _ (d : Domain) (entries : List Recorded) (streams : List Asked) (legal : 
         free = none_refused (next_number d before) (seals before) receipt (refusal_of d (held_in d before (seals before)) asked) due;
       }
 
-  -- a front's entry stands in the whole
+  -- an entry of a prefix is in the whole history
   in_whole : (n place : ℕ) (e : Recorded) → slice_get (take n entries) place ≡ Some e → slice_get entries place ≡ Some e
   in_whole n place e is = in_front entries n place is
     where
@@ -185,7 +185,7 @@ module _ (d : Domain) (entries : List Recorded) (streams : List Asked) (legal : 
       in_front (x ∷ xs) (suc n) zero is = is
       in_front (x ∷ xs) (suc n) (suc place) is = in_front xs n place is
 
-  -- by its place in a front of the history
+  -- by its index in a prefix of the history
   granted_in : (n : ℕ) → Contains (streams_of d (take n entries)) row → IsGrantedOfList d streams row
   granted_in n c =
       let front = take n entries in
@@ -201,7 +201,7 @@ module _ (d : Domain) (entries : List Recorded) (streams : List Asked) (legal : 
       by_entry place (Some e) is k =
           by_act place (seals (take place (take n entries))) (take n entries) e e.act e.reply (in_whole n place e is) refl refl k
 
-  -- so is each row of a table
+  -- this holds for each row of a table
   pub granted_row_of : (cycles cycle : ℕ) → Contains (table_of (tables_of d entries cycles) cycle) row → IsGrantedOfList d streams row
   granted_row_of cycles cycle c =
       elim (cases_lt cycle cycles) [
@@ -219,14 +219,14 @@ module _ (d : Domain) (entries : List Recorded) (streams : List Asked) (legal : 
 
 module _ (names : AdmittedHaveNames) (d : Domain) (streams : List Asked) (asked : Asked) (row : Row) (granted : AreGranted d [] streams)
     (listed : Contains streams asked) (name : row.name ≡ asked.name) where
-  -- the row's stream in the list is the one of the name
+  -- the row's stream in the list is the one of the same name
   pub one_asked : (of : IsOfList d streams row) → of.asked ≡ asked
   one_asked of =
       let alike : of.asked.name ≡ asked.name = sym of.name ∙ name in
       one_of_pairs (λ (a b : Asked). a.name ≢ b.name) streams of.asked asked (names d streams granted) of.listed listed (λ differ. differ alike)
       (λ differ. differ (sym alike))
 
-  -- so what a talker offers that keeps its word is covered, where the plan has enough for it
+  -- so what a conforming talker offers is covered, if the plan has enough for it
   pub planned_covered : (entries : List Recorded) (offers : List Offer) (background : List Background) (cycles : ℕ) (t : Traffic) (x : Offered) →
       IsLegalHistory d entries → AdmitsOnly streams entries → 0 < d.cycle_time → IsTraffic t →
       needed d.cycle_time t ≤ reserved_in (granted_row d 0 0 asked) 0 (offer_cycle d x) → Conforms t (offers_named asked.name offers) →
@@ -267,7 +267,7 @@ module _ (says : BookOfHistorySaysTheShift) (timely : HistoryIsTimely) (verdicts
       covered_comes_through d streams entries offers background cycles book x row over
       (conforming_own_is_covered (run_of_history d entries offers background cycles) t x row (omega (arith, over.accepted.cycle_least)) is c enough at)
 
-  -- of a plan
+  -- for a plan
   pub planned_stream_is_in_time : AdmittedHaveNames → PlannedStreamIsInTime
   planned_stream_is_in_time names d streams entries offers background cycles book t asked x row over granted listed is enough c name at =
       let covered = planned_covered names d streams asked row granted listed name entries offers background cycles t x over.legal over.only

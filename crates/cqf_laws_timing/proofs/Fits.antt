@@ -1,4 +1,4 @@
--- What is kept of a list of frames keeps the word that all of them keep, and so a cycle holds no more than is needed.
+-- Some of the frames of a conforming talker conform too, and so a cycle holds no more than is needed.
 use Rattle.std.proofs.Common.{◌≡◌, ℕ, zero, suc, ◌+◌, ◌-◌, ◌*◌, ◌/◌, ◌<◌, ◌≤◌, ◌∷◌, [], List, Bool, Some}
 use Rattle.std.proofs.Common.{inl, inr, refl, sym, ap, ◌∙◌, arith, filter, length, get_or}
 use Rattle.std.proofs.Common.{Contains, slice_get, sum_by, eq-eqb, eqb-true, ◌==◌, mul-le-mul_right, zero-add}
@@ -19,7 +19,7 @@ use Rattle.cqf_laws_timing.specs.Traffic.{NeededIsReached, SkippingConforms, Tra
 
 -- ---- what a filter keeps
 
--- what it keeps at a place stood at no earlier one
+-- an element that a filter keeps was at no lower index before
 kept_at : {X : Type 0} (p : X → Bool) (xs : List X) (k : ℕ) (b : X) → slice_get (filter p xs) k ≡ Some b → (l : ℕ) × (k ≤ l) × (slice_get xs l ≡ Some b)
 kept_at p [] k b e = absurd cc
 kept_at p (x ∷ xs) zero b e = elim (cases_Bool (p x)) [
@@ -37,7 +37,7 @@ kept_at p (x ∷ xs) (suc k) b e = elim (cases_Bool (p x)) [
       (suc r.0, omega (arith, r.1), r.2)
 ]
 
--- two elements stand in a list in order, at least so many places apart
+-- two elements are in a list in order, at least this many positions apart
 record StandApart {X : Type 0} (xs : List X) (a b : X) (gap : ℕ) : Type 0 where
   pub early : ℕ
   pub late : ℕ
@@ -46,7 +46,7 @@ record StandApart {X : Type 0} (xs : List X) (a b : X) (gap : ℕ) : Type 0 wher
   pub first : slice_get xs early ≡ Some a
   pub second : slice_get xs late ≡ Some b
 
--- behind one element more
+-- the same with one more element before them
 behind_one : {X : Type 0} (x : X) (xs : List X) (a b : X) (gap : ℕ) → StandApart xs a b gap → StandApart (x ∷ xs) a b gap
 behind_one x xs a b gap r = record {
   early = suc r.early;
@@ -57,7 +57,7 @@ behind_one x xs a b gap r = record {
   second = r.second;
 }
 
--- what it keeps stood no nearer together
+-- two elements that a filter keeps were at least as far apart before
 kept_apart : {X : Type 0} (p : X → Bool) (xs : List X) (i k : ℕ) (a b : X) → i ≤ k → slice_get (filter p xs) i ≡ Some a →
     slice_get (filter p xs) k ≡ Some b → StandApart xs a b (k - i)
 kept_apart p [] i k a b order e f = absurd cc
@@ -95,14 +95,14 @@ kept_apart p (x ∷ xs) (suc i) (suc k) a b order e f = elim (cases_Bool (p x)) 
       (kept_apart p xs (suc i) (suc k) a b order (ap (λ ys. slice_get ys (suc i)) same ∙ e) (ap (λ ys. slice_get ys (suc k)) same ∙ f))
 ]
 
--- so it keeps the word
+-- so what it keeps conforms
 pub skipping_conforms : SkippingConforms
 skipping_conforms t sent keeps is c = record {
   sizes = All-filter keeps (λ (x : Offer). x.octets ≤ t.size) sent c.sizes;
   spaced = spaced;
 }
   where
-    -- they come no sooner
+    -- the kept frames come no sooner
     spaced : (i k : ℕ) (a b : Offer) → i ≤ k → slice_get (filter keeps sent) i ≡ Some a → slice_get (filter keeps sent) k ≡ Some b →
         a.at.0 + (k - i) / t.frames * t.interval ≤ b.at.0 + t.jitter
     spaced i k a b order e f =
@@ -112,7 +112,7 @@ skipping_conforms t sent keeps is c = record {
 
 -- ---- blocks
 
--- what stands apart fills no more than the blocks between
+-- a distance of k - i frames spans at most the blocks between
 fills : (f i k : ℕ) → 0 < f → i ≤ k → (k - i) / f ≤ k / f - i / f
 fills f i k some order = omega (arith, le-div ((k - i) / f + i / f) k f some (omega (arith, cycle_from f (k - i), cycle_from f i, order)))
 
@@ -124,7 +124,7 @@ blocks_conform t sent is c = record {
 
 -- ---- a cycle
 
--- frames so many places apart that come in one cycle are of so many intervals
+-- frames that come in one cycle, this many positions apart, are less than the cycle's most frames apart
 few_between : (n jitter interval frames apart first last cycle : ℕ) → 0 < n → 0 < interval → 0 < frames → first / n ≡ cycle → last / n ≡ cycle →
     first + apart / frames * interval ≤ last + jitter → apart < (n + jitter + interval - 1) / interval * frames
 few_between n jitter interval frames apart first last cycle some takes fills one two spaced =
@@ -137,7 +137,7 @@ few_between n jitter interval frames apart first last cycle some takes fills one
     le-div (q + 1) (n + jitter + interval - 1) interval takes (omega (arith, from, upto, a, b, spaced)) in
     omega (arith, cycle_upto frames apart fills, mul-le-mul_right frames few)
 
--- so of frames that come in one cycle there are no more than it can hold
+-- so no more frames come in one cycle than it can hold
 few_of_one : (n : ℕ) (t : Traffic) (cycle : ℕ) (ys : List Offer) → 0 < n → IsTraffic t → Conforms t ys →
     ((y : Offer) → Contains ys y → cycle_at n y.at.0 ≡ cycle) → length ys ≤ most_frames n t
 few_of_one n t cycle [] some is c inside = omega arith
@@ -161,7 +161,7 @@ conforming_offers_fit_a_cycle n t sent cycle some is c =
 -- ---- a full cycle
 
 module _ (n : ℕ) (t : Traffic) (cycle bridge : ℕ) (name : List ℕ) (some : 0 < n) (is : IsTraffic t) where
-  -- blocks of largest frames, each as early as the jitter lets it be, but for the cycle's beginning
+  -- blocks of largest frames, each as early as the jitter allows, but not before the cycle begins
   full_at : ℕ → ℕ
   full_at k = cycle * n + (k / t.frames * t.interval - t.jitter)
 
@@ -171,13 +171,13 @@ module _ (n : ℕ) (t : Traffic) (cycle bridge : ℕ) (name : List ℕ) (some : 
   abbrev all : List Offer
   all = each_below (λ k. full k ∷ []) (most_frames n t)
 
-  -- each that is there
+  -- each frame of the list is one of them
   full_there : (k : ℕ) (a : Offer) → slice_get all k ≡ Some a → (k < most_frames n t) × (a ≡ full k)
   full_there k a e =
       let less : k < most_frames n t = omega (arith, slice_get_within all k a e, length-singles full (most_frames n t)) in
       (less, sym (get_or_from_slice_get all k a a e) ∙ get_or-singles full (most_frames n t) k a less)
 
-  -- each member is one
+  -- each member is one of them
   full_member : (a : Offer) → Contains all a → (k : ℕ) × (k < most_frames n t) × (a ≡ full k)
   full_member a c =
       let w = contains_from_below (λ k. full k ∷ []) (most_frames n t) a c in
@@ -193,7 +193,7 @@ module _ (n : ℕ) (t : Traffic) (cycle bridge : ℕ) (name : List ℕ) (some : 
       early : (b m : ℕ) → b < m → m * t.interval ≤ n + t.jitter + t.interval - 1 → cycle * n + (b * t.interval - t.jitter) < cycle * n + n
       early b m l within = let more : b + 1 ≤ m = omega (arith, l) in omega (arith, mul-le-mul_right t.interval more, within, is.some_interval, some)
 
-  -- in time
+  -- they are spaced far enough
   full_spaced : (i k : ℕ) → i ≤ k → full_at i + (k / t.frames - i / t.frames) * t.interval ≤ full_at k + t.jitter
   unfolding full_at
   full_spaced i k order =
@@ -207,7 +207,7 @@ module _ (n : ℕ) (t : Traffic) (cycle bridge : ℕ) (name : List ℕ) (some : 
   of_size zero = omega arith
   of_size (suc m) = omega (arith, sum_below (λ (x : Offer). x.octets) (λ k. full k ∷ []) m, of_size m, one)
     where
-      -- one more
+      -- with one more frame
       one : sum_by (λ (x : Offer). x.octets) (full m ∷ []) ≡ t.size
       one = zero-add t.size
 

@@ -1,4 +1,4 @@
--- What is told of a plan's row holds of the frames of its stream.
+-- What is reported for a plan's row holds for the frames of its stream.
 use Rattle.std.proofs.Common.{◌≡◌, ◌≤◌, ◌∙◌, ℕ, List, [], ◌∷◌, fold, max, true, inl, inr, if◌then◌else◌, length, refl, sym, ap, subst, Contains}
 use Rattle.std.specs.Prelude.{find}
 use Rattle.std.proofs.lemmas.Option.{same_Some}
@@ -26,7 +26,7 @@ use Rattle.cqf_laws_timing.specs.Streams.{AdmitsOnly, AreGranted, ArePaced, Hist
 use Rattle.cqf_laws_timing.specs.Told.{IsAsToldAt, LooseToldHolds, NamesTellStreams, RowsArePlanned, ToldHolds, planned_rows, told_cost}
 use Rattle.cqf_laws_timing.proofs.Kept.{timely_said}
 
--- one stream
+-- rows of the same name are of the same stream
 pub names_tell_streams : RowsArePlanned → RowsAreOfList → OneOfAName → NamesTellStreams
 names_tell_streams planned listed one d streams entries cycles cycle told row granted only c k name =
     let p = planned d streams told granted c in
@@ -43,7 +43,7 @@ names_tell_streams planned listed one d streams entries cycles cycle told row gr
       tree = p.tree ∙ ap (λ (a : Asked). tree_of d a.paths) same ∙ sym l.tree;
     }
 
--- a plan whose streams are all admitted has paces
+-- if all streams of a plan are admitted, they have valid paces
 pub granted_paced : (d : Domain) (entries : List Recorded) (streams : List Asked) → AreGranted d entries streams → ArePaced streams
 granted_paced d entries [] granted asked among = absurd (contains_none asked among)
 granted_paced d entries (first ∷ streams) granted asked among = elim (contains_cases first streams asked among) [
@@ -51,12 +51,12 @@ granted_paced d entries (first ∷ streams) granted asked among = elim (contains
   | inr later ↦ granted_paced d (with_entry entries 0 (Admits first) (reply_to d entries (Admits first))) streams granted.1 asked later
 ]
 
--- what is told at a hop of a plan's row, of a history that admits the plan's streams alone
+-- what is reported at a hop of a plan's row, for a history that admits only the plan's streams
 module _ (names : NamesTellStreams) (orderly : TablesAreOrderly) (costs : ListCostsItsTable) (d : Domain) (streams : List Asked) (entries : List Recorded)
     (offers : List Offer) (background : List Background) (cycles : ℕ) (told : Row) (hop : Hop) (granted : AreGranted d [] streams)
     (legal : IsLegalHistory d entries) (sealed : cycles ≤ seals entries) (only : AdmitsOnly streams entries) (c : Contains (planned_rows d streams) told)
     (on : Contains told.tree.items hop) where
-  -- what is told of the plan's row is the bound of its stream in the list
+  -- what is reported for the plan's row is the bound of its stream in the list
   bound : (row : Row) → SameStream told row → (of : IsOfList d streams row) → (l : ℕ) → most_beside_all d streams of.asked l ≡ told_cost d streams told l
   bound row same of l =
       λ i. fold max 0 (each_below (λ k. if uses ((sym of.tree ∙ sym same.tree) i) ((sym of.pace ∙ sym same.pace) i) l k
@@ -69,7 +69,7 @@ module _ (names : NamesTellStreams) (orderly : TablesAreOrderly) (costs : ListCo
       subst (P hop.link hop.depth) (same hop.link)
       (subst (λ n. P hop.link n (cost hop.link)) depth (subst (λ n. P n k (cost n)) link said))
 
-  -- of a frame of the row's name that starts on the hop's link, what is timely by the list is as it's told
+  -- a frame of the row's name that starts on the hop's link and is timely by the list is as reported
   pub as_told : (frame link cycle : ℕ) → link ≡ hop.link →
       (shift : InShift (run_of_history d entries offers background cycles) (length (tables_of d entries cycles)) frame link cycle) →
       shift.x.offer.stream ≡ told.name → (of : IsOfList d streams shift.row) → (whole : ℕ) →
@@ -92,7 +92,7 @@ module _ (names : NamesTellStreams) (orderly : TablesAreOrderly) (costs : ListCo
       let timely = by_numbers (λ l k n. IsTimely d l k n from whole) link shift.depth is_link depth (bound shift.row same of) time in
       record { timely = timely; verdict = timely_said d hop.link hop.depth (told_cost d streams told hop.link) from whole timely }
 
--- each start is as it's told
+-- each start is as reported
 pub told_holds : NamesTellStreams → TablesAreOrderly → ListCostsItsTable → HistoryIsTimely → ToldHolds
 told_holds names orderly costs timely d streams entries offers background cycles book told hop accepted granted legal only offered behind is c on s among
     link shift stream =

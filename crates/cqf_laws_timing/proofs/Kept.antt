@@ -1,4 +1,4 @@
--- A history that admits streams of a list alone keeps the list's bounds, and its verdicts.
+-- A history that admits only streams of a list keeps the list's bounds and its verdicts.
 use Rattle.std.proofs.Common.{◌%◌, ◌∙◌, sym, eqb-true, le_trans, List, Contains, ◌==◌}
 use Rattle.std.proofs.lemmas.Bool.{and_parts}
 use Rattle.std.proofs.lemmas.List.Elements.{All-contains}
@@ -32,7 +32,7 @@ use Rattle.cqf_laws_timing.specs.Verdicts.{InTime, IsAsSaid, Late, MayBeLate, Ve
 use Rattle.cqf_laws_timing.proofs.Listed.{rows_are_of_list, tables_cost_no_more}
 use Rattle.cqf_laws_timing.proofs.Timely.{about_of, more_cost, shift_hop, starts_are_whole_within_held, timely}
 
--- a pace of the list's is one
+-- a pace of the list is a valid one
 list_paced : (streams : List Asked) → ArePaced streams → (asked : Asked) → Contains streams asked → IsPaced (pace_of asked)
 list_paced streams each asked c =
     paced asked.every (eqb-true (80 % asked.every) 0 (and_parts (80 % asked.every == 0) (nat_lt asked.phase asked.every) (each asked c)).0)
@@ -42,7 +42,7 @@ pub record IsBoundedBy (d : Domain) (streams : List Asked) (tables : List (List 
   pub of : IsOfList d streams row
   pub within : (table : ℕ) → link_cost (table_of tables table) link cycle ≤ most_beside_all d streams of.asked link
 
--- of each frame in the shift of a history that admits streams of the list alone
+-- this holds for each frame in the shift of a history that admits only streams of the list
 pub bounded_by : TablesAreOrderly → (d : Domain) (entries : List Recorded) (offers : List Offer) (background : List Background) (cycles : ℕ)
     (streams : List Asked) → IsLegalHistory d entries → AreOffers d offers → cycles ≤ seals entries → AdmitsOnly streams entries → ArePaced streams →
     (frame link cycle : ℕ) →

@@ -1,4 +1,4 @@
--- Histories that admit streams of a list alone: what their tables cost.
+-- Histories that admit only streams of a list: what their tables cost.
 use Rattle.cqf_model.specs.declared.topology.Pace.{Pace}
 use Rattle.cqf_model.specs.History.{pace_of}
 use Rattle.cqf_model.specs.Table.{uses}
@@ -44,7 +44,7 @@ use Rattle.cqf_lists.proofs.Pairs.{one_of_pairs, pairs_none, pairs_push}
 pub none_admits_only : NoneAdmitsOnly
 none_admits_only streams e asked receipt c admits accepted = absurd (contains_none e c)
 
--- one call more
+-- one more call
 pub admits_only_goes_on : AdmitsOnlyGoesOn
 admits_only_goes_on streams entries seat act reply only more e asked receipt c admits accepted =
     elim (Contains-append_cases entries (record { seat = seat; act = act; reply = reply } ∷ []) e c) [
@@ -63,7 +63,7 @@ record IsAdmittedBy (d : Domain) (act : Act) (reply : Reply) (row : Row) : Type 
   pub pace : row.pace ≡ pace_of asked
   pub tree : row.tree.items ≡ tree_of d asked.paths
 
--- an entry admits no other
+-- an entry admits no other stream
 admitted_by : (d : Domain) (entries : List Recorded) (effect : ℕ) (act : Act) (reply : Reply) (row : Row) →
     Contains (stream_by d entries effect act reply) row →
     IsAdmittedBy d act reply row
@@ -93,7 +93,7 @@ of_list d entries streams row only c =
     (length entries) row c in
     by_entry at.0 (slice_get entries at.0) refl at.2
   where
-    -- it is the stream of the entry at its place
+    -- it is the stream of the entry at its index
     by_entry : (place : ℕ) (o : Option Recorded) → slice_get entries place ≡ o →
         Contains (option_map_or (λ (e : Recorded). stream_by d entries (seals (take place entries)) e.act e.reply) o []) row → IsOfList d streams row
     by_entry place None is k = absurd (contains_none row k)
@@ -108,7 +108,7 @@ of_list d entries streams row only c =
           tree = a.tree;
         }
 
--- so is each row of a table
+-- and so is each row of a table
 pub rows_are_of_list : RowsAreOfList
 rows_are_of_list d entries streams cycles cycle row only c =
     elim (cases_lt cycle cycles) [
@@ -126,7 +126,7 @@ rows_are_of_list d entries streams cycles cycle row only c =
 
 -- ---- what they cost
 
--- the cost on a link by a tree and octets
+-- the cost on a link, by a tree, octets and a pace
 abbrev cost_by : List Hop → ℕ → Pace → ℕ → ℕ → ℕ
 cost_by tree octets pace link cycle = if uses tree pace link cycle then cost_of octets else 0
 
@@ -135,7 +135,7 @@ costs_the_same : (d : Domain) (streams : List Asked) (row : Row) (link cycle : �
     cost_on row link cycle ≡ cost_on (granted_row d 0 0 of.asked) link cycle
 costs_the_same d streams row link cycle of = λ i. cost_by (of.tree i) (of.octets i) (of.pace i) link cycle
 
--- rows of the list that differ in their names cost no more than the list
+-- rows of the list with different names cost no more than the list
 rows_cost_no_more : (d : Domain) (streams : List Asked) (rows : List Row) (link turn : ℕ) → ((row : Row) → Contains rows row → IsOfList d streams row) →
     AllPairs (λ (a b : Row). a.name ≢ b.name) rows → link_cost rows link turn ≤ cost_of_all d streams link turn
 rows_cost_no_more d streams rows link turn listed names = sum_matched costs of_asked matches rows streams has apart
@@ -157,7 +157,7 @@ rows_cost_no_more d streams rows link turn listed names = sum_matched costs of_a
         let own = sum_member (λ asked. if matches row asked then of_asked asked else 0) streams of.asked of.listed in
         omega (arith, own, cond-true (matches row of.asked) (of_asked of.asked) 0 named, costs_the_same d streams row link turn of)
 
-    -- and no two are of one stream
+    -- and no two are of the same stream
     apart : (asked : Asked) → AllPairs (λ (a b : Row). matches a asked ≡ true → matches b asked ≡ true → ⊥) rows
     apart asked = pairs_weaker (λ (a b : Row). a.name ≢ b.name) (λ (a b : Row). matches a asked ≡ true → matches b asked ≡ true → ⊥) rows
         (λ a b ca cb differ one two. differ (is_text_same a.name asked.name one ∙ sym (is_text_same b.name asked.name two))) names
@@ -171,7 +171,7 @@ tables_cost_no_more orderly d entries streams cycles cycle link turn legal seale
 -- ---- streams that are all admitted
 
 module _ (held : GrantedIsHeld) (goes_on : HistoryGoesOn) (counted : SealsAreCounted) (room : GrantedFindsRoom) (d : Domain) (link turn : ℕ) where
-  -- what streams cost that are all admitted behind a history without Seals
+  -- the cost of streams that are all admitted after a history without Seals
   all_cost : (streams : List Asked) (entries : List Recorded) (rows : List Row) (next : ℕ) → IsLegalHistory d entries → IsState d entries rows next →
       seals entries ≡ 0 → length rows ≡ length entries → AreGranted d entries streams →
       link_cost (held_in d (with_all d entries streams) 0) link turn ≡ link_cost rows link turn + cost_of_all d streams link turn
@@ -200,7 +200,7 @@ module _ (held : GrantedIsHeld) (goes_on : HistoryGoesOn) (counted : SealsAreCou
       added : (whole grown rest rows new all : ℕ) → whole ≡ grown + rest → grown ≡ rows + new → all ≡ new + rest → whole ≡ rows + all
       added whole grown rest rows new all a b c = omega (arith, a, b, c)
 
--- of an empty history
+-- after an empty history
 pub list_costs_its_table : GrantedIsHeld → HistoryGoesOn → SealsAreCounted → GrantedFindsRoom → ListCostsItsTable
 list_costs_its_table held goes_on counted room d streams link turn granted =
     all_cost held goes_on counted room d link turn streams [] [] 0
@@ -217,7 +217,7 @@ abbrev apart : Asked → Asked → Type 0
 apart a b = a.name ≢ b.name
 
 module _ (held : GrantedIsHeld) (goes_on : HistoryGoesOn) (counted : SealsAreCounted) (room : GrantedFindsRoom) (d : Domain) where
-  -- one that is granted has no name of those before it
+  -- a stream that is granted doesn't have the name of an earlier one
   new_name : (rows : List Row) (before : List Asked) (asked : Asked) → map (λ (r : Row). r.name) rows ≡ map (λ (a : Asked). a.name) before →
       refusal_of d rows asked ≡ None → (x : Asked) → Contains before x → apart x asked
   new_name rows before asked same free x c e =
@@ -226,7 +226,7 @@ module _ (held : GrantedIsHeld) (goes_on : HistoryGoesOn) (counted : SealsAreCou
       let other = none_member (λ (r : Row). is_text r.name asked.name) rows row.0 (granted d rows asked free).name_free row.1 in
       both_ways (is_text row.0.name asked.name) other (ap (λ (n : List ℕ). is_text n asked.name) (row.2 ∙ e) ∙ is_text_itself asked.name)
 
-  -- so all that are granted behind a history without Seals have names of their own
+  -- so all streams that are granted after a history without Seals have different names
   names_apart : (before streams : List Asked) (entries : List Recorded) (rows : List Row) (next : ℕ) → IsLegalHistory d entries → IsState d entries rows next →
       seals entries ≡ 0 → length rows ≡ length entries → map (λ (r : Row). r.name) rows ≡ map (λ (a : Asked). a.name) before → AllPairs apart before →
       AreGranted d entries streams → AllPairs apart (before ++ streams)
@@ -248,7 +248,7 @@ module _ (held : GrantedIsHeld) (goes_on : HistoryGoesOn) (counted : SealsAreCou
       (pairs_push apart before asked pairs (new_name rows before asked same free)) granted.1 in
       subst (AllPairs apart) (append_assoc before (asked ∷ []) more) rest
 
--- of an empty history
+-- after an empty history
 pub admitted_have_names : GrantedIsHeld → HistoryGoesOn → SealsAreCounted → GrantedFindsRoom → AdmittedHaveNames
 admitted_have_names held goes_on counted room d streams granted =
     names_apart held goes_on counted room d [] streams [] [] 0
@@ -258,7 +258,7 @@ admitted_have_names held goes_on counted room d streams granted =
     nothing : (place : ℕ) (e : Recorded) → slice_get [] place ≡ Some e → ⊥
     nothing place e is = contains_none e (contains_at [] place e is)
 
--- so the one of a name is the first of it
+-- so the stream of a name is the first of that name
 pub one_of_a_name : GrantedIsHeld → HistoryGoesOn → SealsAreCounted → GrantedFindsRoom → OneOfAName
 one_of_a_name held goes_on counted room d streams asked granted c =
     let test = λ (other : Asked). is_text other.name asked.name in

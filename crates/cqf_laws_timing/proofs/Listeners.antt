@@ -22,7 +22,7 @@ station_of : (node : Node) → is_bridge (Some node) ≡ false → (station : �
 station_of (Bridge b) e = absurd cc
 station_of (Station s) e = (s, refl)
 
--- the hop of a branch at a place is in the tree
+-- the hop of a branch at an index is in the tree
 hop_in_tree : TreeIsItsBranches → (d : Domain) (rows : List Row) (asked : Asked) (branch : Branch) (k : ℕ) → refusal_of d rows asked ≡ None →
     Contains asked.paths branch → IsBranch d branch → k + 1 < length branch → Contains (tree_of d asked.paths) (hop_made d branch k)
 hop_in_tree branches d rows asked branch k free c good inside =
@@ -62,7 +62,7 @@ branches_end branches d rows asked branch free c =
           is_hop = record { hop = made; of_tree = hop_in_tree branches d rows asked branch k free c good inside; is_depth = next; is_link = refl };
         }
 
--- at no other depth
+-- it has no other hop number
 pub depths_are_bridges : GrantedIsATree → TreeIsItsBranches → DepthsAreBridges
 depths_are_bridges trees branches d rows asked branch row bridges depth link station free c ends tree at =
     let has = branches_end branches d rows asked branch free c in

@@ -1,4 +1,4 @@
--- A loose network whose history admits streams of a list alone keeps the list's bounds.
+-- A loose network whose history admits only streams of a list keeps the list's bounds.
 use Rattle.std.proofs.Common.{◌≡◌, ℕ, ◌+◌, ◌-◌, ◌*◌, ◌<◌, ◌≤◌, List, length, sym, subst, arith}
 use Rattle.cqf_model.specs.declared.frames.Background.{Background}
 use Rattle.cqf_model.specs.declared.frames.Offer.{Offer}
@@ -31,12 +31,12 @@ module _ (orderly : TablesAreOrderly) (timely_loosely : LooseFramesAreTimely) (d
   bound = bounded_by orderly d entries offers background cycles streams is.legal is.offered is.sealed only each sent.frame link (cycle_of d sent.start.0)
       shift
 
-  -- the link is the domain's, and stands at some depth
+  -- the link is one of the domain's, and its hop number is at least 1
   pub hop : (link < length d.links) × (0 < shift.depth)
   hop = shift_hop (run_of_history d entries offers background cycles) sent.frame link (cycle_of d sent.start.0)
       (orderly d entries cycles is.legal is.sealed) shift
 
-  -- the frame is whole within that bound
+  -- the frame arrives fully within that bound
   pub whole_about : IsWholeAbout d slack link (cycle_of d sent.start.0) (most_beside_all d streams bound.of.asked link) (whole_at d link h)
   whole_about =
       let tables = tables_of d entries cycles in
@@ -56,12 +56,12 @@ module _ (orderly : TablesAreOrderly) (timely_loosely : LooseFramesAreTimely) (d
       (bound.within before)
       (subst (λ (z : ℕ). IsWholeAbout d slack link z (link_cost (table_of tables before) link z) (whole_at d link h)) (sym at_cycle) held)
 
-  -- so long after its offer
+  -- its latency is within the bounds
   pub about : IsLatencyAbout d slack link shift.depth (most_beside_all d streams bound.of.asked link) shift.x.offer.at.0 (whole_at d link h)
   about = latency_about d slack link shift.depth (most_beside_all d streams bound.of.asked link) shift.x.offer.at.0 (cycle_of d sent.start.0)
       (whole_at d link h) (omega (arith, is.accepted.cycle_least)) shift.is_cycle whole_about
 
--- what is no later than the most is within each deadline that is no less
+-- a frame that takes no more than the most keeps each deadline that is at least the most
 in_time_by : (d : Domain) (slack : Slack) (link depth cost at whole : ℕ) → IsLatencyAbout d slack link depth cost at whole →
     IsInTimeLoosely d slack link depth cost at whole
 in_time_by d slack link depth cost at whole about = record {

@@ -1,4 +1,4 @@
--- Each row of a plan is that of the stream of its number.
+-- Each row of a plan is that of the stream at its number.
 use Rattle.std.proofs.Common.{◌≡◌, ◌∙◌, ◌+◌, ℕ, ◌∷◌, [], ◌++◌, List, Some, None, inl, inr, refl, sym, ap, subst, arith}
 use Rattle.std.proofs.Common.{Contains, append-nil, append_assoc, length, length-append}
 use Rattle.std.specs.Prelude.{slice_get}
@@ -13,7 +13,7 @@ use Rattle.cqf_laws_history.specs.StateLaws.{GrantedFindsRoom, GrantedIsHeld, Hi
 use Rattle.cqf_laws_timing.specs.Streams.{AreGranted, with_all}
 use Rattle.cqf_laws_timing.specs.Told.{IsPlanned, RowsArePlanned}
 
--- streams behind those of a plan leave its rows theirs
+-- if streams are appended to a plan, its rows keep their streams
 planned_front : (d : Domain) (before after : List Asked) (row : Row) → IsPlanned d before row → IsPlanned d (before ++ after) row
 planned_front d before after row of = record {
   asked = of.asked;
@@ -24,7 +24,7 @@ planned_front d before after row of = record {
   tree = of.tree;
 }
 
--- the row of the stream behind them
+-- the row of the stream appended to them
 planned_last : (d : Domain) (before : List Asked) (asked : Asked) (next effect : ℕ) → next ≡ length before →
     IsPlanned d (before ++ asked ∷ []) (granted_row d next effect asked)
 planned_last d before asked next effect is = record {
@@ -37,7 +37,7 @@ planned_last d before asked next effect is = record {
 }
 
 module _ (held : GrantedIsHeld) (goes_on : HistoryGoesOn) (counted : SealsAreCounted) (room : GrantedFindsRoom) (d : Domain) where
-  -- one row more
+  -- one more row
   one_more : (before : List Asked) (asked : Asked) (rows : List Row) (next effect : ℕ) → next ≡ length before →
       ((row : Row) → Contains rows row → IsPlanned d before row) → (row : Row) → Contains (rows ++ granted_row d next effect asked ∷ []) row →
       IsPlanned d (before ++ asked ∷ []) row
@@ -48,7 +48,7 @@ module _ (held : GrantedIsHeld) (goes_on : HistoryGoesOn) (counted : SealsAreCou
             (planned_last d before asked next effect is)
       ]
 
-  -- behind a history without Seals
+  -- after a history without Seals
   planned_by : (before streams : List Asked) (entries : List Recorded) (rows : List Row) (next : ℕ) → IsLegalHistory d entries →
       IsState d entries rows next → seals entries ≡ 0 → length rows ≡ length entries → next ≡ length before →
       ((row : Row) → Contains rows row → IsPlanned d before row) → AreGranted d entries streams → (row : Row) →
@@ -70,7 +70,7 @@ module _ (held : GrantedIsHeld) (goes_on : HistoryGoesOn) (counted : SealsAreCou
       (omega (arith, is, length-append before (asked ∷ []))) (one_more before asked rows next (seals entries) is all) granted.1 row c in
       subst (λ (xs : List Asked). IsPlanned d xs row) (append_assoc before (asked ∷ []) more) rest
 
--- of an empty history
+-- after an empty history
 pub rows_are_planned : GrantedIsHeld → HistoryGoesOn → SealsAreCounted → GrantedFindsRoom → RowsArePlanned
 rows_are_planned held goes_on counted room d streams row granted c =
     planned_by held goes_on counted room d [] streams [] [] 0

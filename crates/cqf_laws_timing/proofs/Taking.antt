@@ -1,4 +1,4 @@
--- What is taken of a row before an offer is within what all offers of a cycle ask for.
+-- What is taken of a row before an offer is within what all offers of a cycle request.
 use Rattle.std.proofs.Common.{◌≡◌, ℕ, ◌+◌, ◌<◌, ◌≤◌, ◌∷◌, [], List, Bool, true, false, Some, refl, sym, ap, ap₂, ◌∙◌, subst, arith}
 use Rattle.std.proofs.Common.{Contains, filter, fold, sum_by, ◌==◌, ◌&&◌, eq-eqb, eqb-true, nat_le, nat_lt, if◌then◌else◌}
 use Rattle.std.specs.List.{enumerate_from}
@@ -26,11 +26,11 @@ use Rattle.cqf_laws_timing.specs.Covered.{ConformingOwnIsCovered, ConformingStre
 use Rattle.cqf_laws_timing.specs.Traffic.{Conforms, IsTraffic, Traffic, needed}
 use Rattle.cqf_laws_timing.proofs.Fits.{conforming_offers_fit_a_cycle}
 
--- what an offer asks for of a row in a cycle
+-- what an offer requests of a row in a cycle
 abbrev claimed : Domain → Row → ℕ → Offered → ℕ
 claimed d row cycle y = if claims d row cycle y then y.offer.octets else 0
 
--- what is taken is within what is asked for
+-- what is taken is within what is requested
 taken_within : (d : Domain) (row : Row) (cycle taken : ℕ) (xs : List Offered) →
     fold (take_octets d row cycle) taken xs ≤ taken + sum_by (claimed d row cycle) xs
 taken_within d row cycle taken [] = omega arith
@@ -42,18 +42,18 @@ taken_within d row cycle taken (x ∷ xs) =
       step (claims d row cycle x) (nat_le (taken + x.offer.octets) (reserved_in row 0 cycle)) taken x.offer.octets,
     )
   where
-    -- one offer takes no more than it asks for
+    -- one offer takes no more than it requests
     step : (b c : Bool) (taken octets : ℕ) → (if b && c then taken + octets else taken) ≤ taken + (if b then octets else 0)
     step true true taken octets = omega arith
     step true false taken octets = omega arith
     step false c taken octets = omega arith
 
 module _ (offers : List Offer) (x : Offered) (inside : Contains (numbered offers) x) (counts : Offered → ℕ) where
-  -- by instant
+  -- an offer's count, if its instant is earlier
   abbrev earlier : Offered → ℕ
   earlier y = if nat_lt y.offer.at.0 x.offer.at.0 then counts y else 0
 
-  -- at its instant, by place
+  -- an offer's count, if it is at the same instant with a smaller number
   abbrev smaller : Offered → ℕ
   smaller y = if nat_lt y.frame x.frame then counts y else 0
 
@@ -64,7 +64,7 @@ module _ (offers : List Offer) (x : Offered) (inside : Contains (numbered offers
   abbrev itself : Offered → ℕ
   itself y = if y.frame == x.frame then counts y else 0
 
-  -- the offers before one are those of earlier instants and smaller numbers
+  -- the offers before one are those of earlier instants, and those of smaller numbers at the same instant
   sum_before : sum_by counts (offers_before offers x) ≡ sum_by earlier (numbered offers) + sum_by together (numbered offers)
   sum_before =
       let less = λ (y : Offered). nat_lt y.frame x.frame in
@@ -73,7 +73,7 @@ module _ (offers : List Offer) (x : Offered) (inside : Contains (numbered offers
       ∙ ap₂ (λ a b. a + b) (sum_by_keys counts (λ (y : Offered). y.offer.at.0) (numbered offers) t)
       (sum_filter counts less (offers_at offers t) ∙ sum_filter smaller (λ (y : Offered). y.offer.at.0 == t) (numbered offers))
 
-  -- no offer is two of these
+  -- no offer is of two of these kinds
   one_of_three : (a b c e : Bool) (v : ℕ) → (a ≡ true → b ≡ true → ⊥) → (a ≡ true → e ≡ true → ⊥) → (c ≡ true → e ≡ true → ⊥) →
       (if a then v else 0) + (if b then (if c then v else 0) else 0) + (if e then v else 0) ≤ v
   one_of_three true true c e v ab ae ce = absurd (ab refl refl)
@@ -101,7 +101,7 @@ module _ (offers : List Offer) (x : Offered) (inside : Contains (numbered offers
       (λ a e. omega (arith, ltb-true y.frame x.frame a, eqb-true y.frame x.frame e))) in
       omega (arith, sum_before, own, is, three, two, all)
 
--- numbers change no sum
+-- numbering changes no sum
 sum_numbered : (counts : Offer → ℕ) (offers : List Offer) → sum_by (λ (y : Offered). counts y.offer) (numbered offers) ≡ sum_by counts offers
 sum_numbered counts offers =
     sum_map (λ (y : Offered). counts y.offer) (λ (e : ℕ × Offer). the_offered e) (enumerate_from 1 offers) ∙ sum_places counts 1 offers
@@ -123,13 +123,13 @@ module _ (run : Run) (t : Traffic) (x : Offered) (row : Row) (some : 0 < run.dom
   names : is_text row.name x.offer.stream ≡ true
   names = (find_member (λ (r : Row). is_text r.name x.offer.stream) (table_of run.tables cycle) row at.named).1
 
-  -- the octets of an offer of the cycle
+  -- the octets of an offer, if it is of the cycle
   abbrev octets_in : Offer → ℕ
   octets_in y = if cycle_of d y.at.0 == cycle then y.octets else 0
 
   module _ (keeps : Offer → Bool) (c : Conforms t (filter keeps run.offers))
       (each : (y : Offer) → cycle_of d y.at.0 ≡ cycle → is_text row.name y.stream ≡ true → begins_at d row y.bridge ≡ true → keeps y ≡ true) where
-    -- an offer that asks for octets is among those that keep the word
+    -- an offer that requests octets is among those that conform
     counted : (y : Offered) → claimed d row cycle y ≤ (if keeps y.offer then octets_in y.offer else 0)
     counted y = by_test (claims d row cycle y) (keeps y.offer) (cycle_of d y.offer.at.0 == cycle) y.offer.octets (λ e.
         let three = and_three (cycle_of d y.offer.at.0 == cycle) (is_text row.name y.offer.stream) (begins_at d row y.offer.bridge) e in
@@ -142,7 +142,7 @@ module _ (run : Run) (t : Traffic) (x : Offered) (row : Row) (some : 0 < run.dom
         by_test true true false v e = absurd (let h = (e refl).1 in cc)
         by_test true false c v e = absurd (let h = (e refl).0 in cc)
 
-    -- so all together they ask for no more than is needed
+    -- so all together they request no more than is needed
     asked_within : sum_by (claimed d row cycle) (numbered run.offers) ≤ needed d.cycle_time t
     asked_within =
         let fits = (conforming_offers_fit_a_cycle d.cycle_time t (filter keeps run.offers) cycle some is c).octets in
@@ -169,7 +169,7 @@ module _ (run : Run) (t : Traffic) (x : Offered) (row : Row) (some : 0 < run.dom
           within = omega (arith, taken, all, own, asked_within, enough);
         }
 
-  -- an offer that asks for the row's octets is the row's own
+  -- an offer that requests the row's octets is the row's own
   own_of : (y : Offer) → cycle_of d y.at.0 ≡ cycle → is_text row.name y.stream ≡ true → begins_at d row y.bridge ≡ true → is_own run row.no y ≡ true
   own_of y same named begins =
       let one = sym (is_text_same row.name x.offer.stream names) ∙ is_text_same row.name y.stream named in
@@ -194,7 +194,7 @@ pub covered_goes_on : EdgeIsCovered → (run : Run) (carried : Carried) (end : �
 covered_goes_on edge run carried end x row some orderly covered early =
     let p = edge run carried end x some orderly covered.offered early in by_verdict p.0 p.1
   where
-    -- whatever the verdict is
+    -- this holds for any verdict
     by_verdict : (verdict : Verdict) → IsPolicedAs run carried end x verdict → IsPolicedAs run carried end x (Queued row)
     by_verdict (Queued other) p =
         let same : Queued other ≡ Queued row = sym (covered_judged run x other p.decided) ∙ covered_judged run x row covered in

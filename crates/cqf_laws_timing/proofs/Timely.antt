@@ -30,14 +30,14 @@ use Rattle.cqf_laws_timing.specs.Latency.{BookIsTimely, BoundsAreShort, IsLatenc
 use Rattle.cqf_laws_timing.specs.Latency.{LatencyIsWithinHeld, StartsAreWholeWithinHeld, whole_of}
 use Rattle.cqf_laws_timing.proofs.Within.{whole_within}
 
--- a start of a book is a frame that its link sends
+-- a start of a book is that of a frame that its link sends
 pub record IsStartOf (run : Run) (net : Network) (s : Started) : Type 0 where
   pub sent : Sent
   pub inside : Contains (net.carried s.link) sent
   pub cycle : cycle_of run.domain sent.start.0 ≡ s.cycle.0
   pub whole : whole_at run.domain s.link sent ≡ whole_of run.domain s
 
--- each is one
+-- this holds for each start
 pub start_of : (run : Run) (book : Contents) (is : IsOneThreadBook run book) (s : Started) → Contains book.starts s → IsStartOf run is.net s
 start_of run book is s c =
     let d = run.domain in
@@ -50,7 +50,7 @@ start_of run book is s c =
     subst (λ (z : Started). IsStartOf run is.net z) sent.2
     (record { sent = sent.0; inside = kept.0; cycle = eqb-true (cycle_of d sent.0.start.0) by_cycle.0 kept.1; whole = refl })
 
--- the bounds of one clock and the greatest delays lie within those of the slack that the domain states
+-- the bounds for equal clocks and the greatest delays lie within those of the slack that the domain states
 pub about_of : (d : Domain) (link cycle cost whole : ℕ) → IsAccepted d → IsWholeWithin d link cycle cost whole → IsWholeAbout d (slack_of d) link cycle cost whole
 about_of d link cycle cost whole accepted w = record {
   earliest = sooner (cycle * d.cycle_time + time_of 72 (octet_time_of d link)) (least_delay_of d link) (delay_of d link) d.sync w.earliest
@@ -78,7 +78,7 @@ more_cost d slack link cycle cost more whole within w = record {
     wider : (over from span wide delay sync : ℕ) → over ≤ from + span + delay + sync → span ≤ wide → over ≤ from + wide + delay + sync
     wider over from span wide delay sync last grows = omega (arith, last, grows)
 
--- the bounds behind the offer's instant, by what a shortest frame takes, the gap and the span of the cost
+-- the bounds after the offer's instant, by the time of a shortest frame, the gap and the span of the cost
 latency_by : (n short gap span delay at depth cycle whole : ℕ) → 0 < n → cycle ≡ at / n + depth → cycle * n + short + delay ≤ whole →
     whole + gap ≤ cycle * n + span + delay →
     (at + depth * n + 1 + short + delay ≤ whole + n) × (whole + gap ≤ at + depth * n + span + delay)
@@ -86,13 +86,13 @@ latency_by n short gap span delay at depth cycle whole some is first last =
     let scaled = ap (λ (z : ℕ). z * n) is in
     (omega (arith, scaled, first, cycle_upto n at some), omega (arith, scaled, last, cycle_from n at))
 
--- what is one less, times a number
+-- (k - 1) n + n = k n
 one_less : (n k : ℕ) → 0 < k → (k - 1) * n + n ≡ k * n
 one_less n k some =
     let is : k ≡ (k - 1) + 1 = omega (arith, some) in
     omega (arith, ap (λ (z : ℕ). z * n) is)
 
--- what is over so late, but for the clocks' difference, is over as late as is told without it
+-- a lower bound up to the clocks' difference is a lower bound as reported, without it
 least_told : (at before deep n short least sync whole : ℕ) → before + n ≡ deep → at + deep + 1 + short + least ≤ whole + n + sync → sync ≤ short + least →
     at + ((before + 1 + short + least) - sync) ≤ whole
 least_told at before deep n short least sync whole is first long = omega (arith, is, first, long)
@@ -102,16 +102,16 @@ most_told : (whole at from short gap span delay sync : ℕ) → whole + gap ≤ 
     whole ≤ at + (from + (span - gap) + delay + sync)
 most_told whole at from short gap span delay sync last fits = omega (arith, last, fits)
 
--- and so behind the first that can be whole
+-- and within the window after the first possible instant
 within_window : (whole from short least gap span delay sync : ℕ) → whole + gap ≤ from + span + delay + sync → short + gap ≤ span → least ≤ delay →
     whole ≤ ((from + short + least) - sync) + ((span - (gap + short)) + (delay - least) + 2 * sync)
 within_window whole from short least gap span delay sync last fits less = omega (arith, last, fits, less)
 
--- a shortest frame and the gap behind it have room in the span of what costs as much
+-- the span of a cost of at least a shortest frame has room for it and the gap after it
 pub shortest_fits : (r cost : ℕ) → 84 ≤ cost → time_of 72 r + 12 * r / 25 ≤ span_of cost r
 shortest_fits r cost enough = le_trans (slot_parts 64 r) (shortest_in_span cost r enough)
 
--- the bounds behind the offer's instant
+-- the bounds after the offer's instant
 latency_within : (d : Domain) (link cycle cost whole at depth : ℕ) → 0 < d.cycle_time → cycle ≡ cycle_of d at + depth →
     IsWholeWithin d link cycle cost whole → IsLatencyWithin d link depth cost at whole
 latency_within d link cycle cost whole at depth some is w =
@@ -119,7 +119,7 @@ latency_within d link cycle cost whole at depth some is w =
     let b = latency_by d.cycle_time (time_of 72 r) (gap_of d link) (span_of cost r) (delay_of d link) at depth cycle whole some is w.earliest w.latest in
     record { least = b.0; most = b.1 }
 
--- and as they are told
+-- and as they are reported
 pub timely : (d : Domain) (link cycle cost whole at depth : ℕ) → IsAccepted d → link < length d.links → 0 < depth → cycle ≡ cycle_of d at + depth →
     IsWholeAbout d (slack_of d) link cycle cost whole → IsTimely d link depth cost at whole
 timely d link cycle cost whole at depth accepted is_link deep is w =
@@ -147,7 +147,7 @@ timely d link cycle cost whole at depth accepted is_link deep is w =
     begins : (from sync : ℕ) → from ≤ whole + sync → from - sync ≤ whole
     begins from sync first = omega (arith, first)
 
--- bounds by numbers
+-- the bounds in numbers
 short_by : (n g short gap span delay least sync depth : ℕ) → 0 < n → g < n → delay + sync < g → least ≤ delay → 0 < depth → short + gap ≤ span → span + g ≤ n →
     (((depth - 1) * n + 1 + short + least) - sync ≤ depth * n + (span - gap) + delay + sync)
     × (depth * n + (span - gap) + delay + sync < (depth + 1) * n)
@@ -178,7 +178,7 @@ starts_are_whole_within_held laws beside means run book accepted orderly offered
     subst (λ (z : ℕ). IsWholeWithin d s.link s.cycle.0 (link_cost (table_of run.tables s.cycle.0) s.link s.cycle.0) z) from.whole
     (subst (λ (z : ℕ). IsWholeWithin d s.link z (link_cost (table_of run.tables z) s.link z) (whole_at d s.link from.sent)) from.cycle w)
 
--- a link of a frame's tree is the domain's, and stands at some depth
+-- a link of a frame's tree is one of the domain's, and its hop number is at least 1
 pub shift_hop : (run : Run) (frame link cycle : ℕ) → AreOrderly run.domain run.tables → (shift : InShift run (length run.tables) frame link cycle) →
     (link < length run.domain.links) × (0 < shift.depth)
 shift_hop run frame link cycle orderly shift =

@@ -1,4 +1,4 @@
--- Each frame is whole within what the streams cost that are held in the cycle of its start.
+-- Each frame arrives fully within the cost of the streams that are held in the cycle of its start.
 use Rattle.std.proofs.Common.{◌≡◌, ℕ, ◌+◌, ◌*◌, ◌<◌, ◌≤◌, ◌∷◌, [], ◌++◌, List, inl, inr, sym, ap, ◌∙◌, subst, arith, Contains, length, sum_by, ◌==◌}
 use Rattle.std.proofs.Common.{◌/◌, eq-eqb, refl, Some, le_trans, mul-le-mul_right}
 use Rattle.std.proofs.lemmas.Bool.{cases_lt}
@@ -48,7 +48,7 @@ first_over t w rest sum start slot parts at same = omega (arith, parts, at, same
 later_over : (t w rest sum start slot : ℕ) → sum ≡ w + rest → start + slot ≤ t + w + rest → start + slot ≤ t + sum
 later_over t w rest sum start slot parts over = omega (arith, parts, over)
 
--- of frames in turn each starts no sooner than the first, and is over with its gap when all have taken what they take
+-- each of some frames in turn starts no sooner than the first, and is over with its gap when all have taken their time
 in_turn_within : (t r : ℕ) (xs : List QueuedFrame) → ((x : QueuedFrame) → Contains xs x → (number : ℕ) × (x.stream ≡ Some number)) → (sent : Sent) →
     Contains (in_turn_from t r xs) sent → (t ≤ sent.start.0) × (sent.start.0 + sent_slot r sent ≤ t + sum_by (sent_slot r) (in_turn_from t r xs))
 in_turn_within t r [] of_streams sent c = absurd (contains_none sent c)
@@ -74,7 +74,7 @@ in_turn_within t r (x ∷ xs) of_streams sent c =
           )
     ]
 
--- the bounds, by numbers
+-- the bounds in numbers
 whole_by : (n r delay cycle cost start octets slots : ℕ) → 64 ≤ octets → cycle * n ≤ start → start + slot_of octets r ≤ cycle * n + slots →
     slots ≤ span_of cost r →
     (cycle * n + time_of 72 r + delay ≤ ending_of start octets r + delay) × (ending_of start octets r + delay + 12 * r / 25 ≤ cycle * n + span_of cost r + delay)
@@ -86,7 +86,7 @@ whole_by n r delay cycle cost start octets slots least from upto within =
         (cycle * n + short + delay ≤ start + own + delay) × (start + own + delay + gap ≤ cycle * n + span + delay)
     numbers short own slot gap span longer parts over all = (omega (arith, from, longer), omega (arith, parts, over, all))
 
--- frames in turn of the shortest size at least take no longer than what they take of the wire does as frames of that size
+-- frames in turn of at least the shortest size take no longer than frames of that size with as many wire octets
 slots_within : (r cost : ℕ) (sents : List Sent) → ((sent : Sent) → Contains sents sent → 64 ≤ sent.octets) → sum_by sent_wire sents ≤ cost →
     sum_by (sent_slot r) sents ≤ span_of cost r
 slots_within r cost sents least within =
@@ -94,7 +94,7 @@ slots_within r cost sents least within =
     (le_trans (sum_scaled (sent_slot r) sent_wire 2100 (shortest_of r) sents (λ sent c. slot_within sent.octets r (least sent c)))
     (mul-le-mul_right (shortest_of r) within))
 
--- a link that the domain lacks sends nothing
+-- a link that the domain doesn't have sends nothing
 the_link_of : (laws : CycleLaws) (run : Run) (carried : Carried) (alone : IsRunAlone run carried) (link : ℕ) (sent : Sent) → Contains (carried link) sent →
     link < length run.domain.links
 the_link_of laws run carried alone link sent c = elim (cases_lt link (length run.domain.links)) [
@@ -108,7 +108,7 @@ module _ (laws : CycleLaws) (beside : RunBesideIsRunAlone) (shift : GatesMeanThe
   abbrev alone : IsRunAlone run net.carried
   alone = beside run net legal
 
-  -- a link that the domain lacks sends nothing
+  -- a link that the domain doesn't have sends nothing
   the_link : link < length run.domain.links
   the_link = the_link_of laws run net.carried alone link sent c
 
@@ -140,7 +140,7 @@ module _ (laws : CycleLaws) (beside : RunBesideIsRunAlone) (shift : GatesMeanThe
       let counted = sum_member sent_wire (in_turn_from ((before + 1) * n) r queue) sent (subst (λ (xs : List Sent). Contains xs sent) due member) in
       record { earliest = bounds.0; latest = bounds.1; some_cost = omega (arith, enough, counted, fits) }
 
-  -- each frame that a link sends is whole within what is held
+  -- each frame that a link sends arrives fully within the held cost
   pub whole_within : IsWholeWithin run.domain link (cycle_of run.domain sent.start.0) (link_cost (table_of run.tables (cycle_of run.domain sent.start.0)) link (cycle_of run.domain sent.start.0))
       (whole_at run.domain link sent)
   whole_within =
@@ -151,7 +151,7 @@ module _ (laws : CycleLaws) (beside : RunBesideIsRunAlone) (shift : GatesMeanThe
       subst (λ (cycle : ℕ). IsWholeWithin run.domain link cycle (link_cost (table_of run.tables cycle) link cycle) (whole_at run.domain link sent)) (sym is)
       (within_from before is (omega (arith, early, s.1.whole, is)))
 
--- of frames in turn, what they take is what was queued
+-- frames in turn take of the wire what was queued
 in_turn_takes : (t r : ℕ) (xs : List QueuedFrame) → ((x : QueuedFrame) → Contains xs x → (number : ℕ) × (x.stream ≡ Some number)) →
     sum_by sent_wire (in_turn_from t r xs) ≡ sum_by wire xs
 in_turn_takes t r [] of_streams = refl
@@ -166,7 +166,7 @@ in_turn_takes t r (x ∷ xs) of_streams =
 
 module _ (laws : CycleLaws) (beside : RunBesideIsRunAlone) (run : Run) (net : Network) (legal : IsLegalRun run net) (link before : ℕ) (sent : Sent)
     (c : Contains (net.carried link) sent) (is : cycle_of run.domain sent.start.0 ≡ before + 1) where
-  -- each frame that a link sends is whole within what is held in the cycle before
+  -- each frame that a link sends arrives fully within the cost that was held in the cycle before
   pub whole_within_before : IsWholeWithin run.domain link (before + 1) (link_cost (table_of run.tables before) link (before + 1)) (whole_at run.domain link sent)
   whole_within_before =
       let alone = beside run net legal in

@@ -1,4 +1,4 @@
--- What a talker that keeps its word offers is whole at each of its listeners, in time.
+-- What a conforming talker offers arrives fully at each of its listeners, in time.
 use Rattle.std.specs.Prelude.{ℕ, ◌≡◌, ◌≢◌, ◌+◌, ◌<◌, ◌≤◌, List, [], Contains}
 use Rattle.cqf_model.specs.declared.frames.Background.{Background}
 use Rattle.cqf_model.specs.declared.frames.Dropped.{Dropped}
@@ -21,7 +21,7 @@ use Rattle.cqf_laws_timing.specs.Verdicts.{InTime, sure_on}
 use Rattle.cqf_laws_timing.specs.Covered.{IsAtItsEdge, own_offers}
 use Rattle.cqf_laws_timing.specs.Traffic.{Conforms, IsTraffic, Traffic, needed, offers_named}
 
--- the book of a history that admits streams of a list alone, whatever is withdrawn and offered, beside any background frames
+-- the book of a history that admits only streams of a list, with any withdrawals and offers, beside any background frames
 pub record IsBookOverList (d : Domain) (streams : List Asked) (entries : List Recorded) (offers : List Offer) (background : List Background) (cycles : ℕ)
     (book : Contents) : Type 0 where
   pub accepted : IsAccepted d
@@ -32,8 +32,8 @@ pub record IsBookOverList (d : Domain) (streams : List Asked) (entries : List Re
   pub beside : AreBackground d background
   pub is_book : IsBookOfHistory d entries offers background cycles book
 
--- the frame leaves on a link of this depth as many cycles after its own, and is whole at the link's end within the bounds that the
--- list has for its stream: so within each deadline that surely holds there
+-- the frame leaves on a link of this hop number that many cycles after its own cycle, and arrives fully at the link's end within
+-- the bounds that the list has for its stream: so within each deadline that is surely kept there
 pub record ArrivesInTime (d : Domain) (streams : List Asked) (asked : Asked) (book : Contents) (x : Offered) (depth link : ℕ) : Type 0 where
   pub start : Started
   pub is_start : Contains book.starts start
@@ -44,7 +44,7 @@ pub record ArrivesInTime (d : Domain) (streams : List Asked) (asked : Asked) (bo
   pub timely : IsTimely d link depth (most_beside_all d streams asked link) x.offer.at.0 (whole_of d start)
   pub in_time : (deadline : ℕ) → sure_on d streams asked link depth deadline ≡ InTime → whole_of d start ≤ x.offer.at.0 + deadline
 
--- the last link of a branch ends in its listener's station, and the frame arrives there in time, where the run lasts so long
+-- the last link of a branch ends in its listener's station, and the frame arrives there in time, if the run lasts long enough
 pub record ListenerIsServed (d : Domain) (streams : List Asked) (asked : Asked) (cycles : ℕ) (book : Contents) (x : Offered) (branch : Branch) : Type 0 where
   pub bridges : ℕ
   pub link : ℕ
@@ -52,15 +52,15 @@ pub record ListenerIsServed (d : Domain) (streams : List Asked) (asked : Asked) 
   pub ends_at : EndsAtListener d branch bridges link station
   pub arrives : offer_cycle d x + bridges < cycles → ArrivesInTime d streams asked book x bridges link
 
--- the frame isn't dropped; it leaves on each link of its row's tree, and arrives in time; and so it does at each listener of the
--- row's stream in the list
+-- the frame isn't dropped. It leaves on each link of its row's tree and arrives in time, if the run lasts long enough, and so it
+-- does at each listener of the row's stream in the list
 pub record ComesThrough (d : Domain) (streams : List Asked) (cycles : ℕ) (book : Contents) (x : Offered) (row : Row) : Type 0 where
   pub not_dropped : (dropped : Dropped) → Contains book.drops dropped → dropped.frame ≢ x.frame
   pub of_list : IsOfList d streams row
   pub arrives : (depth link : ℕ) → IsHop row depth link → offer_cycle d x + depth < cycles → ArrivesInTime d streams of_list.asked book x depth link
   pub served : (branch : Branch) → Contains of_list.asked.paths branch → ListenerIsServed d streams of_list.asked cycles book x branch
 
--- where all that is offered by the stream's name keeps the word, and as much is reserved in the frame's cycle as is needed, it loses nothing
+-- if all offers of the stream's name conform, and as much is reserved in the frame's cycle as is needed, the frame comes through
 abbrev pub ConformingStreamIsInTime : Type 0
 ConformingStreamIsInTime =
     (d : Domain) (streams : List Asked) (entries : List Recorded) (offers : List Offer) (background : List Background) (cycles : ℕ) (book : Contents)
@@ -68,7 +68,7 @@ ConformingStreamIsInTime =
     Conforms t (offers_named row.name offers) → needed d.cycle_time t ≤ reserved_in row 0 (offer_cycle d x) →
     IsAtItsEdge (run_of_history d entries offers background cycles) x row → ComesThrough d streams cycles book x row
 
--- and where the stream's own offers do
+-- and so it does if the stream's own offers conform
 abbrev pub ConformingOwnIsInTime : Type 0
 ConformingOwnIsInTime =
     (d : Domain) (streams : List Asked) (entries : List Recorded) (offers : List Offer) (background : List Background) (cycles : ℕ) (book : Contents)
@@ -76,8 +76,8 @@ ConformingOwnIsInTime =
     Conforms t (own_offers (run_of_history d entries offers background cycles) row.no) → needed d.cycle_time t ≤ reserved_in row 0 (offer_cycle d x) →
     IsAtItsEdge (run_of_history d entries offers background cycles) x row → ComesThrough d streams cycles book x row
 
--- where the list is a plan whose streams can all be admitted, its one stream of the name is the row's, so the octets that the plan
--- has for it are enough, and the plan's listeners are served
+-- if the list is a plan whose streams can all be admitted, its one stream of the name is the row's. So the octets that the plan has
+-- for this stream suffice, and the plan's listeners are served
 abbrev pub PlannedStreamIsInTime : Type 0
 PlannedStreamIsInTime =
     (d : Domain) (streams : List Asked) (entries : List Recorded) (offers : List Offer) (background : List Background) (cycles : ℕ) (book : Contents)

@@ -1,4 +1,4 @@
--- What a talker that keeps its word offers is whole at each of its listeners in time, in every loose network.
+-- What a conforming talker offers arrives fully at each of its listeners in time, in every loose network.
 use Rattle.std.specs.Prelude.{ℕ, ◌≡◌, ◌+◌, ◌<◌, ◌≤◌, List, [], Contains}
 use Rattle.cqf_model.specs.declared.frames.Background.{Background}
 use Rattle.cqf_model.specs.declared.frames.Offer.{Offer}
@@ -22,8 +22,8 @@ use Rattle.cqf_laws_timing.specs.Verdicts.{InTime, sure_on}
 use Rattle.cqf_laws_timing.specs.Covered.{IsAtItsEdge}
 use Rattle.cqf_laws_timing.specs.Traffic.{Conforms, IsTraffic, Traffic, needed, offers_named}
 
--- the frame leaves on a link of this depth as many cycles after its own, and is whole at the link's end, by the clock there, within the
--- bounds that the list has for its stream: so within each deadline that surely holds there
+-- the frame leaves on a link of this hop number that many cycles after its own cycle, and arrives fully at the link's end, by the
+-- clock there, within the bounds that the list has for its stream: so within each deadline that is surely kept there
 pub record IsHeardInTime (d : Domain) (streams : List Asked) (asked : Asked) (net : Network) (heard : Carried) (x : Offered) (depth link : ℕ) : Type 0 where
   pub sent : Sent
   pub h : Sent
@@ -34,7 +34,7 @@ pub record IsHeardInTime (d : Domain) (streams : List Asked) (asked : Asked) (ne
   pub timely : IsTimely d link depth (most_beside_all d streams asked link) x.offer.at.0 (whole_at d link h)
   pub in_time : (deadline : ℕ) → sure_on d streams asked link depth deadline ≡ InTime → whole_at d link h ≤ x.offer.at.0 + deadline
 
--- the last link of a branch ends in its listener's station, and the frame is heard there in time, where the run lasts so long
+-- the last link of a branch ends in its listener's station, and the frame is heard there in time, if the run lasts long enough
 pub record ListenerHears (d : Domain) (streams : List Asked) (asked : Asked) (cycles : ℕ) (net : Network) (heard : Carried) (x : Offered)
     (branch : Branch) : Type 0 where
   pub bridges : ℕ
@@ -43,13 +43,14 @@ pub record ListenerHears (d : Domain) (streams : List Asked) (asked : Asked) (cy
   pub ends_at : EndsAtListener d branch bridges link station
   pub hears : offer_cycle d x + bridges < cycles → IsHeardInTime d streams asked net heard x bridges link
 
--- it leaves on each link of its row's tree, and is heard in time; and so it is at each listener of the row's stream in the list
+-- it leaves on each link of its row's tree and is heard in time, if the run lasts long enough, and so it is at each listener of the
+-- row's stream in the list
 pub record ComesThroughLoosely (d : Domain) (streams : List Asked) (cycles : ℕ) (net : Network) (heard : Carried) (x : Offered) (row : Row) : Type 0 where
   pub of_list : IsOfList d streams row
   pub hears : (depth link : ℕ) → IsHop row depth link → offer_cycle d x + depth < cycles → IsHeardInTime d streams of_list.asked net heard x depth link
   pub served : (branch : Branch) → Contains of_list.asked.paths branch → ListenerHears d streams of_list.asked cycles net heard x branch
 
--- so it is of what a talker offers that keeps its word, where as much is reserved in the frame's cycle as is needed, in each loose network
+-- this holds for what a conforming talker offers, if as much is reserved in the frame's cycle as is needed, in each loose network
 -- with the slack that the domain states
 abbrev pub LooseConformingIsInTime : Type 0
 LooseConformingIsInTime =
@@ -59,8 +60,8 @@ LooseConformingIsInTime =
     needed d.cycle_time t ≤ reserved_in row 0 (offer_cycle d x) → IsAtItsEdge (run_of_history d entries offers background cycles) x row →
     ComesThroughLoosely d streams cycles net heard x row
 
--- and where the list is a plan whose streams can all be admitted, the octets that the plan has for the stream are enough, and the plan's
--- listeners hear it in time
+-- and if the list is a plan whose streams can all be admitted, the octets that the plan has for the stream suffice, and the plan's
+-- listeners hear the frame in time
 abbrev pub LoosePlannedIsInTime : Type 0
 LoosePlannedIsInTime =
     (d : Domain) (streams : List Asked) (entries : List Recorded) (offers : List Offer) (background : List Background) (cycles : ℕ) (net : Network)

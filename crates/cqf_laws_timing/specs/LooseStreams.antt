@@ -1,4 +1,4 @@
--- How long frames take in a loose network whose history admits streams of a list alone: what `latency` tells of a plan.
+-- How long frames take in a loose network whose history admits only streams of a list: what `latency` reports for a plan.
 use Rattle.std.specs.Prelude.{ℕ, ◌≡◌, ◌+◌, ◌*◌, ◌≤◌, List, length, Contains}
 use Rattle.cqf_units.specs.Timing.{span_of}
 use Rattle.cqf_model.specs.declared.frames.Background.{Background}
@@ -17,7 +17,7 @@ use Rattle.cqf_laws_timing.specs.Streams.{AdmitsOnly, ArePaced, IsOfList, most_b
 use Rattle.cqf_laws_timing.specs.Verdicts.{IsAsSaid, sure_on}
 use Rattle.cqf_laws_loose.specs.LooseLaws.{IsLatencyAbout}
 
--- a loose network of a legal history, whatever is withdrawn and offered, and beside any background frames
+-- a loose network of a legal history, with any withdrawals and offers, beside any background frames
 pub record IsLooseHistory (d : Domain) (entries : List Recorded) (offers : List Offer) (background : List Background) (cycles : ℕ) (slack : Slack)
     (net : Network) (heard : Carried) : Type 0 where
   pub accepted : IsAccepted d
@@ -27,14 +27,14 @@ pub record IsLooseHistory (d : Domain) (entries : List Recorded) (offers : List 
   pub sealed : cycles ≤ seals entries
   pub loose : IsLooseNetwork (run_of_history d entries offers background cycles) slack net heard
 
--- a frame that a link sends, and what the node at the link's end has of it
+-- a frame that a link sends, and the same frame as the node at the link's end hears it
 pub record IsHeardOf (net : Network) (heard : Carried) (link : ℕ) (sent h : Sent) : Type 0 where
   pub is_sent : Contains (net.carried link) sent
   pub is_heard : Contains (heard link) h
   pub is_frame : h.frame ≡ sent.frame
 
--- in each loose network, with the slack that the domain states, each frame is timely by the most that the list costs in the cycles of
--- the frame's stream, from its offer by the edge bridge's clock to its being whole by the clock at the link's end
+-- in each loose network with the slack that the domain states, each frame is timely by the most that the list costs in the cycles
+-- of the frame's stream, from its offer by the edge bridge's clock to its full arrival by the clock at the link's end
 abbrev pub LooseHistoryIsTimely : Type 0
 LooseHistoryIsTimely =
     (d : Domain) (entries : List Recorded) (offers : List Offer) (background : List Background) (cycles : ℕ) (streams : List Asked) (net : Network)
@@ -44,7 +44,7 @@ LooseHistoryIsTimely =
     (of : IsOfList d streams shift.row)
     × IsTimely d link shift.depth (most_beside_all d streams of.asked link) shift.x.offer.at.0 (whole_at d link h)
 
--- so each is as the verdict says, whatever the deadline
+-- so each frame is as the verdict says, for any deadline
 abbrev pub LooseVerdictsHold : Type 0
 LooseVerdictsHold =
     (d : Domain) (entries : List Recorded) (offers : List Offer) (background : List Background) (cycles : ℕ) (streams : List Asked) (net : Network)
@@ -54,7 +54,8 @@ LooseVerdictsHold =
     (of : IsOfList d streams shift.row) × ((deadline : ℕ) →
     IsAsSaid shift.x.offer.at.0 (whole_at d link h) deadline (sure_on d streams of.asked link shift.depth deadline))
 
--- with any slack each frame is whole within the list's bounds and the slack; so within each deadline that is no less than the most
+-- with any slack, each frame arrives fully within the list's bounds and the slack, and so within each deadline that is at least the
+-- most
 pub record IsInTimeLoosely (d : Domain) (slack : Slack) (link depth cost at whole : ℕ) : Type 0 where
   pub about : IsLatencyAbout d slack link depth cost at whole
   pub in_time : (deadline : ℕ) →

@@ -1,4 +1,4 @@
--- What a list of streams costs, and histories that admit streams of a list alone.
+-- What a list of streams costs, and histories that admit only streams of a list.
 use Rattle.std.specs.Prelude.{true, fold, max, if◌then◌else◌}
 use Rattle.cqf_lists.specs.Lists.{each_below}
 use Rattle.cqf_model.specs.Limits.{most_every}
@@ -26,22 +26,22 @@ use Rattle.cqf_laws_timing.specs.Latency.{IsTimely, whole_of}
 abbrev pub cost_of_all : Domain → List Asked → ℕ → ℕ → ℕ
 cost_of_all d streams link cycle = sum_by (λ (asked : Asked). cost_on (granted_row d 0 0 asked) link cycle) streams
 
--- the most that it costs of the link in a cycle in which one of its streams has frames there
+-- the most that it costs of the link in a cycle in which frames of the requested stream use the link
 abbrev pub most_beside_all : Domain → List Asked → Asked → ℕ → ℕ
 most_beside_all d streams asked link =
     fold max 0
     (each_below (λ cycle. if uses (tree_of d asked.paths) (pace_of asked) link cycle then cost_of_all d streams link cycle ∷ [] else []) most_every)
 
--- each of them has a pace
+-- each request of the list has a valid pace
 abbrev pub ArePaced : List Asked → Type 0
 ArePaced streams = (asked : Asked) → Contains streams asked → is_pace asked.every asked.phase ≡ true
 
--- each stream that a history admits is one of the list. What is asked for and refused may be another
+-- each stream that a history admits is one of the list. A request that is refused may be for another stream
 abbrev pub AdmitsOnly : List Asked → List Recorded → Type 0
 AdmitsOnly streams entries = (e : Recorded) (asked : Asked) (receipt : Receipt) → Contains entries e → e.act ≡ Admits asked → e.reply ≡ Accepted receipt →
     Contains streams asked
 
--- an empty history does, and one that does goes on so with a call that asks for no other stream, whatever the answer
+-- this holds for an empty history, and still holds after one more call that requests no other stream, regardless of the reply
 abbrev pub NoneAdmitsOnly : Type 0
 NoneAdmitsOnly = (streams : List Asked) → AdmitsOnly streams []
 
@@ -58,7 +58,7 @@ pub record IsOfList (d : Domain) (streams : List Asked) (row : Row) : Type 0 whe
   pub pace : row.pace ≡ pace_of asked
   pub tree : row.tree.items ≡ tree_of d asked.paths
 
--- of such a history each row of a table is one of the list's
+-- in such a history, each row of a table is one of the list's
 abbrev pub RowsAreOfList : Type 0
 RowsAreOfList = (d : Domain) (entries : List Recorded) (streams : List Asked) (cycles cycle : ℕ) (row : Row) → AdmitsOnly streams entries →
     Contains (table_of (tables_of d entries cycles) cycle) row → IsOfList d streams row
@@ -68,7 +68,7 @@ abbrev pub TablesCostNoMore : Type 0
 TablesCostNoMore = (d : Domain) (entries : List Recorded) (streams : List Asked) (cycles cycle link turn : ℕ) → IsLegalHistory d entries →
     cycles ≤ seals entries → AdmitsOnly streams entries → link_cost (table_of (tables_of d entries cycles) cycle) link turn ≤ cost_of_all d streams link turn
 
--- the history with streams asked for in turn by seat 0, and that none of them is refused
+-- the history after seat 0 requests streams in turn, and that none of these requests is refused
 abbrev pub with_all : Domain → List Recorded → List Asked → List Recorded
 with_all d entries [] = entries
 with_all d entries (asked ∷ more) = with_all d (with_entry entries 0 (Admits asked) (reply_to d entries (Admits asked))) more
@@ -79,12 +79,12 @@ AreGranted d entries (asked ∷ more) =
     (refusal_of d (held_in d entries (seals entries)) asked ≡ None)
     × AreGranted d (with_entry entries 0 (Admits asked) (reply_to d entries (Admits asked))) more
 
--- where they are all admitted before cycle 0, what they cost is what the table of cycle 0 costs
+-- if they are all admitted before cycle 0, they cost what the table of cycle 0 costs
 abbrev pub ListCostsItsTable : Type 0
 ListCostsItsTable = (d : Domain) (streams : List Asked) (link turn : ℕ) → AreGranted d [] streams →
     link_cost (held_in d (with_all d [] streams) 0) link turn ≡ cost_of_all d streams link turn
 
--- and no two of them have one name: so the one of a name is the first of that name
+-- and no two of them have the same name, so the stream of a name is the first of that name
 abbrev pub AdmittedHaveNames : Type 0
 AdmittedHaveNames = (d : Domain) (streams : List Asked) → AreGranted d [] streams → AllPairs (λ (a b : Asked). a.name ≢ b.name) streams
 
@@ -92,8 +92,8 @@ abbrev pub OneOfAName : Type 0
 OneOfAName = (d : Domain) (streams : List Asked) (asked : Asked) → AreGranted d [] streams → Contains streams asked →
     find (λ (other : Asked). is_text other.name asked.name) streams ≡ Some asked
 
--- each start of a book of such a history is timely by the most that the list costs in the cycles of the start's stream, where each
--- stream of the list has a pace
+-- each start of a book of such a history is timely by the most that the list costs in the cycles of the start's stream, if each
+-- stream of the list has a valid pace
 abbrev pub HistoryIsTimely : Type 0
 HistoryIsTimely =
     (d : Domain) (entries : List Recorded) (offers : List Offer) (background : List Background) (cycles : ℕ) (book : Contents) (streams : List Asked) →

@@ -1,4 +1,4 @@
--- What is told of a plan's rows, and of which frames it holds.
+-- What is reported for a plan's rows, and for which frames it holds.
 use Rattle.std.specs.Prelude.{ℕ, ◌≡◌, List, [], Some, Contains, length, slice_get}
 use Rattle.cqf_model.specs.declared.frames.Background.{Background}
 use Rattle.cqf_model.specs.declared.frames.Offer.{Offer}
@@ -21,11 +21,11 @@ use Rattle.cqf_laws_timing.specs.LooseStreams.{IsHeardOf, IsLooseHistory}
 use Rattle.cqf_laws_timing.specs.Streams.{AdmitsOnly, AreGranted, with_all}
 use Rattle.cqf_laws_timing.specs.Verdicts.{IsAsSaid, sure_of}
 
--- the rows of a plan: those of cycle 0, where its streams are asked for in turn before it
+-- the rows of a plan: those of cycle 0, if the plan's streams are requested in turn before it
 abbrev pub planned_rows : Domain → List Asked → List Row
 planned_rows d streams = held_in d (with_all d [] streams) 0
 
--- the row is that of the stream of its number
+-- the row is that of the stream at the index of its number
 pub record IsPlanned (d : Domain) (streams : List Asked) (row : Row) : Type 0 where
   pub asked : Asked
   pub stands : slice_get streams row.no ≡ Some asked
@@ -34,30 +34,30 @@ pub record IsPlanned (d : Domain) (streams : List Asked) (row : Row) : Type 0 wh
   pub pace : row.pace ≡ pace_of asked
   pub tree : row.tree.items ≡ tree_of d asked.paths
 
--- where all streams of a plan are admitted, each row of it is
+-- if all streams of a plan are admitted, this holds for each row of the plan
 abbrev pub RowsArePlanned : Type 0
 RowsArePlanned = (d : Domain) (streams : List Asked) (row : Row) → AreGranted d [] streams → Contains (planned_rows d streams) row →
     IsPlanned d streams row
 
--- a row of the plan and one of a history that admits the plan's streams alone are of one stream, where they have one name
+-- a row of the plan and a row of a history that admits only the plan's streams are of the same stream if they have the same name
 abbrev pub NamesTellStreams : Type 0
 NamesTellStreams = (d : Domain) (streams : List Asked) (entries : List Recorded) (cycles cycle : ℕ) (told row : Row) → AreGranted d [] streams →
     AdmitsOnly streams entries → Contains (planned_rows d streams) told → Contains (table_of (tables_of d entries cycles) cycle) row →
     told.name ≡ row.name → SameStream told row
 
--- the most that a plan costs of a link in a cycle in which one of its rows' streams has frames there
+-- the most that a plan costs of a link in a cycle in which frames of this row's stream use the link
 abbrev pub told_cost : Domain → List Asked → Row → ℕ → ℕ
 told_cost d streams told link = most_beside (planned_rows d streams) told.tree.items told.pace link
 
--- a frame that is offered at an instant and whole at another is within the bounds that are told at the end of a hop of a row of the
--- plan, and as the verdict on any deadline says
+-- a frame that is offered at the instant `at` and has fully arrived at the instant `whole` is within the bounds that are reported
+-- at the end of a hop of a plan's row, and is as the verdict on any deadline says
 pub record IsAsToldAt (d : Domain) (streams : List Asked) (told : Row) (hop : Hop) (at whole : ℕ) : Type 0 where
   pub timely : IsTimely d hop.link hop.depth (told_cost d streams told hop.link) at whole
   pub verdict : (deadline : ℕ) → IsAsSaid at whole deadline
       (sure_of (least_of d hop.link hop.depth) (most_of d hop.link hop.depth (told_cost d streams told hop.link)) deadline)
 
--- what is told at the end of a hop of a row of the plan holds of each frame that the row's name is claimed for and that starts on
--- the hop's link, in the book of each history that admits the plan's streams alone, whatever is offered, and beside any background
+-- what is reported at the end of a hop of a plan's row holds for each frame that is offered under the row's name and starts on the
+-- hop's link, in the book of each history that admits only the plan's streams, with any offers, beside any background frames
 abbrev pub ToldHolds : Type 0
 ToldHolds =
     (d : Domain) (streams : List Asked) (entries : List Recorded) (offers : List Offer) (background : List Background) (cycles : ℕ) (book : Contents)
@@ -67,8 +67,8 @@ ToldHolds =
     (shift : InShift (run_of_history d entries offers background cycles) (length (tables_of d entries cycles)) s.frame s.link s.cycle.0) →
     shift.x.offer.stream ≡ told.name → IsAsToldAt d streams told hop shift.x.offer.at.0 (whole_of d s)
 
--- and of each such frame in every loose network of the history, with the slack that the domain states: from its offer by the edge
--- bridge's clock to its being whole by the clock at the link's end
+-- and it holds for each such frame in every loose network of the history, with the slack that the domain states: from its offer by
+-- the edge bridge's clock to its full arrival by the clock at the link's end
 abbrev pub LooseToldHolds : Type 0
 LooseToldHolds =
     (d : Domain) (streams : List Asked) (entries : List Recorded) (offers : List Offer) (background : List Background) (cycles : ℕ) (net : Network)

@@ -1,4 +1,4 @@
--- Whether frames keep a deadline, for sure.
+-- Whether frames surely keep a deadline.
 use Rattle.std.specs.Prelude.{ℕ, ◌≡◌, ◌+◌, ◌<◌, ◌≤◌, List, length, nat_le, nat_lt, if◌then◌else◌, Contains}
 use Rattle.cqf_model.specs.declared.frames.Background.{Background}
 use Rattle.cqf_model.specs.declared.frames.Offer.{Offer}
@@ -12,27 +12,27 @@ use Rattle.cqf_model.specs.Shift.{InShift}
 use Rattle.cqf_laws_timing.specs.Latency.{least_of, most_of, whole_of}
 use Rattle.cqf_laws_timing.specs.Streams.{AdmitsOnly, ArePaced, IsOfList, most_beside_all}
 
--- each frame keeps the deadline, each misses it, or one may
+-- each frame keeps the deadline, each misses it, or neither is sure
 pub data Sure : Type 0 where
   InTime : Sure
   Late : Sure
   MayBeLate : Sure
 
--- by the least and the most that a frame takes
+-- by the least and the most time that a frame takes
 abbrev pub sure_of : ℕ → ℕ → ℕ → Sure
 sure_of least most deadline = if nat_le most deadline then InTime else (if nat_lt deadline least then Late else MayBeLate)
 
--- for a stream and a link of this depth, where these streams are admitted
+-- for a stream and a link of this hop number, if these streams are admitted
 abbrev pub sure_on : Domain → List Asked → Asked → ℕ → ℕ → ℕ → Sure
 sure_on d streams asked link depth deadline =
     sure_of (least_of d link depth) (most_of d link depth (most_beside_all d streams asked link)) deadline
 
--- a frame that is offered at an instant and whole at another is as the verdict says
+-- a frame that is offered at the instant `at` and has fully arrived at the instant `whole` is as the verdict says
 pub record IsAsSaid (at whole deadline : ℕ) (sure : Sure) : Type 0 where
   pub in_time : sure ≡ InTime → whole ≤ at + deadline
   pub late : sure ≡ Late → at + deadline < whole
 
--- so is each start of a book of a history that admits streams of the list alone, whatever the deadline
+-- this holds for each start of a book of a history that admits only streams of the list, for any deadline
 abbrev pub VerdictsHold : Type 0
 VerdictsHold =
     (d : Domain) (entries : List Recorded) (offers : List Offer) (background : List Background) (cycles : ℕ) (book : Contents) (streams : List Asked) →

@@ -9,8 +9,10 @@ ghost use Rattle.cqf_laws_timing.specs.Streams.{ListCostsItsTable, NoneAdmitsOnl
 ghost use Rattle.cqf_laws_timing.specs.Streams.{TablesCostNoMore};
 ghost use Rattle.cqf_laws_timing.specs.Verdicts.{VerdictsHold};
 
-/// Each frame that a link sends is whole in the next node within what the streams cost that are held in the cycle of its
-/// start.
+/// Proves that each frame that a link sends has fully arrived in the next node within the cost of the streams that are held in the
+/// cycle of its start, or in the cycle in which it was queued. So the latency of each frame, and of each start of a book, is within
+/// its bounds. If the streams fit into the link's budget, the least bound is at most the greatest, and the greatest is less than
+/// one cycle more than the hop number.
 pub fn frames_are_timely()
     ensures whole { FramesAreWholeWithinHeld }
     ensures queued { FramesAreWholeWithinQueued }
@@ -27,9 +29,11 @@ pub fn frames_are_timely()
     cqf_laws_shift::gates_mean_the_shift();
 }
 
-/// Where each stream that a history admits is one of a list, each row of its tables is one of the list's, and no table costs
-/// more of a link than the whole list. A list that is admitted before cycle 0 costs just what the table of cycle 0 does
-/// 
+/// Proves that a list of streams bounds the costs of a history that admits only streams of the list: each row of its tables is one
+/// of the list's, and no table costs more of a link than the whole list.
+///
+/// An empty history admits only streams of the list, and this still holds after a call that requests no other stream. A list that is
+/// admitted before cycle 0 costs exactly what the table of cycle 0 costs, and the names of its streams differ.
 pub fn lists_bound_costs()
     ensures none { NoneAdmitsOnly }
     ensures more { AdmitsOnlyGoesOn }
@@ -43,8 +47,8 @@ pub fn lists_bound_costs()
     cqf_laws_history::state_follows_history();
 }
 
-/// So the frames of such a history take no less than the least and no more than the most that is told of the list, and the
-/// verdicts on deadlines hold.
+/// Proves that the frames of such a history take no less than the least and no more than the most that is reported for the list,
+/// and that the verdicts on deadlines hold.
 pub fn lists_bound_latencies()
     ensures timely { HistoryIsTimely }
     ensures verdicts { VerdictsHold }
@@ -58,9 +62,9 @@ pub fn lists_bound_latencies()
     cqf_laws_history::tables_are_orderly();
 }
 
-/// In every loose network of the history too: whatever clocks and delays do within what the domain states, frames take no less than the
-/// least and no more than the most that is told of the list, and the verdicts on deadlines hold. With any other slack they take no less
-/// and no more than the list's bounds, but for that.
+/// Proves the same for every loose network of the history. For any clocks and delays within what the domain states, frames take no
+/// less than the least and no more than the most that is reported for the list, and the verdicts on deadlines hold. With any other
+/// slack with which the domain is accepted, frames arrive within the list's bounds and that slack.
 pub fn loose_history_is_timely()
     ensures timely { LooseHistoryIsTimely }
     ensures verdicts { LooseVerdictsHold }
@@ -70,8 +74,8 @@ pub fn loose_history_is_timely()
     cqf_laws_loose::loose_frames_are_timely();
 }
 
-/// A branch of a request that isn't refused ends by a link of the request's tree in its listener's station, and that link is as
-/// deep as bridges are on the way.
+/// Proves that a branch of a request that isn't refused ends, by a link of the request's tree, in its listener's station, and that
+/// the hop number of that link is the number of bridges on the path.
 pub fn branches_end_at_listeners()
     ensures ends { BranchesEnd }
     ensures depths { DepthsAreBridges }

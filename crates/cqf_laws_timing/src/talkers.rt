@@ -1,11 +1,11 @@
-//! Laws about talkers that keep their word: what they send of a stream is covered, and in time.
+//! Laws about conforming talkers: what they send of a stream is covered, and in time.
 ghost use Rattle.cqf_laws_timing.specs.Covered.{ConformingOwnIsCovered, ConformingStreamGoesOn, ConformingStreamIsCovered};
 ghost use Rattle.cqf_laws_timing.specs.InTime.{ConformingOwnIsInTime, ConformingStreamIsInTime, PlannedStreamIsInTime};
 ghost use Rattle.cqf_laws_timing.specs.LooseInTime.{LooseConformingIsInTime, LoosePlannedIsInTime};
 ghost use Rattle.cqf_laws_timing.specs.Traffic.{BlocksConform, ConformingOffersFitACycle, NeededIsReached, SkippingConforms};
 
-/// What a cycle can hold of a stream whose talker keeps its word is no more than is needed, and may be as much. A talker that
-/// leaves out some of its frames keeps its word still (after IEEE Std 802.1Q-2018, 46.2.3.5).
+/// Proves that a cycle can hold no more of a conforming talker's stream than is needed, and that it can hold as much. A talker that
+/// leaves out some of its frames still conforms (after IEEE Std 802.1Q-2018, 46.2.3.5).
 pub fn conforming_offers_fit_a_cycle()
     ensures fits { ConformingOffersFitACycle }
     ensures skips { SkippingConforms }
@@ -13,8 +13,8 @@ pub fn conforming_offers_fit_a_cycle()
     ensures reached { NeededIsReached }
 {}
 
-/// So a row with as much as is needed covers each offer of a talker that keeps its word, at its first bridge while it is live
-/// 
+/// Proves that a row that reserves as much as is needed covers each offer of a conforming talker that is made at the stream's first
+/// bridge while the stream is live.
 pub fn conforming_stream_is_covered()
     ensures named { ConformingStreamIsCovered }
     ensures own { ConformingOwnIsCovered }
@@ -23,10 +23,12 @@ pub fn conforming_stream_is_covered()
     cqf_laws_shift::edge_is_covered();
 }
 
-/// So a talker that keeps its word loses nothing: in each run that admits streams of a list alone, whatever is withdrawn and
-/// offered by others, and beside any background frames, each frame that it offers of a stream while that is live is whole at
-/// each of the stream's listeners no sooner than the least and no later than the most that is told of the list, and so within its
-/// deadline, if that is surely kept and the run lasts long enough.
+/// Proves that a conforming talker loses nothing, in each run that admits only streams of a list, regardless of withdrawals, of
+/// other offers and of background frames.
+///
+/// If its row reserves as much as is needed in the frame's cycle, each frame that it offers at the stream's first bridge while the
+/// stream is live arrives fully at each of the stream's listeners, no sooner than the least and no later than the most that is
+/// reported for the list, if the run lasts long enough. So it arrives within each deadline that is surely kept there.
 pub fn conforming_stream_is_in_time()
     ensures named { ConformingStreamIsInTime }
     ensures own { ConformingOwnIsInTime }
@@ -38,10 +40,13 @@ pub fn conforming_stream_is_in_time()
     crate::branches_end_at_listeners();
 }
 
-/// So it is in every loose network, whatever clocks and delays do within what the domain states, and whatever is withdrawn and offered under
-/// other names. If all offers of a stream's name keep its talker's word, each of them that is made while the stream is live leaves on each
-/// link of its tree in its cycle, and is whole at each listener, by the clock there, within the least and the most that is told of the list,
-/// and so within its deadline, if that is surely kept and the run lasts long enough.
+/// Proves the same for every loose network, for any clocks and delays within what the domain states, regardless of withdrawals and
+/// of offers under other names.
+///
+/// If all offers of a stream's name conform and its row reserves as much as is needed, each of them that is made at the stream's
+/// first bridge while the stream is live leaves on each link of its tree in its cycle. It arrives fully at each listener, by the
+/// clock there, within the least and the most that is reported for the list, if the run lasts long enough. So it arrives within
+/// each deadline that is surely kept there.
 pub fn conforming_stream_is_heard_in_time()
     ensures named { LooseConformingIsInTime }
     ensures planned { LoosePlannedIsInTime }

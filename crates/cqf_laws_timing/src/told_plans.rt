@@ -1,18 +1,19 @@
-//! Laws about what is told of a plan's streams: it holds of the frames of each.
+//! Laws about what is reported for a plan's streams: it holds for the frames of each stream.
 ghost use Rattle.cqf_laws_timing.specs.Asking.{CallsAdmitOnly, SeatsAdmitOnly};
 ghost use Rattle.cqf_laws_timing.specs.Told.{LooseToldHolds, NamesTellStreams, RowsArePlanned, ToldHolds};
 
-/// Calls that ask for streams of a list alone make a history that admits those alone: made one after the other, and at seats,
-/// however the seats' calls and the Seals fall together.
+/// Proves that calls that request only streams of a list make a history that admits only these streams: calls made one after the
+/// other, and calls at seats, in any interleaving of the seats' calls and the Seals.
 pub fn histories_admit_only()
     ensures calls { CallsAdmitOnly }
     ensures seats { SeatsAdmitOnly }
 {}
 
-/// What is told of a listener's hop of a plan's row holds of each frame of that row's stream, in every history that admits streams
-/// of the plan alone: the row has the number of its stream, a row of its name in the history is of the same stream, and a start on
-/// the hop's link is as the verdict on any deadline says. It holds in every loose network too, with the slack that the domain states
-/// 
+/// Proves that what is reported for a hop of a plan's row holds for each frame of that row's stream, in every history that admits
+/// only streams of the plan.
+///
+/// The row is that of the stream at its number. A row of the same name in the history is of the same stream. A start on the hop's
+/// link is as the verdict on any deadline says. This holds in every loose network too, with the slack that the domain states.
 pub fn told_of_streams_holds()
     ensures planned { RowsArePlanned }
     ensures names { NamesTellStreams }

@@ -1,4 +1,4 @@
--- The groups of the hops so far are laid.
+-- The groups of the hops so far are appended.
 use Rattle.cqf_instants.specs.LaidTrees.{AreBehind}
 use Rattle.cqf_instants.proofs.laying.lay_groups.Given as goal
 

@@ -1,4 +1,4 @@
--- The starts of the cycles told are gathered, of each run that the basis is of.
+-- The starts of the computed cycles are gathered, in each run with this basis.
 use Rattle.std.proofs.Common.{◌≡◌, ◌-◌}
 use Rattle.cqf_model.specs.Book.{starts_of}
 use Rattle.cqf_instants.specs.Meaning.{Given}

@@ -1,4 +1,4 @@
--- These are the frames of the links so far, and few each.
+-- This is the number of frames of the links so far, and each link has few.
 use Rattle.std.proofs.Common.{◌≡◌, ◌*◌, ◌^◌, ◌≤◌}
 use Rattle.cqf_instants.specs.Lanes.{sum_below}
 use Rattle.cqf_instants.specs.Telling.{room_at}
