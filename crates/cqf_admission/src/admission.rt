@@ -49,7 +49,7 @@ impl Model for Admission {
 }
 
 impl Admission {
-    /// An admission for a domain, with an empty history.
+    /// Returns an admission for a domain, with an empty history.
     pub fn new(alloc: Global, domain: &Domain) -> Result<Admission, Memory>
         ensures domain { IfOk result (λ a. a.domain ≡ domain.now) }
         ensures begins { IfOk result (λ a. a.entries ≡ []) }
@@ -63,7 +63,7 @@ impl Admission {
         })
     }
 
-    /// The domain whose links are shared out.
+    /// Returns the domain whose links are shared out.
     pub fn domain(&self) -> &Domain
         ensures { result.now ≡ self.now.domain }
     {
@@ -107,7 +107,7 @@ impl Admission {
         Ok((self.history, rows))
     }
 
-    /// The next cycle to be closed to changes: the number of Seals so far. A call has its effect from this cycle on.
+    /// Returns the next cycle to be closed to changes: the number of Seals so far. A call has its effect from this cycle on.
     pub fn next_cycle(&self) -> Cycle
         ensures { result.0 ≡ seals self.now.entries }
     {
@@ -263,7 +263,7 @@ impl Admission {
         self.state.left_at(&self.domain, hop, pace)
     }
 
-    /// The same admission again, unless memory runs out.
+    /// Returns the same admission again, unless memory runs out.
     pub fn try_copy(&self, alloc: Global) -> Result<Admission, Memory>
         ensures { IfOk result (λ copy. copy ≡ self.now) }
     {

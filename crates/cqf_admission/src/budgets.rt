@@ -5,7 +5,7 @@ ghost use Rattle.cqf_model.specs.Domain.{budget, guard_of};
 use cqf_topology::Domain;
 use cqf_units::{Nanos, Octets, budget};
 
-/// The guard time of a link of the domain: its own, where it has one, else the domain's.
+/// Returns the guard time of a link of the domain: its own, where it has one, else the domain's.
 pub fn guard_on(domain: &Domain, link: u16) -> Nanos
     requires { link < length domain.now.links }
     ensures value { result.0 ≡ guard_of domain.now link }

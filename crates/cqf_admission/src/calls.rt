@@ -68,7 +68,7 @@ fn seats_up_to(line: &[u8]) -> u16
     }
 }
 
-/// The number of administrators of a script: one more than the greatest number whose order a line is, or 0 where there is
+/// Returns the number of administrators of a script: one more than the greatest number whose order a line is, or 0 where there is
 /// none. It is the seat of the Seals.
 pub fn administrators(text: &[u8]) -> u16
     ensures { result ≡ administrators (lines_of text.now) }
@@ -82,7 +82,7 @@ pub fn administrators(text: &[u8]) -> u16
     most
 }
 
-/// The order on a line that ends at this place of the script's text.
+/// Returns the order on a line that ends at this place of the script's text.
 fn place_order(
     names: &Names<'_>,
     place: ScriptPlace,
@@ -119,7 +119,7 @@ fn place_order(
     })
 }
 
-/// The Seal of a line.
+/// Returns the Seal of a line.
 fn place_seal(seat: u16, cycles: u32, place: ScriptPlace) -> Result<Ordered, ScriptFault>
     ensures value { (requests : List Asked) (text : List ℕ) →
         Gives ScriptFault.Memory (ordered_in requests text) result (call_of_seal seat cycles place.line place.sealed) }
@@ -134,7 +134,7 @@ fn place_seal(seat: u16, cycles: u32, place: ScriptPlace) -> Result<Ordered, Scr
     })
 }
 
-/// The order of a line that ends at this place of the script's text.
+/// Returns the order of a line that ends at this place of the script's text.
 fn place_line(
     names: &Names<'_>,
     seat: u16,
@@ -159,7 +159,7 @@ fn place_line(
     }
 }
 
-/// The orders of a script for so many cycles, where these streams may be admitted: the calls of [`read_script`], each by
+/// Returns the orders of a script for so many cycles, where these streams may be admitted: the calls of [`read_script`], each by
 /// where what it names stands, among the requests or in the text, with no copy of it.
 ///
 /// # Errors
@@ -228,7 +228,7 @@ fn note(asked: &mut [bool], place: usize) {
     }
 }
 
-/// Whether it was noted so.
+/// Returns whether it was noted so.
 fn is_noted(asked: &[bool], place: usize) -> bool {
     match asked.get(place) {
         Some(noted) => *noted,
@@ -236,7 +236,7 @@ fn is_noted(asked: &[bool], place: usize) -> bool {
     }
 }
 
-/// A copy of a request that calls for its stream can share, looked over for a domain where it is asked for.
+/// Returns a copy of a request that calls for its stream can share, looked over for a domain where it is asked for.
 fn copy_for(
     alloc: Global,
     domain: &Arc<Domain>,
@@ -287,7 +287,7 @@ fn all_copies(
     }
 }
 
-/// The call that is ordered, with a share of its request or a copy of its name.
+/// Returns the call that is ordered, with a share of its request or a copy of its name.
 fn call_of(
     alloc: Global,
     text: &[u8],
@@ -307,7 +307,7 @@ fn call_of(
     Ok((order.seat, call))
 }
 
-/// The calls that are ordered, as [`calls_of`] gives them, where a domain is given.
+/// Returns the calls that are ordered, as [`calls_of`] gives them, where a domain is given.
 fn calls_by(
     alloc: Global,
     domain: Option<&Domain>,
@@ -327,9 +327,9 @@ fn calls_by(
     Ok(calls)
 }
 
-/// The calls that are ordered, each with its seat, and with a share of its request or a copy of its name. What the orders name stands
-/// among these requests, each of which is copied once, and in this text. Each request that is asked for is looked over once, for the domain
-/// in which it will be. The time grows with the orders, with what is copied, and with what these looks take.
+/// Returns the calls that are ordered, each with its seat, and with a share of its request or a copy of its name. What the orders name
+/// stands among these requests, each of which is copied once, and in this text. Each request that is asked for is looked over once, for
+/// the domain in which it will be. The time grows with the orders, with what is copied, and with what these looks take.
 ///
 /// # Errors
 /// Where a growth is refused.
@@ -357,7 +357,7 @@ fn all_in_each_cycle(alloc: Global, requests: &[Request]) -> Result<Vec<PacedReq
     Ok(copies)
 }
 
-/// The calls of a script, as [`read_script`] gives them, where streams may be admitted that are offered in some cycles.
+/// Returns the calls of a script, as [`read_script`] gives them, where streams may be admitted that are offered in some cycles.
 ///
 /// # Errors
 /// Those of [`read_script`].
@@ -376,7 +376,7 @@ pub fn read_paced_script(
     Ok(calls)
 }
 
-/// The same call, for a stream that is offered in each cycle by a request without a pace, unless memory runs out.
+/// Returns the same call, for a stream that is offered in each cycle by a request without a pace, unless memory runs out.
 fn plain_call(alloc: Global, call: Call) -> Result<Call, Memory>
     ensures { IfOk result (λ plain. act_of plain ≡ act_of call) }
 {
@@ -393,7 +393,7 @@ fn plain_call(alloc: Global, call: Call) -> Result<Call, Memory>
     }
 }
 
-/// The same calls, so.
+/// Returns the same calls, so.
 fn plain_calls(alloc: Global, calls: Vec<(u16, Call)>) -> Result<Vec<(u16, Call)>, Memory>
     ensures { IfOk result (λ plain. map called_of plain.items ≡ map called_of calls.items) }
 {
@@ -404,7 +404,7 @@ fn plain_calls(alloc: Global, calls: Vec<(u16, Call)>) -> Result<Vec<(u16, Call)
     Ok(plain)
 }
 
-/// The calls of a script for so many cycles, with the seat of each, where these streams may be admitted.
+/// Returns the calls of a script for so many cycles, with the seat of each, where these streams may be admitted.
 ///
 /// Each line is `N admit NAME`, `N withdraw NAME` or `seal`, with single spaces: `N` is one digit from 0 to 7, the
 /// administrator, who is the call's seat, and `NAME` is 1 to 64 bytes from 0x21 to 0x7E. `admit` means the first request of

@@ -50,7 +50,7 @@ pub enum SealFault {
     /// 100,000 cycles were closed.
     #[error("CyclesSpent")]
     CyclesSpent,
-    /// A growth was refused.
+    /// An allocation failed.
     #[error("Memory")]
     Memory,
 }
@@ -65,7 +65,7 @@ impl From<Memory> for SealFault {
     }
 }
 
-/// The answer in an entry of a request or a withdrawal.
+/// Returns the answer in an entry of a request or a withdrawal.
 pub(crate) fn reply_of(answer: Result<Receipt, Refused>) -> Reply
     ensures { result ≡ reply_of answer }
 {
@@ -83,7 +83,7 @@ pub(crate) fn enter(history: &mut Vec<Entry>, seat: u16, call: Call, reply: Repl
     history.push(Entry { seat, call, reply }).unwrap();
 }
 
-/// The same call again, unless memory runs out.
+/// Returns the same call again, unless memory runs out.
 fn copied_call(alloc: Global, call: &Call) -> Result<Call, Memory>
     ensures { IfOk result (λ copy. act_of copy ≡ act_of call.now) }
 {
@@ -95,7 +95,7 @@ fn copied_call(alloc: Global, call: &Call) -> Result<Call, Memory>
     }
 }
 
-/// The same entry again, unless memory runs out.
+/// Returns the same entry again, unless memory runs out.
 fn copied_entry(alloc: Global, entry: &Entry) -> Result<Entry, Memory>
     ensures { IfOk result (λ copy. recorded_of copy ≡ recorded_of entry.now) }
 {
@@ -106,7 +106,7 @@ fn copied_entry(alloc: Global, entry: &Entry) -> Result<Entry, Memory>
     })
 }
 
-/// The same entries again, unless memory runs out.
+/// Returns the same entries again, unless memory runs out.
 pub(crate) fn copied_entries(alloc: Global, entries: &[Entry]) -> Result<Vec<Entry>, Memory>
     ensures { IfOk result (λ copies. map recorded_of copies.items ≡ map recorded_of entries.now) }
 {

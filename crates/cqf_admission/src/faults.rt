@@ -18,7 +18,7 @@ pub enum ScriptFault {
     UnknownStream(u64),
     /// The line makes more `seal` lines than cycles, or more than 100,000 others.
     TooMany(u64),
-    /// A growth was refused.
+    /// An allocation failed.
     Memory,
 }
 
@@ -35,7 +35,7 @@ impl fmt::Display for ScriptFault {
     }
 }
 
-/// Want of memory, as a fault.
+/// Converts a failed allocation into a fault.
 impl From<Memory> for ScriptFault {
     ghost use Rattle.cqf_admission.specs.declared.faults.ScriptFault.TheVariants as variant;
 
@@ -46,7 +46,7 @@ impl From<Memory> for ScriptFault {
     }
 }
 
-/// Want of room for a value, likewise.
+/// Converts a failed allocation for a value likewise.
 impl<T: Drop> From<AllocFailed<T>> for ScriptFault {
     ghost use Rattle.cqf_admission.specs.declared.faults.ScriptFault.TheVariants as variant;
 

@@ -50,7 +50,7 @@ impl Model for Holdings {
     ghost invariant = { λ h. HaveFigures (map standing_of h.rows.items) (held_under h.by_name) h.held.items h.sums };
 }
 
-/// The row that was shared, unless memory runs out.
+/// Returns the row that was shared, unless memory runs out.
 fn own_row(alloc: Global, shared: Arc<Row>) -> Result<Row, Memory>
     ensures { IfOk result (λ row. row ≡ arc_value shared) }
 {
@@ -60,7 +60,7 @@ fn own_row(alloc: Global, shared: Arc<Row>) -> Result<Row, Memory>
     }
 }
 
-/// The same streams again, each row shared, unless memory runs out.
+/// Returns the same streams again, each row shared, unless memory runs out.
 fn copied_stands(alloc: Global, stands: &[Stand]) -> Result<Vec<Stand>, Memory>
     ensures { IfOk result (λ copies. map standing_of copies.items ≡ map standing_of stands.now) }
 {
@@ -112,7 +112,7 @@ impl Holdings {
         })
     }
 
-    /// The stream that is held under a name.
+    /// Returns the stream that is held under a name.
     pub(crate) fn holder(&self, name: &Name) -> Option<u32>
         ensures { MatchOption result (IsFree self.now.rows name.now) (IsHolder self.now.rows name.now) }
     {
@@ -127,7 +127,7 @@ impl Holdings {
         self.rows.len() as u32
     }
 
-    /// The row of the stream of a number.
+    /// Returns the row of the stream of a number.
     pub(crate) fn row(&self, number: u32) -> &Row
         requires { number < length self.now.rows }
         ensures { (d : Standing) → (slice_index_or self.now.rows number d).row ≡ result.now }
@@ -143,7 +143,7 @@ impl Holdings {
         self.held.len()
     }
 
-    /// The most that the held streams cost of a link in a cycle.
+    /// Returns the most that the held streams cost of a link in a cycle.
     pub(crate) fn most_of(&self, link: u16) -> u64
         requires { link < self.now.links }
         ensures { result ≡ held_most self.now.rows link }
@@ -152,7 +152,7 @@ impl Holdings {
         self.sums.most_of(link)
     }
 
-    /// The most that they cost of a hop's link in a cycle in which frames of this pace go by it.
+    /// Returns the most that they cost of a hop's link in a cycle in which frames of this pace go by it.
     pub(crate) fn most_at(&self, hop: &Hop, pace: Pace) -> u64
         requires inside { hop.now.link < self.now.links }
         requires good { IsGoodPace pace }
@@ -219,7 +219,7 @@ impl Holdings {
         self.rows[place].held = false;
     }
 
-    /// The rows of the streams that are held, by number, each shared, unless memory runs out.
+    /// Returns the rows of the streams that are held, by number, each shared, unless memory runs out.
     pub(crate) fn held_rows(&self, alloc: Global) -> Result<Vec<Arc<Row>>, Memory>
         ensures { IfOk result (λ rows. map (λ row. arc_value row) rows.items ≡ map (λ (stand : Standing). stand.row) (filter (λ (stand : Standing). stand.held) self.now.rows)) }
     {
@@ -231,7 +231,7 @@ impl Holdings {
         Ok(rows)
     }
 
-    /// The same streams again, unless memory runs out. The two share their rows.
+    /// Returns the same streams again, unless memory runs out. The two share their rows.
     pub(crate) fn try_copy(&self, alloc: Global) -> Result<Holdings, Memory>
         ensures rows { IfOk result (λ copy. copy.rows ≡ self.now.rows) }
         ensures links { IfOk result (λ copy. copy.links ≡ self.now.links) }
@@ -244,7 +244,7 @@ impl Holdings {
         })
     }
 
-    /// The rows of the streams, by number, unless memory runs out.
+    /// Returns the rows of the streams, by number, unless memory runs out.
     pub(crate) fn into_rows(self, alloc: Global) -> Result<Vec<Row>, Memory>
         ensures { IfOk result (λ rows. rows.items ≡ map (λ (stand : Standing). stand.row) self.rows) }
     {

@@ -24,7 +24,7 @@ pub struct JudgedRequest {
 }
 
 impl JudgedRequest {
-    /// The request of good form that has this row, whatever its number and its cycles.
+    /// Returns the request of good form that has this row, whatever its number and its cycles.
     pub(crate) fn of_row(row: &Row) -> JudgedRequest
         requires { row.now.octets ≤ most_reserved }
         ensures { IsJudgedOf row.now result }
@@ -37,7 +37,7 @@ impl JudgedRequest {
         }
     }
 
-    /// The row of the stream, which reserves so many octets, of a number and from a cycle on, unless memory runs out.
+    /// Returns the row of the stream, which reserves so many octets, of a number and from a cycle on, unless memory runs out.
     pub fn into_row(
         self,
         alloc: Global,
@@ -59,7 +59,7 @@ impl JudgedRequest {
     }
 }
 
-/// The pace of a stream that is offered in one of so many cycles, of which this is the first, where there is one.
+/// Returns the pace of a stream that is offered in one of so many cycles, of which this is the first, where there is one.
 fn pace_of(every: u32, phase: u32) -> Option<Pace>
     ensures { MatchOption result (is_pace every phase ≡ false) (IsPaceOf every phase) }
 {

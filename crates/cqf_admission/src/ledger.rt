@@ -62,7 +62,7 @@ impl<'s> Model for Ledger<'s> {
 }
 
 impl<'s> Ledger<'s> {
-    /// A ledger for a domain, over these requests and a script's text, with an empty log.
+    /// Returns a ledger for a domain, over these requests and a script's text, with an empty log.
     ///
     /// # Errors
     /// Where a growth is refused.
@@ -121,7 +121,7 @@ impl<'s> Ledger<'s> {
         Ok((self.log, rows))
     }
 
-    /// The next cycle to be closed to changes: the number of Seals so far. A call has its effect from this cycle on.
+    /// Returns the next cycle to be closed to changes: the number of Seals so far. A call has its effect from this cycle on.
     pub fn next_cycle(&self) -> Cycle
         ensures { result.0 ≡ seals self.now.administration.entries }
     {

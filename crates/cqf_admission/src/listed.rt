@@ -34,7 +34,7 @@ impl Model for ListedRows {
     ghost invariant = { λ l. AreNumbered (arc_value l.numbers) l.numbered (map (λ row. arc_value row) l.rows.items) };
 }
 
-/// The row of a name, if one of them has it.
+/// Returns the row of a name, if one of them has it.
 fn find_named<'a>(rows: &'a [Arc<Row>], name: &Name) -> Option<&'a Row>
     ensures { option_copied result ≡ row_named (map (λ row. arc_value row) rows.now) name.now }
 {
@@ -46,14 +46,14 @@ fn find_named<'a>(rows: &'a [Arc<Row>], name: &Name) -> Option<&'a Row>
     None
 }
 
-/// Whether a row's stream has the name.
+/// Returns whether a row's stream has the name.
 fn is_named(row: &Row, name: &Name) -> bool
     ensures { result ≡ is_text row.now.name name.now }
 {
     row.name == *name
 }
 
-/// The row that stands at the place of its number, as each does while no stream has gone.
+/// Returns the row that stands at the place of its number, as each does while no stream has gone.
 fn row_in_place(rows: &[Arc<Row>], no: u32) -> Option<&Row>
     requires { AreInOrder (map (λ row. arc_value row) rows.now) }
     ensures { IfSome result (λ row. row_of (map (λ row. arc_value row) rows.now) no ≡ Some row.now) }
@@ -76,7 +76,7 @@ fn row_with_number(rows: &[Arc<Row>], no: u32) -> Option<&Row>
     }
 }
 
-/// The row of a name whose number is known, where both lead to one row.
+/// Returns the row of a name whose number is known, where both lead to one row.
 fn find_numbered<'a>(rows: &'a [Arc<Row>], numbers: &Numbers, name: &Name) -> Option<&'a Row>
     requires { AreInOrder (map (λ row. arc_value row) rows.now) }
     ensures { option_copied result ≡ row_numbered (map (λ row. arc_value row) rows.now) numbers.now name.now }
@@ -99,14 +99,14 @@ impl ListedRows {
         }
     }
 
-    /// The rows.
+    /// Returns the rows.
     pub(crate) fn rows(&self) -> &[Arc<Row>]
         ensures { map (λ row. arc_value row) result.now ≡ self.now }
     {
         self.rows.as_slice()
     }
 
-    /// The row whose stream has the name, where the rows stand in order.
+    /// Returns the row whose stream has the name, where the rows stand in order.
     pub(crate) fn row_named(&self, name: &Name) -> Option<&Row>
         requires { AreInOrder self.now }
         ensures { option_copied result ≡ row_named self.now name.now }
@@ -118,7 +118,7 @@ impl ListedRows {
         }
     }
 
-    /// The row whose stream has the number, where the rows stand in order.
+    /// Returns the row whose stream has the number, where the rows stand in order.
     pub(crate) fn row_of(&self, no: u32) -> Option<&Row>
         requires { AreInOrder self.now }
         ensures { option_copied result ≡ row_of self.now no }

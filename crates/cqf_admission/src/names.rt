@@ -29,7 +29,7 @@ impl<'r> Model for Names<'r> {
 }
 
 impl<'r> Names<'r> {
-    /// The names of these requests, each looked at once.
+    /// Returns the names of these requests, each looked at once.
     ///
     /// # Errors
     /// Where a growth is refused.

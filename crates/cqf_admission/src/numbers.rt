@@ -33,7 +33,7 @@ impl Numbers {
         }
     }
 
-    /// The numbers of rows, no two of one name, by their names, unless memory runs out.
+    /// Returns the numbers of rows, no two of one name, by their names, unless memory runs out.
     pub(crate) fn new(alloc: Global, rows: &[Arc<Row>]) -> Result<Numbers, Memory>
         requires { AllPairs (λ (a b : ARow). a.name ≢ b.name) (map (λ row. arc_value row) rows.now) }
         ensures { IfOk result (λ list. AreNumbered list (length rows.now) (map (λ row. arc_value row) rows.now)) }
@@ -45,7 +45,7 @@ impl Numbers {
         Ok(Numbers { numbers })
     }
 
-    /// The number of the stream of a name, where the name is listed.
+    /// Returns the number of the stream of a name, where the name is listed.
     pub(crate) fn number_of(&self, name: &Name) -> Option<u32>
         ensures { result ≡ number_in self.now name.now }
     {

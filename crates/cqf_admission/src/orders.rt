@@ -22,7 +22,7 @@ pub struct Ordered {
     pub what: What,
 }
 
-/// The word of so many octets from a place of a script's text on.
+/// Returns the word of so many octets from a place of a script's text on.
 pub fn word_of(script: &[u8], from: usize, octets: u8) -> &str
     requires inside { from + octets ≤ length script.now }
     requires text { IsUtf8 (word_at script.now from octets) }

@@ -45,7 +45,7 @@ impl Model for SharedRequest {
     ghost invariant = { λ s. IsFoundOf s.request s.found };
 }
 
-/// Whether a request has so few names that it is looked over sooner than domains are compared.
+/// Returns whether a request has so few names that it is looked over sooner than domains are compared.
 fn is_short(domain: &Domain, request: &PacedRequest) -> bool {
     let nodes = usize::from(domain.bridges()) + usize::from(domain.stations());
     match count_places(request.paths.as_slice()) {
@@ -54,7 +54,7 @@ fn is_short(domain: &Domain, request: &PacedRequest) -> bool {
     }
 }
 
-/// Whether two lists have the same octets.
+/// Returns whether two lists have the same octets.
 fn is_same_text(one: &[u8], other: &[u8]) -> bool
     ensures { (result ≡ true) ↔ (one.now ≡ other.now) }
 {
@@ -62,7 +62,7 @@ fn is_same_text(one: &[u8], other: &[u8]) -> bool
 }
 
 impl SharedRequest {
-    /// A request that wasn't looked over: each call does so.
+    /// Returns a request that wasn't looked over: each call does so.
     pub fn new(request: PacedRequest) -> SharedRequest
         ensures { result ≡ request }
     {
@@ -72,7 +72,7 @@ impl SharedRequest {
         }
     }
 
-    /// A request that was looked over for a domain.
+    /// Returns a request that was looked over for a domain.
     ///
     /// # Errors
     /// Where a growth is refused, or no `usize` can count the places of its branches.
@@ -93,14 +93,14 @@ impl SharedRequest {
         })
     }
 
-    /// The request.
+    /// Returns the request.
     pub fn request(&self) -> &PacedRequest
         ensures { result.now ≡ self.now }
     {
         &self.request
     }
 
-    /// The branches in one list, where the request was looked over.
+    /// Returns the branches in one list, where the request was looked over.
     fn text(&self) -> Option<&[u8]>
         ensures { IfSome result (λ text. text.now ≡ spelled (branches_of self.now.paths.items)) }
     {
@@ -110,7 +110,7 @@ impl SharedRequest {
         Some(found.text.as_slice())
     }
 
-    /// Whether another request has the same branches, where both were looked over: they aren't compared name by name.
+    /// Returns whether another request has the same branches, where both were looked over: they aren't compared name by name.
     pub fn has_same_branches(&self, other: &SharedRequest) -> Option<bool>
         ensures { IfSome result (λ same. (same ≡ true) ↔ (branches_of self.now.paths.items ≡ branches_of other.now.paths.items)) }
     {
@@ -156,7 +156,7 @@ impl SharedRequest {
     }
 }
 
-/// A copy of a request that calls for its stream can share, unless memory runs out.
+/// Returns a copy of a request that calls for its stream can share, unless memory runs out.
 pub(crate) fn shared_request(
     alloc: Global,
     request: &PacedRequest,
@@ -168,7 +168,7 @@ pub(crate) fn shared_request(
     Ok(shared)
 }
 
-/// A copy likewise, that was looked over for a domain.
+/// Returns a copy likewise, that was looked over for a domain.
 ///
 /// # Errors
 /// As [`SharedRequest::judged`].

@@ -8,7 +8,7 @@ use cqf_units::Memory;
 use std::alloc::Global;
 use std::marker::Model;
 
-/// The slot of the cycle in which a stream ends that is withdrawn from a cycle on and held on for so many.
+/// Returns the slot of the cycle in which a stream ends that is withdrawn from a cycle on and held on for so many.
 pub(crate) fn slot_of(cycle: u32, residence: u8) -> usize
     ensures { result ≡ (cycle + residence) % 128 }
 {
@@ -54,7 +54,7 @@ impl Slots {
         Ok(())
     }
 
-    /// Whether a slot has a number.
+    /// Returns whether a slot has a number.
     pub(crate) fn has(&self, slot: usize) -> bool
         requires { slot < 128 }
         ensures { result ≡ false → slice_index_or self.now slot [] ≡ [] }
@@ -62,7 +62,7 @@ impl Slots {
         !self.lists[slot].is_empty()
     }
 
-    /// The same numbers again, unless memory runs out.
+    /// Returns the same numbers again, unless memory runs out.
     pub(crate) fn try_copy(&self, alloc: Global) -> Result<Slots, Memory>
         ensures { IfOk result (λ copy. copy ≡ self.now) }
     {

@@ -37,7 +37,7 @@ pub(crate) struct GoodForm<'f> {
 }
 
 impl<'f> GoodForm<'f> {
-    /// The request of good form that has this row, whatever its number and its cycles.
+    /// Returns the request of good form that has this row, whatever its number and its cycles.
     pub(crate) fn of_row(row: &'f Row) -> GoodForm<'f>
         ensures name { result.name.now ≡ row.now.name }
         ensures octets { result.octets ≡ row.now.octets }
@@ -52,7 +52,7 @@ impl<'f> GoodForm<'f> {
         }
     }
 
-    /// The request of so many octets that was judged.
+    /// Returns the request of so many octets that was judged.
     pub(crate) fn of_judged(judged: &'f JudgedRequest, octets: u32) -> GoodForm<'f>
         ensures name { result.name.now ≡ judged.now.name }
         ensures octets { result.octets ≡ octets }
@@ -131,7 +131,7 @@ fn short_of(
     None
 }
 
-/// The first reason against a stream for what is held.
+/// Returns the first reason against a stream for what is held.
 fn refusal_of(domain: &Domain, holdings: &Holdings, form: GoodForm<'_>) -> Option<Refused>
     requires inside { All (λ hop. hop.link < length domain.now.links) form.tree.now }
     requires apart { AllPairs (λ (a b : ℕ). a ≢ b) (links_in form.tree.now) }
@@ -151,7 +151,7 @@ fn refusal_of(domain: &Domain, holdings: &Holdings, form: GoodForm<'_>) -> Optio
     short_of(domain, holdings, cost, form.pace, form.tree)
 }
 
-/// The row of a request of good form, of a number and from a cycle on, unless memory runs out.
+/// Returns the row of a request of good form, of a number and from a cycle on, unless memory runs out.
 fn row_by(alloc: Global, form: GoodForm<'_>, no: u32, admitted: Cycle) -> Result<Row, Memory>
     requires { length form.tree.now ≤ most_hops }
     ensures { IfOk result (λ row. row ≡ row_by form.entry no admitted) }
@@ -167,7 +167,7 @@ fn row_by(alloc: Global, form: GoodForm<'_>, no: u32, admitted: Cycle) -> Result
     })
 }
 
-/// A row with its stream withdrawn from a cycle on, to be shared, unless memory runs out.
+/// Returns a row with its stream withdrawn from a cycle on, to be shared, unless memory runs out.
 fn ended_row(alloc: Global, row: &Row, cycle: Cycle) -> Result<Arc<Row>, Memory>
     ensures { IfOk result (λ shared. arc_value shared ≡ ended row.now cycle) }
 {
@@ -177,7 +177,7 @@ fn ended_row(alloc: Global, row: &Row, cycle: Cycle) -> Result<Arc<Row>, Memory>
     Ok(shared)
 }
 
-/// The number of the held stream of a name that isn't withdrawn, or why there is none.
+/// Returns the number of the held stream of a name that isn't withdrawn, or why there is none.
 fn find_open(holdings: &Holdings, word: &str) -> Result<u32, Refused>
     ensures { FindsOpen holdings.now.rows word.now result }
 {
@@ -194,7 +194,7 @@ fn find_open(holdings: &Holdings, word: &str) -> Result<u32, Refused>
 }
 
 impl State {
-    /// The state of no calls, over so many links, unless memory runs out.
+    /// Returns the state of no calls, over so many links, unless memory runs out.
     pub(crate) fn new(alloc: Global, links: u16) -> Result<State, Memory>
         ensures { IfOk result (λ state. (d : ADomain) → length d.links ≡ links → IsStateOf d [] state) }
     {
@@ -205,14 +205,14 @@ impl State {
         })
     }
 
-    /// The next cycle to be closed to changes.
+    /// Returns the next cycle to be closed to changes.
     pub(crate) fn next_cycle(&self) -> Cycle
         ensures { result.0 ≡ self.now.sealed }
     {
         Cycle(self.sealed)
     }
 
-    /// Whether a history of so many entries, of which the Seals are no calls, has no room for a call: 100,000 of them aren't Seals.
+    /// Returns whether a history of so many entries, of which the Seals are no calls, has no room for a call: 100,000 of them aren't Seals.
     pub(crate) fn is_full(&self, entries: usize) -> bool
         requires { self.now.sealed ≤ entries }
         ensures { result ≡ nat_le most_calls (entries - self.now.sealed) }
@@ -329,7 +329,7 @@ impl State {
         Octets(left_of(domain, &self.holdings, hop, pace))
     }
 
-    /// The rows of the held streams, by number, each shared, unless memory runs out.
+    /// Returns the rows of the held streams, by number, each shared, unless memory runs out.
     pub(crate) fn held_rows(&self, alloc: Global) -> Result<Vec<Arc<Row>>, Memory>
         ensures { IfOk result (λ rows. (d : ADomain) (entries : List Recorded) → IsStateOf d entries self.now →
             map (λ row. arc_value row) rows.items ≡ held_in d entries (seals entries)) }
@@ -337,14 +337,14 @@ impl State {
         self.holdings.held_rows(alloc)
     }
 
-    /// The rows of all streams that were ever granted, by number, unless memory runs out.
+    /// Returns the rows of all streams that were ever granted, by number, unless memory runs out.
     pub(crate) fn into_rows(self, alloc: Global) -> Result<Vec<Row>, Memory>
         ensures { IfOk result (λ rows. (d : ADomain) (entries : List Recorded) → IsStateOf d entries self → rows.items ≡ streams_of d entries) }
     {
         self.holdings.into_rows(alloc)
     }
 
-    /// The same state again, unless memory runs out. The two share their rows.
+    /// Returns the same state again, unless memory runs out. The two share their rows.
     pub(crate) fn try_copy(&self, alloc: Global) -> Result<State, Memory>
         ensures { IfOk result (StaysSo self.now) }
     {

@@ -91,7 +91,8 @@ impl Tabling {
         Ok(())
     }
 
-    /// The rows for a table of what is held, unless memory runs out. Where nothing has changed since the last one this is that one's list.
+    /// Returns the rows for a table of what is held, unless memory runs out. Where nothing has changed since the last one this is that
+    /// one's list.
     pub(crate) fn share(&mut self, alloc: Global, state: &State) -> Result<Arc<ListedRows>, Memory>
         requires { SomeTables state.now self.old }
         ensures same { (d : Domain) (entries : List Recorded) → IsStateOf d entries state.now → AreTablesOf d entries self.old → AreTablesOf d entries self.new }
@@ -112,7 +113,7 @@ impl Tabling {
         Ok(shared)
     }
 
-    /// The same again, shared, unless memory runs out.
+    /// Returns the same again, shared, unless memory runs out.
     pub(crate) fn try_copy(&self) -> Result<Tabling, Memory>
         ensures { IfOk result (λ copy. copy ≡ self.now) }
     {

@@ -11,7 +11,7 @@ use arrayvec::ArrayVec;
 use cqf_model::{Hop, MOST_HOPS, Node, Refused};
 use cqf_topology::Domain;
 
-/// Whether one of some hops is by the link.
+/// Returns whether one of some hops is by the link.
 fn has_link(tree: &[Hop], link: u16) -> bool
     ensures { result ≡ list_any (λ hop. hop.link == link) tree.now }
 {
@@ -58,7 +58,7 @@ fn add_branch(
     }
 }
 
-/// The tree of some branches of no more than 65 nodes each: their hops, each link once, where it first stands,
+/// Returns the tree of some branches of no more than 65 nodes each: their hops, each link once, where it first stands,
 /// as far as there is room.
 fn tree_along(domain: &Domain, nodes: &[Option<Node>], paths: &[Vec<String>]) -> ArrayVec<Hop, 201>
     requires few { All (λ branch. length branch ≤ 65) (branches_of paths.now) }
@@ -74,7 +74,7 @@ fn tree_along(domain: &Domain, nodes: &[Option<Node>], paths: &[Vec<String>]) ->
     tree
 }
 
-/// The hops of a tree that has no more of them than are represented.
+/// Returns the hops of a tree that has no more of them than are represented.
 pub(crate) fn fitted(hops: &[Hop]) -> ArrayVec<Hop, 200>
     requires { length hops.now ≤ 200 }
     ensures { result.items ≡ hops.now }
@@ -84,7 +84,7 @@ pub(crate) fn fitted(hops: &[Hop]) -> ArrayVec<Hop, 200>
     tree
 }
 
-/// The first place of the branches whose node the domain lacks.
+/// Returns the first place of the branches whose node the domain lacks.
 fn unknown_place_of(domain: &Domain, nodes: &[Option<Node>], paths: &[Vec<String>]) -> Option<usize>
     requires few { places_of (branches_of paths.now) < 2 ^ 64 }
     requires nodes { AreNodes domain.now (flat_map (λ branch. branch) (branches_of paths.now)) nodes.now }
@@ -93,7 +93,7 @@ fn unknown_place_of(domain: &Domain, nodes: &[Option<Node>], paths: &[Vec<String
     first_fault_of(domain, Check::Known, nodes, paths)
 }
 
-/// The first place at which the branches are broken. Where there is no branch that is 0.
+/// Returns the first place at which the branches are broken. Where there is no branch that is 0.
 fn broken_place_of(domain: &Domain, nodes: &[Option<Node>], paths: &[Vec<String>]) -> Option<usize>
     requires few { places_of (branches_of paths.now) < 2 ^ 64 }
     requires nodes { AreNodes domain.now (flat_map (λ branch. branch) (branches_of paths.now)) nodes.now }
@@ -105,7 +105,7 @@ fn broken_place_of(domain: &Domain, nodes: &[Option<Node>], paths: &[Vec<String>
     first_fault_of(domain, Check::Whole, nodes, paths)
 }
 
-/// The first place of the branches whose node stood earlier in its branch.
+/// Returns the first place of the branches whose node stood earlier in its branch.
 fn looping_place_of(domain: &Domain, nodes: &[Option<Node>], paths: &[Vec<String>]) -> Option<usize>
     requires few { places_of (branches_of paths.now) < 2 ^ 64 }
     requires nodes { AreNodes domain.now (flat_map (λ branch. branch) (branches_of paths.now)) nodes.now }
@@ -114,7 +114,7 @@ fn looping_place_of(domain: &Domain, nodes: &[Option<Node>], paths: &[Vec<String
     first_fault_of(domain, Check::Simple, nodes, paths)
 }
 
-/// The tree of some branches: their hops, each link once, where it first stands. The branches have fewer than 2^64 places,
+/// Returns the tree of some branches: their hops, each link once, where it first stands. The branches have fewer than 2^64 places,
 /// as [`count_places`](crate::count_places) tells.
 ///
 /// # Errors

@@ -112,7 +112,7 @@ fn take_from_turns(turns: &mut [u64], most: u64, pace: Pace, depth: u8, number: 
     most_of_all(turns)
 }
 
-/// The greatest of some sums.
+/// Returns the greatest of some sums.
 fn most_of_all(turns: &[u64]) -> u64
     ensures { result ≡ fold max 0 turns.now }
 {
@@ -123,7 +123,7 @@ fn most_of_all(turns: &[u64]) -> u64
     most
 }
 
-/// The greatest of one of so many sums, from the first on.
+/// Returns the greatest of one of so many sums, from the first on.
 fn most_of_some(turns: &[u64], first: usize, every: usize) -> u64
     requires low { first < every }
     requires few { every ≤ most_every }
@@ -217,7 +217,7 @@ impl CycleSums {
         }
     }
 
-    /// The sums of a link, by cycle.
+    /// Returns the sums of a link, by cycle.
     fn turns_of(&self, link: u16) -> &[u64]
         requires { link < self.now.links }
         ensures value { result.now ≡ turns_at self.now link }
@@ -227,7 +227,7 @@ impl CycleSums {
         &self.sums[first..first + TURNS]
     }
 
-    /// The greatest sum of a hop's link in the cycles in which frames of this pace go by it.
+    /// Returns the greatest sum of a hop's link in the cycles in which frames of this pace go by it.
     pub fn most_at(&self, hop: &Hop, pace: Pace) -> u64
         requires inside { hop.now.link < self.now.links }
         requires good { most_every % (pace.pause + 1) ≡ 0 }
@@ -244,7 +244,7 @@ impl CycleSums {
         )
     }
 
-    /// The greatest sum of a link in a cycle.
+    /// Returns the greatest sum of a link in a cycle.
     pub fn most_of(&self, link: u16) -> u64
         requires { link < self.now.links }
         ensures { result ≡ most_of self.now link }
@@ -252,7 +252,7 @@ impl CycleSums {
         self.greatest[usize::from(link)]
     }
 
-    /// The same sums again, unless memory runs out.
+    /// Returns the same sums again, unless memory runs out.
     pub fn try_copy(&self, alloc: Global) -> Result<CycleSums, Memory>
         ensures { IfOk result (λ copy. copy ≡ self.now) }
     {

@@ -163,11 +163,11 @@ none-passes {A} p i (y ∷ ys) h k x at = by (p y) refl (λ none j there. none-p
     by false e rest h zero at = let same : y ≡ x = cc in subst (λ z. p z ≡ false) same e
     by false e rest h (suc k) at = rest h k at
 
--- where no place passes, none does
+-- if no index passes, no element does
 pub position-None : {A : Type 0} (p : A → Bool) (xs : List A) → position p xs ≡ None → (k : ℕ) (x : A) → slice_get xs k ≡ Some x → p x ≡ false
 position-None p xs h = none-passes p 0 xs (sym (position_from-zero p xs) ∙ h)
 
--- numbers that a test told to be below, or not above
+-- numbers that a test found to be below, or not above
 pub not_reached : (most n : ℕ) → nat_le most n ≡ false → n < most
 not_reached most n e = grind (arith, nat_tests)
 
@@ -224,7 +224,7 @@ joined_link-ends d l link h =
     (place-within l.from d.bridges from (ok_or-Ok _ (fault.UnknownName l.from) from at_from))
     (node-within d l.to to (ok_or-Ok _ (fault.UnknownName l.to) to at_to)) h2
 
--- and the delays of the text's, which are in order
+-- and its delays are those of the text, which are in order
 apart-ordered : (name : List ℕ) (l : DraftLink) (from : ℕ) (to : Node) (link : Link) → AreReadTimes l.times → apart name l from to ≡ Ok link →
     link.least ≤ link.delay
 apart-ordered name l from to link read h = by (same_node to (Bridge from)) h
@@ -254,13 +254,13 @@ module _ (bridges stations : List (List ℕ)) (P : Link → Type 0) where
       by (joined_link bridges stations l) (joined bridges stations ls) refl refl
       (λ xs more j there. joined-each ls (λ n m inside. each (suc n) m inside) xs more j link there) h k at
     where
-      -- where it holds of each link of the rest, it does with this one in front
+      -- if the property holds of each link of the rest, it holds with this link before them
       there : (x : Link) (xs : List Link) → joined_link bridges stations l ≡ Ok x → ((j : ℕ) → slice_get xs j ≡ Some link → P link)
           → (k : ℕ) → slice_get (x ∷ xs) k ≡ Some link → P link
       there x xs here rest zero at = let same : x ≡ link = cc in subst P same (each 0 l refl x here)
       there x xs here rest (suc k) at = rest k at
 
-      -- it holds of each link, where the first and the rest are joined
+      -- the property holds of each link, if the first link and the rest are joined
       by : (r : Result Link DomainFault) (rest : Result (List Link) DomainFault) → joined_link bridges stations l ≡ r → joined bridges stations ls ≡ rest
           → ((xs : List Link) → joined bridges stations ls ≡ Ok xs → (j : ℕ) → slice_get xs j ≡ Some link → P link)
           → and_first r rest ≡ Ok links → (k : ℕ) → slice_get links k ≡ Some link → P link
@@ -274,7 +274,7 @@ pub joined-ends : (d : Domain) (ls : List DraftLink) (links : List Link) → joi
     slice_get links k ≡ Some link → HasEnds d link
 joined-ends d ls = joined-each d.bridges d.stations (HasEnds d) ls (λ k l inside. joined_link-ends d l)
 
--- what holds of all holds of the one at a place
+-- what holds of all elements holds of the element at an index
 of_place : {A : Type 0} (P : A → Type 0) (xs : List A) → All P xs → (k : ℕ) (x : A) → slice_get xs k ≡ Some x → P x
 of_place P xs all k x at = subst P (get_or_from_slice_get xs k x x at) (all k x (slice_get_within xs k x at))
 
