@@ -21,7 +21,7 @@ pub(crate) enum Made {
     Closed(Table),
     /// Its answer is another.
     Otherwise,
-    /// A growth was refused.
+    /// An allocation failed.
     Memory,
 }
 
@@ -74,7 +74,7 @@ pub(crate) fn make(admission: &mut Admission, entry: &Entry) -> Made
     }
 }
 
-/// Whether the table at a place is this one.
+/// Returns whether the table at a place is this one.
 fn is_at(tables: &[Table], place: usize, table: &Table) -> bool
     ensures { (result ≡ true) ↔ (slice_get tables.now place ≡ Some table.now) }
 {
@@ -114,7 +114,7 @@ fn step(
     }
 }
 
-/// Whether these are the tables that a seat's Seals close as an admission goes on with these calls.
+/// Returns whether these are the tables that a seat's Seals close as an admission goes on with these calls.
 pub(crate) fn has_tables(
     again: &mut Admission,
     rest: &[Entry],

@@ -37,8 +37,8 @@ impl Model for Desk {
 }
 
 impl Desk {
-    /// A desk over an admission, and so many seats, numbered from 0. What the admission's history has already is
-    /// the opening part. `Memory` where a growth is refused; then the admission is gone. It waits for nobody.
+    /// Returns a desk over an admission, and so many seats, numbered from 0. What the admission's history has already is
+    /// the opening part. `Memory` if an allocation fails; then the admission is gone. It waits for nobody.
     pub fn new(alloc: Global, admission: Admission, seats: u16) -> Result<(Desk, Vec<Seat>), Memory>
         ensures desk { IfOk result (λ made. made.0 ≡ record { opening = admission; seats = seats }) }
         ensures seats { IfOk result (λ made. made.1.items ≡ fresh_seats seats) }
@@ -110,7 +110,7 @@ impl Desk {
         seat.seal(self.alloc, &self.opening, &mut self.admission.lock(rt))
     }
 
-    /// The history of all calls, once all seats are handed back. It is legal and begins with the opening part; behind that
+    /// Returns the history of all calls, once all seats are handed back. It is legal and begins with the opening part; behind that
     /// stand the calls of the desk's seats and no others, and each seat has just its own of them, in its order, with the
     /// replies that it got, and the tables of its Seals. It waits for nobody.
     ///
@@ -130,7 +130,7 @@ impl Desk {
         self.settled(seats.as_slice())
     }
 
-    /// The history of a desk of which these are the seats, likewise.
+    /// Returns the history of a desk of which these are the seats, likewise.
     fn settled(self, seats: &[Seat]) -> Result<History, CloseFault>
         requires { AreItsSeats self.seats seats.now }
         ensures missing { IsErrOf result CloseFault.SeatMissing → ⊥ }

@@ -15,7 +15,7 @@ pub enum CloseFault {
     /// The least number of a seat whose calls or tables aren't those of the history; or the number of seats, where the history
     /// isn't the opening part with calls of the desk's seats behind it.
     SeatsDisagree(u16),
-    /// A growth was refused.
+    /// An allocation failed.
     Memory,
 }
 
@@ -31,7 +31,7 @@ impl fmt::Display for CloseFault {
     }
 }
 
-/// Want of memory, as a fault.
+/// Converts a failed allocation into a fault.
 impl From<Memory> for CloseFault {
     ghost use Rattle.cqf_desk.specs.declared.faults.CloseFault.TheVariants as variant;
 

@@ -28,25 +28,25 @@ pub(crate) enum Followed {
     All,
     /// One is a Seal of its seat, or its answer is another.
     Otherwise,
-    /// A growth was refused. It has made the calls before, and goes on from there.
+    /// An allocation failed. It has made the calls before, and goes on from there.
     Memory,
 }
 
-/// Whether an entry is a Seal of the seat.
+/// Returns whether an entry is a Seal of the seat.
 fn is_seal_of(entry: &Entry, number: u16) -> bool
     ensures { result ≡ is_seal_by number (recorded_of entry.now) }
 {
     entry.seat == number && matches!(entry.call, Call::Seal)
 }
 
-/// Whether one of the calls is a Seal of the seat.
+/// Returns whether one of the calls is a Seal of the seat.
 pub(crate) fn has_seal(rest: &[Entry], number: u16) -> bool
     ensures { result ≡ list_any (λ e. is_seal_by number (recorded_of e)) rest.now }
 {
     rest.iter().any(|entry| is_seal_of(entry, number))
 }
 
-/// Whether the calls that were followed are the first of these, with no Seal of the seat behind them.
+/// Returns whether the calls that were followed are the first of these, with no Seal of the seat behind them.
 fn are_up_to_seal(followed: &[Entry], rest: &[Entry], number: u16) -> bool
     ensures { result ≡ true → IsUpToSeal (map recorded_of followed.now) (map recorded_of rest.now) number }
 {
@@ -60,7 +60,7 @@ fn are_up_to_seal(followed: &[Entry], rest: &[Entry], number: u16) -> bool
     are_same_entries(followed, front)
 }
 
-/// The entries of an admission behind an opening part, where it has that part in the same domain.
+/// Returns the entries of an admission behind an opening part, where it has that part in the same domain.
 pub(crate) fn entries_behind<'a>(opening: &Admission, held: &'a Admission) -> Option<&'a [Entry]>
     ensures { MatchOption result (HasOpening opening.now held.now → ⊥) (λ rest. FollowerHasGone opening.now held.now (map recorded_of rest.now)) }
 {
@@ -144,7 +144,7 @@ impl Follower {
         }
     }
 
-    /// Whether it followed the history that has these calls behind its opening part, up to the seat's last Seal in it.
+    /// Returns whether it followed the history that has these calls behind its opening part, up to the seat's last Seal in it.
     pub(crate) fn has_followed(&self, opening: &Admission, rest: &[Entry], number: u16) -> bool
         ensures { result ≡ true → HasFollowed self.now opening.now (map recorded_of rest.now) number }
     {
@@ -264,7 +264,7 @@ pub(crate) fn close_own(follower: &mut Vec<Follower>, number: u16) -> Result<Opt
     Ok(None)
 }
 
-/// The table that a seat keeps of its Seal, for which it got that one: the follower's own. Where there is none, or it is of another
+/// Returns the table that a seat keeps of its Seal, for which it got that one: the follower's own. Where there is none, or it is of another
 /// cycle, the follower is let go of, and it is the table that the seat got.
 pub(crate) fn kept(follower: &mut Vec<Follower>, own: Option<Table>, table: Table) -> Table
     ensures followed { (number : ℕ) → (tables : List CycleTable) → AreFollowedWith follower.old.items number tables (Ok own) →

@@ -49,7 +49,7 @@ impl Model for Seat {
 }
 
 impl Seat {
-    /// A seat with which nobody has called yet.
+    /// Returns a seat with which nobody has called yet.
     pub(crate) fn new(alloc: Global, number: u16) -> Seat
         ensures { result ≡ record { number = number; calls = []; tables = [] } }
     {
@@ -62,21 +62,21 @@ impl Seat {
         }
     }
 
-    /// The seat's number, from 0. Entries of the history have it.
+    /// Returns the seat's number, from 0. Entries of the history have it.
     pub fn number(&self) -> u16
         ensures { result ≡ self.now.number }
     {
         self.number
     }
 
-    /// The table of the seat's newest Seal, where it has sealed a cycle. It takes no memory.
+    /// Returns the table of the seat's newest Seal, where it has sealed a cycle. It takes no memory.
     pub fn last_table(&self) -> Option<&Table>
         ensures { option_copied result ≡ slice_get self.now.tables (length self.now.tables - 1) }
     {
         self.tables.last()
     }
 
-    /// The calls that were made with the seat, and the tables of its Seals.
+    /// Returns the calls that were made with the seat, and the tables of its Seals.
     pub(crate) fn calls(&self) -> &[Entry]
         ensures { map recorded_of result.now ≡ self.now.calls }
     {
@@ -89,7 +89,7 @@ impl Seat {
         self.tables.as_slice()
     }
 
-    /// Whether the seat's tables are those that its Seals close in the history that has these calls behind its opening part,
+    /// Returns whether the seat's tables are those that its Seals close in the history that has these calls behind its opening part,
     /// by what followed that history.
     pub(crate) fn has_followed(&self, opening: &Admission, rest: &[Entry]) -> bool
         ensures { result ≡ true →
@@ -225,7 +225,7 @@ impl Seat {
     }
 }
 
-/// The answer to a request or a withdrawal that there is no memory for.
+/// Returns the answer to a request or a withdrawal that there is no memory for.
 pub(crate) fn unasked(admission: &Admission) -> Result<Receipt, Refused>
     ensures legal { IsLegalHistory admission.now.domain admission.now.entries }
     ensures full { (result ≡ Err Refused.HistoryFull) ↔ (most_calls ≤ calls admission.now.entries) }
@@ -247,7 +247,7 @@ fn unsealed(admission: &Admission) -> SealFault
     SealFault::Memory
 }
 
-/// Whether a call with this answer enters the history.
+/// Returns whether a call with this answer enters the history.
 pub(crate) fn enters(answer: &Result<Receipt, Refused>) -> bool
     ensures { result ≡ is_entered answer.now }
 {
@@ -260,7 +260,7 @@ pub(crate) fn enters(answer: &Result<Receipt, Refused>) -> bool
     }
 }
 
-/// The answer as the history has it.
+/// Returns the answer as the history has it.
 pub(crate) fn reply_of(answer: Result<Receipt, Refused>) -> Reply
     ensures { result ≡ reply_of answer }
 {

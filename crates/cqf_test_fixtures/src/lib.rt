@@ -137,7 +137,7 @@ pub fn one_link() -> &'static str {
     ONE_LINK
 }
 
-/// The line, and links between its ends: links 0 a>b, 1 b>c, 2 c>s, 3 a>c and 4 c>a.
+/// Returns the line, and links between its ends: links 0 a>b, 1 b>c, 2 c>s, 3 a>c and 4 c>a.
 pub fn ring() -> &'static str {
     RING
 }
