@@ -1,4 +1,4 @@
-//! What a book tells, beside what is expected of it.
+//! Comparisons of a book's starts and drops with what is expected.
 
 use cqf_model::{Dropped, Reason, Started};
 
