@@ -1,4 +1,4 @@
--- Choosing one of what there is for each number gives a function, and frames that a link sends one after the other take as many places.
+-- If something exists for each number, a function chooses it; and frames that a link sends one after the other take as many places.
 use Rattle.std.proofs.Common.{◌≡◌, ℕ, suc, ◌+◌, ◌-◌, ◌*◌, ◌/◌, ◌<◌, ◌≤◌, ◌⊎◌, inl, inr, arith}
 use Rattle.std.proofs.lemmas.Bool.{cases_lt}
 use Rattle.std.proofs.lemmas.Nat.{le-div}

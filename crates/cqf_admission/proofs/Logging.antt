@@ -29,7 +29,7 @@ there_behind requests script old reserved new e same is there one =
     subst (AreThere requests script) (sym (is ∙ ap (λ (es : List Logged). es ++ e ∷ []) same))
     (All-push (λ (logged : Logged). StandsIn requests script logged.what) old e there one)
 
--- the request at an index, as it is asked for
+-- the request at an index, as the definitions have it
 pub asked_at : (requests : List PacedRequest) (place : ℕ) (request : PacedRequest) → place < length requests → request ≡ get_or requests place request →
     request_at (map asked_paced requests) place ≡ asked_paced request
 asked_at requests place request low is =

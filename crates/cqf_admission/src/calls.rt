@@ -236,7 +236,7 @@ fn is_noted(asked: &[bool], place: usize) -> bool {
     }
 }
 
-/// Returns a copy of a request that calls for its stream can share. If the request is asked for, it is checked for a domain.
+/// Returns a copy of a request that calls for its stream can share. If `is_asked`, it is checked for a domain.
 fn copy_for(
     alloc: Global,
     domain: &Arc<Domain>,

@@ -114,7 +114,8 @@ fn step(
     }
 }
 
-/// Returns whether these are the tables that a seat's Seals close when an admission continues with these calls.
+/// Returns whether these are the tables that a seat's Seals close when an admission continues with these calls, or `Memory` if an allocation
+/// fails.
 pub(crate) fn has_tables(
     again: &mut Admission,
     rest: &[Entry],

@@ -71,7 +71,7 @@ first_taken-append e (x ∷ xs) ys =
     (first_taken-append (e ++ x ∷ []) xs ys
     ∙ ap (λ front. option_or (first_taken (e ++ x ∷ []) xs) (first_taken front ys)) (append_assoc e (x ∷ []) xs))
   where
-    -- one name in front, taken or not, leaves the first taken name in the first list, or else in the second
+    -- one more name first, taken or not, leaves the first taken name in the first list, or else in the second
     by : (b : Bool) → first_taken (e ++ x ∷ []) (xs ++ ys) ≡ option_or (first_taken (e ++ x ∷ []) xs) (first_taken (e ++ (x ∷ xs)) ys)
         → cond b (Some x) (first_taken (e ++ x ∷ []) (xs ++ ys)) ≡ option_or (cond b (Some x) (first_taken (e ++ x ∷ []) xs)) (first_taken (e ++ (x ∷ xs)) ys)
     by true rest = refl
@@ -151,12 +151,12 @@ module _ (d : DomainText) where
   pub checked-numbered : (bridges stations : List (List ℕ)) (links : List Link) → IsNumberedDomain d bridges stations links → checked d ≡ with_links d links
   checked-numbered bridges stations links n = rw (n.distinct, n.joined_are) refl
 
--- no element passes, where none has a place
+-- if no index passes, no element does
 none-passes : {A : Type 0} (p : A → Bool) (i : ℕ) (xs : List A) → position_from p i xs ≡ None → (k : ℕ) (x : A) → slice_get xs k ≡ Some x → p x ≡ false
 none-passes p i [] h k x at = absurd (cc)
 none-passes {A} p i (y ∷ ys) h k x at = by (p y) refl (λ none j there. none-passes p (i + 1) ys none j x there) h k at
   where
-    -- with one element more in front, no element passes
+    -- the same with one more element first
     by : (b : Bool) → p y ≡ b → (position_from p (i + 1) ys ≡ None → (j : ℕ) → slice_get ys j ≡ Some x → p x ≡ false)
         → cond b (Some i) (position_from p (i + 1) ys) ≡ None → (k : ℕ) → slice_get (y ∷ ys) k ≡ Some x → p x ≡ false
     by true e rest h k at = absurd (cc)
@@ -180,7 +180,7 @@ pub record HasEnds (d : Domain) (link : Link) : Type 0 where
   pub to_node : IsNode d link.to
   pub not_to_itself : link.to ≢ Bridge link.from
 
--- the place of a name is one of the names'
+-- the index of a name is below the number of names
 pub place-within : (name : List ℕ) (names : List (List ℕ)) (i : ℕ) → place_of name names ≡ Some i → i < length names
 place-within name names i h = (position-Some _ names i [] h).0
 
@@ -203,7 +203,7 @@ apart-ends d name l from to link from_there to_there h = by (same_node to (Bridg
     joint : Link
     joint = link_with from to l.times
 
-    -- a node that the test tells from the bridge isn't the bridge
+    -- a node that the test distinguishes from the bridge isn't the bridge
     differs : same_node to (Bridge from) ≡ false → to ≢ Bridge from
     differs e same = let at_itself : same_node (Bridge from) (Bridge from) ≡ false = subst (λ n. same_node n (Bridge from) ≡ false) same e in
         grind (arith, nat_tests)
@@ -229,7 +229,7 @@ apart-ordered : (name : List ℕ) (l : DraftLink) (from : ℕ) (to : Node) (link
     link.least ≤ link.delay
 apart-ordered name l from to link read h = by (same_node to (Bridge from)) h
   where
-    -- the link that is made has them, where its ends are apart
+    -- the link that is made has them, if its ends differ
     by : (b : Bool) → cond b (Err (fault.UnknownName name)) (Ok (link_with from to l.times)) ≡ Ok link → link.least ≤ link.delay
     by true h = absurd (cc)
     by false h = let same : link_with from to l.times ≡ link = cc in subst (λ (x : Link). x.least ≤ x.delay) same read.ordered
@@ -339,7 +339,7 @@ checked-accepted t bridges stations links n once p =
       no_link_twice = once;
     }
   where
-    -- a delay that isn't found too long, with the clocks' difference, is below the guard time
+    -- a delay that isn't found too long, with the clocks' difference, is below the guard band
     short_delay : (link : Link) → has_long_delay t.sync t.guard (times_of link) ≡ false → link.delay + t.sync < guard_by t.guard link
     short_delay link e = not_reached (guard_by t.guard link) (link.delay + t.sync) e
 
@@ -347,10 +347,10 @@ checked-accepted t bridges stations links n once p =
     short_sync : (link : Link) → has_long_sync t.sync (times_of link) ≡ false → t.sync ≤ time_of 72 (ticks_of_octet link.rate) + link.least
     short_sync link e = not_above (time_of 72 (ticks_of_octet link.rate) + link.least) t.sync e
 
-    -- a gap that isn't found too long is at most the guard time
+    -- a gap that isn't found too long is at most the guard band
     short_gap : (link : Link) → has_long_gap t.guard (times_of link) ≡ false → time_of 12 (ticks_of_octet link.rate) ≤ guard_by t.guard link
     short_gap link e = not_above (guard_by t.guard link) (time_of 12 (ticks_of_octet link.rate)) e
 
-    -- a guard time that isn't found too long is below the cycle time
+    -- a guard band that isn't found too long is below the cycle time
     short_guard : (link : Link) → has_long_guard t.cycle_time t.guard (times_of link) ≡ false → guard_by t.guard link < t.cycle_time
     short_guard link e = not_reached t.cycle_time (guard_by t.guard link) e

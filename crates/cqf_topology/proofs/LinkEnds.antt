@@ -30,7 +30,7 @@ list_any-keys : (from : ℕ) (to : Node) (keys : List (ℕ × Node))
 list_any-keys from to [] = refl
 list_any-keys from to (key ∷ keys) = (λ i. ((from == key.0) && node_eq-same to key.1 i) || list_any-keys from to keys i)
 
--- links that haven't the same ends
+-- links that don't have the same ends
 other-ends : (a b : Link) (same : Bool) → same_ends a b ≡ same → ¬ ((b.from ≡ a.from) × (b.to ≡ a.to)) → same ≡ false
 other-ends a b true e apart = let both = leads-only a.from b.from a.to b.to e in absurd (apart (sym both.0, sym both.1))
 other-ends a b false e apart = refl

@@ -235,7 +235,7 @@ fn link_of(link: &JoinedLink) -> Link
     }
 }
 
-/// Returns the links; the numbers of their ends are small.
+/// Returns the links, or `Memory` if an allocation fails. The numbers of their ends are small.
 pub(crate) fn links_of(alloc: Global, joined: &[JoinedLink]) -> Result<Vec<Link>, Memory>
     requires { All HasSmallEnds joined.now }
     ensures { IfOk result (λ links. links.items ≡ joined.now) }
@@ -263,7 +263,7 @@ fn hold_ends(ends: &mut IndexSet<(usize, End)>, link: &JoinedLink) -> Result<(),
     Ok(())
 }
 
-/// Returns the first link with the same ends as an earlier link.
+/// Returns the first link with the same ends as an earlier link, or `Memory` if an allocation fails.
 pub(crate) fn find_twice(alloc: Global, links: &[JoinedLink]) -> Result<Option<usize>, Memory>
     ensures { IfOk result (λ twice. twice ≡ first_twice [] links.now) }
 {

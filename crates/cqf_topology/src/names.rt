@@ -7,8 +7,8 @@ use std::alloc::Global;
 use std::collections::BTreeMap;
 use std::marker::Model;
 
-/// Names, each once, numbered from 0 in the order in which they were added. A name is found by its place in their sorted order, in a time
-/// that grows with the logarithm of the number of names, whichever names they are.
+/// Names, each once, numbered from 0 in the order in which they were added. A lookup uses their sorted order: its time grows
+/// with the logarithm of the number of names, whichever names they are.
 #[derive(Debug, Drop)]
 pub struct NameList {
     names: Vec<Name>,
