@@ -1,4 +1,4 @@
--- When frames are whole at the edge bridge, and the word that their stream keeps there.
+-- When frames are whole at the edge bridge, and the promise that their stream keeps there.
 use Rattle.std.proofs.Common.{◌≡◌, ℕ, ◌+◌, ◌-◌, ◌*◌, ◌/◌, ◌<◌, ◌≤◌, List, Some, ap, ◌∙◌, arith, All, Contains, length, refl, slice_get, get_or, option_map}
 use Rattle.std.proofs.Common.{mul-le-mul_right}
 use Rattle.std.proofs.lemmas.List.Elements.{All-contains}
@@ -21,11 +21,11 @@ frames_are_whole_within waits link streams others delays time s x at sent bound 
     let behind = sent.behind s x c k in
     record { least = omega (arith, whole.least, behind); most = omega (arith, whole.most, late, behind) }
 
--- the way of a frame is no shorter where it has more octets
+-- the transit time of a frame with more octets isn't shorter
 pub longer_way : (link : AccessLink) (delay p q : ℕ) → p ≤ q → way_of link delay p ≤ way_of link delay q
 longer_way link delay p q more = omega (arith, time_grows (p + 8) (q + 8) link.octet_time (omega (arith, more)))
 
--- the longest way of one is as much longer than the shortest of another as the spread says, where none is larger or shorter than may be
+-- the longest transit time of one frame exceeds the shortest of another by at most the spread, if their sizes are within the limits
 spread_way : (link : AccessLink) (delays : Delays) (shortest size p q : ℕ) → p ≤ size → shortest ≤ q →
     way_of link delays.most.0 p ≤ way_of link delays.least.0 q + spread_of link delays shortest size
 spread_way link delays shortest size p q small large =
@@ -35,7 +35,7 @@ spread_way link delays shortest size p q small large =
     numbers : (first most second least : ℕ) → first ≤ most → least ≤ second → first ≤ second + (most - least)
     numbers first most second least a b = omega (arith, a, b)
 
--- an element of a list stands at each of its places
+-- there is an element at each index of a list
 pub at_place : {X : Type 0} (xs : List X) (k : ℕ) (d : X) → k < length xs → (x : X) × (slice_get xs k ≡ Some x)
 at_place xs k d l = (get_or xs k d, slice_get-get_or xs k d l)
 
@@ -56,11 +56,11 @@ module _ (waits : AccessLinkBoundsQueueing) (link : AccessLink) (streams : List 
         let r = are.each p.0 a p.1 in
         omega (arith, r.octets, no_larger r.crossing (contains_at s.crossings (are.place p.0) r.crossing r.there)))
 
-    -- what is handed over at a place
+    -- the frame that is handed over at an index
     handed_at : (k : ℕ) (x : Crossing) → slice_get s.crossings k ≡ Some x → slice_get (handed s) k ≡ Some x.frame
     handed_at k x e = slice_get-map (λ (y : Crossing). y.frame) s.crossings k ∙ ap (option_map (λ (y : Crossing). y.frame)) e
 
-    -- two frames that are handed over `gap` places apart, and are each whole within its bounds
+    -- two frames whose hand-overs are `gap` indexes apart, and which are whole within their bounds
     two : (x y : Crossing) (first last i k gap : ℕ) → IsWholeAt link delays x first → IsWholeAt link delays y last → slice_get s.crossings i ≡ Some x →
         slice_get s.crossings k ≡ Some y → i + gap ≤ k →
         first + gap / s.promise.frames * s.promise.interval ≤ last + (at_edge link delays time shortest s.promise).jitter
@@ -103,7 +103,7 @@ pub edge_conforms_by_clocks : AccessLinkBoundsQueueing → EdgeConformsByClocks
 edge_conforms_by_clocks waits link streams others delays time shortest sync s arrived sent bound c least are =
     conforms waits link streams others delays time shortest s sent bound c least sync arrived are
 
--- a clock that is no other changes no word
+-- a clock that doesn't differ changes no promise
 pub one_clock : (t : Traffic) (arrived : List Offer) → Conforms (by_clock 0 t) arrived → Conforms t arrived
 one_clock t arrived c = record { sizes = c.sizes; spaced = λ i k a b order e f. omega (arith, c.spaced i k a b order e f) }
 
@@ -112,7 +112,7 @@ edge_conforms waits link streams others delays time shortest s arrived sent boun
     one_clock (at_edge link delays time shortest s.promise) arrived
     (edge_conforms_by_clocks waits link streams others delays time shortest 0 s arrived sent bound c least are)
 
--- a frame that is handed over in a block's interval is whole in the same on the grid of the edge bridge
+-- a frame that is handed over in a block's interval is whole in the same interval on the grid of the edge bridge
 pub shifted : AccessLinkBoundsQueueing → (link : AccessLink) (streams : List AccessStream) (others : List Other) (delays : Delays)
     (time shortest offset block : ℕ) (s : AccessStream) (x : Crossing) (at : ℕ) → IsSent link streams others →
     IsBound link (promises_of streams) time → Contains streams s → Contains s.crossings x → shortest ≤ x.frame.octets →

@@ -1,4 +1,5 @@
--- A link on which all frames of an interval are handed over at once, when one of no stream has just started: it sends stream by stream.
+-- A link on which all frames of an interval are handed over at once, just after a frame of no stream has started. It sends stream by
+-- stream.
 use Rattle.std.proofs.Common.{◌≡◌, ℕ, ◌+◌, ◌-◌, ◌*◌, ◌/◌, ◌<◌, ◌≤◌, ◌++◌, ◌∷◌, [], List, Option, Some, None, inl, inr, refl, sym, ap, ◌∙◌, subst, arith}
 use Rattle.std.proofs.Common.{Contains, length, mul-le-mul_right, sum_by, zero-add}
 use Rattle.std.proofs.lemmas.Bool.{cases_lt}
@@ -23,21 +24,21 @@ use Rattle.cqf_access.specs.Reached.{IsWithinInterval, LeastBoundIsReached}
 abbrev frame_of : Traffic → Offer
 frame_of t = record { at = record { 0 = 0 }; bridge = 0; stream = []; octets = t.size }
 
--- those of a stream, sent one behind the other from an instant on
+-- the frames of a stream, sent one after the other from an instant on
 abbrev crossing_of : AccessLink → ℕ → Traffic → ℕ → Crossing
 crossing_of link from t k = record { frame = frame_of t; start = from + k * taken_of link t.size }
 
 abbrev one_laid : AccessLink → ℕ → Traffic → AccessStream
 one_laid link from t = record { promise = t; crossings = each_below (λ k. crossing_of link from t k ∷ []) t.frames }
 
--- what they take
+-- the time that they take
 abbrev all_of : AccessLink → Traffic → ℕ
 all_of link t = t.frames * taken_of link t.size
 
 abbrev total : AccessLink → List Traffic → ℕ
 total link ts = sum_by (λ (t : Traffic). all_of link t) ts
 
--- the streams one behind the other
+-- the streams, one after the other
 abbrev laid : AccessLink → ℕ → List Traffic → List AccessStream
 laid link from [] = []
 laid link from (t ∷ ts) = one_laid link from t ∷ laid link (from + all_of link t) ts
@@ -46,7 +47,7 @@ laid_promises : (link : AccessLink) (from : ℕ) (ts : List Traffic) → promise
 laid_promises link from [] = refl
 laid_promises link from (t ∷ ts) = ap (λ (us : List Traffic). t ∷ us) (laid_promises link (from + all_of link t) ts)
 
--- one of them
+-- one of the streams
 record IsLaid (link : AccessLink) (from : ℕ) (ts : List Traffic) (s : AccessStream) : Type 0 where
   place : ℕ
   is : s ≡ one_laid link place s.promise
@@ -76,7 +77,7 @@ is_laid link from (t ∷ ts) s c = elim (contains_cases (one_laid link from t) (
       member = contains_later t ts s.promise r.member;
     }
 
--- the last is there
+-- the last stream is one of them
 last_laid : (link : AccessLink) (from : ℕ) (before : List Traffic) (t : Traffic) →
     Contains (laid link from (before ++ t ∷ [])) (one_laid link (from + total link before) t)
 last_laid link from [] t = subst (λ n. Contains (laid link from (t ∷ [])) (one_laid link n t)) (omega arith) (contains_here (one_laid link from t) [])
@@ -86,7 +87,7 @@ last_laid link from (u ∷ before) t =
     contains_later (one_laid link from u) (laid link (from + all_of link u) (before ++ t ∷ [])) (one_laid link (from + total link (u ∷ before)) t)
     (subst (λ n. Contains (laid link (from + all_of link u) (before ++ t ∷ [])) (one_laid link n t)) next (last_laid link (from + all_of link u) before t))
 
--- a frame of a stream that is laid so
+-- a frame of such a stream
 record IsOfLaid (link : AccessLink) (from : ℕ) (t : Traffic) (x : Crossing) : Type 0 where
   place : ℕ
   few : place < t.frames
@@ -99,7 +100,7 @@ of_laid link from t x c =
     let e : crossing_of link from t w.0 ≡ x = contains_one (crossing_of link from t w.0) x w.2 in
     record { place = w.0; few = w.1; frame = ap (λ (y : Crossing). y.frame) (sym e); start = ap (λ (y : Crossing). y.start) (sym e) }
 
--- its talker keeps its word
+-- its talker keeps its promise
 one_conforms : (link : AccessLink) (from : ℕ) (t : Traffic) → Conforms t (handed (one_laid link from t))
 one_conforms link from t = record {
   sizes = all_from_members (λ (a : Offer). a.octets ≤ t.size) frames (λ a c. omega (arith, ap (λ (b : Offer). b.octets) (is_frame a c)));
@@ -123,7 +124,7 @@ one_conforms link from t = record {
         let at_once : a.at.0 ≡ 0 = ap (λ (x : Offer). x.at.0) (is_frame a c) in
         omega (arith, zero_long, at_once)
 
--- from the first stream's beginning on one is under way until all are sent
+-- from the first stream's beginning on a frame is under way until all are sent
 covered : (link : AccessLink) (from : ℕ) (ts : List Traffic) (at : ℕ) → 0 < link.octet_time → from ≤ at → at < from + total link ts →
     StreamIsUnderWay link (laid link from ts) at
 covered link from [] at some early late = absurd (omega (arith, early, late))
@@ -156,7 +157,7 @@ covered link from (t ∷ ts) at some early late = elim (cases_lt at (from + all_
       under_way = r.under_way;
     }
 
--- the frame of no stream, where there may be one
+-- the frame of no stream, if there may be one
 abbrev others_of : Option ℕ → List Other
 others_of None = []
 others_of (Some octets) = record { start = 0; octets = octets } ∷ []
@@ -176,7 +177,7 @@ other_first link (Some octets) at early = record {
 }
 
 module _ (link : AccessLink) (ts : List Traffic) (some : 0 < link.octet_time) (are : (t : Traffic) → Contains ts t → IsTraffic t) where
-  -- the link sends so
+  -- the link sends as required
   abbrev streams : List AccessStream
   streams = laid link (taken_by_other link) ts
 
@@ -208,7 +209,7 @@ module _ (link : AccessLink) (ts : List Traffic) (some : 0 < link.octet_time) (a
     yields = λ s x o c k d later. absurd (omega (arith, later, (other_is link link.other o d).0));
   }
 
--- ---- that the least bound is just so long
+-- ---- the least bound is exactly this long
 
 -- a stream has one interval within a short time
 one_interval : (link : AccessLink) (time : ℕ) (t : Traffic) → 0 < time → IsWithinInterval time t → taken_within link time t ≡ all_of link t

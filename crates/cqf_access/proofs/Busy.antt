@@ -1,4 +1,4 @@
--- From the last instant at which nothing that was handed over before is left, the link is busy until a frame starts.
+-- After the last instant at which nothing that was handed over earlier is left, the link is busy until a frame starts.
 use Rattle.std.proofs.Common.{◌≡◌, ℕ, zero, suc, ◌+◌, ◌<◌, ◌≤◌, ◌&&◌, ◌⊎◌, List, Bool, true, false, inl, inr, sym, ap, ◌∙◌, subst, arith, Contains, nat_lt}
 use Rattle.std.specs.List.{list_any}
 use Rattle.std.proofs.lemmas.Bool.{and_parts, cases_Bool, cases_lt, ltb-true, lt-ltb}
@@ -12,7 +12,7 @@ use Rattle.cqf_access.specs.Access.{AccessLink, AccessStream, Crossing, IsSent, 
 abbrev pub stop_of : AccessLink → Crossing → ℕ
 stop_of link x = idle_after x.start x.frame.octets link.octet_time
 
--- it is handed over before an instant, and not over then
+-- the frame was handed over before an instant, and isn't over then
 abbrev pub is_left : AccessLink → ℕ → Crossing → Bool
 is_left link at x = nat_lt x.frame.at.0 at && nat_lt at (stop_of link x)
 
@@ -42,7 +42,7 @@ left_when_busy link streams at busy =
       after = ltb-true at (stop_of link x.0) p.1;
     }
 
--- where there is none, what was handed over before is over
+-- if there is no such frame, what was handed over before is over
 pub over_when_idle : (link : AccessLink) (streams : List AccessStream) (at : ℕ) (s : AccessStream) (x : Crossing) → is_busy link streams at ≡ false →
     Contains streams s → Contains s.crossings x → x.frame.at.0 < at → stop_of link x ≤ at
 over_when_idle link streams at s x idle in_streams in_stream before =
@@ -60,7 +60,7 @@ over_when_idle link streams at s x idle in_streams in_stream before =
     different : false ≡ true → ⊥
     different e = cc
 
--- the last instant up to one at which there is none
+-- the last instant up to a given one at which there is no such frame
 pub record IsLastIdle (link : AccessLink) (streams : List AccessStream) (upto : ℕ) : Type 0 where
   pub at : ℕ
   pub early : at ≤ upto
@@ -107,7 +107,7 @@ module _ (link : AccessLink) (streams : List AccessStream) (others : List Other)
 
   module _ (s : AccessStream) (x : Crossing) (in_streams : Contains streams s) (in_stream : Contains s.crossings x)
       (last : IsLastIdle link streams x.frame.at.0) where
-    -- at each instant behind it up to the start some frame is left
+    -- at each later instant up to the start some frame is left
     pub left_until : (v : ℕ) → last.at < v → v ≤ x.start → IsLeft link streams v
     left_until v later upto = elim (cases_lt x.frame.at.0 v) [
       | inl waits ↦
@@ -116,7 +116,7 @@ module _ (link : AccessLink) (streams : List AccessStream) (others : List Other)
       | inr early ↦ left_when_busy link streams v (last.busy v later early)
     ]
 
-    -- one that is under way or left was handed over no sooner
+    -- a frame that is under way or left was handed over no earlier
     no_sooner : (r : AccessStream) (y : Crossing) (at : ℕ) → Contains streams r → Contains r.crossings y → last.at ≤ at → at < stop_of link y →
         last.at ≤ y.frame.at.0
     no_sooner r y at c k from upto = elim (cases_lt y.frame.at.0 last.at) [
@@ -124,7 +124,7 @@ module _ (link : AccessLink) (streams : List AccessStream) (others : List Other)
       | inr e ↦ e
     ]
 
-    -- another frame that is under way started no later
+    -- another frame that is under way didn't start later
     other_first : (o : Other) (at : ℕ) → Contains others o → last.at ≤ at → at < x.start → IsUnderWay link o.start o.octets at → at < last.at + taken_by_other link
     other_first o at c from upto way =
         let short : idle_after o.start o.octets link.octet_time ≤ o.start + taken_by_other link = omega (arith, sent.small o c) in
@@ -133,7 +133,7 @@ module _ (link : AccessLink) (streams : List AccessStream) (others : List Other)
           | inr early ↦ omega (arith, way.1, short, early)
         ]
       where
-        -- it would have started while a frame of a stream was left
+        -- otherwise it would have started while a frame of a stream was left
         never : last.at < o.start → ⊥
         never later =
             let l = left_until o.start later (omega (arith, way.0, upto)) in
@@ -143,7 +143,7 @@ module _ (link : AccessLink) (streams : List AccessStream) (others : List Other)
               | inr before ↦ omega (arith, before, l.after)
             ]
 
-    -- so at each instant up to the start the link sends what was handed over since, but for one frame of no stream in the beginning
+    -- so at each instant up to the start the link sends what was handed over since, except one frame of no stream at the beginning
     pub covered_until : (at : ℕ) → last.at ≤ at → at < x.start → (at < last.at + taken_by_other link) ⊎ IsCovered link streams last.at at
     covered_until at from upto =
         let l = left_until (suc at) (omega (arith, from)) (omega (arith, upto)) in

@@ -1,4 +1,4 @@
--- What is there for each number below some gives a function, and frames that a link sends one after the other take as many places.
+-- If something exists for each number, a function chooses it; and frames that a link sends one after the other take as many places.
 use Rattle.std.proofs.Common.{◌≡◌, ℕ, suc, ◌+◌, ◌-◌, ◌*◌, ◌/◌, ◌<◌, ◌≤◌, ◌⊎◌, inl, inr, arith}
 use Rattle.std.proofs.lemmas.Bool.{cases_lt}
 use Rattle.std.proofs.lemmas.Nat.{le-div}
@@ -17,8 +17,8 @@ module _ (n : ℕ) (P : ℕ → ℕ → Type 0) (has : (k : ℕ) → k < n → (
   pub chosen : (f : ℕ → ℕ) × ((k : ℕ) → k < n → P k (f k))
   chosen = (λ k. pick k (cases_lt k n), λ k l. picked k (cases_lt k n) l)
 
--- which number a frame gets: its place, if that is one of the `few` from `low` on, or else `few` and the number of the room that it starts in,
--- rooms being counted from the instant `from`
+-- the number that a frame gets: its place, if that is one of the `few` from `low` on, or else `few` plus the number of the room in which it
+-- starts. Rooms are counted from the instant `from`
 pub record HasRoom (low few from room at start v : ℕ) : Type 0 where
   pub which : ((at < low + few) × (low + v ≡ at)) ⊎ ((low + few ≤ at) × (v ≡ few + (start - from) / room))
 
@@ -52,7 +52,7 @@ too_many low few rooms from room at start some least later sooner apart turns = 
           omega (arith, p.1, less)
     ]
 
-    -- a start that is so much later has a room behind
+    -- a start that is later by a room is in a later room
     next_room : (first second : ℕ) → from ≤ first → first + room ≤ second → (first - from) / room + 1 ≤ (second - from) / room
     next_room first second a b = le-div ((first - from) / room + 1) (second - from) room some
         (omega (arith, cycle_from room (first - from), a, b))

@@ -1,6 +1,6 @@
--- A closer word at the edge bridge. The first that starts of some arrivals in a row waits for what others take, and for those of its own that
--- start before it. As many intervals later as many frames of its own come before the last of the arrivals, which are no shorter than the
--- shortest, one after the other.
+-- A tighter promise at the edge bridge. Of several consecutive arrivals, the first to start waits for what other streams take, and for
+-- those frames of its own stream that start before it. The same number of intervals later, as many frames of its own stream come before the
+-- last of the arrivals, one after the other. None of these is shorter than the shortest.
 use Rattle.std.proofs.Common.{◌≡◌, ℕ, suc, ◌+◌, ◌-◌, ◌*◌, ◌/◌, ◌<◌, ◌≤◌, ◌⊎◌, List, Some, inl, inr, sym, ap, ◌∙◌, arith, refl}
 use Rattle.std.proofs.Common.{Contains, get_or, length, mul-le-mul_right, nat_le, nat_lt, option_map, slice_get, zero-add}
 use Rattle.std.proofs.lemmas.Bool.{and_parts, cases_lt, leb-true, ltb-true}
@@ -37,7 +37,7 @@ module _ (skips : SkippingConforms) (link : AccessLink) (streams : List AccessSt
       (first : (j : ℕ) (x : Crossing) → i ≤ j → j ≤ i + many → slice_get s.crossings (are.place j) ≡ Some x → y.start ≤ x.start)
       (y_sooner : y.start + way_of link delays.least.0 shortest ≤ b.at.0 + sync)
       (last : IsLastIdle link streams y.frame.at.0) where
-    -- how many of the stream's frames start before it since the link was idle
+    -- how many of the stream's frames start before it, since the link was idle
     abbrev ahead : ℕ
     ahead = length (ahead_in last.at time y.start s)
 
@@ -67,7 +67,7 @@ module _ (skips : SkippingConforms) (link : AccessLink) (streams : List AccessSt
           },
         )
 
-    -- one that starts no sooner was handed over no sooner than the link was last idle
+    -- a frame that doesn't start earlier was handed over no earlier than when the link was last idle
     from_idle : (x : Crossing) → Contains s.crossings x → y.start ≤ x.start → last.at ≤ x.frame.at.0
     from_idle x k later = elim (cases_lt x.frame.at.0 last.at) [
       | inl before ↦ absurd (omega (
@@ -106,12 +106,12 @@ module _ (skips : SkippingConforms) (link : AccessLink) (streams : List AccessSt
       | inr more ↦ one_arrived r more l
     ]
 
-    -- a place has one frame
+    -- at an index there is one frame
     same_crossing : (x z : Crossing) (p q : ℕ) → p ≡ q → slice_get s.crossings p ≡ Some x → slice_get s.crossings q ≡ Some z → x ≡ z
     same_crossing x z p q e f g =
         sym (get_or_from_slice_get s.crossings p x y f) ∙ ap (λ n. get_or s.crossings n y) e ∙ get_or_from_slice_get s.crossings q z y g
 
-    -- no two are the same
+    -- no two of them are the same
     apart : (j k p q : ℕ) → IsOne j p → IsOne k q → j < k → k < suc (many + ahead) → p ≡ q → ⊥
     apart j k p q u v less l e =
         let same = ap (λ (x : Crossing). x.start) (same_crossing u.crossing v.crossing p q e u.there v.there) in
@@ -127,7 +127,7 @@ module _ (skips : SkippingConforms) (link : AccessLink) (streams : List AccessSt
           ]
         ]
 
-    -- of two at different places one starts a shortest frame behind the other
+    -- of two frames at different indexes, one starts at least a shortest frame after the other
     behind_each : (x z : Crossing) (p q : ℕ) → slice_get s.crossings p ≡ Some x → slice_get s.crossings q ≡ Some z → (p ≡ q → ⊥) →
         (x.start + taken_of link shortest ≤ z.start) ⊎ (z.start + taken_of link shortest ≤ x.start)
     behind_each x z p q e f other =

@@ -1,4 +1,4 @@
--- What streams take of a link grows with the time, so what is taken within a time that is no greater than any bound is no greater either.
+-- What streams take of a link grows with the time. So what is taken within a time that is at most any bound is at most any bound too.
 use Rattle.std.proofs.Common.{◌≡◌, ℕ, ◌+◌, ◌-◌, ◌<◌, ◌≤◌, ◌++◌, ◌∷◌, [], ◌∙◌, List, All, Contains, ◌⊎◌, inl, inr, sym, ap, arith, min, sum_by, mul-le-mul_right}
 use Rattle.std.proofs.Common.{get_or, length, take, zero-add}
 use Rattle.std.proofs.lemmas.List.{map-append, take_more}
@@ -33,7 +33,7 @@ demand_more link ts a b are order =
         let some : 0 < t.interval = omega (arith, same, is.interval.least) in
         taken_more link t a b some order
 
--- a time is no greater than any bound that may be
+-- a time is at most any bound that is allowed
 pub record IsBelow (link : AccessLink) (ts : List TrafficText) (most time : ℕ) : Type 0 where
   pub positive : 0 < time
   pub below : (t : ℕ) → IsBound link (all_promises ts) t → t ≤ most → time ≤ t
@@ -41,7 +41,7 @@ pub record IsBelow (link : AccessLink) (ts : List TrafficText) (most time : ℕ)
 pub first_below : (link : AccessLink) (ts : List TrafficText) (most : ℕ) → IsBelow link ts most 1
 first_below link ts most = record { positive = omega arith; below = λ t b l. omega (arith, b.positive) }
 
--- what is taken is no more than both
+-- a minimum is at most both
 min_parts : (a b c : ℕ) → c ≡ min a b → (c ≤ a) × (c ≤ b) × ((c ≡ a) ⊎ (c ≡ b))
 min_parts a b c e = elim (cases_lt a b) [
   | inl l ↦ let is : min a b ≡ a = omega (arith, l) in (omega (arith, e, is), omega (arith, e, is, l), inl (omega (arith, e, is)))
@@ -82,7 +82,7 @@ none_found link ts most time r past t few b = omega (arith, r.below t b few, pas
 
 -- ---- what is taken, stream by stream
 
--- with one stream more
+-- with one more stream
 pub demand_next : (link : AccessLink) (ts : List TrafficText) (n time : ℕ) (d : TrafficText) → n < length ts →
     demand link (all_promises (take (n + 1) ts)) time ≡ demand link (all_promises (take n ts)) time + taken_within link time (promise_of (get_or ts n d))
 demand_next link ts n time d inside =
@@ -94,7 +94,7 @@ demand_next link ts n time d inside =
     let one : sum_by f (promise_of (get_or ts n d) ∷ []) ≡ f (promise_of (get_or ts n d)) = zero-add (f (promise_of (get_or ts n d))) in
     omega (arith, sum, one)
 
--- a sum that is cut off may be cut off before
+-- a sum may be limited before another number is added
 pub cut_off : (a b most sum : ℕ) → sum ≡ min a most → min (sum + b) most ≡ min (a + b) most
 cut_off a b most sum e = elim (cases_lt a most) [
   | inl l ↦ let is : min a most ≡ a = omega (arith, l) in let same : sum ≡ a = omega (arith, e, is) in ap (λ (z : ℕ). min (z + b) most) same
@@ -105,7 +105,7 @@ cut_off a b most sum e = elim (cases_lt a most) [
       left ∙ sym right
 ]
 
--- so the sum that is cut off goes on by a stream
+-- so the limited sum continues with one more stream
 pub taken_next : (link : AccessLink) (ts : List TrafficText) (n time most : ℕ) (item d : TrafficText) (sum taken next : ℕ) → n < length ts →
     get_or ts n d ≡ item → sum ≡ min (demand link (all_promises (take n ts)) time) most → taken ≡ taken_within link time (promise_of item) →
     next ≡ min (sum + taken) most → next ≡ min (demand link (all_promises (take (n + 1) ts)) time) most

@@ -1,4 +1,4 @@
--- What is handed over from an idle instant on within the bound takes no longer than the bound.
+-- What is handed over within the bound, from an idle instant on, takes at most the bound.
 use Rattle.std.proofs.Common.{◌≡◌, ℕ, ◌+◌, ◌-◌, ◌*◌, ◌<◌, ◌≤◌, ◌∷◌, [], ◌&&◌, ◌⊎◌, List, Bool, true, false, inl, inr, ap, sym, ◌∙◌, arith, Contains, sum_by}
 use Rattle.std.proofs.Common.{if◌then◌else◌, filter, length, nat_le, nat_lt, mul-le-mul_right, le-leb, lt-ltb}
 use Rattle.std.proofs.lemmas.Bool.{cases_Bool, cases_lt, cond-true}
@@ -15,7 +15,7 @@ use Rattle.cqf_access.specs.Access.{taken_by_other, taken_of, taken_within}
 use Rattle.cqf_access.proofs.Windows.{ahead_few, ahead_handed, ahead_in, few_handed, gained, handed_in, is_ahead, is_of, on, on_one, past, past_few, past_many, seen, seen_few, ups}
 use Rattle.cqf_access.proofs.Busy.{IsCovered, IsLastIdle, covered_until, last_idle, left_until, over_when_idle, stop_of, takes}
 
--- when a frame starts: after the frames of its own stream that were handed over since an instant and started before it, while other streams
+-- when a frame starts: after the frames of its own stream that were handed over since an instant and started before it, if other streams
 -- take no more than the bound leaves them
 pub record IsBehindOwn (link : AccessLink) (time at : ℕ) (s : AccessStream) (x : Crossing) : Type 0 where
   pub few : length (ahead_in at time x.start s) + 1 ≤ most_frames time s.promise
@@ -23,7 +23,7 @@ pub record IsBehindOwn (link : AccessLink) (time at : ℕ) (s : AccessStream) (x
   pub starts : x.start + taken_within link time s.promise ≤ at + time + length (ahead_in at time x.start s) * taken_of link s.promise.size
 
 module _ (skips : SkippingConforms) (link : AccessLink) (streams : List AccessStream) (others : List Other) (sent : IsSent link streams others) where
-  -- a stream's frames are no larger than it says
+  -- a stream's frames are at most as large as it promises
   pub no_larger : (s : AccessStream) (x : Crossing) → Contains streams s → Contains s.crossings x → x.frame.octets ≤ s.promise.size
   no_larger s x c k = All-contains (λ (y : Offer). y.octets ≤ s.promise.size) (handed s) x.frame (sent.kept s c).sizes
       (contains_map (λ (y : Crossing). y.frame) s.crossings x k)
@@ -31,7 +31,7 @@ module _ (skips : SkippingConforms) (link : AccessLink) (streams : List AccessSt
   pub takes_no_more : (s : AccessStream) (x : Crossing) → Contains streams s → Contains s.crossings x → taken_of link x.frame.octets ≤ taken_of link s.promise.size
   takes_no_more s x c k = time_grows (x.frame.octets + 20) (s.promise.size + 20) link.octet_time (omega (arith, no_larger s x c k))
 
-  -- at how many instants of a stretch a frame is under way
+  -- the number of instants of a span at which a frame is under way
   abbrev here : ℕ → ℕ → Crossing → ℕ
   here a n x = seen a n x.start (stop_of link x)
 
@@ -41,7 +41,7 @@ module _ (skips : SkippingConforms) (link : AccessLink) (streams : List AccessSt
       let long : stop_of link x ≡ x.start + taken_of link x.frame.octets = omega arith in
       omega (arith, few, long, takes_no_more s x c k)
 
-  -- of those of a stream that are handed over in a window
+  -- the same for the frames of a stream that are handed over in a window
   abbrev inner : ℕ → ℕ → ℕ → AccessStream → ℕ
   inner a n time s = sum_by (λ (x : Crossing). here a n x) (handed_in a time s)
 
@@ -70,14 +70,14 @@ module _ (skips : SkippingConforms) (link : AccessLink) (streams : List AccessSt
       (λ y l. here_few a n s y c (of_stream a time s y l)) in
       omega (arith, less, largest_few a time s c)
 
-  -- handed over in the window
+  -- a frame that is handed over in the window
   in_window : (a time : ℕ) (s : AccessStream) (x : Crossing) → Contains s.crossings x → a ≤ x.frame.at.0 → x.frame.at.0 < a + time → Contains (handed_in a time s) x
   in_window a time s x k from upto =
       let t : nat_le a x.frame.at.0 ≡ true = le-leb a x.frame.at.0 from in
       let u : nat_lt x.frame.at.0 (a + time) ≡ true = lt-ltb x.frame.at.0 (a + time) upto in
       contains_filter (λ (y : Crossing). is_of a time y.frame.at.0) s.crossings x k (ap (λ (b : Bool). b && nat_lt x.frame.at.0 (a + time)) t ∙ u)
 
-  -- of those of a stream, how many are under way at an instant
+  -- how many frames of a stream are under way at an instant
   abbrev at_once : ℕ → ℕ → ℕ → AccessStream → ℕ
   at_once a time k s = sum_by (λ (x : Crossing). on x.start (stop_of link x) (a + k)) (handed_in a time s)
 
@@ -87,7 +87,7 @@ module _ (skips : SkippingConforms) (link : AccessLink) (streams : List AccessSt
       double (λ k (x : Crossing). on x.start (stop_of link x) (a + k)) (ups n) (handed_in a time s) in
       omega (arith, e)
 
-  -- where the link sends nothing else in a stretch no longer than the window, the stretch is no longer than what it sends
+  -- if the link sends nothing else in a span no longer than the window, the span is no longer than what it sends
   all_covered : (a n time : ℕ) → n ≤ time → ((k : ℕ) → k < n → (a + k < a + taken_by_other link) ⊎ IsCovered link streams a (a + k)) →
       n ≤ taken_by_other link + sum_by (inner a n time) streams
   all_covered a n time short covered =
@@ -115,7 +115,7 @@ module _ (skips : SkippingConforms) (link : AccessLink) (streams : List AccessSt
                 inl (v.stream, v.is_stream, omega (arith, past_few (taken_by_other link) k, counts, one))
           ]
 
-  -- so what a stream doesn't take in the stretch of what it may take has room behind the stretch
+  -- so there is room after the span for what a stream could take of it but doesn't
   fits_beside : (a n time g : ℕ) (s : AccessStream) → IsBound link (promises_of streams) time → n ≤ time →
       ((k : ℕ) → k < n → (a + k < a + taken_by_other link) ⊎ IsCovered link streams a (a + k)) → Contains streams s →
       inner a n time s + g ≤ taken_within link time s.promise → n + g ≤ time
@@ -126,13 +126,13 @@ module _ (skips : SkippingConforms) (link : AccessLink) (streams : List AccessSt
       sum_map (λ (t : Traffic). taken_within link time t) (λ (r : AccessStream). r.promise) streams in
       omega (arith, least, most, same, bound.enough)
 
-  -- and so has a frame of the window that isn't sent in the stretch, or not all of it
+  -- so there is for a frame of the window that isn't sent in the span, or not entirely
   fits : (a n time g : ℕ) (s : AccessStream) (x : Crossing) → IsBound link (promises_of streams) time → n ≤ time →
       ((k : ℕ) → k < n → (a + k < a + taken_by_other link) ⊎ IsCovered link streams a (a + k)) → Contains streams s → Contains (handed_in a time s) x →
       here a n x + g ≤ taken_of link s.promise.size → n + g ≤ time
   fits a n time g s x bound short covered c k room = fits_beside a n time g s bound short covered c (inner_more a n time g s x c k room)
 
-  -- frames that start behind the stretch take nothing of it
+  -- frames that start after the span take nothing of it
   inner_ahead : (a n time : ℕ) (s : AccessStream) → Contains streams s →
       inner a n time s ≤ length (ahead_in a time (a + n) s) * taken_of link s.promise.size
   inner_ahead a n time s c =
@@ -167,7 +167,7 @@ module _ (skips : SkippingConforms) (link : AccessLink) (streams : List AccessSt
 
   module _ (time : ℕ) (bound : IsBound link (promises_of streams) time) (s : AccessStream) (x : Crossing) (c : Contains streams s)
       (k : Contains s.crossings x) (last : IsLastIdle link streams x.frame.at.0) where
-    -- what a largest frame of the stream takes
+    -- the time of a largest frame of the stream
     abbrev size : ℕ
     size = taken_of link s.promise.size
 
@@ -175,7 +175,7 @@ module _ (skips : SkippingConforms) (link : AccessLink) (streams : List AccessSt
     covered_so : (n : ℕ) → last.at + n ≤ x.start → (j : ℕ) → j < n → (last.at + j < last.at + taken_by_other link) ⊎ IsCovered link streams last.at (last.at + j)
     covered_so n upto j less = covered_until link streams others sent s x c k last (last.at + j) (omega arith) (omega (arith, upto, less))
 
-    -- the frame is of the window: else one that was handed over in it would be left at its end
+    -- the frame is of the window: otherwise a frame that was handed over in the window would be left at its end
     of_window : x.frame.at.0 < last.at + time
     of_window = elim (cases_lt x.frame.at.0 (last.at + time)) [
       | inl l ↦ l
@@ -215,7 +215,7 @@ module _ (skips : SkippingConforms) (link : AccessLink) (streams : List AccessSt
     unseen : (n : ℕ) → last.at + n ≤ x.start → here last.at n x + size ≤ size
     unseen n upto = omega (arith, (seen_few last.at n x.start (stop_of link x)).0, upto)
 
-    -- so one of its stream's largest would have its gap behind it within the window
+    -- so a largest frame of its stream would end, with its gap, within the window
     starts_in_window : x.start + size ≤ last.at + time
     starts_in_window = elim (cases_lt (last.at + time) x.start) [
       | inl late ↦
@@ -234,7 +234,7 @@ module _ (skips : SkippingConforms) (link : AccessLink) (streams : List AccessSt
     starts : x.start + taken_of link s.promise.size ≤ x.frame.at.0 + time
     starts = omega (arith, starts_in_window, last.early)
 
-    -- it waits for as many of its own stream as start before it, and for what others take at most
+    -- it waits for the frames of its own stream that start before it, and for the most that others take
     starts_behind : IsBehindOwn link time last.at s x
     starts_behind =
         let n = x.start - last.at in

@@ -1,4 +1,4 @@
--- Numbers that are all different lie apart.
+-- Distinct numbers have distance.
 use Rattle.std.proofs.Common.{◌≡◌, ℕ, zero, suc, ◌+◌, ◌-◌, ◌<◌, ◌≤◌, ◌∷◌, [], Bool, true, inl, inr, refl, sym, ap, ◌∙◌, arith, AllPairs, Contains}
 use Rattle.std.proofs.Common.{sum_by, ◌==◌, eq-eqb, eqb-true, if◌then◌else◌}
 use Rattle.std.proofs.lemmas.Bool.{cases_lt, cond-true}
@@ -8,7 +8,7 @@ use Rattle.cqf_lists.proofs.Pairs.{pairs_below, pairs_one}
 use Rattle.cqf_lists.proofs.Sums.{sum_below, sum_matched, sum_member}
 use Rattle.cqf_access.proofs.Windows.{ups}
 
--- the sum of as many ones
+-- the sum of n ones is n
 ones : (n : ℕ) → sum_by (λ (k : ℕ). 1) (ups n) ≡ n
 ones zero = refl
 ones (suc n) =
@@ -17,11 +17,11 @@ ones (suc n) =
     let one : sum_by (λ (k : ℕ). 1) (n ∷ []) ≡ 1 = refl in
     omega (arith, more, one, ones n)
 
--- a number stands at a place
+-- whether a number is the one at an index
 abbrev stands : (ℕ → ℕ) → ℕ → ℕ → Bool
 stands p k v = p k == v
 
--- more numbers than there is room for aren't all different
+-- more numbers than there is room for aren't all distinct
 pub crowded : (p : ℕ → ℕ) (m : ℕ) → ((k : ℕ) → k < suc m → p k < m) → ((j k : ℕ) → j < k → k < suc m → p j ≡ p k → ⊥) → ⊥
 crowded p m small apart = omega (arith, matched, ones m, ones (suc m))
   where
@@ -44,7 +44,7 @@ crowded p m small apart = omega (arith, matched, ones m, ones (suc m))
     matched : sum_by (λ (k : ℕ). 1) (ups (suc m)) ≤ sum_by (λ (k : ℕ). 1) (ups m)
     matched = sum_matched (λ (k : ℕ). 1) (λ (v : ℕ). 1) (stands p) (ups (suc m)) (ups m) has apart_at
 
--- the place of a least and of a greatest of some numbers in a row
+-- the indexes of the least and of the greatest of some consecutive numbers
 pub record Ends (p : ℕ → ℕ) (first count : ℕ) : Type 0 where
   pub low : ℕ
   pub high : ℕ
@@ -129,7 +129,7 @@ ends p first (suc n) =
       )
     ]
 
--- of different ones the greatest is as far from the least as there are others
+-- if they are distinct, the greatest exceeds the least by at least the number of the others
 pub apart_by : (p : ℕ → ℕ) (first count : ℕ) (r : Ends p first count) → ((j k : ℕ) → first ≤ j → j < k → k ≤ first + count → p j ≡ p k → ⊥) →
     p r.low + count ≤ p r.high
 apart_by p first count r apart = elim (cases_lt (p r.high) (p r.low + count)) [

@@ -9,7 +9,7 @@ use Rattle.cqf_access.specs.Arriving.{AreWithin, at_edge, edge_offset}
 use Rattle.cqf_access.specs.InStep.{EdgeComesInTurns, EdgeKeepsStep, KeepsStep}
 use Rattle.cqf_access.proofs.Arrivals.{shifted}
 
--- an instant of a block's interval lies in a cycle, by each clock
+-- an instant of a block's interval is in the cycle, by each clock
 pub cycle_of_block : (cycle_time sync offset block reading at : ℕ) (t : Traffic) → KeepsStep cycle_time sync offset t →
     offset + block * t.interval ≤ at → at ≤ offset + block * t.interval + t.jitter → AreWithin sync at reading →
     reading / cycle_time ≡ offset / cycle_time + block * (t.interval / cycle_time)
@@ -21,7 +21,7 @@ cycle_of_block cycle_time sync offset block reading at t step least most clocks 
     (omega (arith, begins, behind, least, clocks.no_later, step.early))
     (omega (arith, begins, behind, most, clocks.no_sooner, step.late))
 
--- so does the block's beginning
+-- so is the block's beginning
 pub cycle_of_beginning : (cycle_time sync offset block : ℕ) (t : Traffic) → KeepsStep cycle_time sync offset t →
     (offset + block * t.interval) / cycle_time ≡ offset / cycle_time + block * (t.interval / cycle_time)
 cycle_of_beginning cycle_time sync offset block t step =

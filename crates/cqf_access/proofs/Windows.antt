@@ -1,4 +1,4 @@
--- How many frames a talker hands over within so long, and how much of a stretch of instants a frame is under way.
+-- How many frames a talker hands over within a time, and for how many instants of a span a frame is under way.
 use Rattle.std.proofs.Common.{◌≡◌, ℕ, zero, suc, ◌+◌, ◌-◌, ◌*◌, ◌/◌, ◌<◌, ◌≤◌, ◌∷◌, [], ◌&&◌, List, Bool, true, false, Some, inl, inr, refl, sym, ap, ◌∙◌, subst}
 use Rattle.std.proofs.Common.{arith, filter, length, get_or, Contains, slice_get, sum_by, nat_le, nat_lt, mul-le-mul_right, if◌then◌else◌, zero-add}
 use Rattle.std.proofs.lemmas.Bool.{and_parts, cases_Bool, cond-false, cond-true, leb-true, ltb-true, lt-ltb, le-leb}
@@ -15,7 +15,7 @@ use Rattle.cqf_model.specs.declared.frames.Offer.{Offer}
 use Rattle.cqf_laws_timing.specs.Traffic.{Conforms, IsTraffic, SkippingConforms, Traffic, most_frames}
 use Rattle.cqf_access.specs.Access.{AccessStream, Crossing, handed}
 
--- ---- sums in which one has more room
+-- ---- sums in which one term has more room
 
 pub gained : {X : Type 0} (f h : X → ℕ) (g : ℕ) (xs : List X) (x : X) → ((y : X) → Contains xs y → f y ≤ h y) → Contains xs x → f x + g ≤ h x →
     sum_by f xs + g ≤ sum_by h xs
@@ -32,7 +32,7 @@ gained {X} f h g (y ∷ ys) x each k l = elim (contains_cases y ys x k) [
 
 -- ---- frames of a window
 
--- two frames that come within n ns are fewer places apart than the frames of the intervals that n ns can touch
+-- the indexes of two frames that come within n ns differ by less than the number of frames of the intervals that n ns can touch
 few_between : (n jitter interval frames apart first last a : ℕ) → 0 < interval → 0 < frames → a ≤ first → last < a + n →
     first + apart / frames * interval ≤ last + jitter → apart < (n + jitter + interval - 1) / interval * frames
 few_between n jitter interval frames apart first last a takes fills one two spaced =
@@ -41,7 +41,7 @@ few_between n jitter interval frames apart first last a takes fills one two spac
     le-div (q + 1) (n + jitter + interval - 1) interval takes (omega (arith, one, two, spaced)) in
     omega (arith, cycle_upto frames apart fills, mul-le-mul_right frames few)
 
--- so of frames that come so there are no more than that
+-- so there are at most that many frames within n ns
 few_of_window : (a n : ℕ) (t : Traffic) (ys : List Offer) → IsTraffic t → Conforms t ys → ((y : Offer) → Contains ys y → (a ≤ y.at.0) × (y.at.0 < a + n)) →
     length ys ≤ most_frames n t
 few_of_window a n t [] is c inside = omega arith
@@ -57,7 +57,7 @@ few_of_window a n t (x ∷ xs) is c inside =
 abbrev pub is_of : ℕ → ℕ → ℕ → Bool
 is_of a n at = nat_le a at && nat_lt at (a + n)
 
--- a stream's frames that are handed over in it
+-- the frames of a stream that are handed over in the window
 abbrev pub handed_in : ℕ → ℕ → AccessStream → List Crossing
 handed_in a n s = filter (λ (x : Crossing). is_of a n x.frame.at.0) s.crossings
 
@@ -72,7 +72,7 @@ pub ahead_handed : (a n start : ℕ) (s : AccessStream) → ahead_in a n start s
 ahead_handed a n start s = filter_weaker (is_ahead a n start) (λ (x : Crossing). is_of a n x.frame.at.0) s.crossings
     (λ x k t. (and_parts (is_of a n x.frame.at.0) (nat_lt x.start start) t).0)
 
--- a filter that leaves one out keeps fewer
+-- a filter that omits an element keeps fewer
 fewer : {X : Type 0} (p : X → Bool) (xs : List X) (x : X) → Contains xs x → p x ≡ false → length (filter p xs) + 1 ≤ length xs
 fewer {X} p xs x k out =
     let counts = gained (λ (y : X). if p y then 1 else 0) (λ (y : X). 1) 1 xs x (λ y c. at_most_one (p y)) k
@@ -87,7 +87,7 @@ fewer {X} p xs x k out =
     ones_of [] = refl
     ones_of (y ∷ ys) = omega (arith, sum_by-cons (λ (z : X). 1) y ys, ones_of ys)
 
--- so those that start before one of them are fewer
+-- so fewer frames start before one of them
 pub ahead_few : (a n : ℕ) (s : AccessStream) (x : Crossing) → Contains (handed_in a n s) x → length (ahead_in a n x.start s) + 1 ≤ length (handed_in a n s)
 ahead_few a n s x k =
     let less = fewer (is_ahead a n x.start) (handed_in a n s) x k (not_itself (is_of a n x.frame.at.0)) in
@@ -110,13 +110,13 @@ few_handed skips a n s is c =
     ap length (filter-map (λ (x : Crossing). x.frame) here s.crossings) ∙ length-map (handed_in a n s) (λ (x : Crossing). x.frame) in
     omega (arith, few, long)
 
--- ---- instants of a stretch
+-- ---- instants of a span
 
 -- the numbers of instants, from 0
 abbrev pub ups : ℕ → List ℕ
 ups n = each_below (λ k. k ∷ []) n
 
--- whether what starts and stops so is under way, as a number
+-- whether something with this start and stop is under way, as a number
 abbrev pub on : ℕ → ℕ → ℕ → ℕ
 on start stop at = if nat_le start at && nat_lt at stop then 1 else 0
 
@@ -124,7 +124,7 @@ on start stop at = if nat_le start at && nat_lt at stop then 1 else 0
 abbrev pub seen : ℕ → ℕ → ℕ → ℕ → ℕ
 seen a n start stop = sum_by (λ k. on start stop (a + k)) (ups n)
 
--- no more than there are up to the stretch's end, and no more than it takes
+-- at most as many as there are up to the span's end, and at most as many as it takes
 pub seen_few : (a n start stop : ℕ) → (seen a n start stop ≤ a + n - start) × (seen a n start stop ≤ stop - start)
 seen_few a zero start stop = (omega arith, omega arith)
 seen_few a (suc n) start stop =
@@ -145,7 +145,7 @@ seen_few a (suc n) start stop =
           (omega (arith, r.0, more, one, is), omega (arith, r.1, more, one, is))
     ]
 
--- those from one on
+-- whether an instant is at or after a given one, as a number
 abbrev pub past : ℕ → ℕ → ℕ
 past m k = if nat_lt k m then 0 else 1
 
@@ -160,7 +160,7 @@ past_many m (suc n) =
       | inr u ↦ let is : past m n ≡ 1 = cond-false {A = ℕ} (nat_lt n m) 0 1 u in omega (arith, r, more, one, is)
     ]
 
--- an instant counts once at most, and so does one at which something is under way
+-- an instant counts at most once, and so does one at which something is under way
 pub past_few : (m k : ℕ) → past m k ≤ 1
 past_few m k = elim (cases_Bool (nat_lt k m)) [
   | inl t ↦ omega (arith, cond-true {A = ℕ} (nat_lt k m) 0 1 t)

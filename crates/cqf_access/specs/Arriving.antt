@@ -1,4 +1,4 @@
--- When frames of a talker's access link are whole at the edge bridge, and the word that their stream keeps there.
+-- When frames of a talker's access link are whole at the edge bridge, and the promise that their stream keeps there.
 use Rattle.std.specs.Prelude.{ℕ, ◌≡◌, ◌+◌, ◌-◌, ◌*◌, ◌/◌, ◌<◌, ◌≤◌, List, All, Some, Contains, length, slice_get}
 use Rattle.cqf_units.specs.Timing.{ending_of}
 use Rattle.cqf_model.specs.declared.frames.Offer.{Offer}
@@ -6,20 +6,22 @@ use Rattle.cqf_laws_timing.specs.Traffic.{Conforms, IsTraffic, Traffic}
 use Rattle.cqf_access.specs.declared.edge.Delays.{Delays}
 use Rattle.cqf_access.specs.Access.{AccessLink, AccessStream, Crossing, IsBound, IsSent, Other, promises_of, taken_of}
 
--- a frame is whole at the link's end as long after its last octet as the link's delay is
+-- a frame is whole at the link's end one delay of the link after its last octet
 pub record IsWholeAt (link : AccessLink) (delays : Delays) (x : Crossing) (at : ℕ) : Type 0 where
   pub least : ending_of x.start x.frame.octets link.octet_time + delays.least.0 ≤ at
   pub most : at ≤ ending_of x.start x.frame.octets link.octet_time + delays.most.0
 
--- how long a frame that doesn't wait takes from its hand-over until it is whole at the edge bridge, by its octets and the link's delay
+-- the time from the hand-over of a frame that doesn't wait until it is whole at the edge bridge, given the link's delay and the frame's
+-- octets: its transit time
 abbrev pub way_of : AccessLink → ℕ → ℕ → ℕ
 way_of link delay octets = ending_of 0 octets link.octet_time + delay
 
--- how long one of a stream waits at most
+-- the longest wait of a frame of a stream
 abbrev pub longest_wait : AccessLink → ℕ → Traffic → ℕ
 longest_wait link time t = time - taken_of link t.size
 
--- a frame is whole no earlier than its shortest way, and no later than its longest one and the longest wait, after the hand-over
+-- a frame is whole, after its hand-over, no earlier than its shortest transit time, and no later than its longest transit time plus the
+-- longest wait. And this is so for each frame
 pub record IsWholeWithin (link : AccessLink) (delays : Delays) (time : ℕ) (t : Traffic) (x : Crossing) (at : ℕ) : Type 0 where
   pub least : x.frame.at.0 + way_of link delays.least.0 x.frame.octets ≤ at
   pub most : at ≤ x.frame.at.0 + way_of link delays.most.0 x.frame.octets + longest_wait link time t
@@ -30,12 +32,12 @@ FramesAreWholeWithin =
     IsSent link streams others → IsBound link (promises_of streams) time → Contains streams s → Contains s.crossings x → IsWholeAt link delays x at →
     IsWholeWithin link delays time s.promise x at
 
--- by how much the longest way of a largest frame is longer than the shortest way of a shortest one
+-- by how much the longest transit time of a largest frame exceeds the shortest transit time of a shortest frame
 abbrev pub spread_of : AccessLink → Delays → ℕ → ℕ → ℕ
 spread_of link delays shortest size = way_of link delays.most.0 size - way_of link delays.least.0 shortest
 
--- what the stream's word is at the edge bridge, where none of its frames is shorter than so many octets: the same, but that a frame may be
--- later by the longest wait, and by what its way may be longer than another frame's
+-- the stream's promise at the edge bridge, if none of its frames has fewer octets than `shortest`: the same, but a frame can be later by
+-- the longest wait and by the spread of transit times
 abbrev pub at_edge : AccessLink → Delays → ℕ → ℕ → Traffic → Traffic
 at_edge link delays time shortest t = record {
   interval = t.interval;
@@ -44,12 +46,12 @@ at_edge link delays time shortest t = record {
   jitter = t.jitter + (longest_wait link time t + spread_of link delays shortest t.size);
 }
 
--- an instant by two clocks, which are so far apart at most
+-- an instant by two clocks that differ by at most `sync`
 pub record AreWithin (sync one other : ℕ) : Type 0 where
   pub no_later : one ≤ other + sync
   pub no_sooner : other ≤ one + sync
 
--- the same word by another clock: each frame may be early and late by as much as the clocks are apart
+-- the same promise by another clock: each frame can be early and late by as much as the clocks differ
 abbrev pub by_clock : ℕ → Traffic → Traffic
 by_clock sync t = record {
   interval = t.interval;
@@ -58,8 +60,8 @@ by_clock sync t = record {
   jitter = t.jitter + 2 * sync;
 }
 
--- what the edge bridge has of a stream: some of the frames, each once, in the order in which they are whole by its clock. That and the
--- talker's are so far apart at most
+-- what the edge bridge receives of a stream: some of the frames, each once, in the order in which they are whole by its clock. This clock
+-- and the talker's differ by at most `sync`
 pub record Arrives (link : AccessLink) (delays : Delays) (sync : ℕ) (crossings : List Crossing) (place : ℕ) (a : Offer) : Type 0 where
   pub crossing : Crossing
   pub there : slice_get crossings place ≡ Some crossing
@@ -74,8 +76,8 @@ pub record AreArrivals (link : AccessLink) (delays : Delays) (sync : ℕ) (cross
   pub once : (i k : ℕ) → i < k → k < length arrived → place i ≡ place k → ⊥
   pub ordered : (i k : ℕ) (a b : Offer) → i ≤ k → slice_get arrived i ≡ Some a → slice_get arrived k ≡ Some b → a.at.0 ≤ b.at.0
 
--- so its talker keeps a word there, in whatever order the link sends, and whichever delays the frames have: that one by another clock, and
--- that one itself where no clocks are apart
+-- in any order in which the link sends, and with any delays of the frames, the talker keeps a promise there: by another clock the one for
+-- that clock, and the promise itself if the clocks don't differ
 abbrev pub EdgeConformsByClocks : Type 0
 EdgeConformsByClocks =
     (link : AccessLink) (streams : List AccessStream) (others : List Other) (delays : Delays) (time shortest sync : ℕ) (s : AccessStream)
@@ -90,17 +92,17 @@ EdgeConforms =
     ((x : Crossing) → Contains s.crossings x → shortest ≤ x.frame.octets) → AreArrivals link delays 0 s.crossings arrived →
     Conforms (at_edge link delays time shortest s.promise) arrived
 
--- an instant stands on a grid, or is late on it: the grid has so long intervals, and begins at an offset
+-- an instant is on a grid, or late on it by at most the jitter; the grid has this interval, and begins at the offset
 pub record IsOnGrid (offset interval jitter at : ℕ) : Type 0 where
   pub block : ℕ
   pub least : offset + block * interval ≤ at
   pub most : at ≤ offset + block * interval + jitter
 
--- the grid at the edge bridge of a stream that is handed over on a grid begins later by the shortest way of a shortest frame
+-- if a stream is handed over on a grid, its grid at the edge bridge begins later by the shortest transit time of a shortest frame
 abbrev pub edge_offset : AccessLink → Delays → ℕ → ℕ → ℕ
 edge_offset link delays shortest offset = offset + way_of link delays.least.0 shortest
 
--- there each frame is whole on it, in its own interval
+-- each frame is whole on this grid, in the interval in which it was handed over
 abbrev pub GridIsShifted : Type 0
 GridIsShifted =
     (link : AccessLink) (streams : List AccessStream) (others : List Other) (delays : Delays) (time shortest offset : ℕ) (s : AccessStream) (x : Crossing)
@@ -109,8 +111,9 @@ GridIsShifted =
     (edge : IsOnGrid (edge_offset link delays shortest offset) s.promise.interval (at_edge link delays time shortest s.promise).jitter at)
     × (edge.block ≡ grid.block)
 
--- frames that a talker hands over by a regular grid, in the order in which it does: each has a place to itself, of so many in each interval of
--- the grid, and comes no earlier than its interval begins, and later by the jitter at most. Frames of later intervals may overtake it
+-- frames that a talker hands over by a regular grid, in the order of their hand-overs. Each has its own place among the `frames` places of
+-- an interval of the grid. It comes no earlier than its interval begins, and later by at most the jitter. Frames of later intervals may
+-- overtake it
 pub record AreByGrid (offset : ℕ) (t : Traffic) (sent : List Offer) : Type 0 where
   pub place : ℕ → ℕ
   pub once : (i k : ℕ) → i < k → k < length sent → place i ≡ place k → ⊥
@@ -119,11 +122,11 @@ pub record AreByGrid (offset : ℕ) (t : Traffic) (sent : List Offer) : Type 0 w
   pub sizes : All (λ (a : Offer). a.octets ≤ t.size) sent
   pub ordered : (i k : ℕ) (a b : Offer) → i ≤ k → slice_get sent i ≡ Some a → slice_get sent k ≡ Some b → a.at.0 ≤ b.at.0
 
--- such a talker keeps its word at the hand-over
+-- such a talker keeps its promise at the hand-over
 abbrev pub GridsConform : Type 0
 GridsConform = (offset : ℕ) (t : Traffic) (sent : List Offer) → IsTraffic t → AreByGrid offset t sent → Conforms t sent
 
--- and each of its frames is on the grid
+-- each frame of such a talker is on the grid
 abbrev pub GridsAreKept : Type 0
 GridsAreKept = (offset : ℕ) (t : Traffic) (sent : List Offer) (a : Offer) → AreByGrid offset t sent → Contains sent a →
     IsOnGrid offset t.interval t.jitter a.at.0

@@ -8,7 +8,7 @@ use Rattle.cqf_laws_timing.specs.Traffic.{Traffic}
 use Rattle.cqf_traffic.specs.TrafficText.{TrafficText, promise_of}
 use Rattle.cqf_access.specs.Access.{AccessLink, IsBound}
 
--- a link by its rate
+-- a link with this rate
 abbrev pub link_of : Rate → Option Octets → AccessLink
 link_of rate other = record { octet_time = ticks_of_octet rate; other = option_map (λ (o : Octets). o.0) other }
 
@@ -16,12 +16,12 @@ link_of rate other = record { octet_time = ticks_of_octet rate; other = option_m
 abbrev pub all_promises : List TrafficText → List Traffic
 all_promises ts = map promise_of ts
 
--- a bound that is no greater than any other
+-- a bound that is at most any other bound
 pub record IsLeastBound (link : AccessLink) (promises : List Traffic) (time : ℕ) : Type 0 where
   pub bound : IsBound link promises time
   pub least : (other : ℕ) → IsBound link promises other → time ≤ other
 
--- the least bound, where it is no greater than it may be; else there is none so small
+-- the least bound, if it is at most `most`; none if no bound is at most `most`
 abbrev pub IsAccessBound : AccessLink → List Traffic → ℕ → Option Nanos → Type 0
 IsAccessBound link promises most (Some time) = IsLeastBound link promises time.0 × (time.0 ≤ most)
 IsAccessBound link promises most None = (time : ℕ) → time ≤ most → IsBound link promises time → ⊥

@@ -1,4 +1,4 @@
--- Talkers in step: at the edge bridge all frames of an interval come within one cycle, by each clock that may be there.
+-- Talkers in step: at the edge bridge all frames of an interval come within one cycle, by each clock that is possible there.
 use Rattle.std.specs.Prelude.{ℕ, ◌≡◌, ◌+◌, ◌*◌, ◌%◌, ◌<◌, ◌≤◌, List, Contains}
 use Rattle.cqf_units.specs.Timing.{cycle_at}
 use Rattle.cqf_model.specs.declared.frames.Offer.{Offer}
@@ -7,15 +7,15 @@ use Rattle.cqf_access.specs.declared.edge.Delays.{Delays}
 use Rattle.cqf_access.specs.Access.{AccessLink, AccessStream, Crossing, IsBound, IsSent, Other, promises_of}
 use Rattle.cqf_access.specs.Arriving.{AreArrivals, AreWithin, IsOnGrid, IsWholeAt, at_edge, edge_offset}
 
--- intervals are whole cycles, and a frame that is as late as may be comes in the cycle in which it stands on the grid, also by a clock that is
--- so far apart: by none does it come before that cycle begins, or when it is over
+-- intervals are whole cycles. A frame that is late by the whole jitter comes in its cycle on the grid, even by a clock that differs by
+-- `sync`: by no such clock does it come before that cycle begins or after it ends
 pub record KeepsStep (cycle_time sync offset : ℕ) (t : Traffic) : Type 0 where
   pub some : 0 < cycle_time
   pub whole : t.interval % cycle_time ≡ 0
   pub early : sync ≤ offset % cycle_time
   pub late : offset % cycle_time + t.jitter + sync < cycle_time
 
--- so where a stream keeps step by its grid and its word at the edge bridge, each frame that is handed over on a grid is whole there in the
+-- if a stream keeps step by its grid and its promise at the edge bridge, each frame that is handed over on a grid is whole there in the
 -- cycle in which its interval begins on the grid there, by each such clock
 abbrev pub EdgeKeepsStep : Type 0
 EdgeKeepsStep =
@@ -29,8 +29,8 @@ EdgeKeepsStep =
 abbrev pub AreOnGrid : ℕ → AccessStream → Type 0
 AreOnGrid offset s = (x : Crossing) → Contains s.crossings x → IsOnGrid offset s.promise.interval s.promise.jitter x.frame.at.0
 
--- and where each interval is some times so many cycles long, all that comes of the stream comes in one of so many, by the edge bridge's
--- clock: in those that are some times so many away from the cycle in which its grid there begins
+-- if, in addition, each interval is a multiple of `every` cycles long, all that arrives of the stream comes in every `every`-th cycle by
+-- the edge bridge's clock, counted from the cycle in which its grid there begins
 abbrev pub EdgeComesInTurns : Type 0
 EdgeComesInTurns =
     (link : AccessLink) (streams : List AccessStream) (others : List Other) (delays : Delays) (time shortest offset cycle_time every sync : ℕ)

@@ -8,7 +8,7 @@ ghost use Rattle.cqf_access.specs.Bounding.{IsAccessBound, all_promises, link_of
 use cqf_traffic::Traffic;
 use cqf_units::{Nanos, Octets, Rate, slot};
 
-/// How many frames of a stream a talker hands over within so long, at most.
+/// Returns the most frames of a stream that a talker hands over within a time.
 pub(crate) fn most_frames(promise: Traffic, time: Nanos) -> u128
     requires short { time.0 ≤ 2 ^ 32 }
     ensures value { result ≡ most_frames time.0 (promise_of promise) }
@@ -20,7 +20,7 @@ pub(crate) fn most_frames(promise: Traffic, time: Nanos) -> u128
     u128::from(reach / interval) * u128::from(promise.frames())
 }
 
-/// What a talker hands over of a stream within so long takes of a link, at most, in nanoseconds.
+/// Returns the most time that the frames of a stream that are handed over within a time take of a link, in nanoseconds.
 fn taken_within(rate: Rate, promise: Traffic, time: Nanos) -> u128
     requires short { time.0 ≤ 2 ^ 32 }
     ensures value { result ≡ taken_within (link_of rate None) time.0 (promise_of promise) }
@@ -30,8 +30,8 @@ fn taken_within(rate: Rate, promise: Traffic, time: Nanos) -> u128
     most_frames(promise, time) * u128::from(slot(promise.size(), rate))
 }
 
-/// What all of a station's talkers hand over within so long takes of its access link, with one frame of no stream, at most; or one more
-/// than so much, where it is more.
+/// Returns the most time that all frames that a station's talkers hand over within a time take of its access link, with one frame of no
+/// stream, or `most` plus 1 ns if it is more than `most`.
 fn taken_by_all(
     rate: Rate,
     other: Option<Octets>,
@@ -55,10 +55,11 @@ fn taken_by_all(
     Nanos(sum)
 }
 
-/// How long a frame waits at most on the access link of a station whose streams are of these promises, and which may send one frame of
-/// no stream, together with what a largest frame of its stream takes: the least bound that there is, where it is no more than so long,
-/// up to 2^32 ns. From 1 ns on the time is what is handed over within the time before takes, until it grows no more; so each is no
-/// greater than any bound, and since each is longer than the one before, it ends.
+/// Returns the least bound of a frame's wait plus the time of a largest frame of its stream, on the access link of a station whose streams
+/// have these promises, and which may send one frame of no stream. Returns `None` if no bound is at most `most`, which is at most 2^32 ns.
+///
+/// The search starts at 1 ns. Each next time is what the link needs for all that is handed over within the previous time, until this no
+/// longer grows. So no time is greater than any bound, and as each is longer than the previous one, the search ends.
 pub fn access_bound(
     rate: Rate,
     other: Option<Octets>,

@@ -1,4 +1,4 @@
-//! What a talker's word is at its edge bridge.
+//! The promise that a talker keeps at its edge bridge.
 ghost use Rattle.std.specs.Prelude.{◌≡◌, ◌≤◌, ◌^◌};
 ghost use Rattle.cqf_traffic.specs.TrafficText.{promise_of};
 ghost use Rattle.cqf_access.specs.Arriving.{at_edge, edge_offset, longest_wait, spread_of, way_of};
@@ -9,14 +9,14 @@ use crate::bounds::most_frames;
 use cqf_traffic::Traffic;
 use cqf_units::{Nanos, Octets, Rate, slot, time_of};
 
-/// How long a link's delay is, at least and at most: it may be another one for each frame.
+/// The least and the greatest delay of a link. Each frame can have another delay.
 #[derive(Clone, Copy, Debug, PartialEq, Eq)]
 pub struct Delays {
     pub least: Nanos,
     pub most: Nanos,
 }
 
-/// How long a frame of so many octets is on its way with so long a delay, where it needn't wait.
+/// Returns the transit time of a frame with this number of octets and this delay, if it doesn't wait.
 fn way_of(rate: Rate, delay: Nanos, octets: Octets) -> Nanos
     requires short { delay.0 ≤ 2 ^ 32 }
     ensures value { result.0 ≡ way_of (link_of rate None) delay.0 octets.0 }
@@ -25,7 +25,7 @@ fn way_of(rate: Rate, delay: Nanos, octets: Octets) -> Nanos
     Nanos(time_of(u64::from(octets.0) + 8, rate) + delay.0)
 }
 
-/// How long one of a stream waits at most, by a bound.
+/// Returns the longest wait of a frame of a stream, given a bound.
 fn longest_wait(rate: Rate, bound: Nanos, promise: Traffic) -> Nanos
     ensures value { result.0 ≡ longest_wait (link_of rate None) bound.0 (promise_of promise) }
     ensures short { result.0 ≤ bound.0 }
@@ -33,8 +33,8 @@ fn longest_wait(rate: Rate, bound: Nanos, promise: Traffic) -> Nanos
     Nanos(bound.0.saturating_sub(slot(promise.size(), rate)))
 }
 
-/// By how much the wait of one frame of a stream may be longer than that of another which stands as far behind in its interval: this waits for
-/// the stream's own frames too, of which none is shorter than so many octets.
+/// Returns by how much the wait of a frame of a stream can exceed that of another frame at the same position in its interval. The other
+/// frame waits for the stream's own frames too; none of these is shorter than `shortest`.
 fn closer_wait(rate: Rate, bound: Nanos, shortest: Octets, promise: Traffic) -> Nanos
     requires bounded { bound.0 ≤ 2 ^ 32 }
     ensures value { result.0 ≡ closer_wait (link_of rate None) bound.0 shortest.0 (promise_of promise) }
@@ -45,7 +45,7 @@ fn closer_wait(rate: Rate, bound: Nanos, shortest: Octets, promise: Traffic) -> 
     Nanos(longest.saturating_sub(own) as u64)
 }
 
-/// By how much the longest way of a largest frame is longer than the shortest way of a shortest one.
+/// Returns by how much the longest transit time of a largest frame exceeds the shortest transit time of a shortest frame.
 fn spread_of(rate: Rate, delays: Delays, shortest: Octets, promise: Traffic) -> Nanos
     requires short { delays.least.0 ≤ 2 ^ 32 }
     requires brief { delays.most.0 ≤ 2 ^ 32 }
@@ -57,8 +57,9 @@ fn spread_of(rate: Rate, delays: Delays, shortest: Octets, promise: Traffic) -> 
     Nanos(spread)
 }
 
-/// The jitter of a talker's word at the edge bridge, where its access link sends one frame after the other, none of whose frames waits longer
-/// than a bound says ([`access_bound`]), and none of the stream is shorter than so many octets; delays are up to 2^32 ns.
+/// Returns the jitter of a talker's promise at the edge bridge. Its access link sends one frame after the other, no frame waits longer than
+/// the bound allows ([`access_bound`]), and no frame of the stream is shorter than `shortest`. The bound and the delays are at most 2^32
+/// ns.
 ///
 /// [`access_bound`]: crate::access_bound
 pub fn edge_jitter(
@@ -77,8 +78,8 @@ pub fn edge_jitter(
     Nanos(promise.jitter().0 + wait + spread_of(rate, delays, shortest, promise).0)
 }
 
-/// How late a frame may be on its stream's grid there, so: it has its whole wait in it. For a talker in step each frame has to lie in its
-/// cycle with that.
+/// Returns how late a frame can be on its stream's grid at the edge bridge, under the same conditions. This includes the frame's whole
+/// wait. The frames of a talker in step must stay in their cycles with this jitter.
 pub fn grid_jitter(
     rate: Rate,
     delays: Delays,
@@ -95,7 +96,7 @@ pub fn grid_jitter(
     Nanos(promise.jitter().0 + wait + spread_of(rate, delays, shortest, promise).0)
 }
 
-/// Where the grid of a stream begins at the edge bridge, none of whose frames is shorter than so many octets.
+/// Returns the offset of a stream's grid at the edge bridge. No frame of the stream is shorter than `shortest`.
 pub fn edge_offset(rate: Rate, delays: Delays, shortest: Octets, promise: Traffic) -> Nanos
     requires short { delays.least.0 ≤ 2 ^ 32 }
     ensures { result.0 ≡ edge_offset (link_of rate None) delays shortest.0 promise.offset }

@@ -7,15 +7,16 @@ ghost use Rattle.cqf_access.specs.Reached.{LeastBoundIsReached};
 
 use cqf_laws_timing::conforming_offers_fit_a_cycle;
 
-/// A talker that hands frames over by a regular grid, each late by the jitter at most, keeps its word (after IEEE Std 802.1Q-2018,
+/// Law: a talker that hands frames over by a regular grid, each late by at most the jitter, keeps its promise (after IEEE Std 802.1Q-2018,
 /// 46.2.3.5).
 pub fn grids_conform()
     ensures conforms { GridsConform }
     ensures kept { GridsAreKept }
 {}
 
-/// No frame of a stream waits longer on its talker's access link than a bound says that is found from the promises of all the
-/// station's streams, whatever the order in which the link sends; so it is whole at the edge bridge within that.
+/// Law: no frame of a stream waits longer on its talker's access link than a bound allows, in any order in which the link sends. The bound
+/// is computed from the promises of all the station's streams. So the frame is whole at the edge bridge within a time that follows from the
+/// bound.
 pub fn access_link_bounds_queueing()
     ensures waits { AccessLinkBoundsQueueing }
     ensures whole { FramesAreWholeWithin }
@@ -23,13 +24,14 @@ pub fn access_link_bounds_queueing()
     conforming_offers_fit_a_cycle();
 }
 
-/// Where the least bound is no longer than each stream's interval less its jitter, there is a link on which a frame waits so long.
+/// Law: if the least bound plus each stream's jitter is at most the stream's interval, there is a link on which a frame waits as long as
+/// the bound allows.
 pub fn least_bound_is_reached()
     ensures { LeastBoundIsReached }
 {}
 
-/// So a talker that keeps its word at the hand-over keeps one at the edge bridge, also by the clock there: the same, but for a greater
-/// jitter, and on a grid that begins later.
+/// Law: a talker that keeps its promise at the hand-over keeps one at the edge bridge, also by the clock there: the same promise with a
+/// greater jitter, and on a grid that begins later.
 pub fn edge_conforms()
     ensures conforms { EdgeConforms }
     ensures clocks { EdgeConformsByClocks }
@@ -38,9 +40,8 @@ pub fn edge_conforms()
     access_link_bounds_queueing();
 }
 
-/// And where that jitter leaves each frame in its cycle, by each clock that may be at the edge bridge, all that a talker hands over on a
-/// grid comes there in the cycle in which it stands on the grid: so in one of so many cycles, where its intervals are some times so long
-/// 
+/// Law: if that jitter leaves each frame in its cycle, by each clock that is possible at the edge bridge, all that a talker hands over on a
+/// grid comes there in its cycle on the grid. So it comes in every `every`-th cycle if its interval is a multiple of `every` cycles long.
 pub fn edge_keeps_step()
     ensures step { EdgeKeepsStep }
     ensures turns { EdgeComesInTurns }
@@ -48,8 +49,8 @@ pub fn edge_keeps_step()
     access_link_bounds_queueing();
 }
 
-/// And where the link sends a stream's frames one after the other, the jitter there has no part of a wait for frames of the stream itself
-/// that is the same in each interval: of these only what they may differ in length.
+/// Law: if the link sends a stream's frames one after the other, the jitter at the edge bridge doesn't include the part of a wait for the
+/// stream's own frames that is the same in each interval. It includes only the possible difference in their lengths.
 pub fn edge_conforms_closer()
     ensures conforms { EdgeConformsCloser }
     ensures clocks { EdgeConformsCloserByClocks }

@@ -1,4 +1,4 @@
--- If no repeated index is reported, all indexes differ.
+-- If no repeated gate index is reported, all differ.
 use Rattle.std.proofs.Common.{ℕ, zero, suc, ◌≡◌, ◌≢◌, ◌<◌, ◌+◌, ◌++◌, ◌==◌, ◌∙◌, Bool, true, false, List, [], ◌∷◌, Some, None, Result, Ok}
 use Rattle.std.proofs.Common.{ap, arith, cond, eq-eqb, length, refl, slice_get, subst}
 use Rattle.std.specs.List.{list_any}
@@ -14,11 +14,11 @@ use Rattle.cqf_addressing.specs.declared.streams.StreamAddress.{StreamAddress}
 use Rattle.cqf_addressing.specs.Laws.{GateIndexesAreApart}
 use Rattle.cqf_addressing.specs.Streams.{addresses_in, first_again, first_gate_twice, gate_index, gate_of, gates_from, if_apart, or_text}
 
--- the test by which indexes are compared
+-- the test by which gate indexes are compared
 abbrev again : ℕ → ℕ → Bool
 again gate other = other == gate
 
--- what tells no index twice finds no repeat
+-- if no repeated gate index is reported, no element repeats
 none_repeats : (earlier gates : List ℕ) → first_again earlier gates ≡ None → first_repeat again earlier gates ≡ None
 none_repeats earlier [] h = refl
 none_repeats earlier (gate ∷ gates) h = by (list_any (again gate) earlier) (none_repeats (earlier ++ gate ∷ []) gates) h
@@ -29,7 +29,7 @@ none_repeats earlier (gate ∷ gates) h = by (list_any (again gate) earlier) (no
     by true rest e = absurd (cc)
     by false rest e = rest e
 
--- the index of a stream stands at its place
+-- the gate index of a stream is at the stream's index in the list
 gate_at : (number : ℕ) (addresses : List StreamAddress) (i : ℕ) → i < length addresses →
     slice_get (gates_from number addresses) i ≡ Some (option_map_or (gate_of (number + i)) (slice_get addresses i) (number + i + 1))
 gate_at number [] i inside = absurd (omega arith)
@@ -42,7 +42,7 @@ index_at : (addresses : List StreamAddress) (i : ℕ) → i < length addresses �
 index_at addresses i inside =
     gate_at 0 addresses i inside ∙ ap (λ (n : ℕ). Some (option_map_or (gate_of n) (slice_get addresses i) (n + 1))) (omega arith)
 
--- two streams of one index would be told
+-- two streams with the same gate index would be reported
 apart : (addresses : List StreamAddress) → first_gate_twice addresses ≡ None → (i k : ℕ) → i < k → k < length addresses →
     gate_index addresses i ≢ gate_index addresses k
 apart addresses none i k before inside same =

@@ -1,4 +1,4 @@
--- An address that is put reads back.
+-- An address that is written reads back as itself.
 use Rattle.std.proofs.Common.{ℕ, ◌≡◌, ◌<◌, ◌+◌, ◌*◌, ◌/◌, ◌%◌, Bool, true, List, [], ◌∷◌, Some, None, ap, arith, cond}
 use Rattle.std.proofs.Common.{ltb}
 use Rattle.std.specs.Char.{digit_value}
@@ -20,7 +20,7 @@ octet_back octet small =
     let whole : 16 * (octet / 16) + octet % 16 ≡ octet = omega arith in
     simp (high, low, high_digit, low_digit, whole)
 
--- what passes the test is kept
+-- octets that pass the test are kept
 kept : (octets : List ℕ) → is_forwarded octets ≡ true → if_forwarded octets ≡ Some octets
 kept octets e = ap (λ (b : Bool). cond b (Some octets) None) e
 

@@ -1,4 +1,4 @@
--- Indexes of gates that were seen, one more with each stream.
+-- The gate indexes seen so far, with one more for each stream.
 use Rattle.std.proofs.Common.{ℕ, ◌≡◌, ◌<◌, ◌≤◌, ◌+◌, ◌++◌, ◌==◌, ◌∙◌, ◌||◌, Bool, true, false, List, [], ◌∷◌, Some, None}
 use Rattle.std.proofs.Common.{add-one, ap, arith, cond, drop, drop-cons, get_or, inl, inr, length, refl, set, subst, suc, sym, take}
 use Rattle.std.specs.Prelude.{replicate}
@@ -10,7 +10,7 @@ use Rattle.std.proofs.lemmas.List.Folds.{list_any-append}
 use Rattle.cqf_addressing.specs.declared.streams.StreamAddress.{StreamAddress}
 use Rattle.cqf_addressing.specs.Streams.{first_again, first_gate_twice, gate_of, gates_from}
 
--- one index more behind others
+-- one more gate index after others
 gates_behind : (number : ℕ) (front : List StreamAddress) (x : StreamAddress) → gates_from number (front ++ x ∷ []) ≡ gates_from number front ++ gate_of (number + length front) x ∷ []
 gates_behind number [] x = ap (λ (n : ℕ). gate_of n x ∷ []) (omega arith)
 gates_behind number (y ∷ front) x =
@@ -21,22 +21,23 @@ length-gates : (number : ℕ) (addresses : List StreamAddress) → length (gates
 length-gates number [] = refl
 length-gates number (x ∷ addresses) = ap suc (length-gates (number + 1) addresses)
 
--- the indexes of the streams before a place
+-- the gate indexes of the streams before an index
 abbrev pub gates_before : List StreamAddress → ℕ → List ℕ
 gates_before addresses k = gates_from 0 (take k addresses)
 
--- whether one of them is this one
+-- whether a gate index is among these
 abbrev pub stood : ℕ → List ℕ → Bool
 stood gate gates = list_any (λ other. other == gate) gates
 
--- it is noted which stood before a place, of those that a text may give; of the others none stood that is above the place; and none stood twice
+-- what is recorded up to index `k`: which gate indexes occurred, of those that a text can give. Of the others, none above `k` occurred. And
+-- none occurred twice
 pub record HasSeen (addresses : List StreamAddress) (k : ℕ) (seen : List Bool) : Type 0 where
   pub size : length seen ≡ 65536
   pub each : (gate : ℕ) → gate < 65536 → get_or seen gate false ≡ stood gate (gates_before addresses k)
   pub past : (gate : ℕ) → k < gate → 65535 < gate → stood gate (gates_before addresses k) ≡ false
   pub rest : first_again (gates_before addresses k) (gates_from k (drop k addresses)) ≡ first_gate_twice addresses
 
--- before the first stream none stood
+-- before the first stream none occurred
 pub seen_none : (addresses : List StreamAddress) → HasSeen addresses 0 (replicate 65536 false)
 seen_none addresses = record {
   size = length-replicate {A = Bool} 65536 false;
@@ -45,7 +46,7 @@ seen_none addresses = record {
   rest = refl;
 }
 
--- a test behind one more
+-- a test of one more element
 joined : (same any : Bool) → cond same true any ≡ (any || (same || false))
 joined true true = refl
 joined true false = refl
@@ -53,27 +54,27 @@ joined false true = refl
 joined false false = refl
 
 module _ (addresses : List StreamAddress) (k : ℕ) (x : StreamAddress) (inside : k < length addresses) (at : x ≡ get_or addresses k x) where
-  -- the indexes up to the next place
+  -- the gate indexes up to the next stream
   one_more : gates_before addresses (k + 1) ≡ gates_before addresses k ++ gate_of k x ∷ []
   one_more =
       ap (gates_from 0) (take_more addresses k x inside ∙ ap (λ (y : StreamAddress). take k addresses ++ y ∷ []) (sym at))
       ∙ gates_behind 0 (take k addresses) x
       ∙ ap (λ (n : ℕ). gates_before addresses k ++ gate_of n x ∷ []) (omega (arith, length-take-le k addresses (omega arith)))
 
-  -- the indexes from the place on
+  -- the gate indexes from this stream on
   from_here : gates_from k (drop k addresses) ≡ gate_of k x ∷ gates_from (k + 1) (drop (k + 1) addresses)
   from_here =
       ap (gates_from k) (drop-cons addresses k x inside ∙ ap (λ (y : StreamAddress). y ∷ drop (suc k) addresses) (sym at))
       ∙ ap (λ (n : ℕ). gate_of k x ∷ gates_from (k + 1) (drop n addresses)) (sym (add-one k))
 
-  -- reported at this stream: its index, if an earlier stream has it
+  -- reported at this stream: its gate index, if an earlier stream has it
   told_here : cond (stood (gate_of k x) (gates_before addresses k)) (Some (length (gates_before addresses k) + 1, gate_of k x))
       (first_again (gates_before addresses k ++ gate_of k x ∷ []) (gates_from (k + 1) (drop (k + 1) addresses)))
       ≡ first_again (gates_before addresses k) (gates_from k (drop k addresses))
   told_here = ap (first_again (gates_before addresses k)) (sym from_here)
 
   module _ (seen : List Bool) (now : HasSeen addresses k seen) (gate : ℕ) (is : gate ≡ gate_of k x) (range : 65535 < gate → gate ≡ k + 1) where
-    -- what is noted of an index says whether it stood
+    -- the record of a gate index says whether it occurred
     pub noted_where_stood : get_or seen gate false ≡ stood gate (gates_before addresses k)
     noted_where_stood = elim (cases_lt gate 65536) [
       | inl low ↦ now.each gate low
@@ -90,7 +91,7 @@ module _ (addresses : List StreamAddress) (k : ℕ) (x : StreamAddress) (inside 
         (first_again (gates_before addresses k ++ gate_of k x ∷ []) (gates_from (k + 1) (drop (k + 1) addresses)))) here
         ∙ (λ i. Some (long i + 1, sym is i))
 
-    -- of one more it is noted whether it stood
+    -- with one more stream the record is still right
     each_more : (other : ℕ) → other < 65536 → get_or (set seen gate true) other false ≡ stood other (gates_before addresses (k + 1))
     each_more other low =
         step ∙ ap (λ (b : Bool). cond (gate == other) true b) (now.each other low) ∙ joined (gate == other) (stood other (gates_before addresses k))
@@ -110,7 +111,7 @@ module _ (addresses : List StreamAddress) (k : ℕ) (x : StreamAddress) (inside 
             get_or-same e =
                 subst (λ (n : ℕ). get_or (set seen gate true) n false ≡ true) e (get_or-set_same seen gate true false (omega (arith, e, low, now.size)))
 
-    -- and none of the others stood that is above the next place
+    -- none of the others above the next index occurred
     past_more : (other : ℕ) → k + 1 < other → 65535 < other → stood other (gates_before addresses (k + 1)) ≡ false
     past_more other above high =
         ap (stood other) (one_more ∙ ap (λ (g : ℕ). gates_before addresses k ++ g ∷ []) (sym is))
@@ -124,7 +125,7 @@ module _ (addresses : List StreamAddress) (k : ℕ) (x : StreamAddress) (inside 
           | inr different ↦ different.0
         ]
 
-    -- where it didn't stand it is one more
+    -- a gate index that didn't occur is one more
     pub seen_more : get_or seen gate false ≡ false → HasSeen addresses (k + 1) (set seen gate true)
     seen_more fresh =
         let here : stood (gate_of k x) (gates_before addresses k) ≡ false = ap (λ (g : ℕ). stood g (gates_before addresses k)) (sym is) ∙ sym noted_where_stood ∙ fresh in

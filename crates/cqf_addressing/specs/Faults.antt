@@ -1,4 +1,4 @@
--- The texts of the faults of addressing: a fault's name, and then its values, each after a space.
+-- The texts of the faults of addressing: a fault's name, followed by its values, each after a space.
 use Rattle.std.specs.Prelude.{ℕ, ◌++◌, List, codes, decimal}
 use Rattle.cqf_press.specs.Stops.{fault_line}
 use Rattle.cqf_topology.specs.TomlFaults.{toml_fault_text}
@@ -12,7 +12,8 @@ addressing_fault_text (fault.Text early) = toml_fault_text early
 addressing_fault_text (fault.BadValue key) = codes "BadValue " ++ key_text key
 addressing_fault_text (fault.GateTwice stream gate) = codes "GateTwice " ++ (decimal stream ++ (codes " " ++ decimal gate))
 
--- the lines that tell why the interfaces of a domain, and the addresses of streams, are refused: `cqf:`, the part, and the fault
+-- the line that reports why the interfaces of a domain are refused, and the one for the addresses of streams: `cqf:`, the part, and the
+-- fault
 abbrev pub interfaces_line : AddressingFault → List ℕ
 interfaces_line fault = fault_line (codes "domain") (addressing_fault_text fault)
 

@@ -6,7 +6,7 @@ use Rattle.std.specs.List.{list_all}
 abbrev pub is_alphanumeric : ℕ → Bool
 is_alphanumeric c = (nat_le 97 c && nat_le c 122) || (nat_le 65 c && nat_le c 90) || (nat_le 48 c && nat_le c 57)
 
--- or `.`, `_`, `-` or `@`
+-- a letter or a digit, or `.`, `_`, `-` or `@`
 abbrev pub is_interface_byte : ℕ → Bool
 is_interface_byte c = is_alphanumeric c || (c == 46) || (c == 95) || (c == 45) || (c == 64)
 
@@ -15,6 +15,6 @@ abbrev pub is_interface : List ℕ → Bool
 is_interface [] = false
 is_interface (first ∷ rest) = is_alphanumeric first && nat_le (length rest) 14 && list_all is_interface_byte rest
 
--- the name of some bytes, where they have its form
+-- the bytes, if they have the form of the name of an interface
 abbrev pub interface_of : List ℕ → Option (List ℕ)
 interface_of bytes = if is_interface bytes then Some bytes else None

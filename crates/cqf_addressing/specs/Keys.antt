@@ -1,9 +1,9 @@
--- The keys that say how a plan is put into real bridges.
+-- The keys that map a plan to real bridges.
 use Rattle.std.specs.Prelude.{ℕ, List, codes}
 use Rattle.cqf_addressing.specs.declared.keys.AddressKey.{AddressKey}
 use Rattle.cqf_addressing.specs.declared.keys.AddressKey.TheVariants.{Mac, Vlan, Gate, Interface, FarInterface}
 
--- a key as it is written
+-- a key as a text has it
 abbrev pub key_text : AddressKey → List ℕ
 key_text Mac = codes "mac"
 key_text Vlan = codes "vlan"

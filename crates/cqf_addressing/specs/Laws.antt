@@ -5,11 +5,11 @@ use Rattle.cqf_addressing.specs.declared.streams.StreamAddress.{StreamAddress}
 use Rattle.cqf_addressing.specs.Mac.{IsMac, mac_of_text, mac_text}
 use Rattle.cqf_addressing.specs.Streams.{addresses_of_text, gate_index}
 
--- in an accepted text the gates of two streams have two indexes
+-- in an accepted text no two streams have gates with the same index
 abbrev pub GateIndexesAreApart : Type 0
 GateIndexesAreApart = (limits : Limits) (text : List ℕ) (addresses : List StreamAddress) → addresses_of_text limits text ≡ Ok addresses →
     (i k : ℕ) → i < k → k < length addresses → gate_index addresses i ≢ gate_index addresses k
 
--- an address that is put reads back
+-- an address that is written reads back as itself
 abbrev pub MacsReadBack : Type 0
 MacsReadBack = (octets : List ℕ) → IsMac octets → mac_of_text (mac_text octets) ≡ Some octets

@@ -19,7 +19,7 @@ link_from table =
     and_then (interface_at FarInterface table) (λ far.
     Ok (record { near = near; far = far })))
 
--- the elements of the array of links, each a table
+-- the elements of the array of links; each must be a table
 abbrev pub interfaces_from : Items → Result (List LinkInterfaces) AddressingFault
 interfaces_from items = each_from (λ d. and_then (ok_or (as_table d) (fault.Text (toml_fault.BadValue key.Links))) link_from) items
 

@@ -1,4 +1,4 @@
--- What stands at the keys of a table.
+-- The values at the keys of a table.
 use Rattle.std.specs.Prelude.{ℕ, ◌≤◌, ◌&&◌, Bool, List, Option, Some, None, Result, Ok, if◌then◌else◌, nat_le, ok_or, option_and_then}
 use Rattle.toml.specs.Data.{Data, Members, as_str, get_member}
 use Rattle.cqf_lists.specs.Results.{and_then}
@@ -11,7 +11,7 @@ use Rattle.cqf_addressing.specs.Interface.{interface_of}
 use Rattle.cqf_addressing.specs.Keys.{key_text}
 use Rattle.cqf_addressing.specs.Mac.{mac_of_text}
 
--- a VLAN is a number from 1 to 4,094
+-- the number of a VLAN: from 1 to 4,094
 pub record IsVlan (number : ℕ) : Type 0 where
   pub least : 1 ≤ number
   pub most : number ≤ 4094
@@ -22,15 +22,15 @@ is_vlan number = nat_le 1 number && nat_le number 4094
 abbrev pub vlan_of : ℕ → Option ℕ
 vlan_of number = if is_vlan number then Some number else None
 
--- what stands at a key of a table
+-- the value at a key of a table
 abbrev pub value_at : AddressKey → Members → Option Data
 value_at key table = get_member (key_text key) table
 
--- a number from 1 to another
+-- a number from 1 to `most`
 abbrev pub number_from_one : ℕ → Data → Option ℕ
 number_from_one most d = number_from 1 most d
 
--- an address, a VLAN and the name of an interface, of a value
+-- the address, the VLAN and the name of an interface that a value writes
 abbrev pub mac_from : Data → Option (List ℕ)
 mac_from d = option_and_then mac_of_text (as_str d)
 
@@ -40,7 +40,7 @@ vlan_from d = number_from_one 4094 d
 abbrev pub interface_from : Data → Option (List ℕ)
 interface_from d = option_and_then interface_of (as_str d)
 
--- what a reader of values gives of what stands at a key; nothing where nothing stands there
+-- the value at a key, read by a reader of values; none if the key is missing
 abbrev pub given_by : {A : Type 0} → AddressKey → (Data → Option A) → Option Data → Result (Option A) AddressingFault
 given_by key reader None = Ok None
 given_by key reader (Some d) = and_then (ok_or (reader d) (BadValue key)) (λ x. Ok (Some x))

@@ -9,15 +9,15 @@ use std::alloc::AllocFailed;
 use std::fmt;
 use thiserror::Error;
 
-/// Why a domain text or a streams text is refused for its keys of addressing. The checks are made in the order of the variants,
-/// each over the whole text before the next. A fault prints as its name, and then its values.
+/// Why a domain text or a streams text is refused for its keys of addressing. The checks are made in the order of the variants, each over
+/// the whole text before the next. A fault prints as its name, followed by its values.
 #[derive(Clone, Copy, Debug, PartialEq, Eq, Error)]
 pub enum AddressingFault {
-    /// What is wrong but for these keys, want of memory too.
+    /// A fault that doesn't concern these keys, including a failed allocation.
     Text(TomlFault),
-    /// The first key of addressing, in reading order, whose value has another form than it must have.
+    /// The first key of addressing, in reading order, whose value doesn't have the required form.
     BadValue(AddressKey),
-    /// The first stream, by its place from 1, whose gate has an index that the gate of an earlier stream has, and this index.
+    /// The first stream whose gate has the same index as the gate of an earlier stream: its position, from 1, and the index.
     GateTwice(usize, usize),
 }
 
@@ -33,7 +33,7 @@ impl fmt::Display for AddressingFault {
     }
 }
 
-/// Want of memory, as a fault.
+/// Converts a failed allocation into a fault.
 impl From<Memory> for AddressingFault {
     ghost use Rattle.cqf_topology.specs.declared.toml_faults.TomlFault.TheVariants as toml;
     ghost use Rattle.cqf_addressing.specs.declared.faults.AddressingFault.TheVariants as variant;
@@ -45,7 +45,7 @@ impl From<Memory> for AddressingFault {
     }
 }
 
-/// Want of room for a value, likewise.
+/// Converts a failed allocation for a value likewise.
 impl<T: Drop> From<AllocFailed<T>> for AddressingFault {
     ghost use Rattle.cqf_topology.specs.declared.toml_faults.TomlFault.TheVariants as toml;
     ghost use Rattle.cqf_addressing.specs.declared.faults.AddressingFault.TheVariants as variant;
@@ -57,7 +57,7 @@ impl<T: Drop> From<AllocFailed<T>> for AddressingFault {
     }
 }
 
-/// What is wrong with a text but for its keys of addressing.
+/// Converts a fault that doesn't concern the keys of addressing.
 impl From<TomlFault> for AddressingFault {
     ghost use Rattle.cqf_addressing.specs.declared.faults.AddressingFault.TheVariants as variant;
 

@@ -26,28 +26,28 @@ impl Model for InterfaceName {
     ghost invariant = { λ n. IsTrue (is_interface n.bytes.items) };
 }
 
-/// Whether the byte is a letter or a digit.
+/// Returns whether the byte is a letter or a digit.
 fn is_alphanumeric(byte: u8) -> bool
     ensures { result ≡ is_alphanumeric byte }
 {
     byte.is_ascii_lowercase() || byte.is_ascii_uppercase() || byte.is_ascii_digit()
 }
 
-/// Whether the byte may stand in the name of an interface.
+/// Returns whether the byte may be in the name of an interface.
 fn is_interface_byte(byte: u8) -> bool
     ensures { result ≡ is_interface_byte byte }
 {
     is_alphanumeric(byte) || byte == b'.' || byte == b'_' || byte == b'-' || byte == b'@'
 }
 
-/// Whether each of the bytes may stand there.
+/// Returns whether each of the bytes may be in the name of an interface.
 fn are_interface_bytes(bytes: &[u8]) -> bool
     ensures { result ≡ list_all is_interface_byte bytes.now }
 {
     bytes.iter().all(|byte| is_interface_byte(*byte))
 }
 
-/// Whether the bytes have the form of the name of an interface.
+/// Returns whether the bytes have the form of the name of an interface.
 fn is_interface(bytes: &[u8]) -> bool
     ensures { result ≡ is_interface bytes.now }
 {
@@ -63,7 +63,7 @@ fn is_interface(bytes: &[u8]) -> bool
     are_interface_bytes(rest)
 }
 
-/// The bytes, kept in place.
+/// Returns a copy of the bytes in an array of fixed size.
 fn kept(bytes: &[u8]) -> ArrayVec<u8, 15>
     requires { length bytes.now ≤ 15 }
     ensures { result.items ≡ bytes.now }
@@ -76,7 +76,7 @@ fn kept(bytes: &[u8]) -> ArrayVec<u8, 15>
 }
 
 impl InterfaceName {
-    /// The name of these bytes, or `None` where they don't have the form of one.
+    /// Returns the name with these bytes, or `None` if they don't have the form of the name of an interface.
     pub fn new(bytes: &[u8]) -> Option<InterfaceName>
         ensures { result ≡ interface_of bytes.now }
     {
@@ -86,7 +86,7 @@ impl InterfaceName {
         Some(InterfaceName { bytes: kept(bytes) })
     }
 
-    /// The name's bytes.
+    /// Returns the name's bytes.
     pub fn as_bytes(&self) -> &[u8]
         ensures value { result.now ≡ self.now }
         ensures form { IsTrue (is_interface self.now) }
@@ -95,7 +95,7 @@ impl InterfaceName {
     }
 }
 
-/// Puts the name of an interface as it is.
+/// Writes the name of an interface as it is.
 pub fn put_interface<W: Sink>(press: &mut Press<'_, W>, name: &InterfaceName)
     ensures { Puts W.contents press.old press.new name.now }
 {

@@ -1,12 +1,12 @@
 //! Laws of addressing.
 ghost use Rattle.cqf_addressing.specs.Laws.{GateIndexesAreApart, MacsReadBack};
 
-/// In an accepted text no two streams have gates of one index.
+/// Law: in an accepted text no two streams have gates with the same index.
 pub fn gate_indexes_are_apart()
     ensures { GateIndexesAreApart }
 {}
 
-/// An address that is put reads back.
+/// Law: an address that is written reads back as itself.
 pub fn macs_read_back()
     ensures { MacsReadBack }
 {}

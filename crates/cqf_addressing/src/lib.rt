@@ -1,16 +1,16 @@
-//! How a plan is put into real bridges, read from the TOML texts of its domain and of its streams: by which interfaces links go, and by
-//! which address, VLAN and gate index the frames of streams are known. Each of these keys may be absent.
+//! The mapping of a plan to real bridges, read from the TOML texts of its domain and of its streams: the interfaces of links, and the
+//! address, VLAN and gate index by which bridges know the frames of streams. Each of these keys can be absent.
 //!
 //! - **Values.** A [`MacAddress`] is the destination address of a stream's frames, a [`VlanId`] their VLAN, an [`InterfaceName`] the name
 //!   of an interface of a bridge.
-//! - **Read.** [`read_stream_addresses`] gives a [`StreamAddress`] for each stream of a text, [`read_link_interfaces`] a [`LinkInterfaces`] for
-//!   each link; or an [`AddressingFault`], the first thing wrong, at an [`AddressKey`]. [`interfaces_part`] and [`addresses_part`] do so for the parts
-//!   of a command's input, and end with the line of the fault.
-//! - **By number.** [`gate_index`] is the index of a stream's gate, [`mac_of_stream`] and [`vlan_of_stream`] are its frames' address and VLAN;
-//!   [`near_interface`] and [`far_interface`] are the interfaces at the two ends of a link.
-//! - **Written.** [`put_mac`] and [`put_interface`] put an address and a name as texts.
-//! - **Laws**, functions that do nothing: no two streams have one gate index ([`gate_indexes_are_apart`]), and an address that is put reads
-//!   back ([`macs_read_back`]).
+//! - **Read.** [`read_stream_addresses`] returns a [`StreamAddress`] for each stream of a text, [`read_link_interfaces`] a
+//!   [`LinkInterfaces`] for each link, or an [`AddressingFault`], the first fault, with an [`AddressKey`]. [`interfaces_part`] and
+//!   [`addresses_part`] do so for the parts of a command's input, and end with the line of the fault.
+//! - **By number.** [`gate_index`] is the index of a stream's gate, [`mac_of_stream`] and [`vlan_of_stream`] are its frames' address and
+//!   VLAN. [`near_interface`] and [`far_interface`] are the interfaces at the two ends of a link.
+//! - **Written.** [`put_mac`] and [`put_interface`] write an address and a name as texts.
+//! - **Laws**, functions that do nothing: no two streams have the same gate index ([`gate_indexes_are_apart`]), and an address that is
+//!   written reads back as itself ([`macs_read_back`]).
 //!
 //! ```text
 //! [[streams]]
@@ -22,8 +22,8 @@
 //! x-gate = 7
 //! ```
 //!
-//! is a stream whose frames go to 01:00:5e:00:00:2a in VLAN 10, and whose gate has the index 7. With `vlan = 4095` the text is refused:
-//! `BadValue vlan`. Where the seventh stream has no `x-gate` it is refused too: `GateTwice 7 7`.
+//! is a stream whose frames go to 01:00:5e:00:00:2a in VLAN 10, and whose gate has the index 7. With `vlan = 4095` the text is refused with
+//! `BadValue vlan`. If the seventh stream has no `x-gate`, it is refused too, with `GateTwice 7 7`.
 #![tactic(auto)]
 
 mod faults;

@@ -15,13 +15,13 @@ use toml::{Table, Value};
 /// The interfaces of a link, as far as the text names them.
 #[derive(Drop)]
 pub struct LinkInterfaces {
-    /// The interface of its `from` by which it leaves.
+    /// The interface of the link's `from` by which frames leave.
     pub near: Option<InterfaceName>,
-    /// The interface of its `to` by which it comes there.
+    /// The interface of the link's `to` by which frames arrive.
     pub far: Option<InterfaceName>,
 }
 
-/// The interfaces of a link's table.
+/// Reads the interfaces of a link's table.
 fn read_link(table: &Table) -> Result<LinkInterfaces, AddressingFault>
     ensures { result ≡ link_from (table_view table.now) }
 {
@@ -30,7 +30,7 @@ fn read_link(table: &Table) -> Result<LinkInterfaces, AddressingFault>
     Ok(LinkInterfaces { near, far })
 }
 
-/// The interfaces of a link, as an element of the array of links.
+/// Reads the interfaces of a link, as an element of the array of links.
 fn link_in(value: &Value) -> Result<LinkInterfaces, AddressingFault>
     ensures { result ≡ and_then (ok_or (as_table (view value.now)) (AddressingFault.Text (TomlFault.BadValue Key.Links))) link_from }
 {
@@ -40,7 +40,7 @@ fn link_in(value: &Value) -> Result<LinkInterfaces, AddressingFault>
     }
 }
 
-/// The elements of the array of links.
+/// Reads the elements of the array of links.
 fn all_links_in(alloc: Global, values: &[Value]) -> Result<Vec<LinkInterfaces>, AddressingFault>
     ensures { Gives (AddressingFault.Text TomlFault.Memory) (λ list. list.items) result (interfaces_from (items_view values.now)) }
 {
@@ -52,7 +52,7 @@ fn all_links_in(alloc: Global, values: &[Value]) -> Result<Vec<LinkInterfaces>, 
     Ok(links)
 }
 
-/// The interfaces of the links of a document.
+/// Reads the interfaces of the links of a document.
 fn interfaces_of_table(alloc: Global, table: &Table) -> Result<Vec<LinkInterfaces>, AddressingFault>
     ensures { Gives (AddressingFault.Text TomlFault.Memory) (λ list. list.items) result (interfaces_in (table_view table.now)) }
 {
@@ -63,14 +63,14 @@ fn interfaces_of_table(alloc: Global, table: &Table) -> Result<Vec<LinkInterface
     all_links_in(alloc, values)
 }
 
-/// The interfaces of the links of a text, one element a link in its order.
+/// Returns the interfaces of the links of a text, one element for each link, in its order.
 ///
-/// The text is that of [`cqf_topology::Domain::read`], of which only the array of links and these keys of each are looked at: `interface` and
+/// The text is that of [`cqf_topology::Domain::read`]. Only the array of links and two keys of each are read: `interface` and
 /// `far-interface`, each a text of the form of an [`InterfaceName`].
 ///
 /// # Errors
-/// `NotToml` and `Missing` and `BadValue` of `links` where there is no array of tables; `BadValue` of the first key, in reading order,
-/// at which another value stands; `Memory` where a growth is refused.
+/// `NotToml`. `Missing` or `BadValue` with `links` if it isn't an array of tables. `BadValue` with the first key, in reading order, that
+/// has another value. `Memory` if an allocation fails.
 pub fn read_link_interfaces(
     alloc: Global,
     text: &[u8],

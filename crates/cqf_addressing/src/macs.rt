@@ -8,8 +8,8 @@ ghost use Rattle.cqf_addressing.specs.Mac.{IsMac, has_colons, hex_digit, hex_pai
 use cqf_press::{Press, Sink};
 use std::marker::Model;
 
-/// The destination address of frames: six octets (IEEE Std 802). It is none to which bridges don't forward: not 00:00:00:00:00:00, which no
-/// station has, and not one of 01:80:c2:00:00:00 to 01:80:c2:00:00:0f (IEEE Std 802.1Q-2018, 8.6.3).
+/// The destination address of frames: six octets (IEEE Std 802). Bridges forward to it: it isn't 00:00:00:00:00:00, which no station has,
+/// nor one of 01:80:c2:00:00:00 to 01:80:c2:00:00:0f (IEEE Std 802.1Q-2018, 8.6.3).
 #[derive(Debug, Drop)]
 pub struct MacAddress {
     octets: [u8; 6],
@@ -28,13 +28,13 @@ impl Model for MacAddress {
     ghost inverse = { λ octets. record { octets = octets } };
 }
 
-/// An address of no station.
+/// The address of no station.
 const NOBODY: [u8; 6] = [0, 0, 0, 0, 0, 0];
 
-/// How addresses begin to which bridges don't forward, where the last octet is below 16.
+/// The first octets of the addresses to which bridges don't forward, if the last octet is below 16.
 const RESERVED: [u8; 5] = [0x01, 0x80, 0xc2, 0x00, 0x00];
 
-/// The value of a hexadecimal digit of either case, or `None` where the byte is none.
+/// Returns the value of a hexadecimal digit of either case, or `None` if the byte isn't one.
 fn hex_value(byte: u8) -> Option<u8>
     ensures { SomeIff result (digit_value byte < 16) (digit_value byte) }
 {
@@ -46,7 +46,7 @@ fn hex_value(byte: u8) -> Option<u8>
     }
 }
 
-/// The octet that is written as two hexadecimal digits at a place.
+/// Returns the octet that is written as two hexadecimal digits at an index.
 fn octet_at(text: &[u8], place: usize) -> Option<u8>
     requires { place + 1 < length text.now }
     ensures { result ≡ octet_at text.now place }
@@ -56,7 +56,7 @@ fn octet_at(text: &[u8], place: usize) -> Option<u8>
     Some(16 * high + low)
 }
 
-/// Whether `:` stands between each two octets.
+/// Returns whether there is a `:` between any two neighboring octets.
 fn has_colons(text: &[u8]) -> bool
     requires { length text.now ≡ 17 }
     ensures { result ≡ has_colons text.now }
@@ -64,7 +64,7 @@ fn has_colons(text: &[u8]) -> bool
     text[2] == b':' && text[5] == b':' && text[8] == b':' && text[11] == b':' && text[14] == b':'
 }
 
-/// Whether bridges forward frames with these octets as their destination address.
+/// Returns whether bridges forward frames with these octets as their destination address.
 fn is_forwarded(octets: &[u8]) -> bool
     requires { length octets.now ≡ 6 }
     ensures { result ≡ is_forwarded octets.now }
@@ -79,8 +79,8 @@ fn is_forwarded(octets: &[u8]) -> bool
 }
 
 impl MacAddress {
-    /// The address that a text writes: six pairs of hexadecimal digits of either case, with `:` between. `None` where the text has another
-    /// form, or bridges don't forward to the address.
+    /// Returns the address that a text writes: six pairs of hexadecimal digits of either case, separated by `:`. Returns `None` if the text
+    /// has another form, or if bridges don't forward to the address.
     pub fn parse(text: &[u8]) -> Option<MacAddress>
         ensures { result ≡ mac_of_text text.now }
     {
@@ -105,7 +105,7 @@ impl MacAddress {
         }
     }
 
-    /// The octets of the address, in the order in which they are sent.
+    /// Returns the octets of the address, in the order in which they are sent.
     pub fn octets(&self) -> &[u8]
         ensures value { result.now ≡ self.now }
         ensures form { IsMac self.now }
@@ -114,7 +114,7 @@ impl MacAddress {
     }
 }
 
-/// The lower case hexadecimal digit of a number below 16.
+/// Returns the lower case hexadecimal digit of a number below 16.
 fn hex_digit(number: u8) -> u8
     requires { number < 16 }
     ensures { result ≡ hex_digit number }
@@ -126,7 +126,7 @@ fn hex_digit(number: u8) -> u8
     }
 }
 
-/// Puts an octet as two lower case hexadecimal digits.
+/// Writes an octet as two lower case hexadecimal digits.
 fn put_octet<W: Sink>(press: &mut Press<'_, W>, octet: u8)
     ensures { Puts W.contents press.old press.new (hex_pair octet) }
 {
@@ -134,7 +134,7 @@ fn put_octet<W: Sink>(press: &mut Press<'_, W>, octet: u8)
     press.put_byte(hex_digit(octet % 16));
 }
 
-/// Puts six octets, with `:` between.
+/// Writes six octets, separated by `:`.
 fn put_octets<W: Sink>(press: &mut Press<'_, W>, octets: &[u8])
     requires { length octets.now ≡ 6 }
     ensures { Puts W.contents press.old press.new (mac_text octets.now) }
@@ -152,7 +152,7 @@ fn put_octets<W: Sink>(press: &mut Press<'_, W>, octets: &[u8])
     put_octet(press, octets[5]);
 }
 
-/// Puts an address: its octets as two lower case hexadecimal digits each, with `:` between. It reads back ([`MacAddress::parse`]).
+/// Writes an address: each octet as two lower case hexadecimal digits, separated by `:`. It reads back as itself ([`MacAddress::parse`]).
 pub fn put_mac<W: Sink>(press: &mut Press<'_, W>, mac: &MacAddress)
     ensures { Puts W.contents press.old press.new (mac_text mac.now) }
 {

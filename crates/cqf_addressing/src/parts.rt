@@ -1,4 +1,4 @@
-//! The keys of addressing of an input's parts, or the line of the first fault.
+//! The keys of addressing of the parts of an input, or the line of the first fault.
 ghost use Rattle.std.specs.Prelude.{◌≡◌, ◌≢◌, [], Ok, IfOk, IfErr};
 ghost use Rattle.cqf_topology.specs.declared.toml_faults.TomlFault.TheVariants as toml;
 ghost use Rattle.cqf_press.specs.Stops.{EndsWith, IsRefused, fault_line, or_line};
@@ -14,7 +14,7 @@ use cqf_press::Stop;
 use cqf_topology::TomlFault;
 use std::alloc::Global;
 
-/// The end where a part is refused for its keys of addressing.
+/// Returns the early end of a run whose part is refused for its keys of addressing.
 fn addressing_stop(alloc: Global, part: &str, fault: AddressingFault) -> Stop
     ensures refused { fault ≢ AddressingFault.Text toml.Memory → EndsWith 1 (fault_line part.now (addressing_fault_text fault)) result }
     ensures memory { fault ≡ AddressingFault.Text toml.Memory → EndsWith 3 [] result }
@@ -25,10 +25,10 @@ fn addressing_stop(alloc: Global, part: &str, fault: AddressingFault) -> Stop
     }
 }
 
-/// The interfaces of the links of a domain part.
+/// Returns the interfaces of the links of a domain part.
 ///
 /// # Errors
-/// With status 1 and the line of the part's first fault ([`read_link_interfaces`]); and with status 3 for want of memory.
+/// Status 1 with the line of the part's first fault ([`read_link_interfaces`]). Status 3 if an allocation fails.
 pub fn interfaces_part(alloc: Global, text: &[u8]) -> Result<Vec<LinkInterfaces>, Stop>
     ensures ok { IfOk result (λ links. interfaces_of_text text.now ≡ Ok links.items) }
     ensures err { IfErr result (IsRefused (or_line interfaces_line (interfaces_of_text text.now))) }
@@ -39,10 +39,10 @@ pub fn interfaces_part(alloc: Global, text: &[u8]) -> Result<Vec<LinkInterfaces>
     }
 }
 
-/// The addresses of the streams of a streams part, read within some limits.
+/// Returns the addresses of the streams of a streams part, read within some limits.
 ///
 /// # Errors
-/// With status 1 and the line of the part's first fault ([`read_stream_addresses`]); and with status 3 for want of memory.
+/// Status 1 with the line of the part's first fault ([`read_stream_addresses`]). Status 3 if an allocation fails.
 pub fn addresses_part(
     alloc: Global,
     limits: Limits,

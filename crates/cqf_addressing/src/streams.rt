@@ -15,18 +15,18 @@ use cqf_topology::{Key, TomlFault, are_all_tables, array_at, read_document};
 use std::alloc::Global;
 use toml::{Table, Value};
 
-/// By what the frames of a stream are known to bridges, as far as the text says it, and by which index its gate is.
+/// How bridges know the frames of a stream, as far as its text says it, and the index of the stream's gate.
 #[derive(Debug, Drop)]
 pub struct StreamAddress {
-    /// The destination address of its frames.
+    /// The destination address of the stream's frames.
     pub mac: Option<MacAddress>,
-    /// Their VLAN.
+    /// The VLAN of the stream's frames.
     pub vlan: Option<VlanId>,
-    /// The index of its gate, from 1. Without one it is the stream's number and 1 ([`gate_index`]).
+    /// The index of the stream's gate, from 1. If there is none, it is the stream's number plus 1 ([`gate_index`]).
     pub gate: Option<u16>,
 }
 
-/// The address of a stream's table, where its gate's index is at most so great.
+/// Reads the address of a stream's table. The index of its gate is at most `most`.
 fn read_stream(table: &Table, most: u16) -> Result<StreamAddress, AddressingFault>
     ensures { result ≡ stream_from most (table_view table.now) }
 {
@@ -36,7 +36,7 @@ fn read_stream(table: &Table, most: u16) -> Result<StreamAddress, AddressingFaul
     Ok(StreamAddress { mac, vlan, gate })
 }
 
-/// The address of a stream, as an element of the array of streams.
+/// Reads the address of a stream, as an element of the array of streams.
 fn stream_in(value: &Value, most: u16) -> Result<StreamAddress, AddressingFault>
     ensures { result ≡ and_then (ok_or (as_table (view value.now)) (AddressingFault.Text (TomlFault.BadValue Key.Streams))) (stream_from most) }
 {
@@ -46,7 +46,7 @@ fn stream_in(value: &Value, most: u16) -> Result<StreamAddress, AddressingFault>
     }
 }
 
-/// The elements of the array of streams.
+/// Reads the elements of the array of streams.
 fn all_streams_in(
     alloc: Global,
     values: &[Value],
@@ -62,7 +62,7 @@ fn all_streams_in(
     Ok(addresses)
 }
 
-/// The addresses of the streams of a document.
+/// Reads the addresses of the streams of a document.
 fn addresses_of_table(
     alloc: Global,
     table: &Table,
@@ -77,16 +77,15 @@ fn addresses_of_table(
     all_streams_in(alloc, values, most)
 }
 
-/// The addresses of the streams of a text, one a stream in its order.
+/// Returns the addresses of the streams of a text, one for each stream, in its order.
 ///
-/// The text is that of [`cqf_topology::read_paced_streams`], of which only the array of streams and these keys of each are looked at: `mac`, six
-/// pairs of hexadecimal digits of either case with `:` between, of an address to which bridges forward; `vlan`, an integer from 1 to 4,094; and
-/// `x-gate`, an integer from 1 to as many as streams may be held within the limits.
+/// The text is that of [`cqf_topology::read_paced_streams`]. Only the array of streams and three keys of each are read: `mac`, six pairs of
+/// hexadecimal digits of either case, separated by `:`, of an address to which bridges forward; `vlan`, an integer from 1 to 4,094; and
+/// `x-gate`, an integer from 1 to the number of streams that may be held within the limits.
 ///
 /// # Errors
-/// `NotToml` and `Missing` and `BadValue` of `streams` where there is no array of tables; `BadValue` of the first key, in reading order,
-/// at which another value stands; `GateTwice` of the first stream whose gate has the index of an earlier one; `Memory` where a growth
-/// is refused.
+/// `NotToml`. `Missing` or `BadValue` with `streams` if it isn't an array of tables. `BadValue` with the first key, in reading order, that
+/// has another value. `GateTwice` with the first stream whose gate has the index of an earlier one. `Memory` if an allocation fails.
 pub fn read_stream_addresses(
     alloc: Global,
     limits: Limits,
@@ -103,7 +102,7 @@ pub fn read_stream_addresses(
     }
 }
 
-/// An index that a text gives, else a stream's number and 1.
+/// Returns the index that a text gives, or a stream's number plus 1 if it gives none.
 fn gate_or(number: u32, given: Option<u16>) -> u64
     ensures { result ≡ gate_or number given }
 {
@@ -113,7 +112,7 @@ fn gate_or(number: u32, given: Option<u16>) -> u64
     }
 }
 
-/// The index of the gate of the stream of a number, from 0: that which its text has, else its number and 1.
+/// Returns the index of the gate of the stream with a number, from 0: the one that its text gives, or its number plus 1.
 pub fn gate_index(addresses: &[StreamAddress], number: u32) -> u64
     ensures { result ≡ gate_index addresses.now number }
 {
@@ -123,7 +122,7 @@ pub fn gate_index(addresses: &[StreamAddress], number: u32) -> u64
     }
 }
 
-/// The destination address of the frames of the stream of a number, from 0, where its text gives one.
+/// Returns the destination address of the frames of the stream with a number, from 0, or `None` if its text gives none.
 pub fn mac_of_stream(addresses: &[StreamAddress], number: u32) -> Option<&MacAddress>
     ensures { option_map (λ mac. mac.now) result ≡ mac_of_stream addresses.now number }
 {
@@ -133,7 +132,7 @@ pub fn mac_of_stream(addresses: &[StreamAddress], number: u32) -> Option<&MacAdd
     }
 }
 
-/// The VLAN of its frames, likewise.
+/// Returns the VLAN of the frames of the stream with a number, from 0, or `None` if its text gives none.
 pub fn vlan_of_stream(addresses: &[StreamAddress], number: u32) -> Option<VlanId>
     ensures { result ≡ vlan_of_stream addresses.now number }
 {

@@ -1,10 +1,10 @@
-//! Indexes of gates that two streams have.
+//! Gate indexes that two streams have.
 ghost use Rattle.std.specs.Prelude.{◌≡◌, ◌+◌, ◌<◌, ◌^◌, slice_index_or, slice_set, true, false};
 ghost use Rattle.cqf_addressing.specs.Streams.{first_gate_twice, gate_of};
 
 use crate::StreamAddress;
 
-/// The index of the gate of the stream at a place, from 0.
+/// Returns the gate index of the stream at an index, from 0.
 fn gate_of(place: usize, address: &StreamAddress) -> usize
     requires { place + 1 < 2 ^ 64 }
     ensures value { result ≡ gate_of place address.now }
@@ -16,7 +16,7 @@ fn gate_of(place: usize, address: &StreamAddress) -> usize
     }
 }
 
-/// Whether the index was seen. One above all that a text may give never was.
+/// Returns whether the gate index was seen. One above any that a text can give was never seen.
 fn is_seen(seen: &[bool; 65536], gate: usize) -> bool
     ensures { result ≡ slice_index_or seen.now gate false }
 {
@@ -26,7 +26,7 @@ fn is_seen(seen: &[bool; 65536], gate: usize) -> bool
     }
 }
 
-/// Notes that the index was seen, where a text may give it.
+/// Records that the gate index was seen, if a text can give it.
 fn note(seen: &mut [bool; 65536], gate: usize)
     ensures { seen.new ≡ slice_set seen.old gate true }
 {
@@ -35,8 +35,8 @@ fn note(seen: &mut [bool; 65536], gate: usize)
     }
 }
 
-/// The first stream, by its place from 1, whose gate has the index of an earlier one's, and this index. The time grows with the streams
-/// alone.
+/// Returns the first stream whose gate has the index of an earlier one: its position, from 1, and the gate index. The time grows only with
+/// the number of streams.
 pub(crate) fn first_gate_twice(addresses: &[StreamAddress]) -> Option<(usize, usize)>
     ensures { result ≡ first_gate_twice addresses.now }
 {

@@ -1,4 +1,4 @@
-//! What stands at a key of a table.
+//! The values at the keys of a table.
 ghost use Rattle.std.specs.Prelude.{◌≡◌, option_map};
 ghost use Rattle.toml.specs.View.{table_view, view};
 ghost use Rattle.cqf_addressing.specs.Values.{gate_at, interface_at, interface_from, mac_at, mac_from, number_from_one, value_at, vlan_at};
@@ -7,14 +7,14 @@ ghost use Rattle.cqf_addressing.specs.Values.{vlan_from};
 use crate::{AddressKey, AddressingFault, InterfaceName, MacAddress, VlanId};
 use toml::{Table, Value};
 
-/// What stands at a key of the table, or `None` where the table lacks the key.
+/// Returns the value at a key of the table, or `None` if the table lacks the key.
 fn value_at<'t>(table: &'t Table, key: AddressKey) -> Option<&'t Value>
     ensures { option_map (λ v. view v.now) result ≡ value_at key (table_view table.now) }
 {
     table.get(key.as_str())
 }
 
-/// A number from 1 on, of a value.
+/// Returns the number that a value is, if it is from 1 to `most`.
 fn number_of(value: &Value, most: u16) -> Option<u16>
     ensures { result ≡ number_from_one most (view value.now) }
 {
@@ -29,7 +29,7 @@ fn number_of(value: &Value, most: u16) -> Option<u16>
     }
 }
 
-/// The address that a value writes.
+/// Returns the address that a value writes, if it writes one.
 fn mac_of(value: &Value) -> Option<MacAddress>
     ensures { result ≡ mac_from (view value.now) }
 {
@@ -39,7 +39,7 @@ fn mac_of(value: &Value) -> Option<MacAddress>
     }
 }
 
-/// The VLAN of a value.
+/// Returns the VLAN that a value writes, if it writes one.
 fn vlan_of(value: &Value) -> Option<VlanId>
     ensures { result ≡ vlan_from (view value.now) }
 {
@@ -49,7 +49,7 @@ fn vlan_of(value: &Value) -> Option<VlanId>
     }
 }
 
-/// The interface that a value names.
+/// Returns the interface that a value names, if it names one.
 fn interface_of(value: &Value) -> Option<InterfaceName>
     ensures { result ≡ interface_from (view value.now) }
 {
@@ -59,7 +59,7 @@ fn interface_of(value: &Value) -> Option<InterfaceName>
     }
 }
 
-/// The address at `mac`, where something stands there.
+/// Returns the address at `mac`, or `None` if the key is missing.
 pub(crate) fn mac_at(table: &Table) -> Result<Option<MacAddress>, AddressingFault>
     ensures { result ≡ mac_at (table_view table.now) }
 {
@@ -72,7 +72,7 @@ pub(crate) fn mac_at(table: &Table) -> Result<Option<MacAddress>, AddressingFaul
     }
 }
 
-/// The VLAN at `vlan`, where something stands there.
+/// Returns the VLAN at `vlan`, or `None` if the key is missing.
 pub(crate) fn vlan_at(table: &Table) -> Result<Option<VlanId>, AddressingFault>
     ensures { result ≡ vlan_at (table_view table.now) }
 {
@@ -85,7 +85,7 @@ pub(crate) fn vlan_at(table: &Table) -> Result<Option<VlanId>, AddressingFault>
     }
 }
 
-/// The index at `x-gate`, where something stands there.
+/// Returns the gate index at `x-gate`, or `None` if the key is missing.
 pub(crate) fn gate_at(table: &Table, most: u16) -> Result<Option<u16>, AddressingFault>
     ensures { result ≡ gate_at most (table_view table.now) }
 {
@@ -98,7 +98,7 @@ pub(crate) fn gate_at(table: &Table, most: u16) -> Result<Option<u16>, Addressin
     }
 }
 
-/// The interface at a key, where something stands there.
+/// Returns the interface at a key, or `None` if the key is missing.
 pub(crate) fn interface_at(
     table: &Table,
     key: AddressKey,

@@ -24,7 +24,7 @@ impl Model for VlanId {
 }
 
 impl VlanId {
-    /// The VLAN of a number, or `None` where there is none: 0 and from 4,095 on.
+    /// Returns the VLAN with a number, or `None` if the number is 0 or above 4,094.
     pub fn new(number: u16) -> Option<VlanId>
         ensures { result ≡ vlan_of number }
     {
@@ -35,7 +35,7 @@ impl VlanId {
         }
     }
 
-    /// Its number, from 1 to 4,094.
+    /// Returns the number of the VLAN, from 1 to 4,094.
     pub fn number(self) -> u16
         ensures value { result ≡ self }
         ensures range { IsVlan self }

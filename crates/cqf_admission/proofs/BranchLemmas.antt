@@ -1,4 +1,4 @@
--- Places of a branch.
+-- The indexes of a branch.
 use Rattle.std.proofs.Common.{◌≡◌, ℕ, ◌+◌, ◌-◌, ◌<◌, ◌≤◌, Bool, true, false, List, Option, Some, None, [], ◌∷◌, ◌++◌}
 use Rattle.std.proofs.Common.{◌||◌, ◌&&◌, ◌==◌, not, length, get_or, refl, ap}
 use Rattle.std.proofs.Common.{◌∙◌, sym, arith, inl, inr, take, length-append}
@@ -23,14 +23,14 @@ use Rattle.cqf_model.specs.Limits.{nodes_within}
 use Rattle.cqf_lists.proofs.Any.{list_any-map}
 use Rattle.cqf_admission.specs.Branches.{branch_of, branches_of, places_of}
 
--- where no number below a bound passes, there is no least one
+-- if no number below a bound passes, there is no least one
 none_listed : (test : ℕ → Bool) (n : ℕ) → ((k : ℕ) → k < n → test k ≡ false) → each_below (λ k. if test k then k ∷ [] else []) n ≡ []
 none_listed test zero h = refl
 none_listed test (suc n) h =
     ap (λ (xs : List ℕ). xs ++ (if test n then n ∷ [] else [])) (none_listed test n (λ k l. h k (omega (arith, l))))
     ∙ ap (λ (b : Bool). if b then n ∷ [] else []) (h n (omega arith))
 
--- where no number passes there is no least one
+-- if no number passes, there is no least one
 pub least_none_from : (test : ℕ → Bool) (n : ℕ) → ((k : ℕ) → k < n → test k ≡ false) → None ≡ least test n
 least_none_from test n h = sym (ap (λ (xs : List ℕ). slice_get xs 0) (none_listed test n h))
 
@@ -46,11 +46,11 @@ least_is test (suc n) k h t below =
           ∙ ap (λ (b : Bool). slice_get (if b then n ∷ [] else []) 0) (ap test same ∙ t) ∙ ap (λ (i : ℕ). Some i) same)
     ]
 
--- and the first that passes is found
+-- the first number that passes is found
 pub least_found : (test : ℕ → Bool) (n k : ℕ) → k < n → test k ≡ true → ((j : ℕ) → j < k → test j ≡ false) → Some k ≡ least test n
 least_found test n k h t below = sym (least_is test n k h t below)
 
--- a node that stood earlier, by names that are looked through
+-- whether a node occurred earlier, found by comparing names
 looping_is : {S : Type 0} (bytes : S → List ℕ) (d : Domain) (path earlier : List S) (place : ℕ) (node : Option Node) (stands : Bool) →
     stands ≡ list_any (λ name. is_same (node_named d (bytes name)) node) earlier → earlier ≡ take place path → node ≡ node_at d (map bytes path) place →
     stands ≡ is_loop_at d (map bytes path) place
@@ -61,18 +61,18 @@ looping_is {S} bytes d path earlier place node stands found front here =
     ∙ ap (λ (names : List (List ℕ)). list_any (λ name. is_same (node_named d name) node) names) (sym (take-map bytes place path))
     ∙ ap (λ (n : Option Node). list_any (λ name. is_same (node_named d name) n) (take place (map bytes path))) here
 
--- a name is another exactly where their nodes are the same
+-- two names are equal if and only if their nodes are the same
 same_by_name : (d : Domain) (a b : List ℕ) (node : Node) → node_named d a ≡ Some node → is_text a b ≡ is_same (node_named d b) (Some node)
 same_by_name d a b node here = by (is_text a b) (node_named d b) refl refl
   where
-    -- where the names differ, the nodes that they have differ too
+    -- if the names differ, their nodes differ too
     apart : (other : Node) (test : Bool) → is_text a b ≡ false → node_named d b ≡ Some other → same_node other node ≡ test → false ≡ test
     apart other false differs there same = refl
     apart other true differs there same =
         let one : a ≡ b = named_once d a b node here (there ∙ ap (λ (n : Node). Some n) (same_node_true other node same)) in
         sym differs ∙ ap (λ (text : List ℕ). is_text text b) one ∙ is_text_itself b
 
-    -- a name is the one exactly where what it finds is the same node
+    -- a name is this one if and only if it finds the same node
     by : (test : Bool) (found : Option Node) → is_text a b ≡ test → node_named d b ≡ found → test ≡ is_same found (Some node)
     by true found same there =
         let known : found ≡ Some node = sym there ∙ ap (node_named d) (sym (is_text_same a b same)) ∙ here in
@@ -80,22 +80,22 @@ same_by_name d a b node here = by (is_text a b) (node_named d b) refl refl
     by false None differs there = refl
     by false (Some other) differs there = apart other (same_node other node) differs there refl
 
--- no node is the same as none
+-- no node is the same as a missing node
 same_as_none : (node : Option Node) → is_same node None ≡ false
 same_as_none None = refl
 same_as_none (Some node) = refl
 
--- no node of some names is the same as none
+-- no node of the names is the same as a missing node
 none_stand : (d : Domain) (names : List (List ℕ)) → list_any (λ name. is_same (node_named d name) None) names ≡ false
 none_stand d [] = refl
 none_stand d (name ∷ names) = rw (same_as_none (node_named d name), none_stand d names) refl
 
--- where there is no node, none stood earlier
+-- a missing node didn't occur earlier
 not_looping : (d : Domain) (branch : Branch) (place : ℕ) → node_at d branch place ≡ None → false ≡ is_loop_at d branch place
 not_looping d branch place none =
     sym (ap (λ (n : Option Node). list_any (λ name. is_same (node_named d name) n) (take place branch)) none ∙ none_stand d (take place branch))
 
--- behind the last node of a path none stood earlier
+-- after the last node of a path, none occurred earlier
 pub not_looping_past : {S : Type 0} (bytes : S → List ℕ) (d : Domain) (path : List S) (place : ℕ) → length path ≤ place
     → false ≡ is_loop_at d (map bytes path) place
 not_looping_past bytes d path place past =
@@ -103,29 +103,29 @@ not_looping_past bytes d path place past =
     (ap (λ (o : Option (List ℕ)). option_map_or (λ name. node_named d name) o None)
     (slice_get_past (map bytes path) place (omega (arith, length-map path bytes))))
 
--- the node at a place is that of the name there
+-- the node at an index is that of the name there
 pub node_of_name : {S : Type 0} (bytes : S → List ℕ) (d : Domain) (path : List S) (place : ℕ) (name : S) → place < length path
     → name ≡ get_or path place name → node_at d (map bytes path) place ≡ node_named d (bytes name)
 node_of_name bytes d path place name inside is =
     ap (λ (o : Option (List ℕ)). option_map_or (λ text. node_named d text) o None)
     (slice_get-map bytes path place ∙ ap (option_map bytes) (slice_get_read path (length path) place name refl inside is))
 
--- where a place has no node, none stood earlier
+-- if there is no node at an index, none occurred earlier
 pub not_looping_unknown : (d : Domain) (branch : Branch) (place : ℕ) → is_none (node_at d branch place) ≡ true → false ≡ is_loop_at d branch place
 not_looping_unknown d branch place unknown = not_looping d branch place (none_there (node_at d branch place) unknown)
   where
-    -- where the test finds no node, there is none
+    -- if the test finds no node, there is none
     none_there : (node : Option Node) → is_none node ≡ true → node ≡ None
     none_there None h = refl
     none_there (Some node) h = absurd cc
 
--- a known node stood earlier exactly where its name did
+-- a known node occurred earlier if and only if its name did
 pub looping_by_name : {S : Type 0} (bytes : S → List ℕ) (d : Domain) (path earlier : List S) (place : ℕ) (name : S) (stands : Bool)
     → place < length path → name ≡ get_or path place name → is_none (node_named d (bytes name)) ≡ false
     → stands ≡ list_any (λ other. is_text (bytes name) (bytes other)) earlier → earlier ≡ take place path → stands ≡ is_loop_at d (map bytes path) place
 looping_by_name {S} bytes d path earlier place name stands inside is known found front = by (node_named d (bytes name)) refl known
   where
-    -- the name stood earlier exactly where the node that it has did
+    -- the name occurred earlier if and only if its node did
     by : (node : Option Node) → node_named d (bytes name) ≡ node → is_none node ≡ false → stands ≡ is_loop_at d (map bytes path) place
     by None here none = absurd cc
     by (Some node) here none =
@@ -149,7 +149,7 @@ few_nodes d branch e =
           absurd (both_ways too_many (or_parts (no_bridge_first || no_link || bridge_last) too_many whole).1 long))
     ]
 
--- where no place is broken, each branch has 65 nodes at most
+-- if no index is broken, each branch has at most 65 nodes
 few_in_each : (d : Domain) (paths : List Branch) → first_place (is_broken_at d) paths ≡ None → All (λ (branch : Branch). length branch ≤ 65) paths
 few_in_each d [] e = All-nil (λ (branch : Branch). length branch ≤ 65)
 few_in_each d (x ∷ paths) e =
@@ -157,19 +157,19 @@ few_in_each d (x ∷ paths) e =
     All-cons (λ (branch : Branch). length branch ≤ 65) x paths (few_nodes d x parts.0)
     (few_in_each d paths (unmapped_none (λ place. length x + place) (first_place (is_broken_at d) paths) parts.1))
 
--- where the branches are whole, each has 65 nodes at most
+-- if the branches are whole, each has at most 65 nodes
 pub few_in_all : (d : Domain) (paths : List Branch) → broken_place d paths ≡ None → All (λ (branch : Branch). length branch ≤ 65) paths
 few_in_all d [] e = absurd cc
 few_in_all d (x ∷ paths) e = few_in_each d (x ∷ paths) e
 
--- the places of a branch and of those behind it
+-- the number of names in a branch and in those after it
 places_more : (p : Vec (String Global) Global) (paths : List (Vec (String Global) Global)) →
     places_of (branches_of (p ∷ paths)) ≡ length p.items + places_of (branches_of paths)
 places_more p paths =
     length-append (branch_of p.items) (flat_map (λ b. b) (branches_of paths))
     ∙ ap (λ (n : ℕ). n + places_of (branches_of paths)) (length-map p.items string_bytes)
 
--- the places of the branches in front of a branch, and its own, are among those of all
+-- the names in the branches before a branch, and its own, are among those of all
 pub places_within : (paths : List (Vec (String Global) Global)) (index : ℕ) (branch : Vec (String Global) Global) → index < length paths →
     get_or paths index branch ≡ branch → places_of (branches_of (take index paths)) + length branch.items ≤ places_of (branches_of paths)
 places_within [] index branch inside is = absurd (omega (arith, inside))

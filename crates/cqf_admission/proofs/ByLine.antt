@@ -1,4 +1,4 @@
--- A script is read line by line: what each line calls for, or what is wrong with it.
+-- A script is read line by line: what each line calls for, or its fault.
 use Rattle.std.proofs.Common.{◌≡◌, ℕ, ◌+◌, ◌<◌, Bool, true, false, cond, List, Option, Some, None, Result, Ok, Err, length, sym, refl, ap, ap₂, ◌∙◌, inl, inr}
 use Rattle.std.proofs.Common.{arith, subst}
 use Rattle.std.specs.Prelude.{[], ◌∷◌, if◌then◌else◌, count_by, max, nat_le, not, ok_or, option_map, slice_get, take, zero, suc, Contains}
@@ -26,23 +26,23 @@ use Rattle.cqf_admission.proofs.Few.{parted, stepped, there, unless}
 
 -- ---- what is called for
 
--- an act that is found is what is called for
+-- an act that is found is the one called for
 act_found : (requests : List Asked) (wish : Wish) (name : List ℕ) (act : Act) → act_for requests wish name ≡ Some act → IsActFor requests wish name act
 act_found requests Admit name act e = by_request (request_named requests name) refl e
   where
-    -- a request of the name is there
+    -- a request with the name exists
     by_request : (o : Option Asked) → request_named requests name ≡ o → option_map (λ (asked : Asked). Admits asked) o ≡ Some act →
         IsActFor requests Admit name act
     by_request None f g = absurd cc
     by_request (Some asked) f g = (asked, f, sym (same_Some (Admits asked) act g))
 act_found requests Withdraw name act e = sym (same_Some (Withdraws name) act e)
 
--- and what is called for is found
+-- the act called for is found
 act_is : (requests : List Asked) (wish : Wish) (name : List ℕ) (act : Act) → IsActFor requests wish name act → act_for requests wish name ≡ Some act
 act_is requests Admit name act w = ap (option_map (λ (asked : Asked). Admits asked)) w.1 ∙ ap (λ (a : Act). Some a) (sym w.2)
 act_is requests Withdraw name act w = ap (λ (a : Act). Some a) (sym w)
 
--- none is found where a stream is to be admitted that isn't asked for
+-- no act is found if a stream is to be admitted that isn't among the requests
 no_act : (requests : List Asked) (wish : Wish) (name : List ℕ) → act_for requests wish name ≡ None → (wish ≡ Admit) × (request_named requests name ≡ None)
 no_act requests Admit name e = (refl, unmapped_none (λ (asked : Asked). Admits asked) (request_named requests name) e)
 no_act requests Withdraw name e = absurd cc
@@ -54,26 +54,26 @@ refused : {A : Type 0} (test : Bool) (given fault : ScriptFault) (x : A) → (if
 refused true given fault x h = (refl, cc)
 refused false given fault x h = absurd cc
 
--- a result of a type that is a fault
+-- a result that is a fault, of a given type
 abbrev failed : (A : Type 0) → ScriptFault → Result A ScriptFault
 failed A fault = Err fault
 
--- results that are faults are the same where the faults are
+-- results that are faults are equal if the faults are
 same_fault : (A : Type 0) (a b : ScriptFault) → failed A a ≡ failed A b → a ≡ b
 same_fault A a b h = cc
 
 module _ (requests : List Asked) (seat cycles number sealed called : ℕ) (line : List ℕ) where
-  -- what a line gives, whether it is a Seal or not
+  -- what a line gives, by whether it is a Seal
   abbrev by_seal : Bool → Result Called ScriptFault
   by_seal b =
       if b then call_of_seal seat cycles number sealed
       else and_then (ok_or (order_of_line line) (BadLine number)) (call_of_order requests number called)
 
-  -- what a line that is no Seal gives, whether it is an order or not
+  -- what a line that isn't a Seal gives, by whether it is an order
   abbrev by_order : Option Written → Result Called ScriptFault
   by_order o = and_then (ok_or o (BadLine number)) (call_of_order requests number called)
 
-  -- what an order gives, whether there is what it calls for or not
+  -- what an order gives, by whether it has an act
   abbrev by_act : Written → Option Act → Result Called ScriptFault
   by_act order a =
       and_then (ok_or a (UnknownStream number)) (λ act. if nat_le most_calls called then Err (TooMany number) else Ok (order.seat, act))
@@ -92,11 +92,11 @@ module _ (requests : List Asked) (seat cycles number sealed called : ℕ) (line 
   bad_line h = ap by_seal h.no_seal ∙ ap by_order h.no_order
 
 module _ (requests : List Asked) (cycles : ℕ) (lines : List (List ℕ)) (place : ℕ) (line : List ℕ) where
-  -- what the line at a place gives
+  -- what the line at an index gives
   abbrev given : Result Called ScriptFault
   given = call_of_line requests (administrators lines) cycles (place + 1) (seal_lines_before lines place) (other_lines_before lines place) line
 
-  -- what it calls for is its call
+  -- if the line calls for something, that is its call
   calls_to : (call : Called) → CallsFor requests cycles lines place line call → given ≡ Ok call
   calls_to call w =
       let seat = administrators lines in
@@ -117,11 +117,11 @@ module _ (requests : List Asked) (cycles : ℕ) (lines : List (List ℕ)) (place
             ∙ ap (λ (c : Called). Ok c) same)
       ]
 
-  -- and its call is what it calls for
+  -- its call is what the line calls for
   calls_of_line : (call : Called) → given ≡ Ok call → CallsFor requests cycles lines place line call
   calls_of_line call e = by_test (is_seal_line line) refl
     where
-      -- it is a Seal or not
+      -- by whether it is a Seal
       by_test : (b : Bool) → is_seal_line line ≡ b → CallsFor requests cycles lines place line call
       by_test true t =
           let seat = administrators lines in
@@ -157,7 +157,7 @@ module _ (requests : List Asked) (cycles : ℕ) (lines : List (List ℕ)) (place
                 (act_found requests order.wish order.name act (there (act_for requests order.wish order.name) (UnknownStream number) act late.1));
           })
 
-  -- what is wrong with it is its fault
+  -- what is wrong with the line is its fault
   fault_to : (fault : ScriptFault) → IsFaultOfLine requests cycles lines place line fault → given ≡ Err fault
   fault_to (BadLine n) w =
       bad_line requests (administrators lines) cycles (place + 1) (seal_lines_before lines place) (other_lines_before lines place) line w.1
@@ -191,11 +191,11 @@ module _ (requests : List Asked) (cycles : ℕ) (lines : List (List ℕ)) (place
       ]
   fault_to Memory w = absurd w
 
-  -- and its fault is what is wrong with it
+  -- its fault is what is wrong with the line
   fault_of_line : (fault : ScriptFault) → given ≡ Err fault → IsFaultOfLine requests cycles lines place line fault
   fault_of_line fault e = by_test (is_seal_line line) refl
     where
-      -- an order may be one too many, or for a stream that isn't asked for
+      -- an order may be one too many, or for a stream that isn't among the requests
       by_found : (order : Written) (a : Option Act) → WritesOrder line order → act_for requests order.wish order.name ≡ a →
           by_act requests (administrators lines) cycles (place + 1) (seal_lines_before lines place) (other_lines_before lines place) line order a ≡ Err fault →
           IsFaultOfLine requests cycles lines place line fault
@@ -217,7 +217,7 @@ module _ (requests : List Asked) (cycles : ℕ) (lines : List (List ℕ)) (place
             }),
           )
 
-      -- a line that is no Seal may be no order
+      -- a line that isn't a Seal may not be an order
       by_written : (o : Option Written) → is_seal_line line ≡ false → order_of_line line ≡ o →
           by_order requests (administrators lines) cycles (place + 1) (seal_lines_before lines place) (other_lines_before lines place) line o ≡ Err fault →
           IsFaultOfLine requests cycles lines place line fault
@@ -244,30 +244,30 @@ module _ (requests : List Asked) (cycles : ℕ) (lines : List (List ℕ)) (place
 
 -- ---- line after line
 
--- how many of some lines are Seals, and how many are others
+-- the number of Seals in some lines, and of other lines
 abbrev seals_in : List (List ℕ) → ℕ
 seals_in lines = count_by is_seal_line lines
 
 abbrev others_in : List (List ℕ) → ℕ
 others_in lines = count_by (λ line. not (is_seal_line line)) lines
 
--- one line more before others
+-- one more line before others
 seal_behind : (b : Bool) (sealed n : ℕ) → sealed + (cond b 1 0 + n) ≡ cond b (sealed + 1) sealed + n
 seal_behind true sealed n = omega arith
 seal_behind false sealed n = omega arith
 
--- or one more that is no Seal
+-- the same for a line that isn't a Seal
 call_behind : (b : Bool) (called n : ℕ) → called + (cond (not b) 1 0 + n) ≡ cond b called (called + 1) + n
 call_behind true called n = omega arith
 call_behind false called n = omega arith
 
 module _ (requests : List Asked) (seat cycles : ℕ) where
-  -- what a line at a place of some gives, behind the lines before these
+  -- what a line at an index of some lines gives, after the lines before these
   abbrev at : ℕ → ℕ → ℕ → List (List ℕ) → ℕ → List ℕ → Result Called ScriptFault
   at number sealed called lines k line =
       call_of_line requests seat cycles (number + k) (sealed + seals_in (take k lines)) (called + others_in (take k lines)) line
 
-  -- the first of them
+  -- the first line
   at_first : (number sealed called : ℕ) (lines : List (List ℕ)) (line : List ℕ) →
       at number sealed called lines 0 line ≡ call_of_line requests seat cycles number sealed called line
   at_first number sealed called lines line =
@@ -276,7 +276,7 @@ module _ (requests : List Asked) (seat cycles : ℕ) where
       let c : called + 0 ≡ called = omega arith in
       λ i. call_of_line requests seat cycles (n i) (s i) (c i) line
 
-  -- a later one
+  -- a later line
   at_next : (number sealed called : ℕ) (first : List ℕ) (lines : List (List ℕ)) (k : ℕ) (line : List ℕ) →
       at number sealed called (first ∷ lines) (suc k) line
       ≡ at (number + 1) (sealed_behind sealed first) (called_behind called first) lines k line
@@ -290,13 +290,13 @@ module _ (requests : List Asked) (seat cycles : ℕ) where
       ∙ call_behind (is_seal_line first) called (others_in (take k lines)) in
       λ i. call_of_line requests seat cycles (n i) (s i) (c i) line
 
-  -- some calls are those of some lines, one a line
+  -- some calls are those of some lines, one for each line
   record FoundEach (number sealed called : ℕ) (lines : List (List ℕ)) (found : List Called) : Type 0 where
     one_each : length found ≡ length lines
     each : (k : ℕ) (line : List ℕ) (call : Called) → slice_get lines k ≡ Some line → slice_get found k ≡ Some call →
         at number sealed called lines k line ≡ Ok call
 
-  -- what is found is so
+  -- the calls that are found are such calls
   found_each : (number sealed called : ℕ) (lines : List (List ℕ)) (found : List Called) →
       calls_from requests seat cycles number sealed called lines ≡ Ok found → FoundEach number sealed called lines found
   found_each number sealed called [] found h =
@@ -308,7 +308,7 @@ module _ (requests : List Asked) (seat cycles : ℕ) where
       let r = found_each (number + 1) (sealed_behind sealed first) (called_behind called first) lines two.1 two.3 in
       subst (λ (xs : List Called). FoundEach number sealed called (first ∷ lines) xs) (sym two.4) (more two.0 two.1 two.2 r)
     where
-      -- one line more in front
+      -- with one more line first
       more : (call : Called) (rest : List Called) → call_of_line requests seat cycles number sealed called first ≡ Ok call →
           FoundEach (number + 1) (sealed_behind sealed first) (called_behind called first) lines rest →
           FoundEach number sealed called (first ∷ lines) (call ∷ rest)
@@ -322,7 +322,7 @@ module _ (requests : List Asked) (seat cycles : ℕ) where
               ∙ one ∙ ap (λ (x : Called). Ok x) (same_Some call c f)
           each_more (suc k) line c e f = at_next number sealed called first lines k line ∙ r.each k line c e f
 
-  -- and such calls are found
+  -- such calls are found
   ok_from : (number sealed called : ℕ) (lines : List (List ℕ)) (found : List Called) → FoundEach number sealed called lines found →
       calls_from requests seat cycles number sealed called lines ≡ Ok found
   ok_from number sealed called [] [] w = refl
@@ -344,7 +344,7 @@ module _ (requests : List Asked) (seat cycles : ℕ) where
     faulty : at number sealed called lines place line ≡ Err fault
     before : (k : ℕ) (other : List ℕ) → k < place → slice_get lines k ≡ Some other → (call : Called) × (at number sealed called lines k other ≡ Ok call)
 
-  -- a fault that is found is so
+  -- a fault that is found is such a fault
   fault_at : (number sealed called : ℕ) (lines : List (List ℕ)) (fault : ScriptFault) →
       calls_from requests seat cycles number sealed called lines ≡ Err fault → FaultAt number sealed called lines fault
   fault_at number sealed called [] fault h = absurd cc
@@ -353,7 +353,7 @@ module _ (requests : List Asked) (seat cycles : ℕ) where
       (calls_from requests seat cycles (number + 1) (sealed_behind sealed first) (called_behind called first) lines) refl
       (fault_at (number + 1) (sealed_behind sealed first) (called_behind called first) lines) h
     where
-      -- a fault behind the first line
+      -- a fault after the first line
       later : (call : Called) → call_of_line requests seat cycles number sealed called first ≡ Ok call →
           FaultAt (number + 1) (sealed_behind sealed first) (called_behind called first) lines fault → FaultAt number sealed called (first ∷ lines) fault
       later call one r = record {
@@ -375,7 +375,7 @@ module _ (requests : List Asked) (seat cycles : ℕ) where
               let c = r.before k other (omega (arith, l)) e in
               (c.0, at_next number sealed called first lines k other ∙ c.1)
 
-      -- the first line has it, or a later one
+      -- the first line has the fault, or a later one
       by_first : (a : Result Called ScriptFault) (b : Result (List Called) ScriptFault) →
           call_of_line requests seat cycles number sealed called first ≡ a →
           ((f : ScriptFault) → b ≡ Err f → FaultAt (number + 1) (sealed_behind sealed first) (called_behind called first) lines f) →
@@ -390,7 +390,7 @@ module _ (requests : List Asked) (seat cycles : ℕ) where
       by_first (Ok call) (Err e) is rest f = later call is (rest fault (ap (λ (x : ScriptFault). Err x) (same_fault (List Called) e fault f)))
       by_first (Ok call) (Ok found) is rest f = absurd cc
 
-  -- and such a fault is found
+  -- such a fault is found
   err_from : (number sealed called : ℕ) (lines : List (List ℕ)) (fault : ScriptFault) (place : ℕ) (line : List ℕ) → slice_get lines place ≡ Some line →
       at number sealed called lines place line ≡ Err fault →
       ((k : ℕ) (other : List ℕ) → k < place → slice_get lines k ≡ Some other → (call : Called) × (at number sealed called lines k other ≡ Ok call)) →
@@ -411,7 +411,7 @@ module _ (requests : List Asked) (seat cycles : ℕ) where
 
 -- ---- a script
 
--- what the line at a place of a script gives
+-- what the line at an index of a script gives
 at_script : (requests : List Asked) (cycles : ℕ) (lines : List (List ℕ)) (place : ℕ) (line : List ℕ) →
     at requests (administrators lines) cycles 1 0 0 lines place line ≡ given requests cycles lines place line
 at_script requests cycles lines place line =
@@ -420,7 +420,7 @@ at_script requests cycles lines place line =
     let c : 0 + others_in (take place lines) ≡ others_in (take place lines) = omega arith in
     λ i. call_of_line requests (administrators lines) cycles (n i) (s i) (c i) line
 
--- a script's calls are just those of its lines
+-- the calls of a script are exactly those of its lines
 pub scripts_are_their_lines : ScriptsAreTheirLines
 scripts_are_their_lines requests cycles text found =
     let lines = lines_of text in
@@ -436,7 +436,7 @@ scripts_are_their_lines requests cycles text found =
       }),
     )
 
--- and its fault is just that of its first line that has one
+-- the fault of a script is exactly that of its first line with a fault
 pub faults_are_of_their_lines : FaultsAreOfTheirLines
 faults_are_of_their_lines requests cycles text fault =
     let lines = lines_of text in
@@ -459,7 +459,7 @@ faults_are_of_their_lines requests cycles text fault =
 
 -- ---- administrators
 
--- an order is of one of so many
+-- the administrator's number of an order, plus 1
 up_to : (o : Option Written) (order : Written) → o ≡ Some order → seats_up_to o ≡ order.seat + 1
 up_to o order e = ap seats_up_to e
 
@@ -470,7 +470,7 @@ administrators_are_counted (first ∷ lines) =
     let r = administrators_are_counted lines in
     record { above = above_all r; least = λ l. least_of (order_of_line first) refl r l }
   where
-    -- each number is below
+    -- each number is below the count
     above_all : AreTheAdministrators lines (administrators lines) → (line : List ℕ) (order : Written) → Contains (first ∷ lines) line →
         order_of_line line ≡ Some order → order.seat < max (seats_up_to (order_of_line first)) (administrators lines)
     above_all r line order c e = elim (contains_cases first lines line c) [
@@ -479,7 +479,7 @@ administrators_are_counted (first ∷ lines) =
       | inr h ↦ omega (arith, r.above line order h e)
     ]
 
-    -- and the greatest is one less
+    -- the greatest number is one less
     least_of : (o : Option Written) → order_of_line first ≡ o → AreTheAdministrators lines (administrators lines) →
         0 < max (seats_up_to (order_of_line first)) (administrators lines) →
         HasGreatest (first ∷ lines) (max (seats_up_to (order_of_line first)) (administrators lines))

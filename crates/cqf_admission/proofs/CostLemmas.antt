@@ -1,4 +1,4 @@
--- The most that streams cost of a link beside one that is offered in each cycle.
+-- The most that streams cost on a link that a stream offered in each cycle uses.
 use Rattle.std.proofs.Common.{◌≡◌, ℕ, List, [], ◌∷◌, ◌==◌, Bool, true, max, fold, ◌∙◌, ap}
 use Rattle.std.specs.Prelude.{if◌then◌else◌}
 use Rattle.std.specs.List.{list_any}
@@ -11,7 +11,7 @@ use Rattle.cqf_model.specs.Table.{link_cost, links_in, uses}
 use Rattle.cqf_model.proofs.EachCycle.{uses_same}
 use Rattle.cqf_admission.specs.Costs.{most_cost}
 
--- beside one that goes by the link it is the most of all cycles
+-- for a stream that uses the link, it is the most over all cycles
 pub beside_is_most : (rows : List Row) (tree : List Hop) (l : ℕ) → list_any (λ k. k == l) (links_in tree) ≡ true →
     most_beside rows tree each_cycle l ≡ most_cost rows l
 beside_is_most rows tree l crossed =

@@ -1,4 +1,4 @@
--- A history with a call more.
+-- A history with one more call.
 use Rattle.std.proofs.Common.{◌≡◌, ◌∙◌, ◌-◌, ◌<◌, ◌++◌, ◌∷◌, [], ℕ, Bool, List, Result, Err, Some, ap, arith, false, length, map, refl, subst, sym}
 use Rattle.std.specs.Prelude.{nat_le}
 use Rattle.std.proofs.lemmas.Bool.{leb-false}
@@ -23,14 +23,14 @@ use Rattle.cqf_admission.proofs.GrantLemmas.{refusal_form}
 use Rattle.cqf_admission.proofs.RunLemmas.{refusal_is_entered}
 use Rattle.cqf_admission.proofs.Running.{refused_leaves}
 
--- a call that acts so is the history's next entry
+-- a call with this act is the history's next entry
 pub entered_behind : (old reserved new : List Entry) (e : Entry) (act : Act) → reserved ≡ old → new ≡ reserved ++ e ∷ [] → act_of e.call ≡ act →
     map recorded_of new ≡ with_entry (map recorded_of old) e.seat act e.reply
 entered_behind old reserved new e act same is acts =
     ap (map recorded_of) (is ∙ ap (λ (es : List Entry). es ++ e ∷ []) same) ∙ map-append recorded_of old (e ∷ [])
     ∙ ap (λ (a : Act). with_entry (map recorded_of old) e.seat a e.reply) acts
 
--- what a call leaves is so of the entries with it
+-- the effect of a call, for the entries with it
 pub record Entered (d : Domain) (entries after : List Recorded) (figures : Figures) (seat : ℕ) (act : Act) (result : Result Receipt Refused) : Type 0 where
   pub of : IsStateOf d after figures
   pub answers : Answers (of_entries d entries) (of_entries d after) seat act result
@@ -68,7 +68,7 @@ form_refused goes_on counted d entries figures seat asked refused is form few =
     (refusal_is_entered d (held_in d entries (seals entries)) asked refused reason) few
     (ap (admit_reply (next_number d entries) (seals entries)) reason) (record { stands = refl; links = refl; slots = refl; sealed = refl })
 
--- the figures are of the history yet where all but the room is as it was
+-- the figures are still those of the history if nothing has changed but the room
 pub stays_state : (d : Domain) (entries : List Recorded) (before after : Figures) → IsStateOf d entries before → StaysSo before after → IsStateOf d entries after
 stays_state d entries before after is so = (
   subst (λ (sealed : ℕ). AreOf d entries after.stands after.slots sealed) (sym so.sealed)
@@ -77,7 +77,7 @@ stays_state d entries before after is so = (
   so.links ∙ is.1,
 )
 
--- a request's row of good form is a request of good form
+-- a request's row of good form gives a request of good form
 pub good_form : (d : Domain) (asked : Asked) (row : Row) (form : GoodForm) → IsRowOfGoodForm d asked row → form.name.now ≡ row.name →
     form.octets ≡ row.octets → form.pace ≡ row.pace → form.tree.now ≡ row.tree.items → IsGoodFormOf d asked form
 good_form d asked row form is name octets paced tree = record {
@@ -89,7 +89,7 @@ good_form d asked row form is name octets paced tree = record {
   paced = paced ∙ ap (λ (r : Row). r.pace) is.is;
 }
 
--- and so is what is judged by its row
+-- so does the judgement of its row
 pub judged_by_row : (d : Domain) (asked : Asked) (row : Row) (judged : JudgedRequest) → IsRowOfGoodForm d asked row → IsJudgedOf row judged →
     IsOfGoodForm d asked judged
 judged_by_row d asked row judged is by = record {
@@ -101,7 +101,7 @@ judged_by_row d asked row judged is by = record {
   most_octets = is.most_octets;
 }
 
--- and so is one that was judged
+-- and so does a request that was judged
 pub judged_form : (d : Domain) (asked : Asked) (judged : JudgedRequest) (form : GoodForm) → IsOfGoodForm d asked judged →
     form.name.now ≡ judged.name → form.octets ≡ asked.octets → form.pace ≡ judged.pace → form.tree.now ≡ judged.tree.items → IsGoodFormOf d asked form
 judged_form d asked judged form is name octets paced tree = record {

@@ -1,4 +1,4 @@
--- The first place at which branches fail a check, where places count through them as one list.
+-- The first index at which branches fail a check, if indexes count through them as one list.
 use Rattle.std.proofs.Common.{◌≡◌, ◌≢◌, ℕ, ◌+◌, ◌<◌, ◌≤◌, Bool, true, false, cond, List, Option, Some, None, [], ◌∷◌, ◌++◌, length, position, drop, get_or}
 use Rattle.std.proofs.Common.{refl, ap, ◌∙◌, sym, arith, subst, inl, inr, nat_lt, not, length-append, zero-add, add_assoc}
 use Rattle.std.proofs.Math.Seq.{drop-cons}
@@ -18,7 +18,7 @@ use Rattle.cqf_admission.specs.declared.branches.Check.{Check}
 use Rattle.cqf_admission.specs.declared.branches.Check.TheVariants.{Known, Whole, Simple}
 use Rattle.cqf_admission.specs.Branches.{branch_of, branches_of, fault_in, first_fault, places_of}
 
--- ---- a place of a branch is one of its places, or the one behind them
+-- ---- an index of a branch is that of one of its names, or the next one
 
 -- the least number that passes is below the bound
 least_within : (test : ℕ → Bool) (n k : ℕ) → least test n ≡ Some k → k < n
@@ -27,19 +27,19 @@ least_within test n k e =
     let w = contains_from_below listed n k (contains_at (each_below listed n) 0 k e) in
     omega (arith, w.1, of_one (test w.0) w.0 w.2)
   where
-    -- a list that has one number at most contains no other
+    -- a list with at most one number contains no other
     of_one : (b : Bool) (j : ℕ) → Contains (if b then j ∷ [] else []) k → j ≡ k
     of_one true j c = elim (contains_cases j [] k c) [ inl e ↦ e | inr n ↦ absurd (contains_none k n) ]
     of_one false j c = absurd (contains_none k c)
 
--- the first place that passes is one of the list
+-- the first index that passes is within the list
 position_within : {X : Type 0} (p : X → Bool) (xs : List X) (k : ℕ) → position p xs ≡ Some k → k < length xs
 position_within p xs k e =
     let place = prefix_len (λ x. not (p x)) xs in
     let found = cond_some (nat_lt place (length xs)) place k e in
     omega (arith, ltb-true place (length xs) found.0, found.1)
 
--- a fault's place is within its branch or right behind it
+-- a fault's index is within its branch or right after it
 pub fault_within : (d : Domain) (check : Check) (branch : Branch) (k : ℕ) → fault_in d check branch ≡ Some k → k ≤ length branch
 fault_within d Known branch k e = omega (arith, position_within (λ name. is_none (node_named d name)) branch k e)
 fault_within d Whole branch k e = omega (arith, least_within (is_broken_at d branch) (length branch + 1) k e)
@@ -47,21 +47,21 @@ fault_within d Simple branch k e = omega (arith, least_within (is_loop_at d bran
 
 -- ---- one branch after the other
 
--- so many branches pass, and so many places are theirs
+-- the branches before `index` pass, and they have `before` names
 pub record HavePassed (d : Domain) (check : Check) (paths : List (Vec (String Global) Global)) (index before : ℕ) : Type 0 where
   pub passed : first_fault d check (branches_of paths) ≡ option_map (λ place. before + place) (first_fault d check (branches_of (drop index paths)))
   pub counted : before + places_of (branches_of (drop index paths)) ≡ places_of (branches_of paths)
 
--- to count from 0 changes no place
+-- counting from 0 changes no index
 from_zero : (o : Option ℕ) → o ≡ option_map (λ place. 0 + place) o
 from_zero None = refl
 from_zero (Some x) = ap (λ (k : ℕ). Some k) (sym (zero-add x))
 
--- before the first branch nothing has passed
+-- before the first branch there is nothing to pass
 pub none_passed : (d : Domain) (check : Check) (paths : List (Vec (String Global) Global)) → HavePassed d check paths 0 0
 none_passed d check paths = record { passed = from_zero (first_fault d check (branches_of paths)); counted = omega arith }
 
--- to count on from one number and then from another is to count on from their sum
+-- counting on from one number and then from another is counting on from their sum
 twice : (a b : ℕ) (o : Option ℕ) → option_map (λ place. a + place) (option_map (λ place. b + place) o) ≡ option_map (λ place. a + b + place) o
 twice a b None = refl
 twice a b (Some x) = ap (λ (k : ℕ). Some k) (sym (add_assoc a b x))
@@ -72,16 +72,16 @@ module _ (d : Domain) (check : Check) (paths : List (Vec (String Global) Global)
   next_is : drop index paths ≡ branch ∷ drop (suc index) paths
   next_is = drop-cons paths index branch inside ∙ ap (λ (b : Vec (String Global) Global). b ∷ drop (suc index) paths) is
 
-  -- the places before it, its own and those behind it are all places
+  -- the names before it, its own and those after it are all names
   count_is : before + (length (branch_of branch.items) + places_of (branches_of (drop (suc index) paths))) ≡ places_of (branches_of paths)
   count_is = ap (λ (n : ℕ). before + n) (sym (length-append (branch_of branch.items) (flat_map (λ b. b) (branches_of (drop (suc index) paths)))))
       ∙ ap (λ (xs : List (Vec (String Global) Global)). before + places_of (branches_of xs)) (sym next_is) ∙ h.counted
 
-  -- the places up to the next branch's end are among those of all
+  -- the names up to the next branch's end are among all names
   pub room_for : before + length branch.items ≤ places_of (branches_of paths)
   room_for = omega (arith, count_is, length-map branch.items string_bytes)
 
-  -- the first fault is the branch's, or the first behind it
+  -- the first fault is the branch's, or the first after it
   by_branch : (o : Option ℕ) → fault_in d check (branch_of branch.items) ≡ o →
       first_fault d check (branches_of paths) ≡ option_map (λ place. before + place)
       (or_else o (option_map (λ place. length (branch_of branch.items) + place) (first_fault d check (branches_of (drop (suc index) paths)))))
@@ -107,26 +107,26 @@ module _ (d : Domain) (check : Check) (paths : List (Vec (String Global) Global)
         counted = omega (arith, count, count_is);
       })
 
--- behind the last branch none is left
+-- after the last branch none is left
 pub all_passed : (d : Domain) (check : Check) (paths : List (Vec (String Global) Global)) (index before : ℕ) → length paths ≤ index →
     HavePassed d check paths index before → first_fault d check (branches_of paths) ≡ None
 all_passed d check paths index before past h =
     h.passed ∙ ap (λ (xs : List (Vec (String Global) Global)). option_map (λ place. before + place) (first_fault d check (branches_of xs)))
     (drop_all index paths past)
 
--- ---- a place in two lists end to end
+-- ---- an index in two lists end to end
 
--- the first place behind a first element is that of the rest, or the first itself
+-- the first index after a first element is that of the rest, or that of the first element
 pub position-cons : {X : Type 0} (p : X → Bool) (x : X) (xs : List X) →
     position p (x ∷ xs) ≡ (if p x then Some 0 else option_map (λ place. 1 + place) (position p xs))
 position-cons {X} p x xs = by_test (p x)
   where
-    -- one more than a number, where it is there, is that number moved by one
+    -- an index moved by one
     shifted : (b : Bool) (n : ℕ) → cond b (Some (1 + n)) None ≡ option_map (λ place. 1 + place) (cond b (Some n) None)
     shifted true n = refl
     shifted false n = refl
 
-    -- the first place is 0 where the first element passes, and otherwise one more than that of the rest
+    -- the first index is 0 if the first element passes, and otherwise one more than that of the rest
     by_test : (b : Bool) → (let n = cond (not b) (1 + prefix_len (λ z. not (p z)) xs) 0 in
         cond (nat_lt n (suc (length xs))) (Some n) None) ≡ (if b then Some 0 else option_map (λ place. 1 + place) (position p xs))
     by_test true = ap (λ (t : Bool). cond t (Some 0) None) (lt-ltb 0 (suc (length xs)) (omega arith))
@@ -134,7 +134,7 @@ position-cons {X} p x xs = by_test (p x)
         let n = prefix_len (λ z. not (p z)) xs in
         ap (λ (t : Bool). cond t (Some (1 + n)) None) (one_more n (length xs)) ∙ shifted (nat_lt n (length xs)) n
 
--- the first place in two lists is that in the first, or that in the second
+-- the first index in two lists is that in the first, or that in the second
 position-append : {X : Type 0} (p : X → Bool) (xs ys : List X) →
     position p (xs ++ ys) ≡ or_else (position p xs) (option_map (λ place. length xs + place) (position p ys))
 position-append p [] ys = from_zero (position p ys)
@@ -143,12 +143,12 @@ position-append {X} p (x ∷ xs) ys =
     ∙ by_test (p x) (position p xs) (position p ys) (position-append p xs ys)
     ∙ ap (λ (o : Option ℕ). or_else o (option_map (λ place. suc (length xs) + place) (position p ys))) (sym (position-cons p x xs))
   where
-    -- a place that is moved by a number and then by one is moved by one more than the number
+    -- moving an index by a number and then by one is moving it by one more than the number
     behind : (n : ℕ) (o : Option ℕ) → option_map (λ place. 1 + place) (option_map (λ place. n + place) o) ≡ option_map (λ place. suc n + place) o
     behind n None = refl
     behind n (Some k) = let same : 1 + (n + k) ≡ suc n + k = omega arith in ap (λ (i : ℕ). Some i) same
 
-    -- one element in front, whether it passes or not, leaves the first place in the first list, or else in the second
+    -- one more element first, whether it passes or not, leaves the first index in the first list, or else in the second
     by_test : (b : Bool) (o q : Option ℕ) → position p (xs ++ ys) ≡ or_else o (option_map (λ place. length xs + place) q) →
         (if b then Some 0 else option_map (λ place. 1 + place) (position p (xs ++ ys))) ≡ or_else (if b then Some 0 else option_map (λ place. 1 + place) o)
         (option_map (λ place. suc (length xs) + place) q)
@@ -156,7 +156,7 @@ position-append {X} p (x ∷ xs) ys =
     by_test false None q e = ap (option_map (λ place. 1 + place)) e ∙ behind (length xs) q
     by_test false (Some k) q e = ap (option_map (λ place. 1 + place)) e
 
--- ---- each check in the words of the definitions
+-- ---- each check in terms of the definitions
 
 -- the first unknown node is the first among all nodes
 pub known_is : (d : Domain) (paths : List Branch) →
@@ -167,25 +167,25 @@ known_is d (branch ∷ paths) =
     ap (λ (o : Option ℕ). or_else (position test branch) (option_map (λ place. length branch + place) o)) (known_is d paths)
     ∙ sym (position-append test branch (flat_map (λ b. b) paths))
 
--- the first broken place goes branch by branch
+-- the first broken index is found branch by branch
 pub whole_is : (d : Domain) (paths : List Branch) → first_fault d Whole paths ≡ first_place (is_broken_at d) paths
 whole_is d [] = refl
 whole_is d (branch ∷ paths) =
     ap (λ (o : Option ℕ). or_else (least (is_broken_at d branch) (length branch + 1)) (option_map (λ place. length branch + place) o)) (whole_is d paths)
 
--- and so does the first place that stood earlier
+-- so is the first index whose node occurred earlier
 pub simple_is : (d : Domain) (paths : List Branch) → first_fault d Simple paths ≡ first_place (is_loop_at d) paths
 simple_is d [] = refl
 simple_is d (branch ∷ paths) =
     ap (λ (o : Option ℕ). or_else (least (is_loop_at d branch) (length branch + 1)) (option_map (λ place. length branch + place) o)) (simple_is d paths)
 
--- where there is a branch, the first broken place is that of the branches
+-- if there is a branch, the first broken index is that of the branches
 pub broken_is : (d : Domain) (paths : List (Vec (String Global) Global)) → length paths ≢ 0 →
     first_fault d Whole (branches_of paths) ≡ broken_place d (branches_of paths)
 broken_is d [] some = absurd (some refl)
 broken_is d (x ∷ paths) some = whole_is d (branches_of (x ∷ paths))
 
--- no branches are broken at place 0
+-- without branches, index 0 is broken
 pub none_is_broken : (d : Domain) (paths : List (Vec (String Global) Global)) → length paths ≡ 0 → Some 0 ≡ broken_place d (branches_of paths)
 none_is_broken d [] none = refl
 none_is_broken d (x ∷ paths) none = absurd (omega (arith, none))

@@ -17,30 +17,30 @@ use Rattle.cqf_admission.specs.Script.{AreFew, Called, act_for, administrators, 
 use Rattle.cqf_admission.specs.Script.{call_of_seal, called_behind, calls_from, others_among, request_named}
 use Rattle.cqf_admission.specs.Script.{script_of, sealed_behind, seals_among}
 
--- what a step and the rest gave, where both gave something
+-- the results of a step and of the rest, if both have one
 pub parted : {A E : Type 0} (first : Result A E) (rest : Result (List A) E) (found : List A) → and_first first rest ≡ Ok found →
     (x : A) × (xs : List A) × (first ≡ Ok x) × (rest ≡ Ok xs) × (found ≡ x ∷ xs)
 parted (Err e) rest found h = absurd (cc)
 parted (Ok x) (Err e) found h = absurd (cc)
 parted (Ok x) (Ok xs) found h = (x, xs, refl, refl, cc)
 
--- what a step gave that another one followed
+-- the result of a step that another step followed
 pub stepped : {A B E : Type 0} (first : Result A E) (next : A → Result B E) (found : B) → and_then first next ≡ Ok found →
     (x : A) × (first ≡ Ok x) × (next x ≡ Ok found)
 stepped (Err e) next found h = absurd (cc)
 stepped (Ok x) next found h = (x, refl, h)
 
--- what was there is what was found
+-- the value that was found
 pub there : {A E : Type 0} (found : Option A) (fault : E) (x : A) → ok_or found fault ≡ Ok x → found ≡ Some x
 there None fault x h = absurd (cc)
 there (Some y) fault x h = cc
 
--- a test that isn't met lets the rest through
+-- a test that fails lets the rest through
 pub unless : {A : Type 0} (test : Bool) (fault : ScriptFault) (x found : A) → (if test then Err fault else Ok x) ≡ Ok found → (test ≡ false) × (found ≡ x)
 unless true fault x found h = absurd (cc)
 unless false fault x found h = (refl, cc)
 
--- one of some requests is admitted: that is no Seal
+-- the act of a request is not a Seal
 admitted : (found : Option Asked) (act : Act) → option_map (λ (asked : Asked). Admits asked) found ≡ Some act → is_seal act ≡ false
 admitted None act h = absurd (cc)
 admitted (Some asked) act h =
@@ -52,13 +52,13 @@ ordered requests Admit name act h = admitted (request_named requests name) act h
 ordered requests Withdraw name act h =
     let same : Withdraws name ≡ act = cc in ap is_seal (sym same)
 
--- a line of this many Seals and other calls before it: what its call may be
+-- what the call of a line may be, after this many Seals and other calls
 record IsCounted (cycles sealed called : ℕ) (line : List ℕ) (call : Called) : Type 0 where
   seal : is_seal call.1 ≡ is_seal_line line
   few_seals : is_seal_line line ≡ true → sealed < cycles
   few_others : is_seal_line line ≡ false → called < 100000
 
--- a Seal's line
+-- the line of a Seal
 counted-seal : (seat cycles number sealed called : ℕ) (line : List ℕ) (call : Called) → is_seal_line line ≡ true →
     call_of_seal seat cycles number sealed ≡ Ok call → IsCounted cycles sealed called line call
 counted-seal seat cycles number sealed called line call is h =
@@ -84,7 +84,7 @@ counted-order requests cycles number sealed called line order call off h =
       few_others = λ _. leb-false most_calls called found.0;
     }
 
--- either
+-- either kind of line
 counted-line : (requests : List Asked) (seat cycles number sealed called : ℕ) (line : List ℕ) (call : Called) (test : Bool) → is_seal_line line ≡ test →
     call_of_line requests seat cycles number sealed called line ≡ Ok call → IsCounted cycles sealed called line call
 counted-line requests seat cycles number sealed called line call true is h =
@@ -97,12 +97,12 @@ counted-line requests seat cycles number sealed called line call false off h =
     else and_then (ok_or (order_of_line line) (BadLine number)) (call_of_order requests number called)) (sym off) ∙ h) in
     counted-order requests cycles number sealed called line step.0 call off step.2
 
--- the calls of the lines from one on, behind so many
+-- the calls of the lines from one on, after this many others
 record AreSoFew (cycles sealed called : ℕ) (found : List Called) : Type 0 where
   seals : sealed + seals_among found ≤ cycles
   others : called + others_among found ≤ 100000
 
--- one call more before them
+-- the same with one more call before them
 AreSoFew-more : (cycles sealed called : ℕ) (line : List ℕ) (call : Called) (found : List Called) (test : Bool) → is_seal_line line ≡ test →
     IsCounted cycles sealed called line call → AreSoFew cycles (sealed_behind sealed line) (called_behind called line) found →
     AreSoFew cycles sealed called (call ∷ found)
@@ -125,7 +125,7 @@ AreSoFew-more cycles sealed called line call found false off c few =
     let behind : called_behind called line ≡ called + 1 = ap (λ b. if b then called else called + 1) off in
     record { seals = omega (arith, few.seals, none, still); others = omega (arith, few.others, one, behind) }
 
--- so few calls stay within the bounds
+-- few calls stay within the bounds
 AreSoFew-behind : (cycles sealed called : ℕ) (line : List ℕ) (call : Called) (test : Bool) → is_seal_line line ≡ test →
     IsCounted cycles sealed called line call →
     sealed ≤ cycles → called ≤ 100000 → (sealed_behind sealed line ≤ cycles) × (called_behind called line ≤ 100000)
@@ -155,7 +155,7 @@ few_from requests seat cycles number sealed called (line ∷ lines) found s o h 
     subst (λ (xs : List Called). AreSoFew cycles sealed called xs) (sym two.4)
     (AreSoFew-more cycles sealed called line call rest (is_seal_line line) refl counted few)
 
--- so those of a script are
+-- so are those of a script
 pub AreFew-script : (requests : List Asked) (cycles : ℕ) (text : List ℕ) (found : List Called) → script_of requests cycles text ≡ Ok found →
     AreFew cycles found
 AreFew-script requests cycles text found h =

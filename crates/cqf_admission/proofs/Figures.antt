@@ -1,4 +1,4 @@
--- The figures of streams with one more, with one that has another row, and with one let go.
+-- The figures of streams with one more, with one replaced, and with one released.
 use Rattle.std.proofs.Common.{◌≡◌, ◌≢◌, ℕ, ◌+◌, ◌<◌, ◌^◌, ◌⊎◌, Bool, true, false, List, [], ◌∷◌, Option, Some, None, MatchOption}
 use Rattle.std.proofs.Common.{◌++◌, fold, get_or, max, set, length, refl, sym, ap, ◌∙◌, subst, subst₂}
 use Rattle.std.proofs.Common.{arith, inl, inr, length-append}
@@ -32,7 +32,7 @@ use Rattle.cqf_admission.specs.Holdings.{HaveFigures, IsEnded, IsFree, IsHeldAt,
 use Rattle.cqf_admission.specs.Holdings.{held_cost, held_most, held_most_at, held_part, held_under, released, with_row}
 use Rattle.cqf_admission.proofs.HeldNumbers.{numbers_pushed, numbers_released, numbers_stay, without}
 
--- what is withdrawn can be summed as before
+-- a withdrawn stream can be summed as before
 ended_summable : (links : ℕ) (row : Row) (cycle : Cycle) → IsSummable links row → IsSummable links (ended row cycle)
 ended_summable links row cycle is = record {
   countable = record { octets = is.countable.octets; inside = is.countable.inside; apart = is.countable.apart };
@@ -49,14 +49,14 @@ same_or_not a b = elim (cases_lt a b) [
   ]
 ]
 
--- and so are two names
+-- two names are the same, or not
 same_name : (a b : List ℕ) → (a ≡ b) ⊎ (a ≢ b)
 same_name a b = elim (cases_Bool (is_text a b)) [
   | inl t ↦ inl (is_text_same a b t)
   | inr f ↦ inr (λ e. both_ways (is_text a b) f (ap (λ (name : List ℕ). is_text name b) e ∙ is_text_itself b))
 ]
 
--- in a map by names no other name is at this one
+-- in a map by names no other name is equal to this one
 alike : (o : Ordering) → is_eq o ≡ true → o ≡ Equal
 alike Less e = absurd (both_ways false refl e)
 alike Equal e = refl
@@ -68,16 +68,16 @@ not_at name other differ = elim (cases_Bool (is_eq (slice_cmp nat_cmp name other
   | inr f ↦ f
 ]
 
--- so where what is under a name is another, what is under each other name stays
+-- if only the entry of one name changes, those of all other names stay
 pub others_stay : (before after : BTreeMap (List ℕ) ℕ) (name : List ℕ) (found : Option ℕ) →
     UpdatesBy (slice_cmp nat_cmp) (slice_cmp nat_cmp name) before after found → (other : List ℕ) → other ≢ name → held_under after other ≡ held_under before other
 others_stay before after name found by other differ = by.2 other (not_at name other differ)
 
--- what is held of a stream that is held
+-- the cost of a held stream
 part_held : (l cycle : ℕ) (s : Standing) → s.held ≡ true → held_part l cycle s ≡ cost_on s.row l cycle
 part_held l cycle s e = ap (λ (b : Bool). if b then cost_on s.row l cycle else 0) e
 
--- a figure of streams of which one is another
+-- a figure of streams after one is replaced
 module _ (rows : List Standing) (number : ℕ) (s : Standing) (inside : number < length rows) where
   here : (d : Standing) → get_or (set rows number s) number d ≡ s
   here d = get_or-set_same rows number s d inside
@@ -88,7 +88,7 @@ module _ (rows : List Standing) (number : ℕ) (s : Standing) (inside : number <
   as_many : length (set rows number s) ≡ length rows
   as_many = length-set rows number s
 
--- a member of a list of which one is another is the other, or a member of the list
+-- an element of a list in which one is replaced is the replacement, or an element of the list
 contains_from_set : {X : Type 0} (xs : List X) (k : ℕ) (y x : X) → Contains (set xs k y) x → (y ≡ x) ⊎ Contains xs x
 contains_from_set [] k y x among = inr among
 contains_from_set (z ∷ xs) zero y x among = elim (contains_cases y xs x among) [ inl here ↦ inl here | inr later ↦ inr (contains_later z xs x later) ]
@@ -97,7 +97,7 @@ contains_from_set (z ∷ xs) (suc k) y x among = elim (contains_cases z (set xs 
   | inr later ↦ elim (contains_from_set xs k y x later) [ inl same ↦ inl same | inr earlier ↦ inr (contains_later z xs x earlier) ]
 ]
 
--- the figures of none
+-- the figures of no streams
 pub figures_none : (under : List ℕ → Option ℕ) (held : List ℕ) (sums : Turned) (links : ℕ) → ((name : List ℕ) → under name ≡ None) → held ≡ [] →
     AreNone sums links → HaveFigures [] under held sums
 figures_none under held sums links nobody none are = record {
@@ -109,7 +109,7 @@ figures_none under held sums links nobody none are = record {
   found = λ number d is_held. absurd (omega (arith, is_held.inside));
 }
 
--- the figures are those of the same streams where each of them is the same
+-- the figures are those of the same streams if each of them is the same
 pub figures_same : (rows copy : List Standing) (before after : BTreeMap (List ℕ) ℕ) (held numbers : List ℕ) (sums more : Turned) →
     HaveFigures rows (held_under before) held sums → copy ≡ rows → after.entries ≡ before.entries → numbers ≡ held → more ≡ sums →
     HaveFigures copy (held_under after) numbers more
@@ -119,12 +119,12 @@ figures_same rows copy before after held numbers sums more h same entries listed
     (subst₂ (λ (ns : List ℕ) (ss : Turned). HaveFigures rows (held_under before) ns ss) (sym listed) (sym summed) h))
 
 module _ (rows : List Standing) (under : List ℕ → Option ℕ) (held : List ℕ) (sums : Turned) (h : HaveFigures rows under held sums) where
-  -- sums have room for what the streams have room for
+  -- there is room in the sums for what there is room for in the streams
   pub has_room : (row : Row) → ((l cycle : ℕ) → l < sums.links → held_cost rows l cycle + cost_on row l cycle < 2 ^ 64) →
       HasRoomFor sums row.tree.items row.pace (cost_of row.octets)
   has_room row fits l cycle low = omega (arith, fits l cycle low, h.costs l cycle low)
 
-  -- the most of them is what they cost at most, in each cycle and in those of a pace
+  -- the greatest sum is the most that the streams cost, in all cycles and in those of a pace
   pub most_told : (l : ℕ) → l < sums.links → most_of sums l ≡ held_most rows l
   most_told l low = most_of_costs sums l (held_cost rows l) (λ cycle below. h.costs l cycle low)
 
@@ -134,15 +134,15 @@ module _ (rows : List Standing) (under : List ℕ → Option ℕ) (held : List �
       (λ cycle. if is_turn pace depth cycle then held_cost rows l cycle ∷ [] else []) 80
       (λ cycle below. ap (λ (n : ℕ). if is_turn pace depth cycle then n ∷ [] else []) (h.costs l cycle low)))
 
-  -- what is under a name is the holder, or the name is free
+  -- the entry of a name is its holder, or the name is free
   pub holder_is : (name : List ℕ) (found : Option ℕ) → found ≡ under name → MatchOption found (IsFree rows name) (IsHolder rows name)
   holder_is name None e = λ number is_held d same. none-some number (e ∙ ap under (sym same) ∙ h.found number d is_held)
   holder_is name (Some number) e = h.leads name number (sym e)
 
-  -- ---- one more
+  -- ---- one more stream
   module _ (s : Standing) (after : List Standing) (is_held : s.held ≡ true) (free : IsFree rows s.row.name) (few : length rows + 1 < 2 ^ 32)
       (grown : after ≡ rows ++ s ∷ []) where
-    -- a stream that was there is there, as it was, and the new one behind them
+    -- the streams from before are unchanged, and the new one comes after them
     there : (number : ℕ) (d : Standing) → number < length rows → get_or after number d ≡ get_or rows number d
     there number d low = ap (λ (xs : List Standing). get_or xs number d) grown ∙ get_or_append_left rows (s ∷ []) d number low
 
@@ -173,7 +173,7 @@ module _ (rows : List Standing) (under : List ℕ → Option ℕ) (held : List �
       named = λ d. ap (λ (x : Standing). x.row.name) (last d);
     }
 
-    -- names lead as before, and its own name leads to it
+    -- names lead as before, and the new stream's name leads to it
     module _ (next : List ℕ → Option ℕ) (own : next s.row.name ≡ Some (length rows))
         (others : (name : List ℕ) → name ≢ s.row.name → next name ≡ under name) where
       leads_more : (name : List ℕ) (number : ℕ) → next name ≡ Some number → IsHolder after name number
@@ -184,7 +184,7 @@ module _ (rows : List Standing) (under : List ℕ → Option ℕ) (held : List �
         | inr differ ↦ holder_kept name number (h.leads name number (sym (others name differ) ∙ led))
       ]
 
-      -- and a held stream's name leads to it
+      -- the name of a held stream leads to it
       found_more : (number : ℕ) (d : Standing) → IsHeldAt after number → next (get_or after number d).row.name ≡ Some number
       found_more number d at = elim (cases_lt number (length rows)) [
         | inl low ↦ (
@@ -215,7 +215,7 @@ module _ (rows : List Standing) (under : List ℕ → Option ℕ) (held : List �
         found = found_more;
       }
 
-  -- ---- one of them
+  -- ---- one of the streams
   module _ (number : ℕ) (s : Standing) (inside : number < length rows) (is : s ≡ get_or rows number s) where
     was : (d : Standing) → get_or rows number d ≡ s
     was d = lists_agree rows number inside d ∙ sym is
@@ -225,7 +225,7 @@ module _ (rows : List Standing) (under : List ℕ → Option ℕ) (held : List �
         lists_agree (x ∷ xs) zero low d = refl
         lists_agree (x ∷ xs) (suc k) low d = lists_agree xs k (omega (arith, low)) d
 
-    -- where another stands in its place whose links are its own, each has its links yet
+    -- a replacement with the same links has its links among the domain's
     pub own_along : IsSummable sums.links s.row
     own_along = h.along s (subst (Contains rows) (sym is) (Contains-get_or rows number s inside))
 
@@ -237,7 +237,7 @@ module _ (rows : List Standing) (under : List ℕ → Option ℕ) (held : List �
 
     -- ---- withdrawn from a cycle on
     module _ (cycle : Cycle) where
-      -- each stream is held under the name that it had
+      -- each stream is held under the same name as before
       stays : (other : ℕ) (d : Standing) → ((get_or (set rows number (with_row s (ended s.row cycle))) other d).held ≡ (get_or rows other d).held)
           × ((get_or (set rows number (with_row s (ended s.row cycle))) other d).row.name ≡ (get_or rows other d).row.name)
       stays other d = elim (same_or_not other number) [
@@ -284,23 +284,23 @@ module _ (rows : List Standing) (under : List ℕ → Option ℕ) (held : List �
     figures_ended row ends =
         subst (λ (r : Row). HaveFigures (set rows number (with_row s r)) under held sums) (sym ends.is) (figures_from ends.cycle)
 
-    -- ---- one let go
+    -- ---- one stream released
     module _ (is_held : s.held ≡ true) where
       held_here : IsHeldAt rows number
       held_here = record { inside = inside; held = λ d. ap (λ (x : Standing). x.held) (was d) ∙ is_held }
 
-      -- its name leads to it
+      -- the stream's name leads to it
       led_here : under s.row.name ≡ Some number
       led_here = sym (ap (λ (x : Standing). under x.row.name) (was s)) ∙ h.found number s held_here
 
-      -- its part is in the sums
+      -- the stream's part is in the sums
       pub goes_within : HasIn sums s.row.tree.items s.row.pace (cost_of s.row.octets)
       goes_within l cycle low =
           let total = sum_by-set (held_part l cycle) rows number (released s) s inside in
           let part : held_part l cycle (get_or rows number s) ≡ cost_on s.row l cycle = ap (held_part l cycle) (was s) ∙ part_held l cycle s is_held in
           omega (arith, total, part, h.costs l cycle low)
 
-      -- a stream that is held yet is another
+      -- a stream that is still held is another one
       still : (other : ℕ) → IsHeldAt (set rows number (released s)) other → (other ≢ number) × IsHeldAt rows other
       still other at =
           let differ : other ≢ number = λ same.

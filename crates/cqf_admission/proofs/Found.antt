@@ -1,4 +1,4 @@
--- The stream that is held under a name is the row of the name.
+-- The stream held under a name is the row with the name.
 use Rattle.std.proofs.Common.{◌≡◌, ℕ, ◌<◌, ◌⊎◌, false, true, List, Option, Some, None, Err, get_or, length, refl, sym, ap, ◌∙◌, arith, inl, inr}
 use Rattle.std.specs.Prelude.{Contains, is_some, slice_get}
 use Rattle.std.proofs.lemmas.List.{get_or-map, length-map}
@@ -23,7 +23,7 @@ use Rattle.cqf_admission.specs.Weighing.{FindsOpen}
 use Rattle.cqf_admission.proofs.GrantLemmas.{ended_reply, not_a_name}
 use Rattle.cqf_admission.proofs.TableLemmas.{the_row_named}
 
--- the stream of a number, and that it's the one of a name that is held
+-- the stream with a number is the held one with the name
 pub record IsFound (d : Domain) (entries : List Recorded) (stands : List Standing) (name : List ℕ) (number : ℕ) : Type 0 where
   pub row : Row
   pub at : slice_get (streams_of d entries) number ≡ Some row
@@ -44,7 +44,7 @@ module _ (d : Domain) (entries : List Recorded) (stands : List Standing) (slots 
   held_rows : AreHeld d (held_in d entries (seals entries)) (next_number d entries) (seals entries)
   held_rows = sound d entries (held_in d entries (seals entries)) (next_number d entries) r.running.legal (record { held = refl; number = refl })
 
-  -- a stream as it stands at its number
+  -- a stream, with whether it is held, at the index of its number
   stands_at : (number : ℕ) (row : Row) → slice_get (streams_of d entries) number ≡ Some row → (s : Standing) → get_or stands number s ≡ as_stand row
   stands_at number row at s =
       ap (λ (ss : List Standing). get_or ss number s) r.are_streams
@@ -72,7 +72,7 @@ module _ (d : Domain) (entries : List Recorded) (stands : List Standing) (slots 
         number_is = numbered d entries r.running.legal number row one.1;
       }
 
-  -- where none is held under a name, or it is no name, there is no row of it
+  -- if no stream is held under a name, or it is no name, no row has it
   pub none_found : (name : List ℕ) → (is_name name ≡ false) ⊎ IsFree stands name → row_named (held_in d entries (seals entries)) name ≡ None
   none_found name free = elim free [
     | inl bad ↦ not_a_name (held_in d entries (seals entries)) name held_rows.named bad
@@ -92,7 +92,7 @@ module _ (d : Domain) (entries : List Recorded) (stands : List Standing) (slots 
             held = λ s. ap (λ (x : Standing). x.held) (is s) ∙ there.1;
           }) (as_stand row) (ap (λ (x : Standing). x.row.name) (is (as_stand row)) ∙ same))
 
-  -- why a stream can't be withdrawn is the answer that is due
+  -- the reason why a stream can't be withdrawn is the answer that is due
   pub not_open : (name : List ℕ) (refused : Refused) → FindsOpen stands name (Err refused) → reply_to d entries (Withdraws name) ≡ RefusedFor refused
   not_open name refused finds = elim finds [
     | inl none ↦ ap (withdraw_reply (seals entries)) (none_found name none.1) ∙ ap RefusedFor (sym none.0)

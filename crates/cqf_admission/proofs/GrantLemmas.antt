@@ -31,14 +31,14 @@ use Rattle.cqf_lists.proofs.Least.{or_else_none}
 use Rattle.std.proofs.lemmas.List.Elements.{All-map}
 use Rattle.cqf_admission.specs.Branches.{tree_refusal}
 
--- why a request of good form is refused: for what is held
+-- why a request of good form is refused: because of what is held
 abbrev pub state_refusal : Domain → List Row → Asked → Option Refused
 state_refusal d rows asked =
     or_else (refused_if (list_any (λ (row : Row). is_text row.name asked.name) rows) NameHeld)
     (or_else (refused_if (nat_le (streams_within d.limits) (length rows)) TooManyStreams)
     (short_refusal d rows (cost_of asked.octets) (pace_of asked) (tree_of d asked.paths)))
 
--- the first of some refusals, in two groups: one refusal, or one more in the first group
+-- the first of several refusals, in two groups: one refusal, or one more in the first group
 or_else_two : (a b rest : Option Refused) → or_else a (or_else b rest) ≡ or_else (or_else a b) rest
 or_else_two (Some x) b rest = refl
 or_else_two None b rest = refl
@@ -46,7 +46,7 @@ or_else_two None b rest = refl
 or_else_more : (a b rest behind : Option Refused) → behind ≡ or_else b rest → or_else a behind ≡ or_else (or_else a b) rest
 or_else_more a b rest behind same = ap (or_else a) same ∙ or_else_two a b rest
 
--- a request is refused for its form, or else for what is held
+-- a request is refused for its form, or else because of what is held
 pub refusal_in_two : (d : Domain) (rows : List Row) (asked : Asked) → refusal_of d rows asked ≡ or_else (form_refusal d asked) (state_refusal d rows asked)
 refusal_in_two d rows asked =
     let name = refused_if (not (is_name asked.name)) BadName in
@@ -69,7 +69,7 @@ refusal_in_two d rows asked =
     or_else_more name (or_else octets (or_else pace (tree_refusal d asked.paths))) rest
     (or_else octets (or_else pace (or_else unknown (or_else broken (or_else looping (or_else stray (or_else hops rest))))))) o
 
--- a request of good form asks for a good pace
+-- a request of good form has a good pace
 pub form_paced : (d : Domain) (asked : Asked) → form_refusal d asked ≡ None → is_pace asked.every asked.phase ≡ true
 form_paced d asked none =
     let in_range = nat_le 64 asked.octets && nat_le asked.octets most_reserved in
@@ -79,7 +79,7 @@ form_paced d asked none =
     let later = or_else_none (refused_if (not in_range) BadOctets) (or_else (refused_if (not paced) BadPace) (tree_refusal d asked.paths)) behind.1 in
     not-false paced (refused_if_none (not paced) BadPace (or_else_none (refused_if (not paced) BadPace) (tree_refusal d asked.paths) later.1).0)
 
--- and for octets within the limits
+-- and its octets are within the limits
 pub form_octets : (d : Domain) (asked : Asked) → form_refusal d asked ≡ None → asked.octets ≤ most_reserved
 form_octets d asked none =
     let in_range = nat_le 64 asked.octets && nat_le asked.octets most_reserved in
@@ -90,7 +90,7 @@ form_octets d asked none =
     let range = and_parts (nat_le 64 asked.octets) (nat_le asked.octets most_reserved) (not-false in_range (refused_if_none (not in_range) BadOctets octets.0)) in
     leb-true asked.octets most_reserved range.1
 
--- with a good name and a good pace, and octets within the limits, the branches decide on the form
+-- with a good name, a good pace, and octets within the limits, the branches decide on the form
 pub form_by_tree : (d : Domain) (asked : Asked) → is_name asked.name ≡ true → is_pace asked.every asked.phase ≡ true → 64 ≤ asked.octets → asked.octets ≤ most_reserved →
     form_refusal d asked ≡ tree_refusal d asked.paths
 form_by_tree d asked name paced least_octets most_octets =
@@ -103,16 +103,16 @@ form_by_tree d asked name paced least_octets most_octets =
     (or_else (refused_if (not (is_pace asked.every asked.phase)) BadPace) (tree_refusal d asked.paths))) in_range
     ∙ ap (λ (b : Bool). or_else (refused_if (not b) BadPace) (tree_refusal d asked.paths)) paced
 
--- where the form is bad, that decides
+-- if the form is bad, its refusal decides
 pub refusal_form : (d : Domain) (rows : List Row) (asked : Asked) (refused : Refused) → form_refusal d asked ≡ Some refused →
     refusal_of d rows asked ≡ Some refused
 refusal_form d rows asked refused form = refusal_in_two d rows asked ∙ ap (λ (o : Option Refused). or_else o (state_refusal d rows asked)) form
 
--- where the form is right, the refusals behind it decide
+-- if the form is good, the later refusals decide
 pub refusal_later : (d : Domain) (rows : List Row) (asked : Asked) → form_refusal d asked ≡ None → refusal_of d rows asked ≡ state_refusal d rows asked
 refusal_later d rows asked form = refusal_in_two d rows asked ∙ ap (λ (o : Option Refused). or_else o (state_refusal d rows asked)) form
 
--- the last reason, where the name is free and there are not too many streams
+-- the last reason, if the name is free and there are not too many streams
 pub refusal_last : (d : Domain) (rows : List Row) (asked : Asked) → list_any (λ (row : Row). is_text row.name asked.name) rows ≡ false →
     length rows < streams_within d.limits → state_refusal d rows asked ≡ short_refusal d rows (cost_of asked.octets) (pace_of asked) (tree_of d asked.paths)
 refusal_last d rows asked free few =
@@ -120,7 +120,7 @@ refusal_last d rows asked free few =
     ap (λ (b : Bool). or_else (refused_if b NameHeld) (or_else (refused_if (nat_le (streams_within d.limits) (length rows)) TooManyStreams) last)) free
     ∙ ap (λ (b : Bool). or_else (refused_if b TooManyStreams) last) (lt-leb (streams_within d.limits) (length rows) few)
 
--- a row by its name, its pace and its tree
+-- a row, given its name, its pace and its tree
 pub row_granted : (d : Domain) (number : ℕ) (effect : Cycle) (asked : Asked) (name : List ℕ) (pace : Pace) (tree : List Hop) → name ≡ asked.name →
     pace ≡ pace_of asked → tree ≡ tree_of d asked.paths →
     (let row : Row = record {
@@ -144,7 +144,7 @@ row_granted d number effect asked name pace tree named paced linked =
       withdrawn = None;
     }
 
--- its links are the domain's, each once, and so what it costs can be added to sums by link
+-- its links are the domain's, each once, so its cost can be added to sums by link
 pub granted_countable : (d : Domain) (row : Row) (asked : Asked) (number effect : ℕ) → row ≡ granted_row d number effect asked → asked.octets ≤ most_reserved →
     IsCountable (length d.links) row
 granted_countable d row asked number effect is few = subst (IsCountable (length d.links)) (sym is) (record {
@@ -153,9 +153,9 @@ granted_countable d row asked number effect is few = subst (IsCountable (length 
   apart = hops_apart d asked.paths;
 })
 
--- ---- the stream of a name
+-- ---- the stream with a name
 
--- what is no name names none of the rows, which have names
+-- a text that is no name is the name of no row, as rows have names
 pub not_a_name : (rows : List Row) (text : List ℕ) → HaveNames rows → is_name text ≡ false → row_named rows text ≡ None
 not_a_name [] text names h = refl
 not_a_name (x ∷ rows) text names h =
@@ -165,16 +165,16 @@ not_a_name (x ∷ rows) text names h =
       | inr f ↦ ap (λ (b : Bool). cond b (Some x) (row_named rows text)) f ∙ rest
     ]
   where
-    -- a row among the others stands one place later behind one row more
+    -- with one more row before, a row's index is one higher
     there : (x : Row) (rows : List Row) (row : Row) (k : Contains rows row) → get_or (x ∷ rows) (k.0 + 1) row ≡ row
     there x rows row k = ap (λ (n : ℕ). get_or (x ∷ rows) n row) (add-one k.0) ∙ k.2
 
--- a stream that was withdrawn before isn't withdrawn again
+-- a withdrawn stream isn't withdrawn again
 pub ended_reply : (effect number : ℕ) (end : Option Cycle) → is_some end ≡ true → withdraw_row effect number end ≡ RefusedFor AlreadyWithdrawn
 ended_reply effect number None e = absurd cc
 ended_reply effect number (Some before) e = refl
 
--- what isn't there is none
+-- an option that isn't `Some` is `None`
 pub none_from : (end : Option Cycle) → is_some end ≡ false → end ≡ None
 none_from None e = refl
 none_from (Some x) e = absurd cc

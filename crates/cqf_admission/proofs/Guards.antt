@@ -1,16 +1,16 @@
--- The guard time of a link, by the link.
+-- The guard band of a link.
 use Rattle.std.proofs.Common.{◌≡◌, ◌∙◌, ◌<◌, ℕ, Option, Some, ap, arith, slice_get, sym}
 use Rattle.std.specs.Option.{option_map_or}
 use Rattle.cqf_model.specs.declared.topology.Link.{Link}
 use Rattle.cqf_model.specs.Domain.{Domain, IsAccepted, guard_by, guard_of}
 
--- what is told of a link is its guard time
+-- the value is the link's guard band
 pub own_guard : (d : Domain) (l : ℕ) (link : Link) (guard own : ℕ) → slice_get d.links l ≡ Some link → guard ≡ d.guard → own ≡ guard_by guard link →
     own ≡ guard_of d l
 own_guard d l link guard own found is told =
     told ∙ ap (λ (g : ℕ). guard_by g link) is ∙ ap (λ (o : Option Link). option_map_or (guard_by d.guard) o d.guard) (sym found)
 
--- it is some time, within the cycle
+-- it is longer than 0 and shorter than the cycle
 pub guard_in_cycle : (d : Domain) (l : ℕ) (link : Link) (guard own : ℕ) → IsAccepted d → slice_get d.links l ≡ Some link → guard ≡ d.guard →
     own ≡ guard_by guard link → (0 < own) × (own < d.cycle_time)
 guard_in_cycle d l link guard own accepted found is told =

@@ -1,4 +1,4 @@
--- The numbers of the streams that are held.
+-- The numbers of the held streams.
 use Rattle.std.proofs.Common.{◌≡◌, ◌≢◌, ◌∙◌, ◌+◌, ◌<◌, ◌==◌, ℕ, Bool, true, false, cond, List, [], ◌∷◌, ◌++◌, map, filter, get_or, set, length}
 use Rattle.std.proofs.Common.{refl, ap, sym, subst, arith, inl, inr}
 use Rattle.std.specs.Prelude.{AllPairs, Contains, if◌then◌else◌, not, remove, suc, zero}
@@ -9,7 +9,7 @@ use Rattle.cqf_lists.proofs.Members.{contains_cases, contains_here, contains_lat
 use Rattle.cqf_lists.proofs.Pairs.{pairs_cons, pairs_head, pairs_none, pairs_tail}
 use Rattle.cqf_admission.specs.Holdings.{IsHeldAt, Standing, held_count, held_one, numbers_from, released}
 
--- a number in front of others, where its stream is held
+-- a number before others, if its stream is held
 abbrev in_front : Bool → ℕ → List ℕ → List ℕ
 in_front b n ns = if b then n ∷ ns else ns
 
@@ -27,7 +27,7 @@ same_place from k = omega arith
 first_place : (from : ℕ) → from ≡ from + zero
 first_place from = omega arith
 
--- with one more that is held, its number comes behind the others
+-- one more held stream adds its number after the others
 pushed_from : (from : ℕ) (rows : List Standing) (s : Standing) → s.held ≡ true →
     numbers_from from (rows ++ s ∷ []) ≡ numbers_from from rows ++ (from + length rows) ∷ []
 pushed_from from [] s e = ap (λ (b : Bool). in_front b from []) e ∙ ap (λ (n : ℕ). n ∷ []) (first_place from)
@@ -41,7 +41,7 @@ numbers_pushed rows after s e grown =
     let same : 0 + length rows ≡ length rows = omega arith in
     ap (numbers_from 0) grown ∙ pushed_from 0 rows s e ∙ ap (λ (n : ℕ). numbers_from 0 rows ++ n ∷ []) same
 
--- where one stands in another's place that is held as that was, they stay
+-- if one stream replaces another that is held as it is, the numbers stay
 pub numbers_stay : (from : ℕ) (rows : List Standing) (k : ℕ) (s : Standing) → k < length rows → s.held ≡ (get_or rows k s).held →
     numbers_from from (set rows k s) ≡ numbers_from from rows
 numbers_stay from [] k s low e = absurd (omega (arith, low))
@@ -63,7 +63,7 @@ without_smaller from number (x ∷ rows) less =
     front_without x.held from number (numbers_from (from + 1) rows) (λ e. omega (arith, e, less))
     ∙ ap (in_front x.held from) (without_smaller (from + 1) number rows (omega (arith, less)))
 
--- where one is let go of, they are without its number
+-- if a stream is released, its number is missing
 released_from : (from : ℕ) (rows : List Standing) (k number : ℕ) (s : Standing) → k < length rows → number ≡ from + k →
     numbers_from from (set rows k (released s)) ≡ without number (numbers_from from rows)
 released_from from [] k number s low e = absurd (omega (arith, low))
@@ -78,7 +78,7 @@ pub numbers_released : (rows : List Standing) (number : ℕ) (s : Standing) → 
     numbers_from 0 (set rows number (released s)) ≡ without number (numbers_from 0 rows)
 numbers_released rows number s low = released_from 0 rows number number s low (omega arith)
 
--- each is that of one that is held
+-- each number is that of a held stream
 held_later : (from : ℕ) (x : Standing) (rows : List Standing) (number : ℕ) → (k : ℕ) × (number ≡ from + 1 + k) × IsHeldAt rows k →
     (k : ℕ) × (number ≡ from + k) × IsHeldAt (x ∷ rows) k
 held_later from x rows number w = (suc w.0, omega (arith, w.1), record { inside = omega (arith, w.2.inside); held = λ d. w.2.held d })
@@ -103,7 +103,7 @@ held_of_number rows number among =
     let same : w.0 ≡ number = omega (arith, w.1) in
     subst (IsHeldAt rows) same w.2
 
--- and each that is held has its number there
+-- each held stream has its number among them
 front_later : (b : Bool) (n : ℕ) (ns : List ℕ) (number : ℕ) → Contains ns number → Contains (in_front b n ns) number
 front_later true n ns number later = contains_later n ns number later
 front_later false n ns number later = later
@@ -122,7 +122,7 @@ among_from from (x ∷ rows) (suc k) number e held =
 pub number_of_held : (rows : List Standing) (number : ℕ) → IsHeldAt rows number → Contains (numbers_from 0 rows) number
 number_of_held rows number held = among_from 0 rows number number (omega arith) held
 
--- they ascend
+-- the numbers ascend
 front_ascends : (b : Bool) (n : ℕ) (ns : List ℕ) → ((number : ℕ) → Contains ns number → n < number) → AllPairs (λ (a b : ℕ). a < b) ns →
     AllPairs (λ (a b : ℕ). a < b) (in_front b n ns)
 front_ascends true n ns below pairs = pairs_cons (λ (a b : ℕ). a < b) n ns below pairs
@@ -134,7 +134,7 @@ numbers_ascend from (x ∷ rows) =
     front_ascends x.held from (numbers_from (from + 1) rows) (λ number among. omega (arith, (held_from (from + 1) rows number among).1))
     (numbers_ascend (from + 1) rows)
 
--- they are as many as are held
+-- there are as many numbers as held streams
 front_longer : (b : Bool) (n : ℕ) (ns : List ℕ) → length (in_front b n ns) ≡ (if b then 1 else 0) + length ns
 front_longer true n ns = omega arith
 front_longer false n ns = omega arith
@@ -145,7 +145,7 @@ numbers_count from (x ∷ rows) =
     front_longer x.held from (numbers_from (from + 1) rows) ∙ ap (λ (n : ℕ). held_one x + n) (numbers_count (from + 1) rows)
     ∙ sym (sum_by-cons held_one x rows)
 
--- the streams at these numbers are those that are held
+-- the streams with these numbers are the held ones
 front_mapped : {X : Type 0} (f : ℕ → X) (b : Bool) (n : ℕ) (ns : List ℕ) (x : X) (xs : List X) → f n ≡ x → map f ns ≡ xs →
     map f (in_front b n ns) ≡ cond b (x ∷ xs) xs
 front_mapped f true n ns x xs first rest = λ i. first i ∷ rest i
@@ -160,7 +160,7 @@ stands_from all from (x ∷ rows) d each =
     (ap (λ (n : ℕ). get_or all n d) (first_place from) ∙ each zero (omega arith))
     (stands_from all (from + 1) rows d (λ k low. ap (λ (n : ℕ). get_or all n d) (same_place from k) ∙ each (suc k) (omega (arith, low))))
 
--- so one that is read at such a number is the one in that place among them
+-- so the stream at such a number is the one at this index among the held ones
 pub held_in_place : (rows : List Standing) (place number : ℕ) (s : Standing) → place < length (numbers_from 0 rows) →
     number ≡ get_or (numbers_from 0 rows) place number → s ≡ get_or rows number s → s ≡ get_or (filter (λ (t : Standing). t.held) rows) place s
 held_in_place rows place number s low is there =
@@ -169,7 +169,7 @@ held_in_place rows place number s low is there =
     ∙ sym (get_or-map (λ (n : ℕ). get_or rows n s) (numbers_from 0 rows) place number s low)
     ∙ ap (λ (xs : List Standing). get_or xs place s) (stands_from rows 0 rows s (λ k inside. ap (λ (n : ℕ). get_or rows n s) (plain k)))
 
--- which are as many
+-- there are equally many
 front_many : {X : Type 0} (b : Bool) (n : ℕ) (ns : List ℕ) (x : X) (xs : List X) → length xs ≡ length ns → length (cond b (x ∷ xs) xs) ≡ length (in_front b n ns)
 front_many true n ns x xs e = ap suc e
 front_many false n ns x xs e = e
@@ -179,14 +179,14 @@ held_many from [] = refl
 held_many from (x ∷ rows) =
     front_many x.held from (numbers_from (from + 1) rows) x (filter (λ (s : Standing). s.held) rows) (held_many (from + 1) rows)
 
--- numbers among which one isn't are without it
+-- removing a number that isn't there changes nothing
 without_absent : (numbers : List ℕ) (number : ℕ) → ((other : ℕ) → Contains numbers other → other ≢ number) → without number numbers ≡ numbers
 without_absent [] number absent = refl
 without_absent (x ∷ numbers) number absent =
     ap (λ (b : Bool). cond (not b) (x ∷ without number numbers) (without number numbers)) (ne_eqb x number (absent x (contains_here x numbers)))
     ∙ ap (λ (ns : List ℕ). x ∷ ns) (without_absent numbers number (λ other among. absent other (contains_later x numbers other among)))
 
--- ascending numbers, of which one is removed, are without it
+-- removing one of some ascending numbers leaves those without it
 pub removed_is_without : (numbers : List ℕ) (place number : ℕ) → AllPairs (λ (a b : ℕ). a < b) numbers → place < length numbers →
     get_or numbers place 0 ≡ number → remove numbers place ≡ without number numbers
 removed_is_without [] place number pairs low is = absurd (omega (arith, low))

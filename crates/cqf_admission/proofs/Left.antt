@@ -1,4 +1,4 @@
--- What links have left beside the held streams.
+-- What links have left besides the held streams.
 use Rattle.std.proofs.Common.{◌≡◌, ◌≢◌, ℕ, ◌+◌, ◌-◌, ◌<◌, ◌≤◌, ◌∙◌, Bool, cond, List, Option, None, Some, [], ◌∷◌, ap, arith, drop, find, fold, get_or, length, max, nat_lt, subst, sym}
 use Rattle.std.specs.Prelude.{AllPairs, Contains, if◌then◌else◌}
 use Rattle.std.proofs.lemmas.Bool.{le-ltb, lt-ltb}
@@ -21,19 +21,19 @@ use Rattle.cqf_admission.specs.Holdings.{Standing, held_cost, held_most, held_mo
 use Rattle.cqf_admission.specs.Weighing.{left_at, left_by, short_among}
 use Rattle.cqf_admission.proofs.Most.{most_within}
 
--- the hop that is read where there is none
+-- the default hop for an index without one
 abbrev pub no_hop : Hop
 no_hop = record { link = 0; depth = 0; from = None }
 
--- what is the greatest of some costs is within what is a bound of it
+-- the greatest of some costs is within a bound of these costs
 pub fits_in : (taken most greatest bound : ℕ) → taken ≡ greatest → most ≡ bound → greatest ≤ bound → taken ≤ most
 fits_in taken most greatest bound is are within = omega (arith, is, are, within)
 
--- and nothing more fits
+-- nothing more fits
 pub none_over : (taken most : ℕ) → taken ≤ most → most < taken → ⊥
 none_over taken most within over = omega (arith, within, over)
 
--- what is within a bound in each cycle is so at most, and in the cycles of a pace
+-- costs within a bound in each cycle are within it at most, and in the cycles of a pace
 module _ (stands : List Standing) (l bound : ℕ) (within : (cycle : ℕ) → held_cost stands l cycle ≤ bound) where
   one_within : (cycle x : ℕ) → Contains (held_cost stands l cycle ∷ []) x → x ≤ bound
   one_within cycle x among = subst (λ (n : ℕ). n ≤ bound) (contains_one (held_cost stands l cycle) x among) (within cycle)
@@ -55,7 +55,7 @@ module _ (d : Domain) (stands : List Standing) (cost : ℕ) (pace : Pace) (tree 
       (λ cycle. if uses tree pace hop.link cycle then held_cost stands hop.link cycle ∷ [] else []) most_every
       (λ cycle below. ap (λ (b : Bool). if b then held_cost stands hop.link cycle ∷ [] else []) (sym (uses_of_hop tree pace hop cycle apart there))))
 
-  -- of the hops from one on, where its link is short, and where it isn't
+  -- for the hops from one on: if its link is short, and if it isn't
   abbrev short_from : ℕ → Option Refused
   short_from place = short_among d stands cost pace tree (links_in (drop place tree))
 

@@ -1,4 +1,4 @@
--- Streams that are let go of, one after the other.
+-- Streams that are released one after the other.
 use Rattle.std.proofs.Common.{◌≡◌, ◌≢◌, ℕ, ◌<◌, Bool, true, false, List, [], ◌∷◌, ◌++◌, get_or, set, length, refl, sym}
 use Rattle.std.proofs.Common.{ap, ◌∙◌, subst, arith, inl, inr, append_assoc}
 use Rattle.std.specs.Prelude.{AllPairs, Contains, if◌then◌else◌, ◌==◌, ◌||◌}
@@ -12,13 +12,13 @@ use Rattle.cqf_admission.specs.Holdings.{Standing}
 use Rattle.cqf_admission.specs.Holdings.{AreLetGo, IsHeldAt, let_go_if, released}
 use Rattle.cqf_admission.proofs.Figures.{same_or_not}
 
--- of the listed numbers the last were taken, and theirs are let go of
+-- the last of the listed numbers were taken, and their streams are released
 pub record AreTaken (numbers : List ℕ) (rows : List Standing) (left : List ℕ) (now : List Standing) : Type 0 where
   pub taken : List ℕ
   pub is : numbers ≡ left ++ taken
   pub gone : AreLetGo taken rows now
 
--- at first none was
+-- at the start none was taken
 pub none_taken : (numbers : List ℕ) (rows : List Standing) → AreTaken numbers rows numbers rows
 none_taken numbers rows = record {
   taken = [];
@@ -32,7 +32,7 @@ none_taken numbers rows = record {
 
 module _ (numbers : List ℕ) (rows : List Standing) (left : List ℕ) (now : List Standing) (t : AreTaken numbers rows left now) where
   module _ (number : ℕ) (less : List ℕ) (last : left ≡ less ++ number ∷ []) where
-    -- the list, with the next one in its midst
+    -- the list, with the next number in the middle
     midst : numbers ≡ less ++ (number ∷ t.taken)
     midst = t.is ∙ ap (λ (xs : List ℕ). xs ++ t.taken) last ∙ append_assoc less (number ∷ []) t.taken
 
@@ -50,7 +50,7 @@ module _ (numbers : List ℕ) (rows : List Standing) (left : List ℕ) (now : Li
       | inr none ↦ none
     ]
 
-    -- so it is held yet
+    -- so its stream is still held
     pub held_yet : ((k : ℕ) → Contains numbers k → IsHeldAt rows k) → AllPairs (λ (a b : ℕ). a ≢ b) numbers → IsHeldAt now number
     held_yet held once =
         let first = held number listed in
@@ -61,7 +61,7 @@ module _ (numbers : List ℕ) (rows : List Standing) (left : List ℕ) (now : Li
               ∙ ap (λ (b : Bool). if b then released (get_or rows number d) else get_or rows number d) (not_taken once)) ∙ first.held d;
         }
 
-    -- and with it let go of, one more is taken
+    -- releasing it takes one more number
     pub one_taken : (after : List Standing) → number < length now → ((d : Standing) → after ≡ set now number (released (get_or now number d))) →
         AreTaken numbers rows less after
     one_taken after inside set_is = record {
@@ -106,6 +106,6 @@ module _ (numbers : List ℕ) (rows : List Standing) (left : List ℕ) (now : Li
             ∙ sym (ap (λ (b : Bool). if b || list_any (λ other. other == k) t.taken then released (get_or rows k d) else get_or rows k d)
             (ne_eqb number k (λ e. differ (sym e))))
 
--- at the end all were
+-- at the end all were taken
 pub all_taken : (numbers : List ℕ) (rows now : List Standing) → AreTaken numbers rows [] now → AreLetGo numbers rows now
 all_taken numbers rows now t = subst (λ (xs : List ℕ). AreLetGo xs rows now) (sym t.is) t.gone

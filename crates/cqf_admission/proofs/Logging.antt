@@ -1,4 +1,4 @@
--- A log with an entry more, and what is known of requests with one form more.
+-- A log with one more entry, and requests with one more known form.
 use Rattle.std.proofs.Common.{◌≡◌, ℕ, ◌<◌, List, [], ◌∷◌, ◌++◌, get_or, set, map, length, sym, ap, ◌∙◌, subst, arith, inl, inr}
 use Rattle.std.proofs.lemmas.List.{get_or-map, get_or-set_same, get_or-set_other, get_or_default, length-set, map-append}
 use Rattle.std.proofs.lemmas.List.Elements.{All-push}
@@ -16,20 +16,20 @@ use Rattle.cqf_admission.specs.Ledger.{recorded_in}
 use Rattle.cqf_admission.specs.Running.{AreForms, AreThere}
 use Rattle.cqf_admission.proofs.Figures.{same_or_not}
 
--- the entries behind one that is logged
+-- the entries with a new one that was logged
 pub logged_behind : (requests : List Asked) (script : List ℕ) (old reserved new : List Logged) (e : Logged) → reserved ≡ old → new ≡ reserved ++ e ∷ [] →
     map (recorded_in requests script) new ≡ with_entry (map (recorded_in requests script) old) e.seat (act_in requests script e.what) e.reply
 logged_behind requests script old reserved new e same is =
     ap (map (recorded_in requests script)) (is ∙ ap (λ (es : List Logged). es ++ e ∷ []) same) ∙ map-append (recorded_in requests script) old (e ∷ [])
 
--- each is there yet
+-- what each refers to still exists
 pub there_behind : (requests : List Asked) (script : List ℕ) (old reserved new : List Logged) (e : Logged) → reserved ≡ old → new ≡ reserved ++ e ∷ [] →
     AreThere requests script old → StandsIn requests script e.what → AreThere requests script new
 there_behind requests script old reserved new e same is there one =
     subst (AreThere requests script) (sym (is ∙ ap (λ (es : List Logged). es ++ e ∷ []) same))
     (All-push (λ (logged : Logged). StandsIn requests script logged.what) old e there one)
 
--- the request at a place as it is asked for
+-- the request at an index, as the definitions have it
 pub asked_at : (requests : List PacedRequest) (place : ℕ) (request : PacedRequest) → place < length requests → request ≡ get_or requests place request →
     request_at (map asked_paced requests) place ≡ asked_paced request
 asked_at requests place request low is =
@@ -37,7 +37,7 @@ asked_at requests place request low is =
 
 -- ---- forms
 
--- the form at a place is of the request there
+-- the form at an index is that of the request there
 pub form_at : (d : Domain) (requests : List PacedRequest) (forms : List RequestForm) (place : ℕ) (request : PacedRequest) (form : RequestForm) → AreForms d requests forms →
     place < length requests → request ≡ get_or requests place request → form ≡ get_or forms place form →
     IsFormOf d (asked_paced request) form
@@ -47,7 +47,7 @@ form_at d requests forms place request form known low is at =
     (subst (IsFormOf d (asked_paced (get_or requests place request))) (get_or_default forms place Unseen form inside ∙ sym at)
     (known.each place request low))
 
--- and with another one of it they are of the requests
+-- with another form of this request they are still forms of the requests
 pub forms_set : (d : Domain) (requests : List PacedRequest) (forms : List RequestForm) (place : ℕ) (request : PacedRequest) (form : RequestForm) → AreForms d requests forms →
     place < length requests → request ≡ get_or requests place request → IsFormOf d (asked_paced request) form →
     AreForms d requests (set forms place form)
@@ -65,11 +65,11 @@ forms_set d requests forms place request form known low is of = record {
   ];
 }
 
--- what was put at a place stands there
+-- what was put at an index is there
 pub put_there : {X : Type 0} (xs : List X) (place : ℕ) (x y : X) → place < length xs → y ≡ get_or (set xs place x) place y → y ≡ x
 put_there xs place x y low is = is ∙ get_or-set_same xs place x y low
 
--- some request, where there is one
+-- some request, if there is one
 pub some_request : (requests : List PacedRequest) (place : ℕ) → place < length requests → PacedRequest
 some_request [] place low = absurd (omega (arith, low))
 some_request (request ∷ requests) place low = request

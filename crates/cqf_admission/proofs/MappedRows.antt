@@ -1,19 +1,19 @@
--- Rows that stand each in something else, as in what several tables share.
+-- Rows, each inside another value, such as one that several tables share.
 use Rattle.std.proofs.Common.{◌≡◌, ◌∙◌, ℕ, ◌-◌, ◌++◌, List, [], ◌∷◌, length, map, get_or, take, drop, refl, ap, sym, arith}
 use Rattle.std.specs.Prelude.{suc, zero}
 use Rattle.std.proofs.lemmas.List.{drop-map, length-drop, map-append, take_all}
 
 module _ {X Y : Type 0} (f : X → Y) where
-  -- what stands at a place
+  -- the element at an index
   pub mapped_at : (xs : List X) (place : ℕ) (x : X) → x ≡ get_or xs place x → f x ≡ get_or (map f xs) place (f x)
   mapped_at [] place x is = refl
   mapped_at (y ∷ xs) zero x is = ap f is
   mapped_at (y ∷ xs) (suc place) x is = mapped_at xs place x is
 
-  -- one more behind the others
+  -- one more element at the end
   pub mapped_more : (xs after : List X) (x : X) (y : Y) → after ≡ xs ++ x ∷ [] → f x ≡ y → map f after ≡ map f xs ++ y ∷ []
   mapped_more xs after x y grown is = ap (map f) grown ∙ map-append f xs (x ∷ []) ∙ ap (λ (z : Y). map f xs ++ z ∷ []) is
 
-  -- the last, from a place on
+  -- the last elements, from an index on
   pub mapped_last : (xs : List X) (from : ℕ) → map f (take (length xs - from) (drop from xs)) ≡ drop from (map f xs)
   mapped_last xs from = ap (map f) (take_all (length xs - from) (drop from xs) (omega (arith, length-drop from xs))) ∙ sym (drop-map f from xs)

@@ -1,11 +1,11 @@
--- The greatest of some numbers.
+-- The greatest of several numbers.
 use Rattle.std.proofs.Common.{ℕ, ◌≤◌, List, [], ◌∷◌, fold, max, arith}
 use Rattle.std.specs.Prelude.{Contains}
 use Rattle.cqf_lists.specs.Lists.{each_below}
 use Rattle.cqf_lists.proofs.EachBelow.{contains_from_below}
 use Rattle.cqf_lists.proofs.Members.{contains_here, contains_later}
 
--- it is no more than what none of them exceeds
+-- it is at most any bound of all numbers
 most_from : (xs : List ℕ) (least bound : ℕ) → least ≤ bound → ((x : ℕ) → Contains xs x → x ≤ bound) → fold max least xs ≤ bound
 most_from [] least bound low each = low
 most_from (x ∷ xs) least bound low each =

@@ -1,4 +1,4 @@
--- Where a line's name stands: at the line's end.
+-- The name of a line is at the line's end.
 use Rattle.std.proofs.Common.{◌≡◌, ◌∙◌, ◌+◌, ◌-◌, ◌≤◌, ℕ, Bool, true, false, List, [], ◌∷◌, ◌++◌, Option, Some, None}
 use Rattle.std.proofs.Common.{length, length-append, take, drop, take-append-drop, refl, sym, ap, subst, arith}
 use Rattle.std.proofs.Common.{append_assoc}
@@ -20,7 +20,7 @@ pub record EndsIn (text name : List ℕ) : Type 0 where
   pub is : text ≡ start ++ name
   pub word : is_word name ≡ true
 
--- a word is what was tested
+-- a word is the text that was tested
 word_tested : (bytes name : List ℕ) → if_word bytes ≡ Some name → (bytes ≡ name) × (is_word name ≡ true)
 word_tested bytes name h = by (is_word bytes) refl h
   where
@@ -28,7 +28,7 @@ word_tested bytes name h = by (is_word bytes) refl h
     by false e h = absurd (cc)
     by true e h = let same : bytes ≡ name = cc in (same, ap is_word (sym same) ∙ e)
 
--- the word behind a beginning ends the text
+-- the word after a prefix ends the text
 word_ends : (start text name : List ℕ) → word_behind start text ≡ Some name → EndsIn text name
 word_ends start text name h = by (is_text start (take (length start) text)) h
   where
@@ -50,13 +50,13 @@ order_ends wish seat rest (Some name) order h ends =
     let same : name ≡ order.name = cc in
     subst (λ (word : List ℕ). EndsIn rest word) same (ends name refl)
 
--- of either wish
+-- for either wish
 behind_ends : (rest : List ℕ) (seat : ℕ) (order : Written) (first second : Option Written) → or_else first second ≡ Some order →
     (first ≡ Some order → EndsIn rest order.name) → (second ≡ Some order → EndsIn rest order.name) → EndsIn rest order.name
 behind_ends rest seat order None second h one other = other h
 behind_ends rest seat order (Some x) second h one other = one h
 
--- and a line's
+-- and so does a line's
 pub name_ends : (line : List ℕ) (order : Written) → order_of_line line ≡ Some order → EndsIn line order.name
 name_ends [] order h = absurd (cc)
 name_ends (digit ∷ rest) order h = by (seat_of_digit digit) h
@@ -71,7 +71,7 @@ name_ends (digit ∷ rest) order h = by (seat_of_digit digit) h
         (λ second. order_ends Withdraw seat rest (word_behind (codes " withdraw ") rest) order second (word_ends (codes " withdraw ") rest)) in
         record { start = digit ∷ found.start; is = ap (λ (xs : List ℕ). digit ∷ xs) found.is; word = found.word }
 
--- what a line that ends at a place ends in, ends there
+-- if a line ends at an index, so does what the line ends in
 pub name_at : (text : List ℕ) (end : ℕ) (line name : List ℕ) → LineEnds text end line → EndsIn line name → NameEnds text end name
 name_at text end line name at ends =
     let k = length ends.start in
@@ -97,6 +97,6 @@ name_at text end line name at ends =
 pub word_short : (name : List ℕ) → is_word name ≡ true → length name ≤ 64
 word_short name h = grind (arith)
 
--- a part is no longer
+-- a part is no longer than the line
 pub name_shorter : (line name : List ℕ) → EndsIn line name → length name ≤ length line
 name_shorter line name ends = omega (arith, ap length ends.is, length-append ends.start name)

@@ -15,24 +15,24 @@ use Rattle.cqf_model.specs.History.{Branch, hops_along, node_at}
 use Rattle.cqf_admission.specs.Branches.{AreNodes, branch_of, branches_of, keep_link, with_node}
 use Rattle.cqf_admission.proofs.FaultLemmas.{position-cons}
 
--- where there is no room, no node is added
+-- if there is no room, no node is added
 full : (d : Domain) (nodes : List (Option Node)) (names : List (List ℕ)) → nat_lt (length nodes) 256 ≡ false → fold (with_node d) nodes names ≡ nodes
 full d nodes [] none = refl
 full d nodes (x ∷ names) none =
     ap (λ (b : Bool). fold (with_node d) (if b then nodes ++ node_named d x ∷ [] else nodes) names) none ∙ full d nodes names none
 
--- the node of a name in front of others
+-- the node of a name before others
 at_each : (d : Domain) (x : List ℕ) (names more : List (List ℕ)) → AreNodes d (names ++ more) (map (node_named d) names) →
     AreNodes d (x ∷ names ++ more) (node_named d x ∷ map (node_named d) names)
 at_each d x names more are zero h m = refl
 at_each d x names more are (suc k) h m = are k (omega (arith, h)) (omega (arith, m))
 
--- the nodes of the names in front are those of the first names
+-- the nodes of the first names are the first nodes
 front : (d : Domain) (names more : List (List ℕ)) → AreNodes d (names ++ more) (map (node_named d) names)
 front d [] more = λ k h m. absurd (omega (arith, h))
 front d (x ∷ names) more = at_each d x names more (front d names more)
 
--- names that are looked up behind others
+-- names looked up after others
 grown : (d : Domain) (names more : List (List ℕ)) → AreNodes d (names ++ more) (fold (with_node d) (map (node_named d) names) more)
 grown d names [] = front d names []
 grown d names (x ∷ more) = elim (cases_Bool (nat_lt (length (map (node_named d) names)) 256)) [
@@ -45,11 +45,11 @@ grown d names (x ∷ more) = elim (cases_Bool (nat_lt (length (map (node_named d
   | inr f ↦ subst (AreNodes d (names ++ x ∷ more)) (sym (full d (map (node_named d) names) (x ∷ more) f)) (front d names (x ∷ more))
 ]
 
--- names that are looked up from the first one on
+-- names looked up from the first one on
 pub looked_up : (d : Domain) (names : List (List ℕ)) (nodes : List (Option Node)) → nodes ≡ fold (with_node d) [] names → AreNodes d names nodes
 looked_up d names nodes is = subst (AreNodes d names) (sym is) (grown d [] names)
 
--- the nodes of a list are those of its front
+-- the nodes of a list begin with those of its first part
 of_front : (d : Domain) (names more : List (List ℕ)) (nodes : List (Option Node)) → AreNodes d (names ++ more) nodes → AreNodes d names nodes
 of_front d [] more nodes are k h m = absurd (omega (arith, m))
 of_front d (x ∷ names) more [] are k h m = absurd (omega (arith, h))
@@ -57,7 +57,7 @@ of_front d (x ∷ names) more (one ∷ nodes) are zero h m = are zero h (omega a
 of_front d (x ∷ names) more (one ∷ nodes) are (suc k) h m =
     of_front d names more nodes (λ j i n. are (suc j) (omega (arith, i)) (omega (arith, n))) k (omega (arith, h)) (omega (arith, m))
 
--- and those behind it are those of the rest
+-- and the rest are those of the second part
 of_rest : (d : Domain) (names more : List (List ℕ)) (nodes : List (Option Node)) → AreNodes d (names ++ more) nodes →
     AreNodes d more (drop (length names) nodes)
 of_rest d [] more nodes are = are
@@ -65,7 +65,7 @@ of_rest d (x ∷ names) more [] are = λ k h m. absurd (omega (arith, h))
 of_rest d (x ∷ names) more (one ∷ nodes) are =
     of_rest d names more nodes (λ k h m. are (suc k) (omega (arith, h)) (omega (arith, m)))
 
--- behind the end of a list nothing is left, however far
+-- nothing is left of a list from any index after its end
 drop_past : {X : Type 0} (xs : List X) (n : ℕ) → drop n xs ≡ drop (min n (length xs)) xs
 drop_past xs n = elim (cases_lt n (length xs)) [
   | inl t ↦ (let same : n ≡ min n (length xs) = omega (arith, t) in ap (λ (k : ℕ). drop k xs) same)
@@ -76,7 +76,7 @@ drop_past xs n = elim (cases_lt n (length xs)) [
 module _ (d : Domain) (paths : List (Vec (String Global) Global)) (index : ℕ) (branch : Vec (String Global) Global) (rest : List (Option Node))
     (inside : index < length paths) (is : get_or paths index branch ≡ branch)
     (are : AreNodes d (flat_map (λ b. b) (branches_of (drop index paths))) rest) where
-  -- the names from a branch on are its own and those behind it
+  -- the names from a branch on are its own and those after it
   from_here : AreNodes d (branch_of branch.items ++ flat_map (λ b. b) (branches_of (drop (suc index) paths))) rest
   from_here = subst (λ (bs : List (Vec (String Global) Global)). AreNodes d (flat_map (λ b. b) (branches_of bs)) rest)
       (drop-cons paths index branch inside ∙ ap (λ (b : Vec (String Global) Global). b ∷ drop (suc index) paths) is) are
@@ -85,7 +85,7 @@ module _ (d : Domain) (paths : List (Vec (String Global) Global)) (index : ℕ) 
   pub nodes_here : AreNodes d (branch_of branch.items) rest
   nodes_here = of_front d (branch_of branch.items) (flat_map (λ b. b) (branches_of (drop (suc index) paths))) rest from_here
 
-  -- and those behind them are the next branches'
+  -- those after them are the next branches'
   pub nodes_next : (count : ℕ) → count ≡ length branch.items →
       AreNodes d (flat_map (λ b. b) (branches_of (drop (index + 1) paths))) (drop (min count (length rest)) rest)
   nodes_next count counted =
@@ -111,7 +111,7 @@ unknown_found d (x ∷ names) (suc place) h t before =
     ∙ sym (position-cons test x names
     ∙ ap (λ (b : Bool). if b then Some 0 else option_map (λ k. 1 + k) (position test names)) (before zero (omega arith)))
 
--- where each name has a node, there is none without
+-- if each name has a node, no name lacks one
 pub none_unknown : (d : Domain) (names : List (List ℕ)) → ((k : ℕ) → k < length names → is_none (node_at d names k) ≡ false) →
     None ≡ position (λ name. is_none (node_named d name)) names
 none_unknown d [] each = refl
@@ -121,7 +121,7 @@ none_unknown d (x ∷ names) each =
     ∙ sym (position-cons test x names
     ∙ ap (λ (b : Bool). if b then Some 0 else option_map (λ k. 1 + k) (position test names)) (each zero (omega arith)))
 
--- the hops of one branch more
+-- the hops of one more branch
 pub one_branch_more : (d : Domain) (paths : List (Vec (String Global) Global)) (index : ℕ) (branch : Vec (String Global) Global) (tree after : List Hop) →
     index < length paths → get_or paths index branch ≡ branch → tree ≡ fold keep_link [] (flat_map (hops_along d) (branches_of (take index paths))) →
     after ≡ fold keep_link tree (hops_along d (branch_of branch.items)) →

@@ -1,4 +1,4 @@
--- What an order calls for, found among the requests.
+-- The act of an order, found among the requests.
 use Rattle.std.proofs.Common.{◌≡◌, ℕ, Bool, true, false, cond, List, [], ◌∷◌, map, Option, Some, None, Ok, Err, find}
 use Rattle.std.proofs.Common.{length, refl, sym, ap, ◌∙◌, ◌≤◌, ◌<◌, arith}
 use Rattle.std.proofs.lemmas.Bool.Decides.{nat_tests}
@@ -20,7 +20,7 @@ use Rattle.cqf_lists.proofs.Firsts.{found_nowhere, found_there}
 use Rattle.cqf_model.specs.Limits.{most_calls}
 use Rattle.cqf_admission.specs.Script.{act_for, call_of_order, request_named}
 
--- what the first request asks for is what is asked for first
+-- the first request with the name gives the first act with it
 named_first : (requests : List PacedRequest) (name : List ℕ) → option_map asked_paced (find (has_name name) requests) ≡ request_named (map asked_paced requests) name
 named_first [] name = refl
 named_first (request ∷ requests) name =
@@ -32,7 +32,7 @@ named_first (request ∷ requests) name =
     pick true request later = refl
     pick false request later = refl
 
--- where the first request of a name stands, that is what its name calls for
+-- the index of the first request with a name gives what its name calls for
 pub admits : (requests : List PacedRequest) (name : List ℕ) (place : ℕ) → place_named requests name ≡ Some place →
     act_for (map asked_paced requests) Admit name ≡ Some (Admits (request_at (map asked_paced requests) place))
 admits requests name place is =
@@ -45,7 +45,7 @@ admits requests name place is =
     nobody : Asked
     nobody = record { name = []; octets = 0; every = 1; phase = 0; paths = [] }
 
--- the request at a place, as calls share it there
+-- the request at an index, as calls share it
 pub shared_read : (requests : List (Arc PacedRequest Global)) (place : ℕ) (request : Arc PacedRequest Global) → place < length requests →
     request ≡ slice_index_or requests place request → request_at (map asked_shared requests) place ≡ asked_shared request
 shared_read requests place request inside is =
@@ -66,7 +66,7 @@ too_many requests number called order act is many =
     let full : nat_le most_calls called ≡ true = grind (arith, nat_tests) in
     rw (is, full) refl
 
--- or fewer
+-- or there are fewer
 pub called_for : (requests : List Asked) (number called : ℕ) (order : Written) (act : Act) → act_for requests order.wish order.name ≡ Some act →
     called < most_calls → call_of_order requests number called order ≡ Ok (order.seat, act)
 called_for requests number called order act is few =

@@ -21,7 +21,7 @@ use Rattle.cqf_laws_history.proofs.Places.{entry_at}
 use Rattle.cqf_admission.specs.Turns.{AreOfGoodPaces, IsGoodPace, IsOfGoodPace}
 use Rattle.cqf_admission.proofs.TurnLemmas.{asked_is_good}
 
--- a pace of no cycles is none, and one of more than all paces repeat in
+-- 0 isn't a pace, nor is a number of cycles that doesn't divide 80
 no_pace : (every phase : ℕ) → 80 % every ≢ 0 → is_pace every phase ≡ false
 no_pace every phase differ = and_left (80 % every == 0) (nat_lt phase every) (ne_eqb (80 % every) 0 differ)
 
@@ -31,7 +31,7 @@ never_a_pace every phase is = no_pace every phase (λ divides. omega (arith, div
 pub too_long_a_pace : (every phase : ℕ) → 80 < every → is_pace every phase ≡ false
 too_long_a_pace every phase long = no_pace every phase (λ divides. omega (arith, divides, mod-eq_of_lt long))
 
--- what the paces have of all requests that were granted, each stream's pace has
+-- what holds for the paces of all granted requests holds for each stream's pace
 module _ (d : Domain) (entries : List Recorded) (P : Pace → Type 0)
     (each : (place : ℕ) (e : Recorded) (asked : Asked) (receipt : Receipt) → slice_get entries place ≡ Some e → e.act ≡ Admits asked →
     e.reply ≡ Accepted receipt → P (pace_of asked)) where
@@ -52,7 +52,7 @@ module _ (d : Domain) (entries : List Recorded) (P : Pace → Type 0)
       of_entry there.0 (seals (take there.0 entries)) one.0 one.0.act one.0.reply one.1 refl refl row
       (subst (λ (o : Option Recorded). Contains (gives o there.0) row) one.1 there.2)
 
--- a request that was answered by a receipt isn't refused
+-- a request that was answered with a receipt isn't refused
 not_refused : (next effect : ℕ) (refusal : Option Refused) (receipt : Receipt) → admit_reply next effect refusal ≡ Accepted receipt → refusal ≡ None
 not_refused next effect None receipt is = refl
 not_refused next effect (Some refused) receipt is = absurd cc
@@ -67,6 +67,6 @@ good_now d entries legal = each_pace d entries IsGoodPace (λ place e asked rece
     let none = not_refused (next_number d before) (seals before) (refusal_of d held asked) receipt due in
     asked_is_good asked (granted d held asked none).pace)
 
--- and so have those that are held
+-- and so have the held ones
 pub good_held : (d : Domain) (entries : List Recorded) → IsLegalHistory d entries → (cycle : ℕ) → AreOfGoodPaces (held_in d entries cycle)
 good_held d entries legal cycle row among = good_now d entries legal row (contains_from_filter (λ (r : Row). is_held r cycle) (streams_of d entries) row among).0

@@ -1,4 +1,4 @@
--- Branches that part, and those that are stray, by the names that are looked through.
+-- Branches that part, and branches that are stray, found by comparing names.
 use Rattle.std.proofs.Common.{◌≡◌, ℕ, ◌<◌, ◌≤◌, Bool, false, List, Option, Some, [], ◌∷◌, not, length, drop, take, get_or, refl, ap, ◌∙◌, sym, arith, nat_eq}
 use Rattle.std.proofs.Common.{◌==◌, ◌&&◌}
 use Rattle.std.specs.Prelude.{String, Vec, option_map, slice_get}
@@ -14,29 +14,29 @@ use Rattle.cqf_model.specs.Domain.{is_text}
 use Rattle.cqf_model.specs.History.{Branch, is_stray, make_a_tree, part}
 use Rattle.cqf_admission.specs.Branches.{branch_of, branches_of}
 
--- the comparison of two texts is that of their names
+-- the comparison of two bytes is that of numbers
 nat_eq-is : (x y : ℕ) → nat_eq x y ≡ (x == y)
 nat_eq-is x y = grind (arith, nat_tests)
 
--- and so the comparison of two texts is that of their bytes
+-- so the comparison of two texts is that of their bytes
 pub same_text : (a b : List ℕ) → pointwise nat_eq a b ≡ is_text a b
 same_text [] [] = refl
 same_text [] (y ∷ ys) = refl
 same_text (x ∷ xs) [] = refl
 same_text (x ∷ xs) (y ∷ ys) = (λ i. nat_eq-is x y i && same_text xs ys i)
 
--- where one branch has no more names, the two don't part
+-- if one branch has no more names, the two don't part
 pub none_left : (names others : List (String Global)) (place : ℕ) → length others ≤ place →
     part (branch_of (drop place names)) (branch_of (drop place others)) ≡ false
 none_left names others place past = ap (λ (xs : List (String Global)). part (branch_of (drop place names)) (branch_of xs)) (drop_all place others past)
     ∙ with_none (branch_of (drop place names))
   where
-    -- no branch parts from one that has no names
+    -- no branch parts from one without names
     with_none : (xs : Branch) → part xs [] ≡ false
     with_none [] = refl
     with_none (x ∷ xs) = refl
 
--- a branch that makes no tree with one before it, by the names that are looked through
+-- a branch that makes no tree with one before it, found by comparing names
 pub stray_is : (paths : List (Vec (String Global) Global)) (number : ℕ) (branch : Vec (String Global) Global) (names : List (String Global)) →
     number < length paths → branch ≡ get_or paths number branch → names ≡ branch.items → (stray : Bool) →
     stray ≡ list_any (λ (other : Vec (String Global) Global). not (make_a_tree (branch_of other.items) (branch_of names))) (take number paths) →

@@ -19,28 +19,28 @@ use Rattle.cqf_admission.specs.Placed.{LineEnds}
 use Rattle.cqf_admission.specs.declared.faults.ScriptFault.{ScriptFault}
 use Rattle.cqf_admission.specs.Script.{Called, administrators, called_behind, call_of_line, calls_from, script_of, sealed_behind}
 
--- the calls so far, and then those of the lines that are left, are those of the script; the lines so far are counted
+-- the calls so far, followed by those of the remaining lines, are those of the script; the lines so far are counted
 pub record IsReadSoFar (requests : List Asked) (seat cycles : ℕ) (text : List ℕ) (calls : List Called) (number sealed called : ℕ) (left : List ℕ) : Type 0 where
   pub goes_on : with_front calls (calls_from requests seat cycles number sealed called (lines_of left)) ≡ calls_from requests seat cycles 1 0 0 (lines_of text)
   pub counted : sealed + called + 1 ≡ number
   pub inside : number + length left ≤ 1 + length text
 
--- in front of what is read stands nothing at first
+-- at first no call comes before what is read
 front_none : (rest : Result (List Called) ScriptFault) → with_front [] rest ≡ rest
 front_none (Ok rest) = refl
 front_none (Err fault) = refl
 
--- one more call stands in front
+-- one more call comes before what is read
 front_more : (calls : List Called) (call : Called) (rest : Result (List Called) ScriptFault) →
     with_front calls (and_first (Ok call) rest) ≡ with_front (calls ++ call ∷ []) rest
 front_more calls call (Ok rest) = ap Ok (sym (append_assoc calls (call ∷ []) rest))
 front_more calls call (Err fault) = refl
 
--- no line was read at first
+-- at first no line was read
 pub read-none : (requests : List Asked) (seat cycles : ℕ) (text : List ℕ) → IsReadSoFar requests seat cycles text [] 1 0 0 text
 read-none requests seat cycles text = record { goes_on = front_none _; counted = refl; inside = omega arith }
 
--- how many calls of either kind stand before the next line
+-- how many calls of either kind come before the next line
 counts_one_more : (sealed called : ℕ) (line : List ℕ) → sealed_behind sealed line + called_behind called line ≡ sealed + called + 1
 counts_one_more sealed called line = grind arith
 
@@ -65,7 +65,7 @@ read-one_more requests seat cycles text calls after number next sealed called se
       inside = omega (arith, so_far.inside, shorter, is_next);
     }
 
--- the line that has a fault is the first one
+-- the line with a fault is the first one
 pub read-fault : (requests : List Asked) (seat cycles : ℕ) (text : List ℕ) (calls : List Called)
     (number sealed called : ℕ) (left line behind : List ℕ) (fault : ScriptFault)
     → IsReadSoFar requests seat cycles text calls number sealed called left → seat ≡ administrators (lines_of text)
@@ -78,7 +78,7 @@ read-fault requests seat cycles text calls number sealed called left line behind
     ap (calls_from requests seat cycles number sealed called) first ∙ ap (λ r. and_first r others) bad in
     ap (λ s. calls_from requests s cycles 1 0 0 (lines_of text)) (sym is_seat) ∙ sym so_far.goes_on ∙ ap (with_front calls) split
 
--- without a line left the calls are those of the script
+-- if no line is left, the calls are those of the script
 pub read-all : (requests : List Asked) (seat cycles : ℕ) (text : List ℕ) (calls : List Called) (number sealed called : ℕ) (left : List ℕ)
     → IsReadSoFar requests seat cycles text calls number sealed called left → seat ≡ administrators (lines_of text) → lines_of left ≡ []
     → script_of requests cycles text ≡ Ok calls
@@ -86,23 +86,23 @@ read-all requests seat cycles text calls number sealed called left so_far is_sea
     let rest : calls_from requests seat cycles number sealed called (lines_of left) ≡ Ok [] = ap (calls_from requests seat cycles number sealed called) none in
     ap (λ s. calls_from requests s cycles 1 0 0 (lines_of text)) (sym is_seat) ∙ sym so_far.goes_on ∙ ap (with_front calls) rest ∙ ap Ok (append-nil calls)
 
--- the orders so far stand there, and what is left is the text's end
+-- the references of the orders so far are valid, and what is left is the end of the text
 pub record AreOrdersSoFar (requests : List Asked) (text : List ℕ) (orders : List Ordered) (left : List ℕ) : Type 0 where
   pub rest : left ≡ drop (length text - length left) text
   pub stand : All (λ (order : Ordered). StandsIn requests text order.what) orders
 
--- what is left of a text behind a place is its end of that length
+-- what is left of a text from an index on is its end of that length
 end_of_text : (text : List ℕ) (n : ℕ) → drop n text ≡ drop (length text - length (drop n text)) text
 end_of_text text n = elim (cases_lt n (length text)) [
   | inl low ↦ ap (λ (k : ℕ). drop k text) (omega (arith, low, length-drop n text))
   | inr high ↦ drop_all n text (omega (arith, high)) ∙ sym (drop_all (length text - length (drop n text)) text (omega (arith, high, length-drop n text)))
 ]
 
--- at first
+-- at the start
 pub orders-none : (requests : List Asked) (text : List ℕ) → AreOrdersSoFar requests text [] text
 orders-none requests text = record { rest = end_of_text text 0; stand = All-nil (λ (order : Ordered). StandsIn requests text order.what) }
 
--- the next line ends so far behind the beginning
+-- where the next line ends in the text
 pub line_at : (text left line : List ℕ) → left ≡ drop (length text - length left) text → length left ≤ length text → line ≡ before_first is_line_feed left →
     LineEnds text (length text - length left + length line) line
 line_at text left line rest inside is =
@@ -118,7 +118,7 @@ line_at text left line rest inside is =
       is = ap (λ (k : ℕ). take (length line) (drop k text)) begins ∙ ap (take (length line)) (sym rest) ∙ front;
     }
 
--- and one more order stands
+-- one more order has a valid reference
 pub orders-one_more : (requests : List Asked) (text : List ℕ) (orders after : List Ordered) (left behind : List ℕ) (order : Ordered) →
     AreOrdersSoFar requests text orders left → StandsIn requests text order.what → after ≡ orders ++ order ∷ [] → behind ≡ after_first is_line_feed left →
     AreOrdersSoFar requests text after behind

@@ -16,7 +16,7 @@ use Rattle.cqf_admission.specs.Holdings.{AreLetGo, IsHeldAt, Standing, let_go_if
 use Rattle.cqf_admission.specs.Rows.{ended}
 use Rattle.cqf_admission.specs.Ring.{IsRing, in_slot}
 
--- the numbers of one list and one more
+-- the numbers of a list and one more
 any_more : (number other : ℕ) (xs : List ℕ) → list_any (λ o. o == other) (xs ++ number ∷ []) ≡ (list_any (λ o. o == other) xs || (number == other))
 any_more number other [] = or_none (number == other)
   where
@@ -30,7 +30,7 @@ any_more number other (x ∷ xs) = ap (λ (b : Bool). (x == other) || b) (any_mo
     or_assoc true b c = refl
     or_assoc false b c = refl
 
--- what stands in one slot stands in no other
+-- a stream in one slot is in no other
 one_slot : (stand : Standing) (slot other : ℕ) → in_slot slot stand ≡ true → other ≢ slot → in_slot other stand ≡ false
 one_slot stand slot other here differ = by_end stand.row.withdrawn refl
   where
@@ -104,10 +104,10 @@ module _ (stands : List Standing) (slots : List (List ℕ)) (r : IsRing stands s
       ];
     }
 
-  -- ---- one withdrawn
+  -- ---- one stream withdrawn
   module _ (number : ℕ) (cycle : Cycle) (stand : Standing) (held : IsHeldAt stands number) (was : (d : Standing) → get_or stands number d ≡ stand)
       (open_end : stand.row.withdrawn ≡ None) (slot : ℕ) (is_slot : slot ≡ (cycle.0 + residence stand.row) % 128) (low : slot < 128) where
-    -- it stood in no slot
+    -- it was in no slot
     in_none : (other : ℕ) → in_slot other stand ≡ false
     in_none other = ap (λ (x : Option Cycle). stand.held && option_map_or (λ (w : Cycle). (w.0 + residence stand.row) % 128 == other) x false) open_end
         ∙ and_right stand.held false refl
@@ -115,7 +115,7 @@ module _ (stands : List Standing) (slots : List (List ℕ)) (r : IsRing stands s
     unlisted : (other : ℕ) → other < 128 → list_any (λ o. o == number) (get_or slots other []) ≡ false
     unlisted other below = r.lists other number stand below held.inside ∙ ap (in_slot other) (was stand) ∙ in_none other
 
-    -- and stands in one now
+    -- it is in one slot now
     in_one : (other : ℕ) → in_slot other (with_row stand (ended stand.row cycle)) ≡ (slot == other)
     in_one other =
         ap (λ (b : Bool). b && ((cycle.0 + residence stand.row) % 128 == other)) (sym (ap (λ (x : Standing). x.held) (was stand)) ∙ held.held stand)
@@ -127,7 +127,7 @@ module _ (stands : List Standing) (slots : List (List ℕ)) (r : IsRing stands s
     beside : (other : ℕ) → other ≢ slot → get_or (set slots slot (get_or slots slot [] ++ number ∷ [])) other [] ≡ get_or slots other []
     beside other differ = get_or-set_other slots slot other (get_or slots slot [] ++ number ∷ []) [] differ
 
-    -- of each number, what its slot lists
+    -- for each number, what its slot lists
     lists_other : (other k : ℕ) → other < 128 →
         list_any (λ o. o == k) (get_or (set slots slot (get_or slots slot [] ++ number ∷ [])) other [])
         ≡ (list_any (λ o. o == k) (get_or slots other []) || ((slot == other) && (number == k)))
@@ -198,7 +198,7 @@ module _ (stands : List Standing) (slots : List (List ℕ)) (r : IsRing stands s
         or_and_false false true = refl
         or_and_false false false = refl
 
--- ---- one stream more, that isn't withdrawn
+-- ---- one more stream, which isn't withdrawn
 
 pub ring_pushed : (stands : List Standing) (slots : List (List ℕ)) → IsRing stands slots → (s : Standing) → s.row.withdrawn ≡ None → IsRing (stands ++ s ∷ []) slots
 ring_pushed stands slots r s live = record {
@@ -214,12 +214,12 @@ ring_pushed stands slots r s live = record {
   once = r.once;
 }
   where
-    -- the new one stands in no slot
+    -- the new stream is in no slot
     no_slot : (slot : ℕ) → in_slot slot s ≡ false
     no_slot slot = ap (λ (o : Option Cycle). s.held && option_map_or (λ (w : Cycle). (w.0 + residence s.row) % 128 == slot) o false) live
         ∙ and_right s.held false refl
 
-    -- and no slot lists it
+    -- no slot lists it
     not_listed : (slot number : ℕ) → slot < 128 → length stands ≤ number → list_any (λ o. o == number) (get_or slots slot []) ≡ false
     not_listed slot number low behind = elim (cases_Bool (list_any (λ o. o == number) (get_or slots slot []))) [
       | inl some ↦ (

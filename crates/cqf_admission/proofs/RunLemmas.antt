@@ -1,4 +1,4 @@
--- An administration that runs on the held streams in place of its history.
+-- An administration that keeps the held streams in place of its history.
 use Rattle.std.proofs.Common.{◌≡◌, ℕ, ◌+◌, ◌-◌, ◌<◌, ◌≤◌, Bool, true, false, cond, List, Option, Some, None, [], ◌∷◌, ◌&&◌, not, length}
 use Rattle.std.proofs.Common.{◌∙◌, position, refl, ap, sym, arith, subst, length-append}
 use Rattle.std.specs.Prelude.{Result, Err, if◌then◌else◌, nat_le, nat_lt, is_none, filter}
@@ -23,7 +23,7 @@ use Rattle.cqf_model.specs.Table.{is_held}
 use Rattle.cqf_laws_history.specs.StateLaws.{HistoryGoesOn, IsState, SealLetsGo, SealsAreCounted, with_entry}
 use Rattle.cqf_admission.specs.Admission.{Administration, Answers, IsRunning, calls, is_entered, reply_of}
 
--- a reason that a refused request can have: it is entered
+-- a refusal of a request that is entered, if there is one
 abbrev IsCallRefusal : Option Refused → Type 0
 IsCallRefusal o = (refused : Refused) → o ≡ Some refused → is_entered (Err refused) ≡ true
 
@@ -32,12 +32,12 @@ either_entered : (a b : Option Refused) → IsCallRefusal a → IsCallRefusal b 
 either_entered None b h k = k
 either_entered (Some x) b h k = h
 
--- a refusal under a test is entered
+-- a refusal after a test is entered
 if_entered : (b : Bool) (refused : Refused) → is_entered (Err refused) ≡ true → IsCallRefusal (refused_if b refused)
 if_entered true refused h other e = subst (λ (r : Refused). is_entered (Err r) ≡ true) (same_Some refused other e) h
 if_entered false refused h other e = absurd cc
 
--- and so is a refusal at a place
+-- so is a refusal with an index
 at_entered : (refused : ℕ → Refused) (o : Option ℕ) → ((k : ℕ) → is_entered (Err (refused k)) ≡ true) → IsCallRefusal (refused_at refused o)
 at_entered refused None h other e = absurd cc
 at_entered refused (Some k) h other e = subst (λ (r : Refused). is_entered (Err r) ≡ true) (same_Some (refused k) other e) (h k)
@@ -109,7 +109,7 @@ answers_entered old new seat act result is few same due entered =
       entered = λ _. entered;
     }
 
--- a call for which memory is refused
+-- a call for which an allocation fails
 pub answers_memory : (old new : Administration) (seat : ℕ) (act : Act) (result : Result Receipt Refused) → result ≡ Err Memory →
     calls old.entries < most_calls → new ≡ old → Answers old new seat act result
 answers_memory old new seat act result is few same =
@@ -128,12 +128,12 @@ pub withdraw_entered : (effect : ℕ) (found : Option Row) (refused : Refused) �
 withdraw_entered effect None refused e = let same : NotHeld ≡ refused = cc in subst (λ (r : Refused). is_entered (Err r) ≡ true) same refl
 withdraw_entered effect (Some row) refused e = by_end row.withdrawn e
   where
-    -- a refused withdrawal of a held stream is entered, whatever its end
+    -- a refused withdrawal of a held stream is entered, regardless of whether the stream is withdrawn
     by_end : (end : Option Cycle) → withdraw_row effect row.no end ≡ RefusedFor refused → is_entered (Err refused) ≡ true
     by_end None f = absurd cc
     by_end (Some before) f = let same : AlreadyWithdrawn ≡ refused = cc in subst (λ (r : Refused). is_entered (Err r) ≡ true) same refl
 
--- a Seal goes on with the next cycle
+-- a Seal continues with the next cycle
 pub run_sealed : HistoryGoesOn → SealsAreCounted → SealLetsGo → (d : Domain) (entries : List Recorded) (rows : List Row) (next sealed seat : ℕ) →
     IsRunning d entries rows next sealed → sealed < 100000 →
     IsRunning d (with_entry entries seat Seals Sealed) (filter (λ (row : Row). is_held row (sealed + 1)) rows) next (sealed + 1)

@@ -1,4 +1,4 @@
--- The figures of a history with one entry more.
+-- The figures of a history with one more entry.
 use Rattle.std.proofs.Common.{◌≡◌, ◌≢◌, ℕ, ◌+◌, ◌-◌, ◌<◌, ◌≤◌, ◌%◌, Bool, false, true, List, None, Result, Ok, Err, [], ◌∷◌}
 use Rattle.std.proofs.Common.{◌++◌, filter, map, get_or, set, length, refl, sym, ap, ◌∙◌, subst, arith}
 use Rattle.std.proofs.Common.{length-append, mod-lt}
@@ -30,7 +30,7 @@ use Rattle.cqf_admission.proofs.RunLemmas.{answers_entered, run_on, run_sealed}
 use Rattle.cqf_admission.proofs.Streams.{let_go_is_next_cycle}
 use Rattle.cqf_admission.proofs.Whole.{ring_lists_ends, ring_stays_sealed}
 
--- what a call leaves that is entered, and what is held behind it
+-- the effect of a call that is entered, and what is held after it
 abbrev pub LeavesHeld : Domain → List Recorded → Figures → ℕ → Act → Result Receipt Refused → List Row → Type 0
 LeavesHeld d entries after seat act result held =
     Leaves d entries after seat act result × (held_of (of_entries d (entries_with entries seat act result)) ≡ held)
@@ -64,7 +64,7 @@ module _ (d : Domain) (entries : List Recorded) (before : Figures) (r : IsStateO
     pub answered : is_entered result ≡ true → Answers (of_entries d entries) (of_entries d all) seat act result
     answered is = answers_entered (of_entries d entries) (of_entries d all) seat act result is (omega (arith, few, r.0.running.counted)) refl (sym due) refl
 
-  -- a refused call leaves all as it is
+  -- a refused call changes nothing
   pub refused_leaves : HistoryGoesOn → SealsAreCounted → (seat : ℕ) (act : Act) (refused : Refused) (after : Figures) → is_entered (Err refused) ≡ true →
       length entries - before.sealed < most_calls → reply_to d entries act ≡ RefusedFor refused → StaysSo before after →
       LeavesHeld d entries after seat act (Err refused) (held_in d entries (seals entries))
@@ -92,7 +92,7 @@ module _ (d : Domain) (entries : List Recorded) (before : Figures) (r : IsStateO
         held,
       )
 
-  -- a granted one adds its stream
+  -- a granted request adds its stream
   module _ (goes_on : HistoryGoesOn) (count : SealsAreCounted) (grants : GrantedIsHeld) (last : GrantedIsLast) (seat : ℕ) (asked : Asked) (receipt : Receipt)
       (row : Row) (after : Figures) (few : length entries - before.sealed < most_calls) (none : refusal_of d (held_in d entries (seals entries)) asked ≡ None)
       (is_receipt : receipt ≡ record { no = length before.stands; effect = record { 0 = before.sealed } })
@@ -118,7 +118,7 @@ module _ (d : Domain) (entries : List Recorded) (before : Figures) (r : IsStateO
     cycle : seals grown ≡ seals entries
     cycle = sealed_same goes_on count seat (Admits asked) (Ok receipt) refl few due
 
-    -- it is held now
+    -- its stream is held now
     is_stand : held_by row ≡ stand_of (seals entries) new
     is_stand = ap held_by is_row ∙ ap with_flag (sym now)
       where
@@ -128,7 +128,7 @@ module _ (d : Domain) (entries : List Recorded) (before : Figures) (r : IsStateO
         now : is_held new (seals entries) ≡ true
         now = ap (λ (b : Bool). b && true) (le-leb (seals entries) (seals entries) (omega arith))
 
-    -- what is held behind it
+    -- what is held after it
     holds_now : held_in d grown (seals grown) ≡ held_in d entries (seals entries) ++ new ∷ []
     holds_now =
         ap (λ (es : List Recorded). held_in d es (seals es)) (sym (same goes_on count seat (Admits asked) (Ok receipt) refl few due))
@@ -160,7 +160,7 @@ module _ (d : Domain) (entries : List Recorded) (before : Figures) (r : IsStateO
           ∙ ap (λ (x : Receipt). held_in d entries (seals entries) ++ granted_row d x.no x.effect.0 asked ∷ []) (sym is_receipt),
     )
 
-  -- what a Seal leaves
+  -- the effect of a Seal
   pub sealed_leaves : HistoryGoesOn → SealsAreCounted → SealLetsGo → (seat : ℕ) (after : Figures) → before.sealed < most_cycles →
       AreLetGo (get_or before.slots ((before.sealed + 1) % 128) []) before.stands after.stands →
       after.links ≡ before.links → after.slots ≡ set before.slots ((before.sealed + 1) % 128) [] → after.sealed ≡ before.sealed + 1 →
@@ -212,7 +212,7 @@ slot_is_held stands slots ring slot low number there =
           (sym (ring.lists slot number s low inside) ∙ member_any (λ other. other == number) (get_or slots slot []) number there (eq-eqb number number refl))).0;
     }
 
--- at first there is nothing
+-- at the start there is nothing
 pub begins : (d : Domain) (slots : List (List ℕ)) → length slots ≡ 128 → ((slot : ℕ) → slot < 128 → get_or slots slot [] ≡ []) → AreOf d [] [] slots 0
 begins d slots many none = record {
   running = record {

@@ -1,4 +1,4 @@
--- Rows of which the first are found by the numbers of their names.
+-- Rows whose first part is found by the numbers of their names.
 use Rattle.std.proofs.Common.{◌≡◌, ◌≢◌, ◌∙◌, ◌++◌, ◌+◌, ◌<◌, ℕ, All, Bool, true, false, cond, List, [], ◌∷◌, Option, Some, None, map}
 use Rattle.std.proofs.Common.{take, drop, length, get_or, refl, ap, sym, subst, arith, inl, inr}
 use Rattle.std.specs.Prelude.{AllPairs, Contains, find, suc, zero}
@@ -21,7 +21,7 @@ use Rattle.cqf_admission.proofs.Figures.{others_stay}
 use Rattle.cqf_admission.proofs.TableLemmas.{the_row_named, the_row_of}
 
 module _ {X : Type 0} (row_in : X → Row) (test : Row → Bool) where
-  -- a row that passes, behind rows that don't, is the one that is found
+  -- a row that passes, after rows that don't, is the one that is found
   pub found_next : (xs : List X) (k : ℕ) (x : X) → k < length xs → x ≡ get_or xs k x → find test (take k (map row_in xs)) ≡ None →
       test (row_in x) ≡ true → Some (row_in x) ≡ find test (map row_in xs)
   found_next [] k x below is none passes = absurd (omega (arith, below))
@@ -36,7 +36,7 @@ module _ {X : Type 0} (row_in : X → Row) (test : Row → Bool) where
         ∙ sym (ap (λ (b : Bool). cond b (Some (row_in y)) (find test (map row_in xs))) f)
   ]
 
-  -- and with one more that doesn't, none is found
+  -- with one more that doesn't pass, none is found
   none_more : (xs : List X) (k : ℕ) (x : X) → k < length xs → x ≡ get_or xs k x → find test (take k (map row_in xs)) ≡ None →
       test (row_in x) ≡ false → find test (take (suc k) (map row_in xs)) ≡ None
   none_more [] k x below is none fails = absurd (omega (arith, below))
@@ -55,12 +55,12 @@ module _ {X : Type 0} (row_in : X → Row) (test : Row → Bool) where
   none_next xs k next x e below is none fails =
       subst (λ (n : ℕ). find test (take n (map row_in xs)) ≡ None) (sym e) (none_more xs k x below is none fails)
 
--- a row that has the name is of the name
+-- a row that has the name is found by it
 if_named_same : (name : List ℕ) (row : Row) → row.name ≡ name → if_named name (Some row) ≡ Some row
 if_named_same name row e =
     ap (λ (b : Bool). cond b (Some row) None) (ap (λ (n : List ℕ). is_text n name) e ∙ is_text_itself name)
 
--- and what is of the name has it
+-- a row found by the name has it
 if_named_is : (name : List ℕ) (found : Option Row) (row : Row) → if_named name found ≡ Some row → (found ≡ Some row) × (row.name ≡ name)
 if_named_is name None row e = absurd (none-some row e)
 if_named_is name (Some other) row e = elim (cases_Bool (is_text other.name name)) [
@@ -71,7 +71,7 @@ if_named_is name (Some other) row e = elim (cases_Bool (is_text other.name name)
 ]
 
 module _ (rows : List Row) (list : List (List ℕ × ℕ)) (name : List ℕ) (order : AreInOrder rows) where
-  -- a row to which a number leads, and which has the name, is the row of the name
+  -- a row with a name's number that has the name is the row of the name
   led_to : (row : Row) (number : Option ℕ) → row_with rows name number ≡ Some row → row_named rows name ≡ Some row
   led_to row None e = absurd (none-some row e)
   led_to row (Some number) e =
@@ -81,7 +81,7 @@ module _ (rows : List Row) (list : List (List ℕ × ℕ)) (name : List ℕ) (or
   pub numbered_is_named : (row : Row) → row_numbered rows list name ≡ Some row → row_named rows name ≡ Some row
   numbered_is_named row e = led_to row (number_in list name) e
 
-  -- to a row that is found by the number of its name this leads
+  -- a row that is found by the number of its name is found so
   leads_to : (row : Row) → row_named rows name ≡ Some row → IsNumbered list row → row_numbered rows list name ≡ Some row
   leads_to row found is =
       let w = (the_row_named rows name order row).0 found in
@@ -97,7 +97,7 @@ module _ (rows : List Row) (list : List (List ℕ × ℕ)) (name : List ℕ) (or
         (Contains-append_right (take numbered rows) (drop numbered rows) row w.0) in
         (the_row_named rows name order row).1 (there, is_text_same row.name name w.1)
 
-    -- the row of a name whose number leads nowhere is one of the last
+    -- if the number of a name leads nowhere, the row of the name is one of the last
     is_behind : (row : Row) → row_named rows name ≡ Some row → Contains (drop numbered rows) row
     is_behind row found =
         let w = (the_row_named rows name order row).0 found in
@@ -118,7 +118,7 @@ module _ (rows : List Row) (list : List (List ℕ × ℕ)) (name : List ℕ) (or
         let same : s.0 ≡ row = same_Some s.0 row (sym (named_behind s.0 s.1) ∙ found) in
         s.1 ∙ ap (λ (r : Row). Some r) same
 
-    -- where the number of a name leads nowhere, the row of the name is the one among the last rows
+    -- if the number of a name leads nowhere, the row of the name is the one among the last rows
     pub named_among_last : row_named (drop numbered rows) name ≡ row_named rows name
     named_among_last = at (row_named rows name) refl (row_named (drop numbered rows) name) refl
       where
@@ -128,13 +128,13 @@ module _ (rows : List Row) (list : List (List ℕ × ℕ)) (name : List ℕ) (or
         at None e (Some row) f = absurd (none-some row (sym e ∙ named_behind row f))
         at (Some row) e last f = found_behind row e
 
--- what stands at a place stands behind those before it
+-- the element at an index is among those from the index on
 behind : (rows : List Row) (k : ℕ) (row : Row) → k < length rows → row ≡ get_or rows k row → Contains (drop k rows) row
 behind [] k row low is = absurd (omega (arith, low))
 behind (x ∷ rows) zero row low is = subst (Contains (x ∷ rows)) (sym is) (contains_here x rows)
 behind (x ∷ rows) (suc k) row low is = behind rows k row (omega (arith, low)) is
 
--- with a row's number put under its name one more of them is
+-- storing a row's number under its name makes one more row numbered
 pub one_numbered : (before after : BTreeMap (List ℕ) ℕ) (k : ℕ) (rows : List Row) (row : Row) → AllPairs (λ (a b : Row). a.name ≢ b.name) rows →
     k < length rows → row ≡ get_or rows k row → UpdatesBy (slice_cmp nat_cmp) (slice_cmp nat_cmp row.name) before after (Some row.no) →
     AreNumbered before.entries k rows → AreNumbered after.entries (k + 1) rows

@@ -1,4 +1,4 @@
--- What the figures are behind each call.
+-- The figures after each call.
 use Rattle.std.proofs.Common.{◌≡◌, ℕ, ◌+◌, ◌%◌, List, Some, None, Ok, Err, [], ◌∷◌, ◌++◌, get_or, set, length, ap, ◌∙◌}
 use Rattle.cqf_units.specs.Timing.{cost_of}
 use Rattle.cqf_model.specs.declared.history.Receipt.{Receipt}
@@ -22,7 +22,7 @@ use Rattle.cqf_admission.proofs.Withdrawing.{withdrawn_leaves}
 
 module _ (goes_on : HistoryGoesOn) (count : SealsAreCounted) (sound : HeldAreSound) (before after : Figures) where
   module _ (d : Domain) (form : GoodForm) where
-    -- a request that the figures refuse
+    -- a request that is refused because of the figures
     pub admits_refused : (refused : Refused) →
         stand_refusal d before.stands form.name.now (cost_of form.octets) form.pace form.tree.now ≡ Some refused → StaysSo before after →
         AdmitsForm d form before after (Err refused)
@@ -32,7 +32,7 @@ module _ (goes_on : HistoryGoesOn) (count : SealsAreCounted) (sound : HeldAreSou
         refused_leaves d entries before r goes_on count seat (Admits asked) refused after (refusal_is_entered d rows asked refused told) few
         (ap (admit_reply (next_number d entries) (seals entries)) told) so
 
-    -- and one that they grant
+    -- a request that is granted
     pub admits_granted : IsAccepted d → GrantedIsHeld → GrantedIsLast → (row : Row) (receipt : Receipt) →
         stand_refusal d before.stands form.name.now (cost_of form.octets) form.pace form.tree.now ≡ None →
         receipt ≡ record { no = length before.stands; effect = record { 0 = before.sealed } } →
@@ -45,7 +45,7 @@ module _ (goes_on : HistoryGoesOn) (count : SealsAreCounted) (sound : HeldAreSou
         sealed
 
   module _ (name : List ℕ) where
-    -- a withdrawal of what can't be withdrawn
+    -- a withdrawal that isn't possible
     pub withdraws_refused : (refused : Refused) → FindsOpen before.stands name (Err refused) → StaysSo before after →
         WithdrawsName name before after (Err refused)
     withdraws_refused refused finds so d entries seat r few =
@@ -53,7 +53,7 @@ module _ (goes_on : HistoryGoesOn) (count : SealsAreCounted) (sound : HeldAreSou
         refused_leaves d entries before r goes_on count seat (Withdraws name) refused after
         (withdraw_entered (seals entries) (row_named (held_in d entries (seals entries)) name) refused due) few due so
 
-    -- and of what can
+    -- a withdrawal that is possible
     pub withdraws_open : WithdrawnIsHeldOn → WithdrawnEnds → (number slot : ℕ) (row over : Row) (receipt : Receipt) → IsOpenAt before.stands name number →
         ((s : Standing) → (get_or before.stands number s).row ≡ row) → slot ≡ (before.sealed + residence row) % 128 →
         over ≡ ended row (record { 0 = before.sealed }) →

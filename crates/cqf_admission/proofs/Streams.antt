@@ -15,7 +15,7 @@ use Rattle.cqf_laws_history.proofs.Ends.{next_by_end}
 use Rattle.cqf_admission.specs.Holdings.{Standing, AreLetGo, held_cost, held_count, held_one, held_part, let_go_if, released}
 use Rattle.cqf_admission.specs.Streams.{stand_of}
 
--- what the held ones cost, and how many they are, is what the rows cost that are held, and how many these are
+-- the number and the cost of the held streams are those of the held rows
 abbrev pub HeldCostsAreTheirs : Type 0
 HeldCostsAreTheirs =
     (rows : List Row) (now l cycle : ℕ) →
@@ -26,13 +26,13 @@ HeldCountIsLength =
     (rows : List Row) (cycle : ℕ) →
     held_count (map (stand_of cycle) rows) ≡ length (filter (λ (row : Row). is_held row cycle) rows)
 
--- the list of numbers has just the streams that are held in a cycle and end in the next one
+-- the list has exactly the numbers of the streams that are held in a cycle and end in the next one
 abbrev pub ListsEnds : List Row → ℕ → List ℕ → Type 0
 ListsEnds rows cycle slot =
     (number : ℕ) (d : Row) → number < length rows →
     list_any (λ other. other == number) slot ≡ (is_held (slice_index_or rows number d) cycle && ends_in (cycle + 1) (slice_index_or rows number d))
 
--- so to let go of these is to go on to the next cycle
+-- so releasing these continues with the next cycle
 abbrev pub LetGoIsNextCycle : Type 0
 LetGoIsNextCycle =
     (rows : List Row) (cycle : ℕ) (slot : List ℕ) (after : List Standing) →
@@ -72,7 +72,7 @@ held_count_is_length (row ∷ rows) cycle =
     by_flag true = omega arith
     by_flag false = omega arith
 
--- lists that agree at each place are one
+-- lists that agree at each index are equal
 same_at_each : {X : Type 0} (xs ys : List X) → length xs ≡ length ys → ((k : ℕ) (d : X) → k < length ys → get_or xs k d ≡ get_or ys k d) → xs ≡ ys
 same_at_each [] [] long each = refl
 same_at_each [] (y ∷ ys) long each = absurd (omega (arith, long))
@@ -81,7 +81,7 @@ same_at_each {X} (x ∷ xs) (y ∷ ys) long each =
     ap (λ (z : X). z ∷ xs) (each zero x (omega arith))
     ∙ ap (λ (zs : List X). y ∷ zs) (same_at_each xs ys (omega (arith, long)) (λ k d low. each (suc k) d (omega (arith, low))))
 
--- a stream that has begun is held in the next cycle if it is in this one and doesn't end
+-- a stream that has begun is held in the next cycle if it is held in this one and doesn't end
 held_next : (row : Row) (cycle : ℕ) → row.admitted.0 ≤ cycle → is_held row (cycle + 1) ≡ (is_held row cycle && not (ends_in (cycle + 1) row))
 held_next row cycle begun = elim (cases_Bool (is_held row cycle)) [
   | inl t ↦ next_by_end row cycle t ∙ sym (ap (λ (b : Bool). b && not (ends_in (cycle + 1) row)) t)
@@ -128,12 +128,12 @@ let_go_is_next_cycle rows cycle slot after begun lists gone =
         by_flags true false = refl
         by_flags false ends = refl
 
--- to let go of none leaves all as they are
+-- releasing none changes nothing
 pub none_let_go : (rows after : List Standing) (numbers : List ℕ) → numbers ≡ [] → AreLetGo numbers rows after → after ≡ rows
 none_let_go rows after numbers none gone =
     same_at_each after rows gone.as_many (λ k d low. gone.each k d low ∙ ap (λ (ns : List ℕ). let_go_if ns k (get_or rows k d)) none)
 
--- the rows of those that are held, and of all, are the streams' rows
+-- the rows of the held streams, and of all, are the streams' rows
 pub held_are_theirs : (rows : List Row) (cycle : ℕ) →
     map (λ (stand : Standing). stand.row) (filter (λ (stand : Standing). stand.held) (map (stand_of cycle) rows)) ≡ filter (λ (row : Row). is_held row cycle) rows
 held_are_theirs [] cycle = refl

@@ -1,4 +1,4 @@
--- Sums by link, one link more.
+-- Sums by link, with one more link.
 use Rattle.std.proofs.Common.{◌≡◌, ◌≢◌, ℕ, ◌+◌, ◌<◌, ◌^◌, ◌∙◌, ◌==◌, ◌||◌, Bool, true, List, length, get_or, set, take, ap, arith, refl, subst, subst₂, sym, false, inl, inr}
 use Rattle.std.specs.Prelude.{None, All, AllPairs, if◌then◌else◌}
 use Rattle.std.specs.List.{list_any}
@@ -10,26 +10,26 @@ use Rattle.cqf_model.specs.declared.topology.Hop.{Hop}
 use Rattle.cqf_model.specs.Table.{links_in}
 use Rattle.cqf_admission.specs.Sums.{AreMoreOn, HaveRoomOn, part_on}
 
--- the hop that is taken where there is none
+-- the default hop for an index without one
 abbrev pub no_hop : Hop
 no_hop = record { link = 0; depth = 0; from = None }
 
--- the link of a hop stands at its place among the links
+-- the link of a hop has the same index among the links
 pub link_at : (hops : List Hop) (k : ℕ) (none : Hop) → k < length hops → (k < length (links_in hops)) × ((get_or hops k none).link ≡ get_or (links_in hops) k 0)
 link_at hops k none inside =
     (omega (arith, inside, length-map hops (λ (hop : Hop). hop.link)), sym (get_or-map (λ (hop : Hop). hop.link) hops k none 0 inside))
 
--- neither is the first alone
+-- or with `false`
 or_neither : (b : Bool) → (b || false) ≡ b
 or_neither true = refl
 or_neither false = refl
 
--- part of a number, where it is told whether there is one
+-- a number, or 0, by a test
 abbrev part_by : ℕ → Bool → ℕ
 part_by number b = if b then number else 0
 
 module _ (links : List ℕ) (i : ℕ) (apart : AllPairs (λ (a b : ℕ). a ≢ b) links) (inside : i < length links) where
-  -- the next of some links, no two of which are the same, isn't among those before it
+  -- no two links are the same, so the next one isn't among those before it
   new_link : list_any (λ k. k == get_or links i 0) (take i links) ≡ false
   new_link =
       let long : length (take i links) ≡ i = length-take-le i links (omega (arith, inside)) in
@@ -39,7 +39,7 @@ module _ (links : List ℕ) (i : ℕ) (apart : AllPairs (λ (a b : ℕ). a ≢ b
       let next : get_or links i d ≡ get_or links i 0 = get_or_default links i d 0 inside in
       ne_eqb (get_or (take i links) k d) (get_or links i 0) (λ is. apart k i d before inside (sym same ∙ is ∙ sym next)))
 
-  -- what it adds to its sum, and nothing to each other
+  -- what the link adds to its sum; it adds nothing to others
   here : (number : ℕ) → part_on (take i links) number (get_or links i 0) ≡ 0
   here number = ap (part_by number) new_link
 
@@ -56,7 +56,7 @@ module _ (links : List ℕ) (i : ℕ) (apart : AllPairs (λ (a b : ℕ). a ≢ b
       ap (part_by number) (list_any_more (λ k. k == l) links i 0 inside
       ∙ ap (λ b. list_any (λ k. k == l) (take i links) || b) (ne_eqb (get_or links i 0) l other) ∙ or_neither (list_any (λ k. k == l) (take i links)))
 
-  -- a number comes to the sum of the next link
+  -- a number is added to the sum of the next link
   pub more_next : (sums now : List ℕ) (number : ℕ) → get_or links i 0 < length sums → AreMoreOn sums (take i links) number now →
       AreMoreOn sums (take (i + 1) links) number (set now (get_or links i 0) (get_or now (get_or links i 0) 0 + number))
   more_next sums now number low so_far = record {
@@ -72,13 +72,13 @@ module _ (links : List ℕ) (i : ℕ) (apart : AllPairs (λ (a b : ℕ). a ≢ b
     place : ℕ
     place = get_or links i 0
 
-  -- there is room for it there yet, as there was
+  -- there is still room for it, as there was
   pub room_next : (sums now : List ℕ) (number : ℕ) → get_or links i 0 < length sums → HaveRoomOn sums links number → AreMoreOn sums (take i links) number now →
       get_or now (get_or links i 0) 0 + number < 2 ^ 64
   room_next sums now number low room so_far =
       omega (arith, so_far.each (get_or links i 0) low, here number, in_all number, room (get_or links i 0) low)
 
-  -- so of the next link as a loop has it, and of what stands there
+  -- the same for the next link as a loop reads it, and its sum
   pub room_step : (sums now : List ℕ) (number place here : ℕ) → place ≡ get_or links i 0 → All (λ (l : ℕ). l < length sums) links → here ≡ get_or now place here →
       HaveRoomOn sums links number → AreMoreOn sums (take i links) number now → (place < length now) × (here + number < 2 ^ 64)
   room_step sums now number place here same all is room so_far =
@@ -96,6 +96,6 @@ module _ (links : List ℕ) (i : ℕ) (apart : AllPairs (λ (a b : ℕ). a ≢ b
       let value : here ≡ get_or now (get_or links i 0) 0 = is ∙ get_or_default now place here 0 within ∙ ap (λ (p : ℕ). get_or now p 0) same in
       subst₂ (λ (p n : ℕ). AreMoreOn sums (take (i + 1) links) number (set now p (n + number))) (sym same) (sym value) (more_next sums now number low so_far)
 
--- before the first link they are as they were
+-- before the first link the sums are unchanged
 pub more_none : (sums links : List ℕ) (number : ℕ) → AreMoreOn sums (take 0 links) number sums
 more_none sums links number = record { as_many = refl; each = λ l within. omega arith }

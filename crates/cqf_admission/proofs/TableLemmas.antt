@@ -1,4 +1,4 @@
--- The row of a name and of a number is the one that there is.
+-- The row that is found by name or by number is the only one.
 use Rattle.std.proofs.Common.{◌≡◌, ◌≢◌, ℕ, ◌<◌, Bool, true, cond, List, Option, Some, None, Result, Ok, Err, [], ◌∷◌}
 use Rattle.std.proofs.Common.{◌==◌, get_or, length, map, ap, refl, subst, ◌∙◌, sym, arith, inl, inr}
 use Rattle.std.specs.declared.cmp.Ordering.TheVariants.{Equal, Greater, Less}
@@ -20,7 +20,7 @@ use Rattle.cqf_model.specs.Domain.{Domain, is_text}
 use Rattle.cqf_model.specs.Table.{row_named, row_of}
 use Rattle.cqf_admission.specs.Tables.{AreAlongLinks, AreInOrder, AreTrees, IsRowNamed, IsRowOf}
 
--- what stands there and passes is found, where no two pass
+-- an element that passes is found, if no two pass
 find_only : (test : Row → Bool) (R : Row → Row → Type 0) → ((a b : Row) → test a ≡ true → test b ≡ true → R a b → ⊥) → (rows : List Row) (row : Row) →
     AllPairs R rows → Contains rows row → test row ≡ true → find test rows ≡ Some row
 find_only test R apart [] row pairs c t = absurd (contains_none row c)
@@ -35,7 +35,7 @@ find_only test R apart (x ∷ rows) row pairs c t = elim (cases_Bool (test x)) [
   ]
 ]
 
--- in a table in order the row of a name is the one that there is
+-- in a table in order the row with a name is the only one
 pub the_row_named : (rows : List Row) (name : List ℕ) → AreInOrder rows → IsRowNamed rows name (row_named rows name)
 the_row_named rows name order row = (
   λ e. let w = find_member (λ (r : Row). is_text r.name name) rows row e in (w.0, is_text_same row.name name w.1),
@@ -45,7 +45,7 @@ the_row_named rows name order row = (
       (ap (λ (n : List ℕ). is_text n name) w.1 ∙ is_text_itself name),
 )
 
--- and so is the row of a number
+-- so is the row with a number
 pub the_row_of : (rows : List Row) (number : ℕ) → AreInOrder rows → IsRowOf rows number (row_of rows number)
 the_row_of rows number order row = (
   λ e. let w = find_member (λ (r : Row). r.no == number) rows row e in (w.0, eqb-true row.no number w.1),
@@ -54,9 +54,9 @@ the_row_of rows number order row = (
       (λ a b t u less. absurd (omega (arith, less, eqb-true a.no number t, eqb-true b.no number u))) rows row order.numbers w.0 (eq-eqb row.no number w.1),
 )
 
--- of what has a row each, and stands by the numbers of these
+-- elements that have a row each, in the order of the rows' numbers
 module _ {X : Type 0} (row_in : X → Row) (xs : List X) (number : ℕ) (order : AreInOrder (map row_in xs)) where
-  -- each compares with a number in that order, as a search asks
+  -- the comparisons of each with a number ascend, as a search requires
   numbers_rise : IsNonDecreasingBy (λ (x : X). ordering_index (nat_cmp (row_in x).no number)) xs
   numbers_rise i j d le below = elim (cases_lt i j) [
     | inl less ↦
@@ -70,7 +70,7 @@ module _ {X : Type 0} (row_in : X → Row) (xs : List X) (number : ℕ) (order :
         omega (arith, ap (λ (k : ℕ). ordering_index (nat_cmp (row_in (get_or xs k d)).no number)) e)
   ]
 
-  -- what a search by number finds has the row of the number, and where it finds none there is none
+  -- an element found by a search by number has the row with the number; if none is found, there is none
   pub searched : (r : Result ℕ ℕ) → IsSearchInRange r (length xs) → IsBinarySearchResult (λ (x : X). nat_cmp (row_in x).no number) xs r →
       MatchResult r (λ i. (x : X) → x ≡ get_or xs i x → Some (row_in x) ≡ row_of (map row_in xs) number) (λ i. None ≡ row_of (map row_in xs) number)
   searched (Ok i) inside equal = λ x is.
@@ -79,7 +79,7 @@ module _ {X : Type 0} (row_in : X → Row) (xs : List X) (number : ℕ) (order :
       sym ((the_row_of (map row_in xs) number order (row_in x)).1 (contains_map row_in xs x held, ap (λ (y : X). (row_in y).no) is ∙ same))
   searched (Err i) inside parted = none (row_of (map row_in xs) number) refl
     where
-      -- what has a row of the number stands neither before the place nor behind it
+      -- no element with the number is before the index or from it on
       nowhere : (x : X) → Contains xs x → (row_in x).no ≡ number → ⊥
       nowhere x held of_number =
           let p = place_of_member xs x held in
@@ -103,13 +103,13 @@ module _ {X : Type 0} (row_in : X → Row) (xs : List X) (number : ℕ) (order :
           let p = contains_from_map row_in xs row w.0 in
           absurd (nowhere p.0 p.1 (ap (λ (r : Row). r.no) p.2 ∙ w.1))
 
--- what stands at a place and has a row of the number has the row of that number
+-- the element at an index whose row has a number has the row with this number
 pub row_at : {X : Type 0} (row_in : X → Row) (xs : List X) (number : ℕ) (order : AreInOrder (map row_in xs)) (place : ℕ) (x : X) →
     true ≡ nat_lt place (length xs) → x ≡ get_or xs place x → (row_in x).no ≡ number → row_of (map row_in xs) number ≡ Some (row_in x)
 row_at row_in xs number order place x inside there is =
     let held = subst (Contains xs) (sym there) (Contains-get_or xs place x (leb-true (suc place) (length xs) (sym inside))) in
     (the_row_of (map row_in xs) number order (row_in x)).1 (contains_map row_in xs x held, is)
 
--- trees of the domain go along its links
+-- trees of the domain use its links
 pub trees_go_along_links : (d : Domain) (rows : List Row) → AreTrees d rows → AreAlongLinks d rows
 trees_go_along_links d rows trees row c = All-map (λ l. l < length d.links) (λ (hop : Hop). hop.link) row.tree.items (trees row c).inside

@@ -1,4 +1,4 @@
--- Tables of held streams, of which the first are found by the numbers of their names.
+-- Tables of held streams whose first rows are found by the numbers of their names.
 use Rattle.std.proofs.Common.{◌≡◌, ◌∙◌, ◌<◌, ◌≤◌, ◌++◌, ◌∷◌, [], ℕ, Bool, List, Some, true, false, ap, arith, cond, count_by, filter, inl, inr, length}
 use Rattle.std.proofs.Common.{length-append, map, nat_lt, refl, subst, suc, sym, take}
 use Rattle.std.specs.Prelude.{◌==◌, ◌&&◌, All, AllPairs, Contains, if◌then◌else◌, not}
@@ -21,7 +21,7 @@ use Rattle.cqf_admission.specs.State.{stands_in}
 use Rattle.cqf_admission.specs.Streams.{stand_of}
 use Rattle.cqf_admission.specs.Tabling.{AreTablesOf, IsNoted, Tables}
 
--- where the first isn't below, none of the others is
+-- if the first number isn't below, none of the others is
 none_below : (below : ℕ) (row : Row) (rows : List Row) → below ≤ row.no → AllPairs (λ (a b : Row). a.no < b.no) (row ∷ rows) →
     count_by (λ (other : Row). nat_lt other.no below) rows ≡ 0
 none_below below row [] high ascending = refl
@@ -31,7 +31,7 @@ none_below below row (next ∷ rows) high ascending =
     let none : cond {A = ℕ} (nat_lt next.no below) 1 0 ≡ 0 = ap (λ (b : Bool). cond {A = ℕ} b 1 0) (le-ltb next.no below (omega (arith, high, above))) in
     omega (arith, sum_by-cons (λ (other : Row). cond {A = ℕ} (nat_lt other.no below) 1 0) next rows, none, rest)
 
--- of rows by number those of numbers below one stand first
+-- in rows by number, those with numbers below a bound come first
 first_below : (below : ℕ) (rows : List Row) (row : Row) → AllPairs (λ (a b : Row). a.no < b.no) rows →
     Contains (take (count_by (λ (other : Row). nat_lt other.no below) rows) rows) row → Contains rows row × (row.no < below)
 first_below below [] row ascending c = absurd (contains_none row c)
@@ -63,7 +63,7 @@ below_are_numbered numbers below rows ascending each = record {
       (λ row c. let one = first_below below rows row ascending c in each row one.0 one.1);
 }
 
--- with the numbers of all held rows those of all accepted streams are found
+-- with the numbers of all held rows, those of all accepted streams are found
 pub renumbered : (d : Domain) (entries : List Recorded) (tables : Tables) (numbers : List (List ℕ × ℕ)) (rows : List Row) (accepted : ℕ) →
     held_in d entries (seals entries) ≡ rows → next_number d entries ≡ accepted → AreNumbered numbers (length rows) rows → AreTablesOf d entries tables →
     AreTablesOf d entries (record tables { numbers = numbers; below = accepted })
@@ -75,9 +75,9 @@ renumbered d entries tables numbers rows accepted held next all are = record {
   accepted = omega (arith, next);
 }
 
--- ---- a call more
+-- ---- one more call
 
--- it makes no fewer streams
+-- it doesn't reduce the number of streams
 more_streams : (d : Domain) (entries : List Recorded) (e : Recorded) → next_number d entries ≤ next_number d (entries ++ e ∷ [])
 more_streams d entries e =
     let whole = entries ++ e ∷ [] in
@@ -91,7 +91,7 @@ more_streams d entries e =
       length-append old (admitted_at d whole (length entries)),
     )
 
--- where each held row of a number below was held with its name and its number, tables are made from the same
+-- if each held row with a number below was held with its name and number, tables are made from the same data
 pub tables_kept : (d : Domain) (entries : List Recorded) (e : Recorded) (before after : Tables) → AreTablesOf d entries before → after.numbers ≡ before.numbers →
     after.below ≡ before.below →
     (after.is_current ≡ true → after.listed ≡ held_in d (entries ++ e ∷ []) (seals (entries ++ e ∷ []))) →
@@ -107,12 +107,12 @@ tables_kept d entries e before after are numbers below current were = record {
   accepted = omega (arith, below, are.accepted, more_streams d entries e);
 }
 
--- a change leaves no current list
+-- after a change the list isn't current
 never_current : (current : Bool) → (current && not true) ≡ true → ⊥
 never_current true h = absurd cc
 never_current false h = absurd cc
 
--- where the same rows are held
+-- if the same rows are held
 pub tables_same : (d : Domain) (entries : List Recorded) (e : Recorded) (before after : Tables) → AreTablesOf d entries before →
     IsNoted before after false → held_in d (entries ++ e ∷ []) (seals (entries ++ e ∷ [])) ≡ held_in d entries (seals entries) →
     AreTablesOf d (entries ++ e ∷ []) after
@@ -125,7 +125,7 @@ tables_same d entries e before after are noted held =
     was true h = refl
     was false h = absurd cc
 
--- where one is held behind the others, of a number that none had
+-- if one more is held after the others, with a new number
 pub tables_more : (d : Domain) (entries : List Recorded) (e : Recorded) (before after : Tables) (new : Row) → AreTablesOf d entries before →
     IsNoted before after true → held_in d (entries ++ e ∷ []) (seals (entries ++ e ∷ [])) ≡ held_in d entries (seals entries) ++ new ∷ [] →
     next_number d entries ≤ new.no → AreTablesOf d (entries ++ e ∷ []) after
@@ -137,7 +137,7 @@ tables_more d entries e before after new are noted held late =
       | inr one ↦ absurd (omega (arith, low, late, are.accepted, ap (λ (x : Row). x.no) (contains_one new row one)))
     ])
 
--- where one of a number ends
+-- if the stream with a number ends
 pub tables_ended : (d : Domain) (entries : List Recorded) (e : Recorded) (before after : Tables) (number cycle : ℕ) → AreTablesOf d entries before →
     IsNoted before after true → held_in d (entries ++ e ∷ []) (seals (entries ++ e ∷ [])) ≡ map (ended_row number cycle) (held_in d entries (seals entries)) →
     AreTablesOf d (entries ++ e ∷ []) after
@@ -153,7 +153,7 @@ tables_ended d entries e before after number cycle are noted held =
     by_flag row true = (refl, refl)
     by_flag row false = (refl, refl)
 
--- where some go
+-- if some are released
 pub tables_less : (d : Domain) (entries : List Recorded) (e : Recorded) (before after : Tables) (ends : Bool) (cycle : ℕ) → AreTablesOf d entries before →
     IsNoted before after ends → held_in d (entries ++ e ∷ []) (seals (entries ++ e ∷ [])) ≡ filter (λ (row : Row). is_held row cycle) (held_in d entries (seals entries)) →
     (ends ≡ false → held_in d (entries ++ e ∷ []) (seals (entries ++ e ∷ [])) ≡ held_in d entries (seals entries)) →
@@ -170,7 +170,7 @@ tables_less d entries e before after true cycle are noted held stays =
     ))
 tables_less d entries e before after false cycle are noted held stays = tables_same d entries e before after are noted (stays refl)
 
--- what stands alike is held alike
+-- if the streams agree, the held ones agree
 pub held_alike : (d : Domain) (entries after : List Recorded) → stands_in d after ≡ stands_in d entries →
     held_in d after (seals after) ≡ held_in d entries (seals entries)
 held_alike d entries after alike =

@@ -1,4 +1,4 @@
--- Whether a name is held, by who holds it, and the reasons against a stream one after the other.
+-- Whether a name is held, given its holder, and the reasons against a stream one after the other.
 use Rattle.std.proofs.Common.{◌≡◌, ℕ, ◌<◌, ◌≤◌, Bool, true, false, List, Option, Some, None, [], ◌∷◌, get_or, length, sym, ap, ◌∙◌, arith, inl, inr}
 use Rattle.std.specs.Prelude.{MatchOption, ◌&&◌, is_some, nat_le}
 use Rattle.std.proofs.lemmas.Bool.{and_from, and_parts, cases_Bool, le-leb, lt-leb}
@@ -16,7 +16,7 @@ use Rattle.cqf_model.proofs.Texts.{is_text_itself, is_text_same}
 use Rattle.cqf_admission.specs.Holdings.{IsFree, IsHolder, Standing, held_count}
 use Rattle.cqf_admission.specs.Weighing.{is_taken, stand_refusal, stand_short}
 
--- a name is held where it has a holder
+-- a name is held if and only if it has a holder
 pub taken_by : (stands : List Standing) (name : List ℕ) (o : Option ℕ) → MatchOption o (IsFree stands name) (IsHolder stands name) → is_taken stands name ≡ is_some o
 taken_by stands name None free = elim (cases_Bool (is_taken stands name)) [
   | inl t ↦ (

@@ -1,4 +1,4 @@
--- What the figures tell of held streams is so.
+-- What the figures say about held streams is true.
 use Rattle.std.proofs.Common.{◌≡◌, ℕ, ◌-◌, true, false, List, [], ◌∷◌, find, fold, get_or, length, max, nat_lt, sym, ap, ◌∙◌}
 use Rattle.std.specs.Prelude.{Contains, ◌&&◌, if◌then◌else◌, nat_le}
 use Rattle.std.specs.List.{list_any}
@@ -26,7 +26,7 @@ use Rattle.cqf_admission.specs.Weighing.{held_beside, is_taken, stand_refusal, s
 use Rattle.cqf_admission.proofs.Streams.{held_costs, held_count_is_length}
 use Rattle.cqf_admission.proofs.GrantLemmas.{state_refusal}
 
--- where no stream is held under a name it is free
+-- a name is free if no stream is held under it
 pub free_where_none : (stands : List Standing) (name : List ℕ) → is_taken stands name ≡ false → IsFree stands name
 free_where_none stands name none number held d same =
     let there : Contains stands (get_or stands number d) = Contains-get_or stands number d held.inside in
@@ -39,20 +39,20 @@ free_where_none stands name none number held d same =
         (and_from s.held (is_text s.row.name name) is_held (ap (λ (n : List ℕ). is_text n name) is ∙ is_text_itself name))
 
 module _ (d : Domain) (entries : List Recorded) where
-  -- a name is taken that a held row has
+  -- a name is taken if a held row has it
   pub taken : (name : List ℕ) → is_taken (stands_in d entries) name ≡ list_any (λ (row : Row). is_text row.name name) (held_in d entries (seals entries))
   taken name =
       list_any-map (λ (stand : Standing). stand.held && is_text stand.row.name name) (stand_of (seals entries)) (streams_of d entries)
       ∙ sym (list_any-filter (λ (row : Row). is_text row.name name) (λ (row : Row). is_held row (seals entries)) (streams_of d entries))
 
-  -- as many are held, and they cost as much of each link in each cycle
+  -- the numbers of held streams agree, and so do their costs on each link in each cycle
   pub counted : held_count (stands_in d entries) ≡ length (held_in d entries (seals entries))
   counted = held_count_is_length (streams_of d entries) (seals entries)
 
   pub costs : (l cycle : ℕ) → held_cost (stands_in d entries) l cycle ≡ link_cost (held_in d entries (seals entries)) l cycle
   costs l cycle = held_costs (streams_of d entries) (seals entries) l cycle
 
-  -- so at most too, in all cycles and in those of another stream
+  -- so the greatest costs agree too, in all cycles and in those of another stream
   pub costs_most : (l : ℕ) → held_most (stands_in d entries) l ≡ most_cost (held_in d entries (seals entries)) l
   costs_most l = λ i. fold max 0 (each_below (λ cycle. costs l cycle i ∷ []) most_every)
 
@@ -62,7 +62,7 @@ module _ (d : Domain) (entries : List Recorded) where
   beside : (tree : List Hop) (pace : Pace) (l : ℕ) → held_beside (stands_in d entries) tree pace l ≡ most_beside (held_in d entries (seals entries)) tree pace l
   beside tree pace l = λ i. fold max 0 (each_below (λ cycle. if uses tree pace l cycle then costs l cycle i ∷ [] else []) most_every)
 
--- and a request of good form is refused for the same
+-- a request of good form is refused for the same reason
 pub state_told : (d : Domain) (entries : List Recorded) (asked : Asked) (stands : List Standing) (name : List ℕ) (cost : ℕ) (pace : Pace) (tree : List Hop) →
     stands ≡ stands_in d entries → name ≡ asked.name → cost ≡ cost_of asked.octets → pace ≡ pace_of asked → tree ≡ tree_of d asked.paths →
     stand_refusal d stands name cost pace tree ≡ state_refusal d (held_in d entries (seals entries)) asked

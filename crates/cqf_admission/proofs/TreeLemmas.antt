@@ -1,4 +1,4 @@
--- Hops that are added to a tree one by one.
+-- Hops added to a tree one by one.
 use Rattle.std.proofs.Common.{◌≡◌, ℕ, ◌+◌, ◌<◌, ◌≤◌, Bool, true, false, cond, List, Option, Some, None, [], ◌∷◌, ◌++◌, ◌==◌, length, fold}
 use Rattle.std.proofs.Common.{get_or, refl, ap, ◌∙◌, sym, arith, inl, inr, length-append, subst}
 use Rattle.std.specs.Prelude.{All, String, Vec, string_bytes, suc}
@@ -15,7 +15,7 @@ use Rattle.cqf_model.specs.History.{Branch, hop_to, link_before, link_at}
 use Rattle.cqf_model.specs.Limits.{most_hops}
 use Rattle.cqf_admission.specs.Branches.{AreAsFarAsRoom, branch_of, branches_of, keep_link}
 
--- a hop that is kept, and one that isn't
+-- a hop whose link is new is added
 pub keep_new : (tree : List Hop) (hop : Hop) → list_any (λ (kept : Hop). kept.link == hop.link) tree ≡ false → keep_link tree hop ≡ tree ++ hop ∷ []
 keep_new tree hop e = ap (λ (b : Bool). cond b tree (tree ++ hop ∷ [])) e
 
@@ -23,14 +23,14 @@ keep_new tree hop e = ap (λ (b : Bool). cond b tree (tree ++ hop ∷ [])) e
 pub keep_old : (tree : List Hop) (hop : Hop) → list_any (λ (kept : Hop). kept.link == hop.link) tree ≡ true → keep_link tree hop ≡ tree
 keep_old tree hop e = ap (λ (b : Bool). cond b tree (tree ++ hop ∷ [])) e
 
--- no tree gets shorter
+-- a tree never gets shorter
 keep_grows : (tree : List Hop) (hop : Hop) → length tree ≤ length (keep_link tree hop)
 keep_grows tree hop = elim (cases_Bool (list_any (λ (kept : Hop). kept.link == hop.link) tree)) [
   | inl t ↦ omega (arith, ap length (keep_old tree hop t))
   | inr f ↦ omega (arith, ap length (keep_new tree hop f), length-append tree (hop ∷ []))
 ]
 
--- a hop more where there is no room, where its link is there, and where it is added
+-- one more hop, if there is no room, if its link is there, and if it is added
 pub far_full : (tree whole : List Hop) (hop : Hop) → most_hops < length tree → AreAsFarAsRoom tree whole → AreAsFarAsRoom tree (keep_link whole hop)
 far_full tree whole hop full (inl e) = inr (full, omega (arith, full, ap length e, keep_grows whole hop))
 far_full tree whole hop full (inr more) = inr (full, omega (arith, more.1, keep_grows whole hop))
@@ -46,7 +46,7 @@ far_added tree after whole hop none is (inl e) = inl (is ∙ sym (keep_new tree 
 far_added tree after whole hop none is (inr more) =
     inr (omega (arith, more.0, ap length is, length-append tree (hop ∷ [])), omega (arith, more.1, keep_grows whole hop))
 
--- a tree has too many hops where those have that were added as far as there is room, and else it is those
+-- a tree built as far as there is room has too many hops if it has more than allowed; otherwise it is the whole tree
 pub too_many : (tree whole : List Hop) (most : ℕ) → AreAsFarAsRoom tree whole → most < length tree → most ≤ most_hops → most < length whole
 too_many tree whole most (inl e) many within = omega (arith, many, ap length e)
 too_many tree whole most (inr more) many within = omega (arith, more.1, within)
@@ -55,20 +55,20 @@ pub all_of_it : (tree whole : List Hop) (most : ℕ) → AreAsFarAsRoom tree who
 all_of_it tree whole most (inl e) few within = e
 all_of_it tree whole most (inr more) few within = absurd (omega (arith, more.0, few, within))
 
--- so many hops of a branch have been added to a tree
+-- the first hops of a branch have been added to a tree
 pub record AreAdded (d : Domain) (branch : Branch) (first tree : List Hop) (place : ℕ) (before : Option ℕ) : Type 0 where
   pub added : (whole : List Hop) → AreAsFarAsRoom first whole →
       AreAsFarAsRoom tree (fold keep_link whole (each_below (λ k. hop_to (k + 1) (link_before d branch k) (link_at d branch k)) place))
   pub behind : before ≡ link_before d branch place
 
--- before the first place nothing is added
+-- before the first index nothing is added
 pub none_added : (d : Domain) (branch : Branch) (first : List Hop) → AreAdded d branch first first 0 None
 none_added d branch first = record { added = λ whole far. far; behind = refl }
 
--- one more, where there is a link, and where there is none
+-- one more index, with a link and without one
 module _ (d : Domain) (branch : Branch) (first tree after : List Hop) (place : ℕ) (before : Option ℕ)
     (h : AreAdded d branch first tree place before) where
-  -- one more place adds its hop where there is a link
+  -- one more index adds its hop if there is a link
   grown : (whole : List Hop) (o : Option ℕ) → link_at d branch place ≡ o →
       fold keep_link whole (each_below (λ k. hop_to (k + 1) (link_before d branch k) (link_at d branch k)) (suc place))
       ≡ fold keep_link (fold keep_link whole (each_below (λ k. hop_to (k + 1) (link_before d branch k) (link_at d branch k)) place))
@@ -90,21 +90,21 @@ module _ (d : Domain) (branch : Branch) (first tree after : List Hop) (place : �
     behind = sym e;
   }
 
-  -- and none where there is none
+  -- nothing is added if there is no link
   pub none_more : link_at d branch place ≡ None → AreAdded d branch first tree (suc place) None
   none_more e = record {
     added = λ whole far. subst (AreAsFarAsRoom tree) (sym (grown whole None e)) (h.added whole far);
     behind = sym e;
   }
 
--- one of some branches of no more than 65 nodes
+-- any of the branches has at most 65 nodes
 pub few_here : (paths : List (Vec (String Global) Global)) (index : ℕ) (branch : Vec (String Global) Global) →
     All (λ (b : Branch). length b ≤ 65) (branches_of paths) → index < length paths → get_or paths index branch ≡ branch → length branch.items ≤ 65
 few_here paths index branch few inside is =
     let there : All (λ (b : Vec (String Global) Global). length (branch_of b.items) ≤ 65) paths = unmapped paths few in
     omega (arith, there index branch inside, ap (λ (b : Vec (String Global) Global). length (branch_of b.items)) is, length-map branch.items string_bytes)
   where
-    -- where no branch has more than 65 nodes, no path that they are read from does
+    -- if no branch has more than 65 nodes, neither has the path from which it is read
     unmapped : (ps : List (Vec (String Global) Global)) → All (λ (b : Branch). length b ≤ 65) (branches_of ps) →
         All (λ (b : Vec (String Global) Global). length (branch_of b.items) ≤ 65) ps
     unmapped [] h = All-nil (λ (b : Vec (String Global) Global). length (branch_of b.items) ≤ 65)

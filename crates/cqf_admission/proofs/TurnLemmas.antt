@@ -1,4 +1,4 @@
--- A stream's turns among 80 cycles, and the sums of a link in these.
+-- A stream's turns among 80 cycles, and the sums of a link in these cycles.
 use Rattle.std.proofs.Common.{◌≡◌, ◌≢◌, ℕ, ◌+◌, ◌-◌, ◌*◌, ◌%◌, ◌<◌, ◌≤◌, ◌^◌, ◌∙◌, ◌==◌, ◌||◌, ◌&&◌, Bool, true, false, zero, suc, List, [], ◌∷◌, ◌++◌, length, get_or, set, take, drop, fold, map, max, replicate}
 use Rattle.std.proofs.Common.{ap, ap₂, arith, refl, subst, sym, inl, inr, eq-eqb, eqb-true, mod-lt, append-nil, add-zero}
 use Rattle.std.specs.Prelude.{All, AllPairs, Contains, nat_lt, if◌then◌else◌, slice_index_or}
@@ -18,7 +18,7 @@ use Rattle.cqf_model.specs.Paces.{is_turn}
 use Rattle.cqf_model.specs.Table.{links_in, uses}
 use Rattle.cqf_admission.specs.Turns.{AreKept, AreLessWhere, AreMoreWhere, HasIn, HasRoomFor, IsGoodPace, Turned, most_at, most_of, most_where, part_in, sum_on, turns_at}
 
--- that of a request that isn't refused repeats so
+-- the pace of a request that isn't refused is good
 pub asked_is_good : (asked : Asked) → is_pace asked.every asked.phase ≡ true → IsGoodPace (pace_of asked)
 asked_is_good asked t =
     let parts = and_parts (most_every % asked.every == 0) (nat_lt asked.phase asked.every) t in
@@ -30,11 +30,11 @@ asked_is_good asked t =
     }
 
 module _ (first every : ℕ) (low : first < every) where
-  -- one turn follows another by so many
+  -- a turn is followed by another `every` cycles later
   next_on : (turn : ℕ) → turn % every ≡ first → (turn + every) % every ≡ first
   next_on turn on = add-mod_right turn every ∙ on
 
-  -- and none is between them
+  -- no turn is between them
   between : (turn j : ℕ) → turn % every ≡ first → 0 < j → j < every → first ≢ (turn + j) % every
   between turn j on some below same =
       let e : (turn + j) % every ≡ (first + j) % every = sym (mod-add-mod turn every j) ∙ ap (λ z. (z + j) % every) on in
@@ -45,11 +45,11 @@ module _ (first every : ℕ) (low : first < every) where
             absurd (omega (arith, same, e, mod-eq-sub-mod g, mod-eq_of_lt over, g, below))
       ]
 
-  -- none is before the first
+  -- no turn is before the first
   before_first : (k : ℕ) → k < first → first ≢ k % every
   before_first k less same = let short : k < every = omega (arith, less, low) in absurd (omega (arith, same, mod-eq_of_lt short, less))
 
--- sums of which those in turns below one were changed by a number, and the others not
+-- sums, those of turns below an index changed by a number, and the others unchanged
 pub record AreSoFar (op : ℕ → ℕ → ℕ) (first every turn : ℕ) (before : List ℕ) (number : ℕ) (now : List ℕ) : Type 0 where
   pub on : turn % every ≡ first
   pub as_many : length now ≡ length before
@@ -57,12 +57,12 @@ pub record AreSoFar (op : ℕ → ℕ → ℕ) (first every turn : ℕ) (before 
   pub rest : (k : ℕ) → turn ≤ k → get_or now k 0 ≡ get_or before k 0
 
 module _ (op : ℕ → ℕ → ℕ) (nothing : (x : ℕ) → op x 0 ≡ x) (first every : ℕ) (low : first < every) (before : List ℕ) (number : ℕ) where
-  -- by nothing where it isn't a turn
+  -- a sum that isn't in a turn is unchanged
   unchanged : (k : ℕ) → first ≢ k % every → get_or before k 0 ≡ op (get_or before k 0) (if first == k % every then number else 0)
   unchanged k other =
       sym (nothing (get_or before k 0)) ∙ ap (op (get_or before k 0)) (sym (cond-false (first == k % every) number 0 (ne_eqb first (k % every) other)))
 
-  -- none so far
+  -- none is changed so far
   pub none_so_far : AreSoFar op first every first before number before
   none_so_far = record {
     on = mod-eq_of_lt low;
@@ -71,7 +71,7 @@ module _ (op : ℕ → ℕ → ℕ) (nothing : (x : ℕ) → op x 0 ≡ x) (firs
     rest = λ k more. refl;
   }
 
-  -- one turn more
+  -- one more turn
   pub one_more : (turn : ℕ) (now : List ℕ) → turn < length before → AreSoFar op first every turn before number now →
       AreSoFar op first every (turn + every) before number (set now turn (op (get_or now turn 0) number))
   one_more turn now inside so_far = record {
@@ -122,7 +122,7 @@ all_less first every turn before number now end so_far = record {
   each = λ k within. so_far.done k (omega (arith, within, end)) within;
 }
 
--- lists end to end of which only the first of so many holds anything
+-- lists end to end, if only the first of them is non-empty
 jump : (f : ℕ → List ℕ) (turn n : ℕ) → ((j : ℕ) → 0 < j → j < suc n → f (turn + j) ≡ []) → each_below f (turn + suc n) ≡ each_below f turn ++ f turn
 jump f turn n none =
     below_plus f turn (suc n)
@@ -131,16 +131,16 @@ jump f turn n none =
     ∙ ap₂ (λ a b. a ++ b) (ap f (add-zero turn)) (none_below (λ k. f (turn + (k + 1))) n (λ k l. none (k + 1) (omega arith) (omega (arith, l))))
     ∙ append-nil (f turn))
 
--- what changes nothing in each of some lists changes nothing end to end
+-- lists that each leave a maximum unchanged do so end to end
 idle_below : (f : ℕ → List ℕ) (n most : ℕ) → ((k m : ℕ) → fold max m (f k) ≡ m) → fold max most (each_below f n) ≡ most
 idle_below f zero most idle = refl
 idle_below f (suc n) most idle = fold-append max most (each_below f n) (f n) ∙ ap (λ z. fold max z (f n)) (idle_below f n most idle) ∙ idle n most
 
--- what stands in a turn, and nothing elsewhere
+-- the element in a turn, and nothing elsewhere
 abbrev pub kept_in : ℕ → ℕ → List ℕ → ℕ → List ℕ
 kept_in first every turns k = if first == k % every then get_or turns k 0 ∷ [] else []
 
--- the greatest of the turns below one
+-- the greatest sum of the turns below an index
 pub record IsMostSoFar (first every turn : ℕ) (turns : List ℕ) (most : ℕ) : Type 0 where
   pub on : turn % every ≡ first
   pub greatest : most ≡ fold max 0 (each_below (kept_in first every turns) turn)
@@ -152,7 +152,7 @@ module _ (first every : ℕ) (low : first < every) (turns : List ℕ) where
   nothing_at : (k : ℕ) → first ≢ k % every → in_turn k ≡ []
   nothing_at k other = cond-false (first == k % every) (get_or turns k 0 ∷ []) [] (ne_eqb first (k % every) other)
 
-  -- none before the first
+  -- no turn is before the first
   pub most_none : IsMostSoFar first every first turns 0
   most_none = record {
     on = mod-eq_of_lt low;
@@ -174,14 +174,14 @@ module _ (first every : ℕ) (low : first < every) (turns : List ℕ) where
     whole : suc (every - 1) ≡ every
     whole = omega (arith, low)
 
-  -- beyond the last sum there is nothing
+  -- after the last sum there is nothing
   beyond : (k m : ℕ) → length turns ≤ k → fold max m (in_turn k) ≡ m
   beyond k m past = elim (cases_Bool (first == k % every)) [
     | inl t ↦
         ap (fold max m) (cond-true (first == k % every) (get_or turns k 0 ∷ []) [] t) ∙ ap (max m) (get_or_past turns k 0 past) ∙ no_less m
     | inr f ↦ ap (fold max m) (cond-false (first == k % every) (get_or turns k 0 ∷ []) [] f)
   ] where
-    -- nothing is no more
+    -- the maximum with 0
     no_less : (n : ℕ) → max n 0 ≡ n
     no_less n = omega arith
 
@@ -203,17 +203,17 @@ always_turn pace depth cycle none =
     eq-eqb ((pace.phase + depth) % (pace.pause + 1)) (cycle % (pace.pause + 1))
     (ap (λ z. (pace.phase + depth) % (z + 1)) none ∙ mod-one (pace.phase + depth) ∙ sym (ap (λ z. cycle % (z + 1)) none ∙ mod-one cycle))
 
--- a turn is one again as many cycles later as all paces repeat in
+-- a cycle is a turn if and only if it is one modulo `most_every`
 pub turn_again : (pace : Pace) (depth cycle : ℕ) → most_every % (pace.pause + 1) ≡ 0 → is_turn pace depth (cycle % most_every) ≡ is_turn pace depth cycle
 turn_again pace depth cycle good =
     ap (λ z. (pace.phase + depth) % (pace.pause + 1) == z) (mod-mod_of_dvd (pace.pause + 1) cycle (dvd_of_mod-eq-zero (pace.pause + 1) good))
 
--- the links of a tree's hops stand at their places
+-- the links of a tree's hops have the same indexes
 link_at : (tree : List Hop) (k : ℕ) (none : Hop) → k < length tree → (k < length (links_in tree)) × ((get_or tree k none).link ≡ get_or (links_in tree) k 0)
 link_at tree k none inside =
     (omega (arith, inside, length-map tree (λ (hop : Hop). hop.link)), sym (get_or-map (λ (hop : Hop). hop.link) tree k none 0 inside))
 
--- a test that comes last, and fails
+-- or with `false`
 or_none : (b : Bool) → (b || false) ≡ b
 or_none true = refl
 or_none false = refl
@@ -225,7 +225,7 @@ module _ (tree : List Hop) (i : ℕ) (none : Hop) (inside : i < length tree) (ap
   abbrev passes : ℕ → ℕ → Hop → Bool
   passes l cycle h = (h.link == l) && is_turn pace h.depth cycle
 
-  -- no other hop is by its link
+  -- no other hop uses its link
   off_link : (k : ℕ) (d : Hop) → k < length tree → k ≢ i → (get_or tree k d).link ≢ hop.link
   off_link k d within other same =
       let one = link_at tree k d within in
@@ -252,20 +252,20 @@ module _ (tree : List Hop) (i : ℕ) (none : Hop) (inside : i < length tree) (ap
   next_uses : (l cycle : ℕ) → uses (take (i + 1) tree) pace l cycle ≡ (uses (take i tree) pace l cycle || passes l cycle hop)
   next_uses l cycle = list_any_more (passes l cycle) tree i none inside
 
-  -- with it they do where it is its turn
+  -- with it they use the link in its turns
   pub here_uses : (cycle : ℕ) → uses (take (i + 1) tree) pace hop.link cycle ≡ is_turn pace hop.depth cycle
   here_uses cycle =
       next_uses hop.link cycle
       ∙ ap₂ (λ (a b : Bool). a || (b && is_turn pace hop.depth cycle)) (not_before cycle) (eq-eqb hop.link hop.link refl)
 
-  -- and other links as before
+  -- other links are used as before
   pub there_uses : (l cycle : ℕ) → hop.link ≢ l → uses (take (i + 1) tree) pace l cycle ≡ uses (take i tree) pace l cycle
   there_uses l cycle other =
       next_uses l cycle
       ∙ ap (λ (b : Bool). uses (take i tree) pace l cycle || (b && is_turn pace hop.depth cycle)) (ne_eqb hop.link l other)
       ∙ or_none (uses (take i tree) pace l cycle)
 
-  -- so does the whole tree
+  -- the same for the whole tree
   pub whole_uses : (cycle : ℕ) → uses tree pace hop.link cycle ≡ is_turn pace hop.depth cycle
   whole_uses cycle = elim (cases_Bool (is_turn pace hop.depth cycle)) [
     | inl t ↦
@@ -285,17 +285,17 @@ module _ (tree : List Hop) (i : ℕ) (none : Hop) (inside : i < length tree) (ap
         ∙ sym f
   ]
 
--- in a tree no two hops of which are by the same link, the link of a hop is used where it is the hop's turn
+-- if no two hops of a tree use the same link, the link of a hop is used in the hop's turns
 pub uses_of_hop : (tree : List Hop) (pace : Pace) (hop : Hop) (cycle : ℕ) → AllPairs (λ (a b : ℕ). a ≢ b) (links_in tree) → Contains tree hop →
     uses tree pace hop.link cycle ≡ is_turn pace hop.depth cycle
 uses_of_hop tree pace hop cycle apart there =
     subst (λ (h : Hop). uses tree pace h.link cycle ≡ is_turn pace h.depth cycle) there.2 (whole_uses tree there.0 hop there.1 apart pace cycle)
 
--- a sum in a cycle is that in one of the first 80
+-- a sum in a cycle is that in one of the first 80 cycles
 pub sum_again : (turned : Turned) (l cycle : ℕ) → sum_on turned l (cycle % most_every) ≡ sum_on turned l cycle
 sum_again turned l cycle = ap (λ z. slice_index_or turned.sums (l * most_every + z) 0) (mod-mod cycle most_every)
 
--- the greatest sum of a hop's link in the cycles of a pace is the greatest in cycles in which a stream of it uses the link
+-- the greatest sum of a hop's link in the cycles of a pace is the greatest over the cycles in which a stream with it uses the link
 pub most_of_uses : (turned : Turned) (tree : List Hop) (pace : Pace) (hop : Hop) (costs : ℕ → ℕ) → AllPairs (λ (a b : ℕ). a ≢ b) (links_in tree) →
     Contains tree hop → ((cycle : ℕ) → cycle < most_every → sum_on turned hop.link cycle ≡ costs cycle) →
     most_at turned hop.link pace hop.depth ≡ fold max 0 (each_below (λ cycle. if uses tree pace hop.link cycle then costs cycle ∷ [] else []) most_every)
@@ -304,14 +304,14 @@ most_of_uses turned tree pace hop costs apart there each =
     (λ cycle. if uses tree pace hop.link cycle then costs cycle ∷ [] else []) most_every
     (λ cycle below. ap₂ (λ (b : Bool) (n : ℕ). if b then n ∷ [] else []) (sym (uses_of_hop tree pace hop cycle apart there)) (each cycle below)))
 
--- and the greatest sum of a link in all cycles
+-- the same for the greatest sum of a link in all cycles
 pub most_of_costs : (turned : Turned) (l : ℕ) (costs : ℕ → ℕ) → ((cycle : ℕ) → cycle < most_every → sum_on turned l cycle ≡ costs cycle) →
     most_of turned l ≡ fold max 0 (each_below (λ cycle. costs cycle ∷ []) most_every)
 most_of_costs turned l costs each =
     ap (fold max 0) (same_below (λ cycle. sum_on turned l cycle ∷ []) (λ cycle. costs cycle ∷ []) most_every
     (λ cycle below. ap (λ (n : ℕ). n ∷ []) (each cycle below)))
 
--- a stretch of a list that was written to: what stands in it, before it and behind it
+-- a part of a list that was overwritten: the elements in it, before it and after it
 module _ (sums ys : List ℕ) (a n : ℕ) (fits : a + n ≤ length sums) (long : length ys ≡ n) where
   abbrev pub written : List ℕ
   written = take a sums ++ (ys ++ drop n (drop a sums))
@@ -347,7 +347,7 @@ module _ (sums ys : List ℕ) (a n : ℕ) (fits : a + n ≤ length sums) (long :
       ∙ get_or-drop a sums (n + (k - a - n)) 0
       ∙ ap (λ j. get_or sums j 0) back
 
--- the same stretch as a write has it
+-- the part as a write has it
 pub written_part : (sums given ys : List ℕ) (place l : ℕ) → place ≡ l → given ≡ sums →
     take (place * 80) given ++ (ys ++ drop (place * 80 + 80 - place * 80) (drop (place * 80) given))
     ≡ take (l * most_every) sums ++ (ys ++ drop most_every (drop (l * most_every) sums))
@@ -356,26 +356,26 @@ written_part sums given ys place l here same =
     ap (λ n. take (place * 80) given ++ (ys ++ drop n (drop (place * 80) given))) e
     ∙ ap₂ (λ (p : ℕ) (xs : List ℕ). take (p * 80) xs ++ (ys ++ drop 80 (drop (p * 80) xs))) here same
 
--- it leaves as many as there were
+-- a write doesn't change the length
 pub wrote_long : (given ys : List ℕ) (place : ℕ) → place * 80 + 80 ≤ length given → length ys ≡ 80 →
     length (take (place * 80) given ++ (ys ++ drop (place * 80 + 80 - place * 80) (drop (place * 80) given))) ≡ length given
 wrote_long given ys place fits long =
     let e : place * 80 + 80 - place * 80 ≡ 80 = omega arith in
     ap (λ n. length (take (place * 80) given ++ (ys ++ drop n (drop (place * 80) given)))) e ∙ written_length given ys (place * 80) 80 fits long
 
--- and what is read of it
+-- the part as a read has it
 pub read_part : (turned : Turned) (given : List ℕ) (place l : ℕ) → place ≡ l → given ≡ turned.sums →
     take (place * 80 + 80 - place * 80) (drop (place * 80) given) ≡ turns_at turned l
 read_part turned given place l here same =
     let e : place * 80 + 80 - place * 80 ≡ 80 = omega arith in
     ap (λ n. take n (drop (place * 80) given)) e ∙ ap₂ (λ (p : ℕ) (xs : List ℕ). take 80 (drop (p * 80) xs)) here same
 
--- it has a sum for each of 80 cycles
+-- a link has a sum for each of 80 cycles
 pub turns_long : (turned : Turned) (l : ℕ) → l < turned.links → length turned.sums ≡ turned.links * most_every → length (turns_at turned l) ≡ most_every
 turns_long turned l low whole =
     length-take-le most_every (drop (l * most_every) turned.sums) (omega (arith, low, whole, length-drop (l * most_every) turned.sums))
 
--- the link of a hop is one of those for which there are sums
+-- the link of a hop has sums
 pub low_at : (tree : List Hop) (i : ℕ) (none : Hop) (n : ℕ) → i < length tree → All (λ (l : ℕ). l < n) (links_in tree) → (get_or tree i none).link < n
 low_at tree i none n inside all =
     let at = link_at tree i none inside in
@@ -413,7 +413,7 @@ module _ (now : Turned) (here : ℕ) (low : here < now.links) (whole : length no
   abbrev from : ℕ
   from = here * most_every
 
-  -- they stand among the others
+  -- they are within the list
   fits : from + most_every ≤ length now.sums
   fits = omega (arith, low, whole)
 
@@ -430,7 +430,7 @@ module _ (now : Turned) (here : ℕ) (low : here < now.links) (whole : length no
   pub sum_here : (c : ℕ) → c < most_every → sum_on rewritten here c ≡ get_or ys c 0
   sum_here c below = ap (λ z. get_or wrote (from + z) 0) (mod-eq_of_lt below) ∙ inside_written now.sums ys from most_every fits long c below
 
-  -- and those of another as they were
+  -- the sums of other links are unchanged
   pub sum_there : (l cycle : ℕ) → here ≢ l → sum_on rewritten l cycle ≡ sum_on now l cycle
   sum_there l cycle other =
       let c = cycle % most_every in
@@ -440,7 +440,7 @@ module _ (now : Turned) (here : ℕ) (low : here < now.links) (whole : length no
         | inr more ↦ behind_written now.sums ys from most_every fits long (l * most_every + c) (omega (arith, more, other, below))
       ]
 
-  -- so is the greatest
+  -- so is the greatest of each
   pub kept_on : (greatest : List ℕ) (most : ℕ) → AreKept now greatest → most ≡ fold max 0 ys → AreKept rewritten (set greatest here most)
   kept_on greatest most kept is = record {
     whole = wrote_length;
@@ -463,7 +463,7 @@ module _ (now : Turned) (here : ℕ) (low : here < now.links) (whole : length no
         ∙ same_below (λ k. get_or ys k 0 ∷ []) (λ cycle. sum_on rewritten here cycle ∷ []) most_every
         (λ c below. ap (λ (n : ℕ). n ∷ []) (sym (sum_here c below))))
 
--- what is kept as the greatest of a link's sums is that
+-- the stored greatest sum of a link is its greatest sum
 pub greatest_is : (turned : Turned) (greatest : List ℕ) → AreKept turned greatest → (place l default : ℕ) → l < turned.links → place ≡ l →
     get_or greatest place default ≡ most_of turned l
 greatest_is turned greatest kept place l default low is =
@@ -474,7 +474,7 @@ pub most_kept : (turned : Turned) (greatest : List ℕ) → AreKept turned great
 most_kept turned greatest kept place l default low is =
     greatest_is turned greatest kept place l default low is ∙ sym (most_of_link turned l (turns_long turned l low kept.whole))
 
--- nothing stands anywhere in so many nothings
+-- each element of a list of zeros is 0
 pub none_of_each : (n : ℕ) (xs : List ℕ) → xs ≡ replicate {A = ℕ} n 0 → (k : ℕ) → get_or xs k 0 ≡ 0
 none_of_each n xs are k = ap (λ (ys : List ℕ). get_or ys k 0) are ∙ nothing n k
   where
@@ -483,7 +483,7 @@ none_of_each n xs are k = ap (λ (ys : List ℕ). get_or ys k 0) are ∙ nothing
     nothing (suc m) zero = refl
     nothing (suc m) (suc k) = nothing m k
 
--- of sums of nothing the greatest are nothing
+-- the greatest of zeros is 0
 pub kept_none : (turned : Turned) (greatest : List ℕ) → length turned.sums ≡ turned.links * most_every → length greatest ≡ turned.links →
     ((k : ℕ) → get_or turned.sums k 0 ≡ 0) → ((k : ℕ) → get_or greatest k 0 ≡ 0) → AreKept turned greatest
 kept_none turned greatest whole as_many none no_greatest = record {
@@ -491,11 +491,11 @@ kept_none turned greatest whole as_many none no_greatest = record {
   as_many = as_many;
   each = λ l within. no_greatest l ∙ sym (idle_below (λ cycle. sum_on turned l cycle ∷ []) most_every 0 (λ k m. idle m (sum_on turned l k) (none (l * most_every + k % most_every))));
 } where
-  -- nothing is no more
+  -- the maximum with 0
   idle : (m n : ℕ) → n ≡ 0 → max m n ≡ m
   idle m n e = omega (arith, e)
 
--- the greatest of so many is one of them, and moves with them
+-- the greatest of the sums is one of them, and changes with them
 module _ (n : ℕ) where
   pub most_more : (xs : List ℕ) (most : ℕ) → fold max (most + n) (map (λ x. x + n) xs) ≡ fold max most xs + n
   most_more [] most = refl
@@ -511,7 +511,7 @@ module _ (n : ℕ) where
       step : (a b : ℕ) → max (a - n) (b - n) ≡ max a b - n
       step a b = omega arith
 
-  -- from nothing on, where there are some
+  -- starting from 0, if there are any
   pub more_of_all : (xs : List ℕ) → 0 < length xs → fold max 0 (map (λ x. x + n) xs) ≡ fold max 0 xs + n
   more_of_all [] some = absurd (omega (arith, some))
   more_of_all (x ∷ xs) some = ap (λ m. fold max m (map (λ y. y + n) xs)) (first (x + n)) ∙ most_more xs x ∙ ap (λ m. fold max m xs + n) (sym (first x))
@@ -525,14 +525,14 @@ module _ (n : ℕ) where
       nothing : 0 ≡ 0 - n
       nothing = omega arith
 
-  -- it is no more than any that is above each
+  -- it is at most any bound of all of them
   pub most_within : (xs : List ℕ) (most : ℕ) → most + n < 2 ^ 64 → ((k : ℕ) → k < length xs → get_or xs k 0 + n < 2 ^ 64) → fold max most xs + n < 2 ^ 64
   most_within [] most low each = low
   most_within (x ∷ xs) most low each =
       let here : x + n < 2 ^ 64 = each 0 (omega arith) in
       most_within xs (max most x) (omega (arith, low, here)) (λ k below. each (suc k) (omega (arith, below)))
 
-  -- and no less than each
+  -- it is at least each of them
   pub most_holds : (xs : List ℕ) (most : ℕ) → n ≤ most → n ≤ fold max most xs
   most_holds [] most e = e
   most_holds (x ∷ xs) most e = most_holds xs (max most x) (omega (arith, e))
@@ -541,12 +541,12 @@ module _ (n : ℕ) where
   most_of_some_holds [] some each = absurd (omega (arith, some))
   most_of_some_holds (x ∷ xs) some each = let here : n ≤ x = each 0 (omega arith) in most_holds xs (max 0 x) (omega (arith, here))
 
--- sums to which a number came from hops, or from which it went
+-- sums to which a number was added for some hops, or from which it was subtracted
 pub record AreFor (op : ℕ → ℕ → ℕ) (before : Turned) (hops : List Hop) (pace : Pace) (number : ℕ) (after : Turned) : Type 0 where
   pub links : after.links ≡ before.links
   pub each : (l cycle : ℕ) → l < before.links → sum_on after l cycle ≡ op (sum_on before l cycle) (part_in hops pace number l cycle)
 
--- from no hops
+-- for no hops
 pub for_none : (op : ℕ → ℕ → ℕ) → ((x : ℕ) → op x 0 ≡ x) → (before : Turned) (tree : List Hop) (pace : Pace) (number : ℕ) →
     AreFor op before (take 0 tree) pace number before
 for_none op nothing before tree pace number = record {
@@ -561,7 +561,7 @@ module _ (op : ℕ → ℕ → ℕ) (nothing : (x : ℕ) → op x 0 ≡ x) (tree
   abbrev this : Hop
   this = get_or tree i none
 
-  -- the sums of its link are as they were
+  -- the sums of its link are unchanged
   as_before : (c : ℕ) → sum_on now this.link c ≡ sum_on before this.link c
   as_before c =
       so_far.each this.link c low
@@ -571,7 +571,7 @@ module _ (op : ℕ → ℕ → ℕ) (nothing : (x : ℕ) → op x 0 ≡ x) (tree
   within : this.link < now.links
   within = omega (arith, low, so_far.links)
 
-  -- one hop more
+  -- one more hop
   for_next : (ys : List ℕ) (long : length ys ≡ most_every) →
       ((c : ℕ) → c < most_every → get_or ys c 0 ≡ op (get_or (turns_at now this.link) c 0) (if is_turn pace this.depth c then number else 0)) →
       AreFor op before (take (i + 1) tree) pace number (rewritten now this.link within whole ys long)
@@ -600,7 +600,7 @@ module _ (op : ℕ → ℕ → ℕ) (nothing : (x : ℕ) → op x 0 ≡ x) (tree
         (turn_of_link now this.link c below ∙ sum_again now this.link cycle ∙ as_before cycle)
         (turn_again pace this.depth cycle good ∙ sym (here_uses tree i none inside apart pace cycle))
 
-  -- as a loop has it, with the greatest sum
+  -- the same as a loop has it, with the greatest sum
   pub hop_done : (ys : List ℕ) (place : ℕ) (given later greatest : List ℕ) (most : ℕ) → place ≡ this.link → given ≡ now.sums →
       later ≡ take (place * 80) given ++ (ys ++ drop (place * 80 + 80 - place * 80) (drop (place * 80) given)) → length ys ≡ most_every →
       ((c : ℕ) → c < most_every → get_or ys c 0 ≡ op (get_or (turns_at now this.link) c 0) (if is_turn pace this.depth c then number else 0)) →
@@ -614,7 +614,7 @@ module _ (op : ℕ → ℕ → ℕ) (nothing : (x : ℕ) → op x 0 ≡ x) (tree
         subst (λ (xs : List ℕ). AreFor op before (take (i + 1) tree) pace number (record { links = now.links; sums = xs })) (sym there) (for_next ys long done),
       )
 
--- there is room at the next hop yet, as there was
+-- there is still room at the next hop, as there was
 pub room_at : (tree : List Hop) (i : ℕ) (none : Hop) → i < length tree → AllPairs (λ (a b : ℕ). a ≢ b) (links_in tree) → (pace : Pace) (number : ℕ)
     (before now : Turned) → (get_or tree i none).link < before.links → HasRoomFor before tree pace number →
     AreFor (λ x y. x + y) before (take i tree) pace number now →
@@ -628,7 +628,7 @@ room_at tree i none inside apart pace number before now low room so_far turn bel
     let part : part_in tree pace number l turn ≡ number = ap (λ (b : Bool). if b then number else 0) (whole_uses tree i none inside apart pace turn ∙ t) in
     omega (arith, here, part, room l turn low)
 
--- and it is there yet, as it was
+-- the number is still in the sums, as it was
 pub held_at : (tree : List Hop) (i : ℕ) (none : Hop) → i < length tree → AllPairs (λ (a b : ℕ). a ≢ b) (links_in tree) → (pace : Pace) (number : ℕ)
     (before now : Turned) → (get_or tree i none).link < before.links → HasIn before tree pace number →
     AreFor (λ x y. x - y) before (take i tree) pace number now →
@@ -642,7 +642,7 @@ held_at tree i none inside apart pace number before now low held so_far turn bel
     let part : part_in tree pace number l turn ≡ number = ap (λ (b : Bool). if b then number else 0) (whole_uses tree i none inside apart pace turn ∙ t) in
     omega (arith, here, part, held l turn low)
 
--- the greatest sum of a link in the cycles of a pace, of its sums by cycle
+-- the greatest sum of a link in the cycles of a pace, from its sums by cycle
 pub most_of_turns : (turned : Turned) (l : ℕ) (pace : Pace) (depth : ℕ) →
     most_where (λ turn. is_turn pace depth turn) (turns_at turned l) ≡ most_at turned l pace depth
 most_of_turns turned l pace depth =
@@ -650,13 +650,13 @@ most_of_turns turned l pace depth =
     (λ cycle. if is_turn pace depth cycle then sum_on turned l cycle ∷ [] else []) most_every
     (λ c below. ap (λ (n : ℕ). if is_turn pace depth c then n ∷ [] else []) (turn_of_link turned l c below)))
 
--- which is that in the cycles of a stream without pauses
+-- it is that in the cycles of a stream without pauses
 pub most_of_each : (turned : Turned) (l : ℕ) (pace : Pace) (depth : ℕ) → pace.pause ≡ 0 → most_of turned l ≡ most_at turned l pace depth
 most_of_each turned l pace depth none =
     ap (fold max 0) (same_below (λ cycle. sum_on turned l cycle ∷ []) (λ cycle. if is_turn pace depth cycle then sum_on turned l cycle ∷ [] else []) most_every
     (λ c below. ap (λ (b : Bool). if b then sum_on turned l c ∷ [] else []) (sym (always_turn pace depth c none))))
 
--- the greatest in the turns of a pace, from its parts
+-- the greatest sum in the turns of a pace, from its parts
 pub most_in_turns : (pace : Pace) (depth p d q : ℕ) (xs ys : List ℕ) → p ≡ pace.phase → d ≡ depth → q ≡ pace.pause → xs ≡ ys →
     most_where (λ turn. (p + d) % (q + 1) == turn % (q + 1)) xs ≡ most_where (λ turn. is_turn pace depth turn) ys
 most_in_turns pace depth p d q xs ys e f g h =

@@ -1,4 +1,4 @@
--- What a request of good form is beside the figures.
+-- A request of good form, compared with the figures.
 use Rattle.std.proofs.Common.{◌*◌, ◌≡◌, ◌≢◌, ℕ, ◌+◌, ◌-◌, ◌<◌, ◌≤◌, ◌^◌, Bool, true, false, List, Option, None, length, refl, sym, ap, ◌∙◌, subst, arith}
 use Rattle.std.specs.Prelude.{All, AllPairs, if◌then◌else◌}
 use Rattle.std.proofs.Math.Nat.{div-le_self}
@@ -28,7 +28,7 @@ use Rattle.cqf_admission.specs.Weighing.{is_taken, row_by, stand_refusal}
 use Rattle.cqf_admission.proofs.GrantLemmas.{form_paced, granted_countable, refusal_later}
 use Rattle.cqf_admission.proofs.Told.{costs, free_where_none, state_told}
 
--- a stream more, of a request that nothing speaks against
+-- one more stream, from a request with no reason against it
 pub record IsNew (d : Domain) (entries : List Recorded) (before : Figures) (asked : Asked) (form : GoodForm) : Type 0 where
   pub none : refusal_of d (held_in d entries (seals entries)) asked ≡ None
   pub few_hops : length form.tree.now ≤ most_hops
@@ -37,12 +37,12 @@ pub record IsNew (d : Domain) (entries : List Recorded) (before : Figures) (aske
   pub summable : (number : ℕ) (effect : Cycle) → IsSummable (length d.links) (row_by form number effect)
   pub fits : (l cycle number : ℕ) (effect : Cycle) → held_cost before.stands l cycle + cost_on (row_by form number effect) l cycle < 2 ^ 64
 
--- where a first reason isn't due
+-- the first reason isn't due
 first_not_due : (b : Bool) (rest : Option Refused) → or_else (refused_if b NameHeld) rest ≡ None → b ≡ false
 first_not_due true rest e = absurd cc
 first_not_due false rest e = refl
 
--- a part of a cost is no more than it
+-- a part of a cost is at most the cost
 part_within : (b : Bool) (cost : ℕ) → (if b then cost else 0) ≤ cost
 part_within true cost = omega arith
 part_within false cost = omega arith
@@ -59,7 +59,7 @@ module _ (d : Domain) (asked : Asked) (form : GoodForm) (g : IsGoodFormOf d aske
   pub inside : All (λ (hop : Hop). hop.link < length d.links) form.tree.now
   inside = subst (All (λ (hop : Hop). hop.link < length d.links)) (sym g.tree) (hops_inside d asked.paths)
 
-  -- each once
+  -- each link occurs once
   pub apart : AllPairs (λ (a b : ℕ). a ≢ b) (links_in form.tree.now)
   apart = subst (λ (hops : List Hop). AllPairs (λ (a b : ℕ). a ≢ b) (links_in hops)) (sym g.tree) (hops_apart d asked.paths)
 
@@ -81,7 +81,7 @@ module _ (d : Domain) (asked : Asked) (form : GoodForm) (g : IsGoodFormOf d aske
         withdrawn = None;
       }
 
-  -- what it costs can be added to sums by link
+  -- its cost can be added to sums by link
   form_summable : (number : ℕ) (effect : Cycle) → IsSummable (length d.links) (row_by form number effect)
   form_summable number effect = record {
     countable = granted_countable d (row_by form number effect) asked number effect.0 (form_row number effect.0) g.most_octets;
@@ -90,7 +90,7 @@ module _ (d : Domain) (asked : Asked) (form : GoodForm) (g : IsGoodFormOf d aske
 
 module _ (d : Domain) (entries : List Recorded) (before : Figures) (r : IsStateOf d entries before) (asked : Asked) (form : GoodForm)
     (g : IsGoodFormOf d asked form) where
-  -- the reasons against it are those that the figures tell
+  -- the reasons against it are those that the figures give
   pub refusal_told : refusal_of d (held_in d entries (seals entries)) asked
       ≡ stand_refusal d before.stands form.name.now (cost_of form.octets) form.pace form.tree.now
   refusal_told =
@@ -98,7 +98,7 @@ module _ (d : Domain) (entries : List Recorded) (before : Figures) (r : IsStateO
       ∙ sym (state_told d entries asked before.stands form.name.now (cost_of form.octets) form.pace form.tree.now r.0.are_streams g.name
       (ap cost_of g.octets) g.paced g.tree)
 
-  -- its cost has room in a sum
+  -- there is room for its cost in a sum
   fits : HeldAreSound → IsAccepted d → (l cycle number : ℕ) (effect : Cycle) →
       held_cost before.stands l cycle + cost_on (row_by form number effect) l cycle < 2 ^ 64
   fits sound ok l cycle number effect =
@@ -117,7 +117,7 @@ module _ (d : Domain) (entries : List Recorded) (before : Figures) (r : IsStateO
         g.most_octets,
       )
 
-  -- where the figures speak against nothing, it is a stream more
+  -- if the figures give no reason against it, it is one more stream
   pub is_new : HeldAreSound → IsAccepted d → stand_refusal d before.stands form.name.now (cost_of form.octets) form.pace form.tree.now ≡ None → IsNew d entries before asked form
   is_new sound ok free =
       let none : refusal_of d (held_in d entries (seals entries)) asked ≡ None = refusal_told ∙ free in

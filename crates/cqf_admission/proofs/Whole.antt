@@ -21,14 +21,14 @@ use Rattle.cqf_admission.specs.Streams.{stand_of}
 use Rattle.cqf_admission.proofs.Ring.{ring_sealed, ring_withdrawn}
 use Rattle.cqf_admission.proofs.Streams.{ListsEnds}
 
--- the ring of a legal history's streams has, in the slot of the next cycle, just those that end in it
+-- the slot of the next cycle lists exactly the streams of a legal history that end in it
 abbrev pub RingListsEnds : Type 0
 RingListsEnds =
     (d : Domain) (entries : List Recorded) (slots : List (List ℕ)) → IsLegalHistory d entries →
     IsRing (map (stand_of (seals entries)) (streams_of d entries)) slots →
     ListsEnds (streams_of d entries) (seals entries) (slice_index_or slots ((seals entries + 1) % 128) [])
 
--- it is a ring yet, with a slot emptied and its streams let go of, and with a held stream withdrawn and listed
+-- it is still a ring after a slot is emptied and its streams are released, and after a held stream is withdrawn and listed
 abbrev pub RingStaysSealed : Type 0
 RingStaysSealed =
     (stands after : List Standing) (slots : List (List ℕ)) (slot : ℕ) → IsRing stands slots → slot < 128 → AreLetGo (slice_index_or slots slot []) stands after →
@@ -40,7 +40,7 @@ RingStaysWithdrawn =
     ((d : Standing) → slice_index_or stands number d ≡ stand) → stand.row.withdrawn ≡ None → slot ≡ (cycle.0 + residence stand.row) % 128 → slot < 128 →
     IsRing (slice_set stands number (with_row stand (ended stand.row cycle))) (slice_set slots slot (slice_index_or slots slot [] ++ number ∷ []))
 
--- a held row stands in the slot of the next cycle if it ends there
+-- a held row is in the slot of the next cycle if and only if it ends there
 slot_is_end : (d : Domain) (entries : List Recorded) (row : Row) → IsLegalHistory d entries →
     Contains (streams_of d entries) row →
     in_slot ((seals entries + 1) % 128) (stand_of (seals entries) row) ≡ (is_held row (seals entries) && ends_in (seals entries + 1) row)

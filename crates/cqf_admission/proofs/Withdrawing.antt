@@ -1,4 +1,4 @@
--- The figures of a history with a withdrawal more.
+-- The figures of a history with one more withdrawal.
 use Rattle.std.proofs.Common.{◌≡◌, ℕ, ◌+◌, ◌-◌, ◌<◌, ◌%◌, Bool, List, None, Ok, [], ◌∷◌, ◌++◌, map}
 use Rattle.std.proofs.Common.{get_or, set, length, refl, sym, ap, ◌∙◌, subst, arith, mod-lt}
 use Rattle.std.specs.Prelude.{if◌then◌else◌}
@@ -68,7 +68,7 @@ module _ (d : Domain) (entries : List Recorded) (before : Figures) (r : IsStateO
       ∙ one_ends (streams_of d entries) 0 f.row.no (seals entries) number f.row (λ k one at. numbered d entries r.0.running.legal k one at ∙ omega arith)
       (f.number_is ∙ omega arith) f.at
 
-  -- it is held on
+  -- it is still held
   held_on : is_held gone (seals entries) ≡ is_held f.row (seals entries)
   held_on =
       ap (λ (b : Bool). is_held (if b then gone else f.row) (seals entries)) (sym (eq-eqb f.row.no f.row.no refl))
@@ -86,14 +86,14 @@ module _ (d : Domain) (entries : List Recorded) (before : Figures) (r : IsStateO
   cycle : seals all ≡ seals entries
   cycle = sealed_same d entries before r goes_on count seat (Withdraws name) (Ok receipt) refl few due
 
-  -- what is held behind it
+  -- what is held after it
   held_now : held_in d all (seals all) ≡ map (ended_row f.row.no (seals entries)) (held_in d entries (seals entries))
   held_now =
       ap (λ (es : List Recorded). held_in d es (seals es)) (sym (same d entries before r goes_on count seat (Withdraws name) (Ok receipt) refl few due))
       ∙ (withdraws d entries (held_in d entries (seals entries)) (next_number d entries) seat name f.row r.0.running.legal
       (record { held = refl; number = refl }) f.named open_end).held
 
-  -- the ring of them
+  -- their ring
   ring : IsRing after.stands after.slots
   ring =
       let stand = as_stand f.row in

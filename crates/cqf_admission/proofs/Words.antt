@@ -12,7 +12,7 @@ use Rattle.cqf_admission.specs.Lines.{is_word, is_word_byte}
 word_byte-ascii : (b : ℕ) → is_word_byte b ≡ true → b < 128
 word_byte-ascii b e = grind (arith, nat_tests)
 
--- bytes that may stand in a word are UTF-8
+-- bytes of words are UTF-8
 word_bytes-utf8 : (bs : List ℕ) → list_all is_word_byte bs ≡ true → IsUtf8 bs
 word_bytes-utf8 bs e = IsUtf8-from_ascii bs (IsAscii-from_all bs
     (λ k d h. word_byte-ascii (slice_index_or bs k d) (AllPass-from_list_all is_word_byte bs e k d h)))

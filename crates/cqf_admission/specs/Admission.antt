@@ -1,4 +1,4 @@
--- What an administration is to those who call it, and what its calls do.
+-- The state of an admission controller as its callers see it, and what its calls do.
 use Rattle.std.specs.Prelude.{ℕ, ◌≡◌, ◌+◌, ◌-◌, ◌≤◌, ◌<◌, ◌↔◌, ◌++◌, [], ◌∷◌, Bool, true, false, List, Result, Ok, Err, filter, length, map, string_bytes}
 use Rattle.std.specs.Arc.{arc_value}
 use Rattle.cqf_model.specs.declared.history.Receipt.{Receipt}
@@ -30,7 +30,7 @@ pub record Administration : Type 0 where
 abbrev pub held_of : Administration → List Row
 held_of a = held_in a.domain a.entries (seals a.entries)
 
--- an entry as the definitions have it
+-- a call as the definitions have it
 abbrev pub act_of : Call → Act
 act_of (Admit request) = Admits (asked_of request)
 act_of (AdmitPaced request) = Admits (asked_paced (arc_value request))
@@ -40,16 +40,16 @@ act_of Seal = Seals
 abbrev pub recorded_of : Entry → Recorded
 recorded_of entry = record { seat = entry.seat; act = act_of entry.call; reply = entry.reply }
 
--- how many entries aren't Seals
+-- the number of entries that aren't Seals
 abbrev pub calls : List Recorded → ℕ
 calls entries = length entries - seals entries
 
--- the answer that a result is
+-- the answer of an entry, given the result of a call
 abbrev pub reply_of : Result Receipt Refused → Reply
 reply_of (Ok receipt) = Accepted receipt
 reply_of (Err refused) = RefusedFor refused
 
--- whether a call with this result enters the history: all do but those that find it full, or no memory
+-- whether a call with this result enters the history: each call does, unless it is refused with `HistoryFull` or `Memory`
 abbrev pub is_entered : Result Receipt Refused → Bool
 is_entered (Ok receipt) = true
 is_entered (Err HistoryFull) = false
@@ -68,8 +68,8 @@ is_entered (Err (BudgetShort link left)) = true
 is_entered (Err NotHeld) = true
 is_entered (Err AlreadyWithdrawn) = true
 
--- what a call does: where the history is full it is refused for that, before all else; what isn't entered changes
--- nothing; and what is entered has the answer that is due, in the entry and to the caller
+-- what a call does. It is refused with `HistoryFull` if and only if the history is full; this check comes first. A call that isn't entered
+-- changes nothing. A call that is entered has the answer that is due, both in its entry and as its result
 pub record Answers (old new : Administration) (seat : ℕ) (act : Act) (result : Result Receipt Refused) : Type 0 where
   pub full : (result ≡ Err HistoryFull) ↔ (most_calls ≤ calls old.entries)
   pub unchanged : is_entered result ≡ false → new ≡ old
@@ -77,25 +77,25 @@ pub record Answers (old new : Administration) (seat : ℕ) (act : Act) (result :
   pub due : is_entered result ≡ true → reply_of result ≡ reply_to old.domain old.entries act
   pub entered : is_entered result ≡ true → new.entries ≡ with_entry old.entries seat act (reply_of result)
 
--- what a request leaves held: its stream with the others, where it is granted
+-- what is held after a request: if it is granted, its stream in addition to those held before; otherwise the same streams
 abbrev pub HoldsOneMore : Administration → Administration → Asked → Result Receipt Refused → Type 0
 HoldsOneMore old new asked (Ok receipt) = held_of new ≡ held_of old ++ granted_row old.domain receipt.no receipt.effect.0 asked ∷ []
 HoldsOneMore old new asked (Err refused) = held_of new ≡ held_of old
 
--- what a withdrawal leaves held: the same streams, of which that of the number ends
+-- what is held after a withdrawal: the same streams, and if it is accepted, the one with the receipt's number is withdrawn
 abbrev pub EndsOne : Administration → Administration → Result Receipt Refused → Type 0
 EndsOne old new (Ok receipt) = held_of new ≡ map (ended_row receipt.no receipt.effect.0) (held_of old)
 EndsOne old new (Err refused) = held_of new ≡ held_of old
 
--- what a Seal leaves held: of the streams in its table those whose last frame hasn't left by the next cycle. The table's
--- trees are trees of the domain
+-- what is held after a Seal: of the streams in the Seal's table, those whose last frame hasn't left by the next cycle. The table's trees
+-- are trees of the domain
 pub record LetsGo (old new : Administration) (table : CycleTable) : Type 0 where
   pub rows : table.rows ≡ held_of old
   pub held : held_of new ≡ filter (λ (row : Row). is_held row (seals old.entries + 1)) (held_of old)
   pub trees : AreTrees old.domain table.rows
   pub links : AreAlongLinks old.domain table.rows
 
--- what a Seal does: it enters itself, and gives the table of the cycle that it closes; a refused one changes nothing
+-- what a Seal does: it enters itself and returns the table of the cycle that it closes. A refused Seal changes nothing
 abbrev pub Closes : Administration → Administration → ℕ → Result CycleTable SealFault → Type 0
 Closes old new seat (Ok table) =
     (seals old.entries < most_cycles) × (new.domain ≡ old.domain) × (new.entries ≡ with_entry old.entries seat Seals Sealed) ×
@@ -103,7 +103,7 @@ Closes old new seat (Ok table) =
 Closes old new seat (Err fault.CyclesSpent) = (most_cycles ≤ seals old.entries) × (new ≡ old)
 Closes old new seat (Err fault.Memory) = (seals old.entries < most_cycles) × (new ≡ old)
 
--- what an administration runs on instead of its history: the held streams, the number of the next one, and the Seals
+-- the state that an administration keeps in place of its history: the held streams, the number of the next stream, and the number of Seals
 pub record IsRunning (d : Domain) (entries : List Recorded) (rows : List Row) (next sealed : ℕ) : Type 0 where
   pub legal : IsLegalHistory d entries
   pub state : IsState d entries rows next

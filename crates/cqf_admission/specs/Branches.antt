@@ -1,4 +1,4 @@
--- What looking the branches of a request over gives.
+-- The check of a request's branches, and its result.
 use Rattle.std.specs.Prelude.{ℕ, ◌≡◌, ◌+◌, List, [], ◌∷◌, ◌++◌, if◌then◌else◌, Option, Some, None, Result, Ok, Err, Vec, String, ◌<◌, ◌⊎◌, ◌==◌}
 use Rattle.std.specs.Prelude.{get_or, is_none, length, map, nat_lt, option_map, position, string_bytes}
 use Rattle.std.specs.List.{flat_map, list_any}
@@ -19,34 +19,34 @@ use Rattle.cqf_admission.specs.declared.branches.Check.TheVariants.{Known, Whole
 abbrev pub branch_of : List (String Global) → Branch
 branch_of names = map string_bytes names
 
--- and some branches
+-- branches as the definitions have them
 abbrev pub branches_of : List (Vec (String Global) Global) → List Branch
 branches_of paths = map (λ (branch : Vec (String Global) Global). branch_of branch.items) paths
 
--- of a list of names the nodes of the first so many are these
+-- the nodes of the first names of a list, one for each element of `nodes`
 abbrev pub AreNodes : Domain → List (List ℕ) → List (Option Node) → Type 0
 AreNodes d names nodes = (k : ℕ) → k < length nodes → k < length names → get_or nodes k None ≡ node_at d names k
 
--- the node of a name more, where there is room among 256
+-- the nodes with that of one more name, if there are fewer than 256 so far
 abbrev pub with_node : Domain → List (Option Node) → List ℕ → List (Option Node)
 with_node d nodes name = if nat_lt (length nodes) 256 then nodes ++ node_named d name ∷ [] else nodes
 
--- the first place at which a branch fails a check
+-- the first index at which a branch fails a check
 abbrev pub fault_in : Domain → Check → Branch → Option ℕ
 fault_in d Known branch = position (λ name. is_none (node_named d name)) branch
 fault_in d Whole branch = least (is_broken_at d branch) (length branch + 1)
 fault_in d Simple branch = least (is_loop_at d branch) (length branch + 1)
 
--- and the first of all branches, where places count through them as one list
+-- the first index at which any of the branches fails a check; indexes count through the branches as one list
 abbrev pub first_fault : Domain → Check → List Branch → Option ℕ
 first_fault d check [] = None
 first_fault d check (branch ∷ paths) = or_else (fault_in d check branch) (option_map (λ place. length branch + place) (first_fault d check paths))
 
--- how many places the branches have
+-- the number of names in all branches
 abbrev pub places_of : List Branch → ℕ
 places_of paths = length (flat_map (λ branch. branch) paths)
 
--- the first reason why some branches are no tree
+-- the first reason why the branches are no tree
 abbrev pub tree_refusal : Domain → List Branch → Option Refused
 tree_refusal d paths =
     or_else (refused_at (λ place. UnknownNode place) (position (λ name. is_none (node_named d name)) (flat_map (λ branch. branch) paths)))
@@ -55,15 +55,15 @@ tree_refusal d paths =
     (or_else (refused_at (λ branch. NotATree branch) (least (is_stray paths) (length paths)))
     (refused_if (nat_lt (hops_within d.limits) (length (tree_of d paths))) TooManyHops))))
 
--- a look at branches gives their tree, or the first reason against them
+-- the result of checking branches: their tree, or the first reason against them
 abbrev pub FindsTree : Domain → List Branch → Result (ArrayVec Hop) Refused → Type 0
 FindsTree d paths (Ok tree) = (tree_refusal d paths ≡ None) × (tree.items ≡ tree_of d paths)
 FindsTree d paths (Err refused) = tree_refusal d paths ≡ Some refused
 
--- a hop more, where no hop by its link is there
+-- a tree with one more hop, unless the tree has a hop over the same link
 abbrev pub keep_link : List Hop → Hop → List Hop
 keep_link tree hop = if list_any (λ (kept : Hop). kept.link == hop.link) tree then tree else tree ++ hop ∷ []
 
--- hops that were added one by one, as far as there is room: all of them; or more than a tree may have, as all of them are
+-- a tree built hop by hop as far as there is room is the whole tree, or both have more hops than a tree may have
 abbrev pub AreAsFarAsRoom : List Hop → List Hop → Type 0
 AreAsFarAsRoom tree whole = (tree ≡ whole) ⊎ ((most_hops < length tree) × (most_hops < length whole))

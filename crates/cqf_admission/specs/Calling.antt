@@ -1,4 +1,4 @@
--- A call for a stream, and what its request is by itself.
+-- A call for a stream, and the judgement of its request by itself.
 use Rattle.std.specs.Prelude.{ℕ, ◌≡◌, Result}
 use Rattle.cqf_model.specs.declared.history.Refused.{Refused}
 use Rattle.cqf_model.specs.Domain.{Domain}
@@ -8,7 +8,7 @@ use Rattle.cqf_admission.specs.declared.judged.JudgedRequest.{JudgedRequest}
 use Rattle.cqf_admission.specs.Admission.{act_of}
 use Rattle.cqf_admission.specs.Judging.{Judges}
 
--- the call is for a stream of so many octets, and that is what its request is by itself
+-- the call requests a stream with this number of octets, and `judged` is the judgement of its request by itself
 pub record IsJudgedCall (d : Domain) (call : Call) (octets : ℕ) (judged : Result JudgedRequest Refused) : Type 0 where
   pub asked : Asked
   pub act : act_of call ≡ Admits asked

@@ -1,4 +1,4 @@
--- What administrators call for beside Seals.
+-- What administrators call for, other than Seals.
 use Rattle.std.specs.Arc.{arc_value}
 use Rattle.std.specs.Prelude.{string_bytes}
 use Rattle.cqf_model.specs.History.{Act, Admits, Withdraws}

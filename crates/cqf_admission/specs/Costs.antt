@@ -1,4 +1,4 @@
--- What streams cost of a link at most.
+-- The most that streams cost on a link.
 use Rattle.std.specs.Prelude.{ℕ, ◌-◌, List, [], ◌∷◌, if◌then◌else◌, fold, max}
 use Rattle.cqf_lists.specs.Lists.{each_below}
 use Rattle.cqf_model.specs.declared.topology.Hop.{Hop}
@@ -9,15 +9,16 @@ use Rattle.cqf_model.specs.Limits.{most_every}
 use Rattle.cqf_model.specs.Paces.{is_turn}
 use Rattle.cqf_model.specs.Table.{link_cost}
 
--- the most that they cost of it in a cycle
+-- the most that the streams cost on a link in any cycle
 abbrev pub most_cost : List Row → ℕ → ℕ
 most_cost rows l = fold max 0 (each_below (λ cycle. link_cost rows l cycle ∷ []) most_every)
 
--- and what it has left in each cycle, in octets
+-- what the link has left besides this in each cycle, in octets
 abbrev pub left_beside : Domain → List Row → ℕ → ℕ
 left_beside d rows l = budget d l - most_cost rows l
 
--- the most in those cycles in which frames of a pace go by a hop, and what its link has left beside that
+-- the most that the streams cost on a hop's link in the cycles in which frames of a pace use the hop; and what the link has left besides
+-- this
 abbrev pub most_in_turns : List Row → Pace → Hop → ℕ
 most_in_turns rows pace hop =
     fold max 0 (each_below (λ cycle. if is_turn pace hop.depth cycle then link_cost rows hop.link cycle ∷ [] else []) most_every)

@@ -1,4 +1,4 @@
--- The texts of a script's faults: a fault's name, and then its line's number, after a space.
+-- The texts of a script's faults: a fault's name, followed by a space and its line's number if it has one.
 use Rattle.std.specs.Prelude.{ℕ, ◌++◌, List, codes, decimal}
 use Rattle.cqf_admission.specs.declared.faults.ScriptFault.{ScriptFault}
 use Rattle.cqf_admission.specs.declared.faults.ScriptFault.TheVariants as script_fault

@@ -1,4 +1,4 @@
--- What is known of requests by themselves.
+-- What is known of the form of requests.
 use Rattle.std.specs.Prelude.{ℕ, ◌≡◌, ◌≤◌, ◌<◌, ⊤, List, Some, None, length, slice_index_or}
 use Rattle.cqf_model.specs.declared.topology.Row.{Row}
 use Rattle.cqf_model.specs.Domain.{Domain}
@@ -9,23 +9,23 @@ use Rattle.cqf_admission.specs.declared.forms.RequestForm.{RequestForm}
 use Rattle.cqf_admission.specs.declared.forms.RequestForm.TheVariants.{Bad, Good, Unseen}
 use Rattle.cqf_model.specs.Limits.{most_reserved}
 
--- a request of good form, and its row as that of number 0 and of cycle 0
+-- a request of good form, with its row as if it had number 0 and were admitted in cycle 0
 pub record IsRowOfGoodForm (d : Domain) (asked : Asked) (row : Row) : Type 0 where
   pub none : form_refusal d asked ≡ None
   pub most_octets : asked.octets ≤ most_reserved
   pub is : row ≡ granted_row d 0 0 asked
 
--- what is known of a request's form is so
+-- what is known of a request's form is true
 abbrev pub IsFormOf : Domain → Asked → RequestForm → Type 0
 IsFormOf d asked Unseen = ⊤
 IsFormOf d asked (Bad refused) = form_refusal d asked ≡ Some refused
 IsFormOf d asked (Good row) = IsRowOfGoodForm d asked row
 
--- of none anything is known
+-- nothing is known of any of the forms
 abbrev pub AreUnseen : List RequestForm → Type 0
 AreUnseen forms = (place : ℕ) → place < length forms → slice_index_or forms place Unseen ≡ Unseen
 
--- and it is known
+-- the form is known
 abbrev pub IsSeen : RequestForm → Type 0
 IsSeen Unseen = ⊥
 IsSeen (Bad refused) = ⊤

@@ -1,4 +1,4 @@
--- What a ledger is to those who call it, and what its calls do.
+-- The state of a ledger as its callers see it, and what its calls do.
 use Rattle.std.specs.Prelude.{ℕ, ◌≡◌, ◌+◌, ◌≤◌, ◌<◌, List, Result, Ok, Err, filter}
 use Rattle.cqf_units.specs.declared.reservations.Cycle.{Cycle}
 use Rattle.cqf_model.specs.declared.history.Reply.TheVariants.{Sealed}
@@ -13,7 +13,7 @@ use Rattle.cqf_admission.specs.Admission.{Administration, held_of}
 use Rattle.cqf_admission.specs.declared.logs.Logged.{Logged}
 use Rattle.cqf_model.specs.Limits.{most_cycles}
 
--- a ledger: the administration that it keeps, and what its entries stand for: requests, and a script's text
+-- a ledger: the administration that it keeps, and what its entries refer to: requests, and a script's text
 pub record Kept : Type 0 where
   pub administration : Administration
   pub requests : List Asked
@@ -23,8 +23,8 @@ pub record Kept : Type 0 where
 abbrev pub recorded_in : List Asked → List ℕ → Logged → Recorded
 recorded_in requests script logged = record { seat = logged.seat; act = act_in requests script logged.what; reply = logged.reply }
 
--- what a Seal does: it enters itself, closes the next cycle, and lets go of the held streams whose last frame has left by the
--- cycle behind that; a refused one changes nothing
+-- what a Seal does: it enters itself, closes the next cycle, and releases the held streams whose last frame has left by the cycle after
+-- that. A refused Seal changes nothing
 abbrev pub ClosesCycle : Administration → Administration → ℕ → Result Cycle SealFault → Type 0
 ClosesCycle old new seat (Ok cycle) =
     (seals old.entries < most_cycles) × (new.domain ≡ old.domain) × (new.entries ≡ with_entry old.entries seat Seals Sealed) ×

@@ -26,7 +26,7 @@ pub mod Faults
 pub mod Lines
 pub mod Script
 pub mod LineLaws
--- what the inner functions say
+-- properties of the internal functions
 pub mod Placed
 pub mod Written
 pub mod Shared

@@ -1,4 +1,4 @@
--- Laws that say of each line of a script what it calls for, or why it is refused, in a planner's words.
+-- Laws that say for each line of a script what it calls for, or why it is refused, in a planner's terms.
 use Rattle.std.specs.Prelude.{ℕ, ◌≡◌, ◌+◌, ◌<◌, ◌≤◌, ◌⊎◌, ◌↔◌, true, false, not, List, Some, None, Ok, Err, count_by, length, slice_get, take, Contains}
 use Rattle.cqf_text.specs.Lines.{lines_of}
 use Rattle.cqf_model.specs.History.{Act, Admits, Asked, Seals, Withdraws}
@@ -10,33 +10,32 @@ use Rattle.cqf_admission.specs.Lines.{Written, is_seal_line, order_of_line}
 use Rattle.cqf_model.specs.Limits.{most_calls}
 use Rattle.cqf_admission.specs.Script.{Called, administrators, request_named, script_of}
 
--- how many of the lines before a place are Seals, and how many are others
+-- the number of Seals among the lines before an index, and the number of other lines
 abbrev pub seal_lines_before : List (List ℕ) → ℕ → ℕ
 seal_lines_before lines place = count_by is_seal_line (take place lines)
 
 abbrev pub other_lines_before : List (List ℕ) → ℕ → ℕ
 other_lines_before lines place = count_by (λ line. not (is_seal_line line)) (take place lines)
 
--- the line writes an order, and is no Seal
+-- the line writes an order, and isn't a Seal
 pub record WritesOrder (line : List ℕ) (order : Written) : Type 0 where
   pub no_seal : is_seal_line line ≡ false
   pub written : order_of_line line ≡ Some order
 
--- what is called for to admit the stream of a name is to admit the first request that has the name; to withdraw it, to
--- withdraw the name
+-- to admit the stream of a name means to admit the first request that has the name; to withdraw it means to withdraw the name
 abbrev pub IsActFor : List Asked → Wish → List ℕ → Act → Type 0
 IsActFor requests Admit name act = (asked : Asked) × (request_named requests name ≡ Some asked) × (act ≡ Admits asked)
 IsActFor requests Withdraw name act = act ≡ Withdraws name
 
--- the line at a place closes a cycle: fewer Seals than cycles stand before it. The call's seat is the number of administrators
+-- the line at an index closes a cycle: there are fewer Seals before it than cycles. The call's seat is the number of administrators
 pub record LineClosesCycle (cycles : ℕ) (lines : List (List ℕ)) (place : ℕ) (line : List ℕ) (call : Called) : Type 0 where
   pub seal : is_seal_line line ≡ true
   pub room : seal_lines_before lines place < cycles
   pub seat : call.0 ≡ administrators lines
   pub act : call.1 ≡ Seals
 
--- the line at a place calls for what its order says: fewer than 100,000 lines that aren't Seals stand before it. The call's
--- seat is the administrator
+-- the line at an index calls for what its order says: fewer than 100,000 of the lines before it aren't Seals. The call's seat is the
+-- administrator
 pub record MakesCall (requests : List Asked) (lines : List (List ℕ)) (place : ℕ) (line : List ℕ) (call : Called) : Type 0 where
   pub order : Written
   pub writes : WritesOrder line order
@@ -44,28 +43,28 @@ pub record MakesCall (requests : List Asked) (lines : List (List ℕ)) (place : 
   pub seat : call.0 ≡ order.seat
   pub act : IsActFor requests order.wish order.name call.1
 
--- what the line at a place calls for
+-- what the line at an index calls for
 abbrev pub CallsFor : List Asked → ℕ → List (List ℕ) → ℕ → List ℕ → Called → Type 0
 CallsFor requests cycles lines place line call = LineClosesCycle cycles lines place line call ⊎ MakesCall requests lines place line call
 
--- the line has no form that a line may have
+-- the line has none of the forms of a line
 pub record HasNoForm (line : List ℕ) : Type 0 where
   pub no_seal : is_seal_line line ≡ false
   pub no_order : order_of_line line ≡ None
 
--- the line admits a stream that isn't asked for
+-- the line admits a stream that isn't among the requests
 pub record AdmitsNone (requests : List Asked) (line : List ℕ) : Type 0 where
   pub order : Written
   pub writes : WritesOrder line order
   pub admits : order.wish ≡ Admit
   pub none : request_named requests order.name ≡ None
 
--- the line is one Seal more than cycles
+-- the line is a Seal, and there are already as many Seals before it as cycles
 pub record IsOneSealTooMany (cycles : ℕ) (lines : List (List ℕ)) (place : ℕ) (line : List ℕ) : Type 0 where
   pub seal : is_seal_line line ≡ true
   pub full : cycles ≤ seal_lines_before lines place
 
--- the line is call 100,001 of the others, and has nothing else amiss
+-- the line is call 100,001 among those that aren't Seals, and has no other fault
 pub record IsOneCallTooMany (requests : List Asked) (lines : List (List ℕ)) (place : ℕ) (line : List ℕ) : Type 0 where
   pub order : Written
   pub writes : WritesOrder line order
@@ -73,7 +72,7 @@ pub record IsOneCallTooMany (requests : List Asked) (lines : List (List ℕ)) (p
   pub is_act : IsActFor requests order.wish order.name act
   pub full : most_calls ≤ other_lines_before lines place
 
--- what is wrong with the line at a place. A fault bears the line's number, which is its place from 1
+-- the fault of the line at an index. A fault has the line's number, which counts from 1
 abbrev pub IsFaultOfLine : List Asked → ℕ → List (List ℕ) → ℕ → List ℕ → ScriptFault → Type 0
 IsFaultOfLine requests cycles lines place line (BadLine number) = (number ≡ place + 1) × HasNoForm line
 IsFaultOfLine requests cycles lines place line (UnknownStream number) = (number ≡ place + 1) × AdmitsNone requests line
@@ -81,13 +80,13 @@ IsFaultOfLine requests cycles lines place line (TooMany number) =
     (number ≡ place + 1) × (IsOneSealTooMany cycles lines place line ⊎ IsOneCallTooMany requests lines place line)
 IsFaultOfLine requests cycles lines place line Memory = ⊥
 
--- some calls are those of some lines: one a line, in order, which is what the line calls for
+-- some calls are those of some lines: one call for each line, in order, and it is what the line calls for
 pub record AreCallsOf (requests : List Asked) (cycles : ℕ) (lines : List (List ℕ)) (found : List Called) : Type 0 where
   pub one_each : length found ≡ length lines
   pub each : (place : ℕ) (line : List ℕ) (call : Called) → slice_get lines place ≡ Some line → slice_get found place ≡ Some call →
       CallsFor requests cycles lines place line call
 
--- a fault is that of the first line that has one: each line before it calls for something
+-- a fault is that of the first line with a fault: each line before it calls for something
 pub record IsFirstFaultyLine (requests : List Asked) (cycles : ℕ) (lines : List (List ℕ)) (fault : ScriptFault) : Type 0 where
   pub place : ℕ
   pub line : List ℕ
@@ -96,17 +95,17 @@ pub record IsFirstFaultyLine (requests : List Asked) (cycles : ℕ) (lines : Lis
   pub before : (earlier : ℕ) (other : List ℕ) → earlier < place → slice_get lines earlier ≡ Some other →
       (call : Called) × CallsFor requests cycles lines earlier other call
 
--- a script's calls are just those of its lines
+-- the calls of a script are exactly those of its lines
 abbrev pub ScriptsAreTheirLines : Type 0
 ScriptsAreTheirLines = (requests : List Asked) (cycles : ℕ) (text : List ℕ) (found : List Called) →
     script_of requests cycles text ≡ Ok found ↔ AreCallsOf requests cycles (lines_of text) found
 
--- and its fault is just that of its first line that has one
+-- the fault of a script is exactly that of its first line with a fault
 abbrev pub FaultsAreOfTheirLines : Type 0
 FaultsAreOfTheirLines = (requests : List Asked) (cycles : ℕ) (text : List ℕ) (fault : ScriptFault) →
     script_of requests cycles text ≡ Err fault ↔ IsFirstFaultyLine requests cycles (lines_of text) fault
 
--- a line orders something for the administrator of the greatest number
+-- some line is an order of the administrator with the greatest number
 pub record HasGreatest (lines : List (List ℕ)) (count : ℕ) : Type 0 where
   pub line : List ℕ
   pub of_lines : Contains lines line
@@ -114,11 +113,11 @@ pub record HasGreatest (lines : List (List ℕ)) (count : ℕ) : Type 0 where
   pub written : order_of_line line ≡ Some order
   pub greatest : order.seat + 1 ≡ count
 
--- so many administrators are one more than the greatest number whose order a line is, or none where no line is an order
+-- the number of administrators is one more than the greatest number of an administrator with an order, or 0 if no line is an order
 pub record AreTheAdministrators (lines : List (List ℕ)) (count : ℕ) : Type 0 where
   pub above : (line : List ℕ) (order : Written) → Contains lines line → order_of_line line ≡ Some order → order.seat < count
   pub least : 0 < count → HasGreatest lines count
 
--- that is their number
+-- this is the number of administrators
 abbrev pub AdministratorsAreCounted : Type 0
 AdministratorsAreCounted = (lines : List (List ℕ)) → AreTheAdministrators lines (administrators lines)

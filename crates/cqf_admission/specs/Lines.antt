@@ -7,7 +7,7 @@ use Rattle.cqf_model.specs.Domain.{is_text}
 use Rattle.cqf_admission.specs.declared.lines.Wish.{Wish}
 use Rattle.cqf_admission.specs.declared.lines.Wish.TheVariants.{Admit, Withdraw}
 
--- what an administrator orders: whose order it is, what is to be done, and the stream's name
+-- an administrator's order: the administrator, what is to be done, and the stream's name
 pub record Written : Type 0 where
   pub seat : ℕ
   pub wish : Wish
@@ -17,26 +17,26 @@ pub record Written : Type 0 where
 abbrev pub is_seat_digit : ℕ → Bool
 is_seat_digit byte = nat_le 48 byte && nat_le byte 55
 
--- the number of the digit
+-- the administrator of a digit
 abbrev pub seat_of_digit : ℕ → Option ℕ
 seat_of_digit byte = if is_seat_digit byte then Some (byte - 48) else None
 
--- a byte of a word: ASCII, no blank and no control character
+-- a byte of a word: printable ASCII without the space
 abbrev pub is_word_byte : ℕ → Bool
 is_word_byte byte = nat_le 33 byte && nat_le byte 126
 
--- 1 to 64 such bytes
+-- a word has 1 to 64 such bytes
 abbrev pub is_word : List ℕ → Bool
 is_word bytes = nat_le 1 (length bytes) && nat_le (length bytes) 64 && list_all is_word_byte bytes
 
 abbrev pub if_word : List ℕ → Option (List ℕ)
 if_word bytes = if is_word bytes then Some bytes else None
 
--- the word that stands behind a beginning, up to the line's end
+-- the word that follows a prefix, up to the end of the line
 abbrev pub word_behind : List ℕ → List ℕ → Option (List ℕ)
 word_behind start text = if is_text start (take (length start) text) then if_word (drop (length start) text) else None
 
--- the order of an administrator, by what stands behind the digit
+-- the order of an administrator, given what follows the digit
 abbrev pub order_of : Wish → ℕ → Option (List ℕ) → Option Written
 order_of wish seat name = option_map (λ word. record { seat = seat; wish = wish; name = word }) name
 

@@ -7,18 +7,18 @@ use Rattle.std.specs.Ordering.{nat_cmp}
 use Rattle.cqf_model.specs.Domain.{is_text}
 use Rattle.cqf_topology.specs.declared.paced.PacedRequest.{PacedRequest}
 
--- whether a request is of a name
+-- whether a request has a name
 abbrev pub has_name : List ℕ → PacedRequest → Bool
 has_name name request = is_text (string_bytes request.name) name
 
--- the place of the first request of a name
+-- the index of the first request with a name
 abbrev pub place_named : List PacedRequest → List ℕ → Option ℕ
 place_named requests name = position (has_name name) requests
 
--- the place that stands under a name
+-- the index stored under a name
 abbrev pub place_under : BTreeMap (Bor (List ℕ)) ℕ → List ℕ → Option ℕ
 place_under places name = get_by (λ key. slice_cmp nat_cmp name key.now) places
 
--- what stands under each name is the place of the first of the requests that has it
+-- the index stored under each name is that of the first request with this name
 abbrev pub LeadToFirst : (List ℕ → Option ℕ) → List PacedRequest → Type 0
 LeadToFirst under requests = (name : List ℕ) → under name ≡ place_named requests name

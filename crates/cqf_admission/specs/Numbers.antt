@@ -1,4 +1,4 @@
--- The numbers of streams by their names, as tables share them.
+-- The numbers of streams by their names, shared by tables.
 use Rattle.std.specs.Prelude.{ℕ, ◌≡◌, ◌≤◌, All, List, Option, Some, None, if◌then◌else◌, length, take}
 use Rattle.std.specs.BTreeMap.{is_at}
 use Rattle.std.specs.Cmp.Lexicographic.{slice_cmp}
@@ -8,20 +8,20 @@ use Rattle.cqf_model.specs.declared.topology.Row.{Row}
 use Rattle.cqf_model.specs.Domain.{is_text}
 use Rattle.cqf_model.specs.Table.{row_of}
 
--- of names with numbers, that of a name
+-- the number of a name, from pairs of names and numbers
 abbrev pub number_in : List (List ℕ × ℕ) → List ℕ → Option ℕ
 number_in numbers name = lookup (is_at (slice_cmp nat_cmp name)) numbers
 
--- a row whose name leads to its number
+-- the row's number is the one listed under its name
 abbrev pub IsNumbered : List (List ℕ × ℕ) → Row → Type 0
 IsNumbered numbers row = number_in numbers row.name ≡ Some row.no
 
--- a row, where it is of the name
+-- a row, if it has the name
 abbrev pub if_named : List ℕ → Option Row → Option Row
 if_named name None = None
 if_named name (Some row) = if is_text row.name name then Some row else None
 
--- of rows the one to which the number of a name leads, where that has the name
+-- the row with the number of a name, if it has the name
 abbrev pub row_with : List Row → List ℕ → Option ℕ → Option Row
 row_with rows name None = None
 row_with rows name (Some number) = if_named name (row_of rows number)
@@ -29,7 +29,7 @@ row_with rows name (Some number) = if_named name (row_of rows number)
 abbrev pub row_numbered : List Row → List (List ℕ × ℕ) → List ℕ → Option Row
 row_numbered rows numbers name = row_with rows name (number_in numbers name)
 
--- of some rows the first so many are found by the numbers of their names
+-- the first `numbered` rows are found by the numbers of their names
 pub record AreNumbered (numbers : List (List ℕ × ℕ)) (numbered : ℕ) (rows : List Row) : Type 0 where
   pub within : numbered ≤ length rows
   pub each : All (IsNumbered numbers) (take numbered rows)

@@ -6,11 +6,11 @@ use Rattle.cqf_model.specs.Table.{residence}
 use Rattle.cqf_units.specs.declared.reservations.Cycle.{Cycle}
 use Rattle.cqf_admission.specs.Holdings.{Standing}
 
--- whether a stream is held and ends, in a cycle that stands in this slot
+-- whether a stream is held, is withdrawn, and ends in a cycle of this slot
 abbrev pub in_slot : ℕ → Standing → Bool
 in_slot slot stand = stand.held && option_map_or (λ (w : Cycle). (w.0 + residence stand.row) % 128 == slot) stand.row.withdrawn false
 
--- each slot lists, once each, just the numbers of those that are held and end there
+-- each slot lists exactly the numbers of the streams that are held and end in a cycle of the slot, each once
 pub record IsRing (stands : List Standing) (slots : List (List ℕ)) : Type 0 where
   pub as_many : length slots ≡ 128
   pub lists : (slot number : ℕ) (d : Standing) → slot < 128 → number < length stands →

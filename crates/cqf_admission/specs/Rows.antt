@@ -1,4 +1,4 @@
--- Rows of streams, and what can be added to sums.
+-- Rows of streams, and when their costs can be added to sums.
 use Rattle.std.specs.Prelude.{ℕ, ◌≢◌, ◌<◌, ◌≤◌, All, AllPairs, Some}
 use Rattle.cqf_units.specs.declared.reservations.Cycle.{Cycle}
 use Rattle.cqf_model.specs.declared.topology.Row.{Row}
@@ -10,14 +10,14 @@ use Rattle.cqf_admission.specs.Turns.{IsOfGoodPace}
 abbrev pub ended : Row → Cycle → Row
 ended row cycle = record row { withdrawn = Some cycle }
 
--- what a row costs can be added to the sums of so many links: it is no more than a stream may reserve, and its links are among
+-- what the row costs can be added to the sums of this number of links: it reserves no more than a stream may, and its links are among
 -- these, each once
 pub record IsCountable (links : ℕ) (row : Row) : Type 0 where
   pub octets : row.octets ≤ most_reserved
   pub inside : All (λ (l : ℕ). l < links) (links_of row)
   pub apart : AllPairs (λ (a b : ℕ). a ≢ b) (links_of row)
 
--- and with a good pace it can be added to the sums by link and cycle
+-- the row also has a good pace, so that its cost can be added to the sums by link and cycle
 pub record IsSummable (links : ℕ) (row : Row) : Type 0 where
   pub countable : IsCountable links row
   pub paced : IsOfGoodPace row

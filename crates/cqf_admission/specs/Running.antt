@@ -1,4 +1,4 @@
--- What a ledger has beside its state.
+-- What a ledger keeps besides its state.
 use Rattle.std.specs.Prelude.{ℕ, ◌≡◌, ◌<◌, All, List, length, slice_index_or}
 use Rattle.cqf_model.specs.Domain.{Domain}
 use Rattle.cqf_model.specs.History.{Asked}
@@ -10,12 +10,12 @@ use Rattle.cqf_admission.specs.declared.forms.RequestForm.TheVariants.{Unseen}
 use Rattle.cqf_admission.specs.declared.logs.Logged.{Logged}
 use Rattle.cqf_admission.specs.Forms.{IsFormOf}
 
--- what is known of each request's form is so
+-- what is known of each request's form is true
 pub record AreForms (d : Domain) (requests : List PacedRequest) (forms : List RequestForm) : Type 0 where
   pub as_many : length forms ≡ length requests
   pub each : (place : ℕ) (request : PacedRequest) → place < length requests →
       IsFormOf d (asked_paced (slice_index_or requests place request)) (slice_index_or forms place Unseen)
 
--- each entry's request and word are there
+-- the request or word of each entry exists
 abbrev pub AreThere : List Asked → List ℕ → List Logged → Type 0
 AreThere requests script log = All (λ (logged : Logged). StandsIn requests script logged.what) log

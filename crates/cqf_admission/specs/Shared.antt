@@ -8,12 +8,12 @@ use Rattle.cqf_admission.specs.Spelled.{spelled}
 use Rattle.cqf_admission.specs.Forms.{IsFormOf}
 use Rattle.cqf_admission.specs.declared.shared.FoundForm.{FoundForm}
 
--- it was looked over for the domain
+-- the request was checked for the domain, and this was found
 pub record IsFound (request : PacedRequest) (found : FoundForm) : Type 0 where
   pub form : IsFormOf (arc_value found.domain) (asked_paced request) found.form
   pub text : found.text.items ≡ spelled (branches_of request.paths.items)
 
--- or for none
+-- the same, if the request was checked for any domain
 abbrev pub IsFoundOf : PacedRequest → Option FoundForm → Type 0
 IsFoundOf request None = ⊤
 IsFoundOf request (Some found) = IsFound request found

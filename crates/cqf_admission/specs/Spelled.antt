@@ -1,9 +1,9 @@
--- The branches of a request in one list of octets.
+-- The branches of a request as one list of octets.
 use Rattle.std.specs.Prelude.{ℕ, List, [], ◌∷◌, ◌++◌}
 use Rattle.std.specs.List.{flat_map}
 use Rattle.cqf_model.specs.History.{Branch}
 
--- each octet of a name behind a 2, a 0 at the end of each name, and a 1 at that of each branch
+-- each octet of a name follows a 2; a 0 ends each name, and a 1 ends each branch
 abbrev pub spelled_octet : ℕ → List ℕ
 spelled_octet octet = 2 ∷ octet ∷ []
 

@@ -1,4 +1,4 @@
--- What an administration runs on in place of its history.
+-- The state that an administration keeps in place of its history.
 use Rattle.std.specs.Prelude.{ℕ, ◌≡◌, ◌+◌, ◌-◌, ◌<◌, ◌≤◌, List, None, Result, filter, length, map}
 use Rattle.cqf_model.specs.declared.history.Receipt.{Receipt}
 use Rattle.cqf_model.specs.declared.history.Refused.{Refused}
@@ -16,8 +16,7 @@ use Rattle.cqf_admission.specs.Ring.{IsRing}
 use Rattle.cqf_admission.specs.Streams.{stand_of}
 use Rattle.cqf_admission.specs.declared.state.GoodForm.{GoodForm}
 
--- the accepted streams as they stand, how many more have room, over how many links, the ring of their ends, and the next cycle to be
--- closed
+-- the accepted streams, for how many more there is room, the number of links, the ring of their ends, and the next cycle to be closed
 pub record Figures : Type 0 where
   pub stands : List Standing
   pub room : ℕ
@@ -25,11 +24,11 @@ pub record Figures : Type 0 where
   pub slots : List (List ℕ)
   pub sealed : ℕ
 
--- the streams of a history as they stand in the next cycle to be closed
+-- the streams of a history, with whether each is held in the next cycle to be closed
 abbrev pub stands_in : Domain → List Recorded → List Standing
 stands_in d entries = map (stand_of (seals entries)) (streams_of d entries)
 
--- the figures are of a legal history: its streams, the ring of their ends, and its Seals
+-- the figures are those of a legal history: its streams, the ring of their ends, and the number of its Seals
 pub record AreOf (d : Domain) (entries : List Recorded) (stands : List Standing) (slots : List (List ℕ)) (sealed : ℕ) : Type 0 where
   pub running : IsRunning d entries (held_in d entries (seals entries)) (next_number d entries) sealed
   pub are_streams : stands ≡ stands_in d entries
@@ -38,7 +37,7 @@ pub record AreOf (d : Domain) (entries : List Recorded) (stands : List Standing)
 abbrev pub IsStateOf : Domain → List Recorded → Figures → Type 0
 IsStateOf d entries figures = AreOf d entries figures.stands figures.slots figures.sealed × (figures.links ≡ length d.links)
 
--- they are of some history of the domain, and of some domain
+-- the figures are those of some history of the domain; and of some history of some domain
 pub record SomeHistory (d : Domain) (figures : Figures) : Type 0 where
   pub entries : List Recorded
   pub is : IsStateOf d entries figures
@@ -47,7 +46,7 @@ pub record SomeDomain (figures : Figures) : Type 0 where
   pub domain : Domain
   pub history : SomeHistory domain figures
 
--- a request of good form
+-- a request of good form, and its parts as they are lent
 pub record IsGoodFormOf (d : Domain) (asked : Asked) (form : GoodForm) : Type 0 where
   pub none : form_refusal d asked ≡ None
   pub name : form.name.now ≡ asked.name
@@ -60,20 +59,20 @@ pub record SomeRequest (d : Domain) (form : GoodForm) : Type 0 where
   pub asked : Asked
   pub is : IsGoodFormOf d asked form
 
--- an administration of a domain and entries
+-- the administration with this domain and these entries
 abbrev pub of_entries : Domain → List Recorded → Administration
 of_entries d entries = record { domain = d; entries = entries }
 
--- a call's entry behind a history's
+-- a history's entries, followed by that of a call
 abbrev pub entries_with : List Recorded → ℕ → Act → Result Receipt Refused → List Recorded
 entries_with entries seat act result = with_entry entries seat act (reply_of result)
 
--- what a call leaves that is entered with this answer: the figures of the history with it
+-- the effect of a call that is entered with this answer: the figures are those of the history with the call
 pub record Leaves (d : Domain) (entries : List Recorded) (figures : Figures) (seat : ℕ) (act : Act) (result : Result Receipt Refused) : Type 0 where
   pub of : IsStateOf d (entries_with entries seat act result) figures
   pub answers : Answers (of_entries d entries) (of_entries d (entries_with entries seat act result)) seat act result
 
--- of each history of the domain that has room for a call, whoever makes it, so of a request of good form
+-- for each history of the domain that has room for a call, and each seat: this is the effect of a request of good form
 abbrev pub AdmitsForm : Domain → GoodForm → Figures → Figures → Result Receipt Refused → Type 0
 AdmitsForm d form before after result =
     (entries : List Recorded) (asked : Asked) (seat : ℕ) → IsStateOf d entries before → IsGoodFormOf d asked form →
@@ -81,14 +80,14 @@ AdmitsForm d form before after result =
     Leaves d entries after seat (Admits asked) result
     × HoldsOneMore (of_entries d entries) (of_entries d (entries_with entries seat (Admits asked) result)) asked result
 
--- and of each history so of a withdrawal of what has this name
+-- for each history that has room for a call, and each seat: this is the effect of a withdrawal of the name
 abbrev pub WithdrawsName : List ℕ → Figures → Figures → Result Receipt Refused → Type 0
 WithdrawsName name before after result =
     (d : Domain) (entries : List Recorded) (seat : ℕ) → IsStateOf d entries before → length entries - before.sealed < most_calls →
     Leaves d entries after seat (Withdraws name) result
     × EndsOne (of_entries d entries) (of_entries d (entries_with entries seat (Withdraws name) result)) result
 
--- and of a Seal: those are held on whose last frame hasn't left by the next cycle
+-- the effect of a Seal: the streams whose last frame hasn't left by the next cycle are still held; and this is so for each history and seat
 pub record LeavesSealed (d : Domain) (entries : List Recorded) (figures : Figures) (seat : ℕ) : Type 0 where
   pub of : IsStateOf d (with_entry entries seat Seals Sealed) figures
   pub held : held_in d (with_entry entries seat Seals Sealed) (seals (with_entry entries seat Seals Sealed))
@@ -97,7 +96,7 @@ pub record LeavesSealed (d : Domain) (entries : List Recorded) (figures : Figure
 abbrev pub ClosesNext : Figures → Figures → Type 0
 ClosesNext before after = (d : Domain) (entries : List Recorded) (seat : ℕ) → IsStateOf d entries before → LeavesSealed d entries after seat
 
--- all but the room stays as it was
+-- nothing changes but the room
 pub record StaysSo (before after : Figures) : Type 0 where
   pub stands : after.stands ≡ before.stands
   pub links : after.links ≡ before.links

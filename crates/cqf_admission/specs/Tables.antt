@@ -1,4 +1,4 @@
--- The table of a cycle, as those see it who have one.
+-- The table of a cycle, as its holders see it.
 use Rattle.std.specs.Prelude.{ℕ, ◌≡◌, ◌≢◌, ◌<◌, ◌↔◌, List, Option, Some, All, AllPairs, Contains, length}
 use Rattle.cqf_model.specs.declared.topology.Row.{Row}
 use Rattle.cqf_model.specs.Domain.{Domain}
@@ -9,19 +9,19 @@ pub record CycleTable : Type 0 where
   pub cycle : ℕ
   pub rows : List Row
 
--- rows that stand by number, no two of one number or name
+-- the rows are in the order of their numbers, and no two have the same number or name
 pub record AreInOrder (rows : List Row) : Type 0 where
   pub numbers : AllPairs (λ (a b : Row). a.no < b.no) rows
   pub names : AllPairs (λ (a b : Row). a.name ≢ b.name) rows
 
--- what is found is the row of the name, where there is one, and likewise of the number
+-- what is found is the row with the name, if there is one; and the row with the number
 abbrev pub IsRowNamed : List Row → List ℕ → Option Row → Type 0
 IsRowNamed rows name found = (row : Row) → (found ≡ Some row) ↔ (Contains rows row × (row.name ≡ name))
 
 abbrev pub IsRowOf : List Row → ℕ → Option Row → Type 0
 IsRowOf rows number found = (row : Row) → (found ≡ Some row) ↔ (Contains rows row × (row.no ≡ number))
 
--- the rows' trees are trees of the domain, and so go along its links
+-- the rows' trees are trees of the domain; and the rows' links are links of the domain
 abbrev pub AreTrees : Domain → List Row → Type 0
 AreTrees d rows = (row : Row) → Contains rows row → IsTree d row.tree.items
 

@@ -1,4 +1,5 @@
--- Sums by link and cycle, where streams come and go: all paces repeat after `most_every` cycles, so a link has a sum for each of these.
+-- Sums by link and cycle, to which streams are added and from which they are removed. All paces repeat after `most_every` cycles, so a link
+-- has a sum for each of these.
 use Rattle.std.specs.Prelude.{ℕ, ◌≡◌, ◌+◌, ◌-◌, ◌*◌, ◌%◌, ◌<◌, ◌≤◌, ◌^◌, Bool, true, Contains, List, [], ◌∷◌, if◌then◌else◌, drop, fold, length, max, slice_index_or, take}
 use Rattle.cqf_lists.specs.Lists.{each_below}
 use Rattle.cqf_model.specs.declared.topology.Hop.{Hop}
@@ -8,7 +9,7 @@ use Rattle.cqf_model.specs.Limits.{most_every}
 use Rattle.cqf_model.specs.Paces.{is_turn}
 use Rattle.cqf_model.specs.Table.{uses}
 
--- a pace that repeats after so many cycles: one cycle of a divisor of 80, from a first one of so many on
+-- a pace that repeats after `most_every` cycles: the number of cycles divides 80, and the phase is below that number
 pub record IsGoodPace (pace : Pace) : Type 0 where
   pub divides : most_every % (pace.pause + 1) ≡ 0
   pub within : pace.phase ≤ pace.pause
@@ -19,7 +20,7 @@ IsOfGoodPace row = IsGoodPace row.pace
 abbrev pub AreOfGoodPaces : List Row → Type 0
 AreOfGoodPaces rows = (row : Row) → Contains rows row → IsOfGoodPace row
 
--- of how many links there are sums; and these, link by link, and of each by its cycle
+-- the number of links with sums; and the sums, link by link, for each link by cycle
 pub record Turned : Type 0 where
   pub links : ℕ
   pub sums : List ℕ
@@ -28,34 +29,34 @@ pub record Turned : Type 0 where
 abbrev pub sum_on : Turned → ℕ → ℕ → ℕ
 sum_on turned l cycle = slice_index_or turned.sums (l * most_every + cycle % most_every) 0
 
--- what a stream brings to it: the number, where its frames go by the link in that cycle
+-- what a stream adds to this sum: the number, if its frames use the link in that cycle
 abbrev pub part_in : List Hop → Pace → ℕ → ℕ → ℕ → ℕ
 part_in tree pace number l cycle = if uses tree pace l cycle then number else 0
 
--- no stream has come
+-- no stream was added
 pub record AreNone (turned : Turned) (links : ℕ) : Type 0 where
   pub of_links : turned.links ≡ links
   pub none : (l cycle : ℕ) → sum_on turned l cycle ≡ 0
 
--- each sum has room for what a stream brings
+-- the stream's number can be added to each of its sums
 abbrev pub HasRoomFor : Turned → List Hop → Pace → ℕ → Type 0
 HasRoomFor turned tree pace number = (l cycle : ℕ) → l < turned.links → sum_on turned l cycle + part_in tree pace number l cycle < 2 ^ 64
 
--- a stream has come
+-- a stream was added
 pub record AreMoreIn (before : Turned) (tree : List Hop) (pace : Pace) (number : ℕ) (after : Turned) : Type 0 where
   pub links : after.links ≡ before.links
   pub each : (l cycle : ℕ) → l < before.links → sum_on after l cycle ≡ sum_on before l cycle + part_in tree pace number l cycle
 
--- each sum has in it what a stream brought
+-- each sum contains what the stream added
 abbrev pub HasIn : Turned → List Hop → Pace → ℕ → Type 0
 HasIn turned tree pace number = (l cycle : ℕ) → l < turned.links → part_in tree pace number l cycle ≤ sum_on turned l cycle
 
--- a stream has gone
+-- a stream was removed
 pub record AreLessIn (before : Turned) (tree : List Hop) (pace : Pace) (number : ℕ) (after : Turned) : Type 0 where
   pub links : after.links ≡ before.links
   pub each : (l cycle : ℕ) → l < before.links → sum_on after l cycle ≡ sum_on before l cycle - part_in tree pace number l cycle
 
--- the greatest sum of a link in the cycles in which frames of this pace are so deep on their way, and in all cycles
+-- the greatest sum of a link in the cycles in which frames of this pace use a hop with this hop number; and in all cycles
 abbrev pub most_at : Turned → ℕ → Pace → ℕ → ℕ
 most_at turned l pace depth =
     fold max 0 (each_below (λ cycle. if is_turn pace depth cycle then sum_on turned l cycle ∷ [] else []) most_every)
@@ -63,7 +64,7 @@ most_at turned l pace depth =
 abbrev pub most_of : Turned → ℕ → ℕ
 most_of turned l = fold max 0 (each_below (λ cycle. sum_on turned l cycle ∷ []) most_every)
 
--- sums as they are kept: of each link those of all cycles, and beside them the greatest of these
+-- sums as they are stored: for each link those of all cycles, and the greatest of these
 pub record AreKept (turned : Turned) (greatest : List ℕ) : Type 0 where
   pub whole : length turned.sums ≡ turned.links * most_every
   pub as_many : length greatest ≡ turned.links
@@ -71,30 +72,30 @@ pub record AreKept (turned : Turned) (greatest : List ℕ) : Type 0 where
 
 -- ---- the sums of one link
 
--- by cycle
+-- the sums of a link, by cycle
 abbrev pub turns_at : Turned → ℕ → List ℕ
 turns_at turned l = take most_every (drop (l * most_every) turned.sums)
 
--- those in chosen cycles have room for a number more
+-- the number can be added to the sums of the chosen cycles
 abbrev pub HaveRoomIn : (ℕ → Bool) → List ℕ → ℕ → Type 0
 HaveRoomIn chosen turns number = (turn : ℕ) → turn < length turns → chosen turn ≡ true → slice_index_or turns turn 0 + number < 2 ^ 64
 
--- they are so much more
+-- the sums, with the number added in the chosen cycles
 pub record AreMoreWhere (chosen : ℕ → Bool) (before : List ℕ) (number : ℕ) (after : List ℕ) : Type 0 where
   pub as_many : length after ≡ length before
   pub each : (turn : ℕ) → turn < length before →
       slice_index_or after turn 0 ≡ slice_index_or before turn 0 + (if chosen turn then number else 0)
 
--- they have a number in them
+-- the sums of the chosen cycles contain the number
 abbrev pub HaveIn : (ℕ → Bool) → List ℕ → ℕ → Type 0
 HaveIn chosen turns number = (turn : ℕ) → turn < length turns → chosen turn ≡ true → number ≤ slice_index_or turns turn 0
 
--- they are so much less
+-- the sums, with the number subtracted in the chosen cycles
 pub record AreLessWhere (chosen : ℕ → Bool) (before : List ℕ) (number : ℕ) (after : List ℕ) : Type 0 where
   pub as_many : length after ≡ length before
   pub each : (turn : ℕ) → turn < length before →
       slice_index_or after turn 0 ≡ slice_index_or before turn 0 - (if chosen turn then number else 0)
 
--- the greatest in chosen cycles
+-- the greatest sum in the chosen cycles
 abbrev pub most_where : (ℕ → Bool) → List ℕ → ℕ
 most_where chosen turns = fold max 0 (each_below (λ turn. if chosen turn then slice_index_or turns turn 0 ∷ [] else []) most_every)

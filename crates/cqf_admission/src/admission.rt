@@ -25,7 +25,7 @@ use std::alloc::Global;
 use std::marker::Model;
 use std::sync::Arc;
 
-/// An admission controller over a domain, with its history of calls.
+/// An admission controller for a domain, with its history of calls.
 #[derive(Debug, Drop)]
 pub struct Admission {
     alloc: Global,
@@ -49,7 +49,7 @@ impl Model for Admission {
 }
 
 impl Admission {
-    /// An admission for a domain, with an empty history.
+    /// Returns an admission controller for a domain, with an empty history, or `Memory` if an allocation fails.
     pub fn new(alloc: Global, domain: &Domain) -> Result<Admission, Memory>
         ensures domain { IfOk result (λ a. a.domain ≡ domain.now) }
         ensures begins { IfOk result (λ a. a.entries ≡ []) }
@@ -63,22 +63,22 @@ impl Admission {
         })
     }
 
-    /// The domain whose links are shared out.
+    /// Returns the domain whose links the streams share.
     pub fn domain(&self) -> &Domain
         ensures { result.now ≡ self.now.domain }
     {
         &self.domain
     }
 
-    /// Does nothing, and makes known to a proof what each call keeps: the history is legal.
+    /// Does nothing. It makes a fact that each call preserves known to a proof: the history is legal.
     pub fn know(&self)
         ensures legal { IsLegalHistory self.now.domain self.now.entries }
     {
-        // a use of a field: with it the invariant is known
+        // the use of a field makes the invariant known
         let _ = &self.history;
     }
 
-    /// All entries, in order.
+    /// Returns all entries, in order.
     pub fn history(&self) -> &[Entry]
         ensures entries { map recorded_of result.now ≡ self.now.entries }
         ensures legal { IsLegalHistory self.now.domain self.now.entries }
@@ -86,7 +86,7 @@ impl Admission {
         self.history.as_slice()
     }
 
-    /// All entries, in order, of an admission that is over. It takes no memory.
+    /// Returns all entries, in order, of an admission controller that is no longer used. This takes no memory.
     pub fn into_history(self) -> Vec<Entry>
         ensures entries { map recorded_of result.items ≡ self.entries }
         ensures legal { IsLegalHistory self.domain self.entries }
@@ -94,10 +94,11 @@ impl Admission {
         self.history
     }
 
-    /// All entries, in order, and the rows of all streams that were ever granted, by number, of an admission that is over.
+    /// Returns all entries, in order, and the rows of all streams that were ever granted, by number, of an admission controller that is no
+    /// longer used.
     ///
     /// # Errors
-    /// Where a growth is refused.
+    /// `Memory` if an allocation fails.
     pub fn into_parts(self) -> Result<(Vec<Entry>, Vec<Row>), Memory>
         ensures entries { IfOk result (λ parts. map recorded_of parts.0.items ≡ self.entries) }
         ensures legal { IsLegalHistory self.domain self.entries }
@@ -107,21 +108,22 @@ impl Admission {
         Ok((self.history, rows))
     }
 
-    /// The next cycle to be closed to changes: the number of Seals so far. A call has its effect from this cycle on.
+    /// Returns the next cycle to be closed to changes, which is the number of Seals so far. A call takes effect from this cycle on.
     pub fn next_cycle(&self) -> Cycle
         ensures { result.0 ≡ seals self.now.entries }
     {
         self.state.next_cycle()
     }
 
-    /// Asks for a stream. Where it is granted, the receipt has its number and the cycle from which it is live; it is held,
-    /// with its costs and its name, from then on.
+    /// Requests a stream. If it is granted, the receipt has its number and the cycle from which it is live. From then on it is held, with
+    /// its costs and its name.
     ///
-    /// Refused with `HistoryFull`, before all else, where 100,000 entries aren't Seals; with `Memory` where a growth is
-    /// refused; then with the first reason that is due, in this order: `BadName`, `BadOctets`, `UnknownNode`,
-    /// `BrokenPath`, `LoopingPath`, `NotATree`, each over all branches before the next, `TooManyHops`, `NameHeld`, `TooManyStreams`
-    /// (as many are held as the domain may have), `BudgetShort`; and where none is, with `Memory` where there is none for the stream's row. `HistoryFull` and
-    /// `Memory` change nothing; each other call enters the history with its answer.
+    /// # Errors
+    /// `HistoryFull`, before all else, if 100,000 entries aren't Seals. `Memory` if an allocation fails. Then the first reason that is due,
+    /// in this order: `BadName`, `BadOctets`, `UnknownNode`, `BrokenPath`, `LoopingPath`, `NotATree`, each over all branches before the
+    /// next, `TooManyHops`, `NameHeld`, `TooManyStreams` (as many streams are held as the domain may have), `BudgetShort`. If none is due,
+    /// `Memory` if the allocation of the stream's row fails. `HistoryFull` and `Memory` change nothing. Each other call enters the history
+    /// with its answer.
     pub fn admit(&mut self, seat: u16, request: &Request) -> Result<Receipt, Refused>
         ensures answers { Answers self.old self.new seat (Admits (asked_of request.now)) result }
         ensures held { HoldsOneMore self.old self.new (asked_of request.now) result }
@@ -137,8 +139,10 @@ impl Admission {
         self.admit_judged(seat, Call::Admit(asked), request.octets, judged)
     }
 
-    /// Asks for a stream that is offered in some cycles, likewise. Behind `BadOctets` it is refused with `BadPace` where the number of cycles,
-    /// in one of which it is offered, doesn't divide 80, or the first of these isn't below that number.
+    /// Requests a stream that is offered in some cycles, as [`Admission::admit`] does for one that is offered in each cycle.
+    ///
+    /// # Errors
+    /// As for [`Admission::admit`]. After `BadOctets` comes `BadPace`, if `every` doesn't divide 80 or `phase` isn't below `every`.
     pub fn admit_paced(&mut self, seat: u16, request: &PacedRequest) -> Result<Receipt, Refused>
         ensures answers { Answers self.old self.new seat (Admits (asked_paced request.now)) result }
         ensures held { HoldsOneMore self.old self.new (asked_paced request.now) result }
@@ -150,8 +154,8 @@ impl Admission {
         self.admit_shared(seat, &asked)
     }
 
-    /// Asks for such a stream likewise, by a request that the history shares with the caller: it isn't copied, and isn't looked over where it
-    /// was for this very domain.
+    /// Requests a stream like [`Admission::admit_paced`], with a request that the history shares with the caller. The request isn't copied,
+    /// and it isn't checked again if it was already checked for this domain.
     pub fn admit_shared(
         &mut self,
         seat: u16,
@@ -172,7 +176,8 @@ impl Admission {
         self.admit_judged(seat, Call::AdmitPaced(asked), wanted.octets, judged)
     }
 
-    /// Answers a call for a stream of so many octets, which was judged by itself, and enters it. The history isn't full.
+    /// Answers a call for a stream with this number of octets, whose request was judged by itself, and enters the call. The history isn't
+    /// full.
     fn admit_judged(
         &mut self,
         seat: u16,
@@ -199,12 +204,12 @@ impl Admission {
         answer
     }
 
-    /// Withdraws the stream of a name. The receipt has its number and the first cycle in which it is live no more. It is
-    /// held on for as many cycles as its deepest link is deep.
+    /// Withdraws the stream with a name. The receipt has its number and the first cycle in which it is no longer live. It is held for as
+    /// many more cycles as the greatest hop number of its tree.
     ///
-    /// Refused with `HistoryFull` and `Memory` as [`Admission::admit`], then with `NotHeld` where no held stream has the
-    /// name, and `AlreadyWithdrawn`; and where none is, with `Memory` where there is none for the row of a stream that ends
-    /// 
+    /// # Errors
+    /// `HistoryFull` and `Memory` as for [`Admission::admit`]. Then `NotHeld` if no held stream has the name, or `AlreadyWithdrawn`. If
+    /// neither is due, `Memory` if the allocation of the withdrawn stream's row fails.
     pub fn withdraw(&mut self, seat: u16, name: &str) -> Result<Receipt, Refused>
         ensures answers { Answers self.old self.new seat (Withdraws name.now) result }
         ensures held { EndsOne self.old self.new result }
@@ -222,9 +227,10 @@ impl Admission {
         answer
     }
 
-    /// Closes the next cycle to changes, and gives its table: the streams that are held in it, by number.
+    /// Closes the next cycle to changes and returns its table: the streams that are held in it, by number.
     ///
-    /// Refused with `CyclesSpent` after 100,000 Seals, and with `Memory`; neither changes anything.
+    /// # Errors
+    /// `CyclesSpent` after 100,000 Seals. `Memory` if an allocation fails. Neither changes anything.
     pub fn seal(&mut self, seat: u16) -> Result<Table, SealFault>
         ensures closes { Closes self.old self.new seat result }
         ensures lets_go { IfOk result (λ table. LetsGo self.old self.new table) }
@@ -242,7 +248,7 @@ impl Admission {
         Ok(Table::new(cycle, listed))
     }
 
-    /// What the streams that are held in the next cycle cost of a link at most, in octets in a cycle: never more than its budget.
+    /// Returns the most that the streams held in the next cycle cost on a link in any cycle, in octets: never more than the link's budget.
     pub fn held_on(&self, link: u16) -> Octets
         requires { link < length self.now.domain.links }
         ensures held { result.0 ≡ most_cost (held_in self.now.domain self.now.entries (seals self.now.entries)) link }
@@ -252,8 +258,8 @@ impl Admission {
         self.state.taken_of(&self.domain, link)
     }
 
-    /// What a hop's link has left beside the streams that are held in the next cycle, in octets, in the cycles in which frames of a pace go
-    /// by it: the least in one of these. The pace is of one cycle of a divisor of 80.
+    /// Returns what a hop's link has left besides the streams held in the next cycle, in octets: the least over the cycles in which frames
+    /// of the pace use the hop. The number of cycles of the pace divides 80.
     pub fn left_at(&self, hop: &Hop, pace: Pace) -> Octets
         requires inside { hop.now.link < length self.now.domain.links }
         requires good { IsGoodPace pace }
@@ -263,7 +269,7 @@ impl Admission {
         self.state.left_at(&self.domain, hop, pace)
     }
 
-    /// The same admission again, unless memory runs out.
+    /// Returns a copy of the admission controller, or `Memory` if an allocation fails.
     pub fn try_copy(&self, alloc: Global) -> Result<Admission, Memory>
         ensures { IfOk result (λ copy. copy ≡ self.now) }
     {

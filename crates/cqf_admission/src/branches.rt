@@ -10,18 +10,18 @@ use arrayvec::ArrayVec;
 use cqf_model::Node;
 use cqf_topology::Domain;
 
-/// What is asked of each branch, one after the other.
+/// A check of each branch. Branches are checked in order.
 #[derive(Clone, Copy, Debug)]
 pub(crate) enum Check {
     /// The domain has each node.
     Known,
-    /// A link goes from each node to the next, from a bridge on to a station.
+    /// A link leads from each node to the next, from a bridge to a station.
     Whole,
-    /// No node stands twice.
+    /// No node occurs twice.
     Simple,
 }
 
-/// How many places the branches have, one for each of their names. `None` where no `usize` can count them.
+/// Returns the number of names in all branches, or `None` if a `usize` can't hold it.
 pub fn count_places(paths: &[Vec<String>]) -> Option<usize>
     ensures { MatchOption result (2 ^ 64 ≤ places_of (branches_of paths.now)) (λ count. count ≡ places_of (branches_of paths.now)) }
 {
@@ -32,7 +32,7 @@ pub fn count_places(paths: &[Vec<String>]) -> Option<usize>
     Some(count)
 }
 
-/// The nodes of the names of a branch behind those of others, as far as there is room.
+/// Appends the nodes of the names of a branch to the nodes of others, as far as there is room.
 fn add_nodes(domain: &Domain, nodes: &mut ArrayVec<Option<Node>, 256>, branch: &[String])
     ensures { nodes.new.items ≡ fold (with_node domain.now) nodes.old.items (branch_of branch.now) }
 {
@@ -41,7 +41,7 @@ fn add_nodes(domain: &Domain, nodes: &mut ArrayVec<Option<Node>, 256>, branch: &
     }
 }
 
-/// The node of a name behind those of others, where there is room.
+/// Appends the node of a name to the nodes of others, if there is room.
 fn add_node(domain: &Domain, nodes: &mut ArrayVec<Option<Node>, 256>, name: &String)
     ensures { nodes.new.items ≡ with_node domain.now nodes.old.items (string_bytes name.now) }
 {
@@ -50,7 +50,7 @@ fn add_node(domain: &Domain, nodes: &mut ArrayVec<Option<Node>, 256>, name: &Str
     }
 }
 
-/// The nodes of the first 256 names of some branches, each looked up once.
+/// Returns the nodes of the first 256 names of the branches, each looked up once.
 pub(crate) fn nodes_of(domain: &Domain, paths: &[Vec<String>]) -> ArrayVec<Option<Node>, 256>
     ensures { AreNodes domain.now (flat_map (λ branch. branch) (branches_of paths.now)) result.items }
 {
@@ -61,14 +61,14 @@ pub(crate) fn nodes_of(domain: &Domain, paths: &[Vec<String>]) -> ArrayVec<Optio
     nodes
 }
 
-/// The nodes behind those of a branch of so many names.
+/// Returns the nodes after those of a branch of `count` names.
 pub(crate) fn nodes_behind(nodes: &[Option<Node>], count: usize) -> &[Option<Node>]
     ensures { result.now ≡ drop (min count (length nodes.now)) nodes.now }
 {
     nodes.split_at(count.min(nodes.len())).1
 }
 
-/// The node at a place of a branch, where there is one. Those of its first names are known.
+/// Returns the node at an index of a branch, or `None` if there is none. The nodes of its first names are given.
 fn node_of(domain: &Domain, nodes: &[Option<Node>], branch: &[String], place: usize) -> Option<Node>
     requires { AreNodes domain.now (branch_of branch.now) nodes.now }
     ensures { result ≡ node_at domain.now (branch_of branch.now) place }
@@ -82,7 +82,7 @@ fn node_of(domain: &Domain, nodes: &[Option<Node>], branch: &[String], place: us
     domain.find(branch[place].as_str())
 }
 
-/// The first place of a branch whose node the domain lacks.
+/// Returns the first index of a branch whose node the domain lacks.
 fn unknown_place(domain: &Domain, nodes: &[Option<Node>], branch: &[String]) -> Option<usize>
     requires { AreNodes domain.now (branch_of branch.now) nodes.now }
     ensures { result ≡ position (λ name. is_none (node_named domain.now name)) (branch_of branch.now) }
@@ -95,7 +95,7 @@ fn unknown_place(domain: &Domain, nodes: &[Option<Node>], branch: &[String]) -> 
     None
 }
 
-/// The link between two nodes, where both are there and it is.
+/// Returns the link between two nodes, or `None` if a node or the link doesn't exist.
 fn link_of(domain: &Domain, from: Option<Node>, to: Option<Node>) -> Option<u16>
     ensures { result ≡ link_from domain.now from to }
 {
@@ -109,7 +109,7 @@ fn link_of(domain: &Domain, from: Option<Node>, to: Option<Node>) -> Option<u16>
     }
 }
 
-/// The link from the node at a place of a branch to the next one, where both are there and it is.
+/// Returns the link from the node at an index of a branch to the next one, or `None` if a node or the link doesn't exist.
 pub(crate) fn link_behind(
     domain: &Domain,
     nodes: &[Option<Node>],
@@ -127,15 +127,15 @@ pub(crate) fn link_behind(
     )
 }
 
-/// Whether a node is there and a bridge.
+/// Returns whether a node exists and is a bridge.
 fn is_bridge_node(node: Option<Node>) -> bool
     ensures { result ≡ is_bridge node }
 {
     matches!(node, Some(Node::Bridge(_)))
 }
 
-/// Whether a branch is broken at a place: it is empty or begins with no bridge; no link goes from the node before to this
-/// one; its last node is a bridge; or as many nodes stand before this place as a branch may have.
+/// Returns whether a branch is broken at an index: the branch is empty or doesn't begin with a bridge; no link leads from the node before
+/// to this one; its last node is a bridge; or there are already as many nodes before this index as a branch may have.
 fn is_branch_broken_at(
     domain: &Domain,
     nodes: &[Option<Node>],
@@ -157,7 +157,7 @@ fn is_branch_broken_at(
     begins_ill || unlinked || ends_in_bridge || too_long
 }
 
-/// The first place at which a branch is broken.
+/// Returns the first index at which a branch is broken.
 fn broken_place(domain: &Domain, nodes: &[Option<Node>], branch: &[String]) -> Option<usize>
     requires { AreNodes domain.now (branch_of branch.now) nodes.now }
     ensures { result ≡ least (is_broken_at domain.now (branch_of branch.now)) (length branch.now + 1) }
@@ -170,7 +170,7 @@ fn broken_place(domain: &Domain, nodes: &[Option<Node>], branch: &[String]) -> O
     None
 }
 
-/// Whether the node at a place of a branch stood earlier. A node has one name, so the names before it tell.
+/// Returns whether the node at an index of a branch occurred earlier. A node has one name, so it is enough to compare the names before it.
 fn is_branch_looping_at(
     domain: &Domain,
     nodes: &[Option<Node>],
@@ -191,7 +191,7 @@ fn is_branch_looping_at(
     has_name(&branch[..place], name)
 }
 
-/// The first place of a branch whose node stood earlier.
+/// Returns the first index of a branch whose node occurred earlier.
 fn looping_place(domain: &Domain, nodes: &[Option<Node>], branch: &[String]) -> Option<usize>
     requires { AreNodes domain.now (branch_of branch.now) nodes.now }
     ensures { result ≡ least (is_loop_at domain.now (branch_of branch.now)) (length branch.now + 1) }
@@ -204,7 +204,7 @@ fn looping_place(domain: &Domain, nodes: &[Option<Node>], branch: &[String]) -> 
     None
 }
 
-/// The first place at which a branch fails a check.
+/// Returns the first index at which a branch fails a check.
 fn fault_of(
     domain: &Domain,
     check: Check,
@@ -221,7 +221,7 @@ fn fault_of(
     }
 }
 
-/// The first place at which one of the branches fails a check, where places count through them as one list.
+/// Returns the first index at which any branch fails a check. Indexes count through the branches as one list.
 pub(crate) fn first_fault_of(
     domain: &Domain,
     check: Check,
@@ -244,35 +244,35 @@ pub(crate) fn first_fault_of(
     None
 }
 
-/// Whether two names are the same.
+/// Returns whether two names are the same.
 fn is_same_name(name: &String, other: &String) -> bool
     ensures { result ≡ is_text (string_bytes name.now) (string_bytes other.now) }
 {
     name.as_str() == other.as_str()
 }
 
-/// Whether a name is one of some.
+/// Returns whether a name is in a list of names.
 fn has_name(names: &[String], name: &String) -> bool
     ensures { result ≡ list_any (λ other. is_text (string_bytes name.now) (string_bytes other)) names.now }
 {
     names.iter().any(|other| is_same_name(name, other))
 }
 
-/// Whether one of some names is one of some others.
+/// Returns whether any of the names is in the list of others.
 fn have_common(names: &[String], others: &[String]) -> bool
     ensures { result ≡ list_any (λ name. list_any (λ other. is_text (string_bytes name) (string_bytes other)) others.now) names.now }
 {
     names.iter().any(|name| has_name(others, name))
 }
 
-/// Whether no node of one part of a branch is in a part of another.
+/// Returns whether no node of one part of a branch is in a part of another branch.
 fn are_parts_apart(names: &[String], others: &[String]) -> bool
     ensures { result ≡ are_apart (branch_of names.now) (branch_of others.now) }
 {
     !have_common(names, others)
 }
 
-/// Whether two branches part for good: behind the beginning that they have in common both go on, and no node is in both.
+/// Returns whether two branches part for good: after their common beginning both continue, and no node is in both.
 fn do_part(names: &[String], others: &[String]) -> bool
     ensures { result ≡ part (branch_of names.now) (branch_of others.now) }
 {
@@ -286,7 +286,7 @@ fn do_part(names: &[String], others: &[String]) -> bool
     false
 }
 
-/// Whether two branches make one tree: they begin at one bridge, and part for good.
+/// Returns whether two branches make one tree: they begin at the same bridge, and part for good.
 fn do_make_a_tree(names: &[String], others: &[String]) -> bool
     ensures { result ≡ make_a_tree (branch_of names.now) (branch_of others.now) }
 {
@@ -296,7 +296,7 @@ fn do_make_a_tree(names: &[String], others: &[String]) -> bool
     is_same_name(&names[0], &others[0]) && do_part(names, others)
 }
 
-/// Whether a branch makes no tree with one of those before it.
+/// Returns whether a branch doesn't make a tree with any one of those before it.
 fn is_stray_behind(before: &[Vec<String>], branch: &[String]) -> bool
     ensures { result ≡ list_any (λ other. not (make_a_tree (branch_of other.items) (branch_of branch.now))) before.now }
 {
@@ -305,7 +305,7 @@ fn is_stray_behind(before: &[Vec<String>], branch: &[String]) -> bool
         .any(|other| !do_make_a_tree(other.as_slice(), branch))
 }
 
-/// Whether the branch of a number makes no tree with one before it.
+/// Returns whether the branch with a number doesn't make a tree with one before it.
 fn is_branch_stray(paths: &[Vec<String>], number: usize) -> bool
     requires { number < length paths.now }
     ensures { result ≡ is_stray (branches_of paths.now) number }
@@ -314,7 +314,7 @@ fn is_branch_stray(paths: &[Vec<String>], number: usize) -> bool
     is_stray_behind(&paths[..number], branch.as_slice())
 }
 
-/// The number of the first branch that makes no tree with one before it.
+/// Returns the number of the first branch that doesn't make a tree with one before it.
 pub(crate) fn stray_branch(paths: &[Vec<String>]) -> Option<usize>
     ensures { result ≡ least (is_stray (branches_of paths.now)) (length paths.now) }
 {

@@ -1,11 +1,11 @@
-//! What links have for streams.
+//! What links offer to streams.
 ghost use Rattle.std.specs.Prelude.{◌≡◌, ◌<◌, length};
 ghost use Rattle.cqf_model.specs.Domain.{budget, guard_of};
 
 use cqf_topology::Domain;
 use cqf_units::{Nanos, Octets, budget};
 
-/// The guard time of a link of the domain: its own, where it has one, else the domain's.
+/// Returns the guard band of a link of the domain: its own if it has one, else the domain's.
 pub fn guard_on(domain: &Domain, link: u16) -> Nanos
     requires { link < length domain.now.links }
     ensures value { result.0 ≡ guard_of domain.now link }
@@ -18,7 +18,7 @@ pub fn guard_on(domain: &Domain, link: u16) -> Nanos
     Nanos(u64::from(own))
 }
 
-/// What reservations may cost on a link of the domain, in octets a cycle.
+/// Returns what reservations may cost on a link of the domain, in octets a cycle.
 pub fn budget_on(domain: &Domain, link: u16) -> Octets
     requires { link < length domain.now.links }
     ensures { result.0 ≡ budget domain.now link }

@@ -23,7 +23,7 @@ use cqf_units::Memory;
 use std::alloc::Global;
 use std::sync::Arc;
 
-/// Where a line stands: its number, from 1, and how many Seals and other calls stand before it.
+/// The position of a line: its number, from 1, and how many Seals and other calls are before it.
 #[derive(Clone, Copy)]
 struct ScriptPlace {
     line: u64,
@@ -32,7 +32,7 @@ struct ScriptPlace {
 }
 
 impl ScriptPlace {
-    /// Where the next line stands, behind this one.
+    /// Returns the position of the line after this one.
     fn behind(self, line: &[u8]) -> ScriptPlace
         requires counted { self.sealed + self.called < self.line }
         requires room { self.line + 1 < 2 ^ 64 }
@@ -57,7 +57,7 @@ impl ScriptPlace {
     }
 }
 
-/// One more than the number of the administrator whose order the line is; 0 where it is nobody's.
+/// Returns one more than the number of the administrator whose order the line is, or 0 if it is nobody's order.
 fn seats_up_to(line: &[u8]) -> u16
     ensures value { result ≡ seats_up_to (order_of_line line.now) }
     ensures small { result ≤ 8 }
@@ -68,8 +68,8 @@ fn seats_up_to(line: &[u8]) -> u16
     }
 }
 
-/// The number of administrators of a script: one more than the greatest number whose order a line is, or 0 where there is
-/// none. It is the seat of the Seals.
+/// Returns the number of administrators of a script: one more than the greatest number whose order a line is, or 0 if there is none. It is
+/// the seat of the Seals.
 pub fn administrators(text: &[u8]) -> u16
     ensures { result ≡ administrators (lines_of text.now) }
 {
@@ -82,7 +82,7 @@ pub fn administrators(text: &[u8]) -> u16
     most
 }
 
-/// The order on a line that ends at this place of the script's text.
+/// Returns the order on a line that ends at index `end` of the script's text.
 fn place_order(
     names: &Names<'_>,
     place: ScriptPlace,
@@ -119,7 +119,7 @@ fn place_order(
     })
 }
 
-/// The Seal of a line.
+/// Returns the Seal of a line.
 fn place_seal(seat: u16, cycles: u32, place: ScriptPlace) -> Result<Ordered, ScriptFault>
     ensures value { (requests : List Asked) (text : List ℕ) →
         Gives ScriptFault.Memory (ordered_in requests text) result (call_of_seal seat cycles place.line place.sealed) }
@@ -134,7 +134,7 @@ fn place_seal(seat: u16, cycles: u32, place: ScriptPlace) -> Result<Ordered, Scr
     })
 }
 
-/// The order of a line that ends at this place of the script's text.
+/// Returns the order of a line that ends at index `end` of the script's text.
 fn place_line(
     names: &Names<'_>,
     seat: u16,
@@ -159,11 +159,11 @@ fn place_line(
     }
 }
 
-/// The orders of a script for so many cycles, where these streams may be admitted: the calls of [`read_script`], each by
-/// where what it names stands, among the requests or in the text, with no copy of it.
+/// Returns the orders of a script for `cycles` cycles, given the streams that may be admitted. These are the calls of [`read_script`], but
+/// each refers to what it names by index, among the requests or in the text, without a copy of it.
 ///
 /// # Errors
-/// Those of [`read_script`].
+/// As for [`read_script`].
 pub fn read_orders(
     alloc: Global,
     text: &[u8],
@@ -196,7 +196,7 @@ pub fn read_orders(
     Ok(orders)
 }
 
-/// Some requests, each copied once, so that calls for its stream can share it, unless memory runs out.
+/// Returns a copy of each request, which calls for its stream can share, or `Memory` if an allocation fails.
 fn all_shared(alloc: Global, requests: &[PacedRequest]) -> Result<Vec<Arc<SharedRequest>>, Memory>
     ensures { IfOk result (λ copies. map asked_shared copies.items ≡ map asked_paced requests.now) }
 {
@@ -207,7 +207,7 @@ fn all_shared(alloc: Global, requests: &[PacedRequest]) -> Result<Vec<Arc<Shared
     Ok(copies)
 }
 
-/// Which of so many requests are asked for by orders, unless memory runs out. It decides only when a request is looked over.
+/// Returns which of the requests the orders name, or `Memory` if an allocation fails. This only decides when a request is checked.
 fn asked_for(alloc: Global, requests: usize, orders: &[Ordered]) -> Result<Vec<bool>, Memory> {
     let mut asked = Vec::with_capacity(alloc, requests)?;
     for _ in 0..requests {
@@ -221,14 +221,14 @@ fn asked_for(alloc: Global, requests: usize, orders: &[Ordered]) -> Result<Vec<b
     Ok(asked)
 }
 
-/// Notes that the request at a place is asked for, where there is one.
+/// Records that the request at an index is named by an order, if there is such a request.
 fn note(asked: &mut [bool], place: usize) {
     if place < asked.len() {
         asked[place] = true;
     }
 }
 
-/// Whether it was noted so.
+/// Returns whether this was recorded for the request at an index.
 fn is_noted(asked: &[bool], place: usize) -> bool {
     match asked.get(place) {
         Some(noted) => *noted,
@@ -236,7 +236,7 @@ fn is_noted(asked: &[bool], place: usize) -> bool {
     }
 }
 
-/// A copy of a request that calls for its stream can share, looked over for a domain where it is asked for.
+/// Returns a copy of a request that calls for its stream can share. If `is_asked`, it is checked for a domain.
 fn copy_for(
     alloc: Global,
     domain: &Arc<Domain>,
@@ -252,7 +252,7 @@ fn copy_for(
     }
 }
 
-/// Some requests, each copied once likewise; those that are asked for by orders are looked over for a domain.
+/// Returns a copy of each request likewise. The requests that orders name are checked for a domain.
 fn all_judged(
     alloc: Global,
     domain: &Domain,
@@ -272,7 +272,7 @@ fn all_judged(
     Ok(copies)
 }
 
-/// Copies of some requests, which calls for their streams can share, looked over where a domain is given.
+/// Returns copies of the requests, which calls for their streams can share. If a domain is given, they are checked for it.
 fn all_copies(
     alloc: Global,
     domain: Option<&Domain>,
@@ -287,7 +287,7 @@ fn all_copies(
     }
 }
 
-/// The call that is ordered, with a share of its request or a copy of its name.
+/// Returns the call of an order, with a share of its request or a copy of its name.
 fn call_of(
     alloc: Global,
     text: &[u8],
@@ -307,7 +307,7 @@ fn call_of(
     Ok((order.seat, call))
 }
 
-/// The calls that are ordered, as [`calls_of`] gives them, where a domain is given.
+/// Returns the calls of orders, as [`calls_of`] does if a domain is given.
 fn calls_by(
     alloc: Global,
     domain: Option<&Domain>,
@@ -327,12 +327,12 @@ fn calls_by(
     Ok(calls)
 }
 
-/// The calls that are ordered, each with its seat, and with a share of its request or a copy of its name. What the orders name stands
-/// among these requests, each of which is copied once, and in this text. Each request that is asked for is looked over once, for the domain
-/// in which it will be. The time grows with the orders, with what is copied, and with what these looks take.
+/// Returns the calls of orders, each with its seat, and with a share of its request or a copy of its name. The orders refer to these
+/// requests and to this text. Each request is copied once. Each request that an order names is checked once, for the domain in which it will
+/// be requested. The time grows with the number of orders, with the size of what is copied, and with the time of these checks.
 ///
 /// # Errors
-/// Where a growth is refused.
+/// `Memory` if an allocation fails.
 pub fn calls_of(
     alloc: Global,
     domain: &Domain,
@@ -346,7 +346,7 @@ pub fn calls_of(
     calls_by(alloc, Some(domain), text, requests, orders)
 }
 
-/// Some requests, of which each is for a stream that is offered in each cycle, unless memory runs out.
+/// Returns the requests as those for streams that are offered in each cycle, or `Memory` if an allocation fails.
 fn all_in_each_cycle(alloc: Global, requests: &[Request]) -> Result<Vec<PacedRequest>, Memory>
     ensures { IfOk result (λ copies. map asked_paced copies.items ≡ map asked_of requests.now) }
 {
@@ -357,10 +357,10 @@ fn all_in_each_cycle(alloc: Global, requests: &[Request]) -> Result<Vec<PacedReq
     Ok(copies)
 }
 
-/// The calls of a script, as [`read_script`] gives them, where streams may be admitted that are offered in some cycles.
+/// Returns the calls of a script, as [`read_script`] does, for streams that are offered in some cycles.
 ///
 /// # Errors
-/// Those of [`read_script`].
+/// As for [`read_script`].
 pub fn read_paced_script(
     alloc: Global,
     text: &[u8],
@@ -376,7 +376,8 @@ pub fn read_paced_script(
     Ok(calls)
 }
 
-/// The same call, for a stream that is offered in each cycle by a request without a pace, unless memory runs out.
+/// Returns the same call. A request with a pace becomes one for a stream that is offered in each cycle. Returns `Memory` if an allocation
+/// fails.
 fn plain_call(alloc: Global, call: Call) -> Result<Call, Memory>
     ensures { IfOk result (λ plain. act_of plain ≡ act_of call) }
 {
@@ -393,7 +394,7 @@ fn plain_call(alloc: Global, call: Call) -> Result<Call, Memory>
     }
 }
 
-/// The same calls, so.
+/// Returns the same calls, each converted by [`plain_call`].
 fn plain_calls(alloc: Global, calls: Vec<(u16, Call)>) -> Result<Vec<(u16, Call)>, Memory>
     ensures { IfOk result (λ plain. map called_of plain.items ≡ map called_of calls.items) }
 {
@@ -404,17 +405,15 @@ fn plain_calls(alloc: Global, calls: Vec<(u16, Call)>) -> Result<Vec<(u16, Call)
     Ok(plain)
 }
 
-/// The calls of a script for so many cycles, with the seat of each, where these streams may be admitted.
+/// Returns the calls of a script for `cycles` cycles, each with its seat, given the streams that may be admitted.
 ///
-/// Each line is `N admit NAME`, `N withdraw NAME` or `seal`, with single spaces: `N` is one digit from 0 to 7, the
-/// administrator, who is the call's seat, and `NAME` is 1 to 64 bytes from 0x21 to 0x7E. `admit` means the first request of
-/// the name. The seat of Seals is the number of administrators: one more than the greatest, or 0 where there is none. A
-/// script may have no lines.
+/// Each line is `N admit NAME`, `N withdraw NAME` or `seal`, with single spaces. `N` is one digit from 0 to 7, the administrator, whose
+/// number is the call's seat. `NAME` is 1 to 64 bytes from 0x21 to 0x7E. `admit` means the first request with the name. The seat of Seals
+/// is the number of administrators: one more than the greatest, or 0 if there are none. A script may have no lines.
 ///
 /// # Errors
-/// The fault of the first line that has one: `BadLine` where it has another form, `UnknownStream` where it admits a stream
-/// that isn't asked for, `TooMany` where it is one more Seal than cycles, or call 100,001 of the others; and `Memory` where
-/// a growth was refused.
+/// The fault of the first line with a fault: `BadLine` if it has another form, `UnknownStream` if it admits a stream that isn't among the
+/// requests, `TooMany` if it is a Seal after as many Seals as cycles, or call 100,001 among the others. `Memory` if an allocation fails.
 pub fn read_script(
     alloc: Global,
     text: &[u8],

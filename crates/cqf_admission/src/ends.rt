@@ -4,7 +4,7 @@ ghost use Rattle.cqf_admission.specs.Holdings.{AreLetGo, IsHeldAt};
 
 use crate::holdings::Holdings;
 
-/// Lets go of each stream whose number is listed, and empties the list.
+/// Releases each stream whose number is listed, and empties the list.
 pub(crate) fn let_go_of(holdings: &mut Holdings, slot: &mut Vec<u32>)
     requires held { (number : ℕ) → Contains slot.old.items number → IsHeldAt holdings.old.rows number }
     requires once { AllPairs (λ (a b : ℕ). a ≢ b) slot.old.items }

@@ -10,25 +10,25 @@ use std::alloc::Global;
 use std::sync::Arc;
 use thiserror::Error;
 
-/// What an administrator calls for beside Seals.
+/// A call by an administrator, other than a Seal.
 #[derive(Debug, Drop)]
 pub enum Command {
     /// To admit a stream that is offered in each cycle.
     Admit(Request),
-    /// To admit one that is offered in some. Calls for one stream share its request.
+    /// To admit a stream that is offered in some cycles. Calls for one stream share its request.
     AdmitPaced(Arc<SharedRequest>),
-    /// To withdraw the stream of a name.
+    /// To withdraw the stream with a name.
     Withdraw(String),
 }
 
-/// What was called for.
+/// What a call is for.
 #[derive(Debug, Drop)]
 pub enum Call {
     /// To admit a stream that is offered in each cycle.
     Admit(Request),
-    /// To admit one that is offered in some. Calls for one stream share its request.
+    /// To admit a stream that is offered in some cycles. Calls for one stream share its request.
     AdmitPaced(Arc<SharedRequest>),
-    /// To withdraw the stream of a name.
+    /// To withdraw the stream with a name.
     Withdraw(String),
     /// To close the next cycle to changes.
     Seal,
@@ -37,20 +37,20 @@ pub enum Call {
 /// An entry of a history.
 #[derive(Debug, Drop)]
 pub struct Entry {
-    /// Whose call it was.
+    /// The seat of the caller.
     pub seat: u16,
     pub call: Call,
-    /// The answer that it got.
+    /// The answer to the call.
     pub reply: Reply,
 }
 
-/// Why a cycle isn't closed. Nothing is changed.
+/// Why a cycle isn't closed. Nothing is changed then.
 #[derive(Clone, Copy, Debug, PartialEq, Eq, Error)]
 pub enum SealFault {
-    /// 100,000 cycles were closed.
+    /// 100,000 cycles are already closed.
     #[error("CyclesSpent")]
     CyclesSpent,
-    /// A growth was refused.
+    /// An allocation failed.
     #[error("Memory")]
     Memory,
 }
@@ -65,7 +65,7 @@ impl From<Memory> for SealFault {
     }
 }
 
-/// The answer in an entry of a request or a withdrawal.
+/// Returns the answer to a request or a withdrawal, as an entry has it.
 pub(crate) fn reply_of(answer: Result<Receipt, Refused>) -> Reply
     ensures { result ≡ reply_of answer }
 {
@@ -75,7 +75,7 @@ pub(crate) fn reply_of(answer: Result<Receipt, Refused>) -> Reply
     }
 }
 
-/// Adds an entry to a history behind the others, where there is room.
+/// Appends an entry to a history that has room for it.
 pub(crate) fn enter(history: &mut Vec<Entry>, seat: u16, call: Call, reply: Reply)
     requires { vec_len history.old < vec_capacity history.old }
     ensures { history.new.items ≡ history.old.items ++ record { seat = seat; call = call; reply = reply } ∷ [] }
@@ -83,7 +83,7 @@ pub(crate) fn enter(history: &mut Vec<Entry>, seat: u16, call: Call, reply: Repl
     history.push(Entry { seat, call, reply }).unwrap();
 }
 
-/// The same call again, unless memory runs out.
+/// Returns a copy of the call, or `Memory` if an allocation fails.
 fn copied_call(alloc: Global, call: &Call) -> Result<Call, Memory>
     ensures { IfOk result (λ copy. act_of copy ≡ act_of call.now) }
 {
@@ -95,7 +95,7 @@ fn copied_call(alloc: Global, call: &Call) -> Result<Call, Memory>
     }
 }
 
-/// The same entry again, unless memory runs out.
+/// Returns a copy of the entry, or `Memory` if an allocation fails.
 fn copied_entry(alloc: Global, entry: &Entry) -> Result<Entry, Memory>
     ensures { IfOk result (λ copy. recorded_of copy ≡ recorded_of entry.now) }
 {
@@ -106,7 +106,7 @@ fn copied_entry(alloc: Global, entry: &Entry) -> Result<Entry, Memory>
     })
 }
 
-/// The same entries again, unless memory runs out.
+/// Returns a copy of the entries, or `Memory` if an allocation fails.
 pub(crate) fn copied_entries(alloc: Global, entries: &[Entry]) -> Result<Vec<Entry>, Memory>
     ensures { IfOk result (λ copies. map recorded_of copies.items ≡ map recorded_of entries.now) }
 {

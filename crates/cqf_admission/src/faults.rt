@@ -7,18 +7,17 @@ use std::alloc::AllocFailed;
 use std::fmt;
 use thiserror::Error;
 
-/// Why a script is refused: what is wrong with the first line that is not as it has to be, where lines count from 1
-///. Of one line the first fault in the order of the variants is told. A fault prints as its name, and then its
-/// line.
+/// Why a script is refused: the fault of its first line with a fault, with the number of the line, which counts from 1. If a line has
+/// several faults, the first in the order of the variants is reported. A fault prints as its name, followed by its line if it has one.
 #[derive(Clone, Copy, Debug, PartialEq, Eq, Error)]
 pub enum ScriptFault {
-    /// The line has no form that a line may have.
+    /// The line has none of the forms of a line.
     BadLine(u64),
-    /// The line admits a stream that isn't asked for.
+    /// The line admits a stream that isn't among the requests.
     UnknownStream(u64),
-    /// The line makes more `seal` lines than cycles, or more than 100,000 others.
+    /// The line is a `seal` after as many `seal` lines as cycles, or call 100,001 among the other calls.
     TooMany(u64),
-    /// A growth was refused.
+    /// An allocation failed.
     Memory,
 }
 
@@ -35,7 +34,7 @@ impl fmt::Display for ScriptFault {
     }
 }
 
-/// Want of memory, as a fault.
+/// Converts a failed allocation into a fault.
 impl From<Memory> for ScriptFault {
     ghost use Rattle.cqf_admission.specs.declared.faults.ScriptFault.TheVariants as variant;
 
@@ -46,7 +45,7 @@ impl From<Memory> for ScriptFault {
     }
 }
 
-/// Want of room for a value, likewise.
+/// Converts a failed allocation for a value likewise.
 impl<T: Drop> From<AllocFailed<T>> for ScriptFault {
     ghost use Rattle.cqf_admission.specs.declared.faults.ScriptFault.TheVariants as variant;
 

@@ -1,4 +1,4 @@
-//! What requests are by themselves, each looked over once.
+//! The judgement of requests by themselves, each checked once.
 ghost use Rattle.std.specs.Prelude.{◌≡◌, IfOk, OnOk, length};
 ghost use Rattle.cqf_admission.specs.Asking.{asked_paced};
 ghost use Rattle.cqf_admission.specs.Forms.{AreUnseen, IsFormOf, IsSeen};
@@ -13,18 +13,18 @@ use std::alloc::{AllocError, Global};
 /// What is known of a request's form.
 #[derive(Debug, Drop)]
 pub(crate) enum RequestForm {
-    /// It wasn't looked at yet.
+    /// The request wasn't checked yet.
     Unseen,
-    /// The first reason against it.
+    /// The first reason against the request.
     Bad(Refused),
-    /// There is none, and this is its row, as that of number 0 and of cycle 0.
+    /// Nothing is against the request. This is its row, as if it had number 0 and were admitted in cycle 0.
     Good(Row),
 }
 
-/// Looks a request over.
+/// Checks the form of a request.
 ///
 /// # Errors
-/// Where a growth is refused, or no `usize` can count the places of its branches.
+/// `Memory` if an allocation fails, or if a `usize` can't hold the number of names in its branches.
 pub(crate) fn look_over(
     alloc: Global,
     domain: &Domain,
@@ -45,10 +45,10 @@ pub(crate) fn look_over(
     }
 }
 
-/// Sees to it that a request's form is known.
+/// Checks the form of a request, unless it is already known.
 ///
 /// # Errors
-/// As [`look_over`].
+/// As for [`look_over`].
 pub(crate) fn see(
     alloc: Global,
     domain: &Domain,
@@ -65,7 +65,7 @@ pub(crate) fn see(
     Ok(())
 }
 
-/// So many requests that weren't looked at yet, unless memory runs out.
+/// Returns the forms of requests that weren't checked yet, or `Memory` if an allocation fails.
 pub(crate) fn unseen(alloc: Global, requests: usize) -> Result<Vec<RequestForm>, Memory>
     ensures many { IfOk result (λ forms. length forms.items ≡ requests) }
     ensures unseen { IfOk result (λ forms. AreUnseen forms.items) }

@@ -1,4 +1,4 @@
-//! Accepted streams by number, of which some are held.
+//! Accepted streams by number, held or not.
 ghost use Rattle.std.specs.Arc.{arc_value};
 ghost use Rattle.std.specs.Prelude.{◌≡◌, ◌+◌, ◌-◌, ◌<◌, ◌^◌, ◌==◌, ℕ, [], ◌∷◌, ◌++◌, AllPairs, Contains, IfOk, MatchOption, OnErr, OnOk};
 ghost use Rattle.std.specs.Prelude.{filter, length, map, not, slice_index_or, slice_set, vec_len, vec_capacity};
@@ -16,22 +16,22 @@ use std::collections::BTreeMap;
 use std::marker::Model;
 use std::sync::Arc;
 
-/// A stream that was accepted: its row, which tables share, so that one that changes is another, and whether it is held.
+/// An accepted stream: its row, and whether it is held. Tables share the row, so a change replaces it.
 #[derive(Debug, Drop)]
 pub(crate) struct Stand {
     row: Arc<Row>,
     held: bool,
 }
 
-/// The accepted streams by number, never removed, with those figures of the held ones that admission asks.
+/// The accepted streams by number, never removed, with the figures of the held ones that admission needs.
 #[derive(Debug, Drop)]
 pub(crate) struct Holdings {
     rows: Vec<Stand>,
-    /// By name, the number of the stream that is held under it.
+    /// The number of the stream held under each name.
     by_name: BTreeMap<Name, u32>,
-    /// The numbers of those that are held, in order.
+    /// The numbers of the held streams, in order.
     held: Vec<u32>,
-    /// By link and cycle, the sum of the costs of the held streams whose frames go by it in that cycle.
+    /// By link and cycle, the sum of the costs of the held streams whose frames use the link in that cycle.
     sums: CycleSums,
 }
 
@@ -50,7 +50,7 @@ impl Model for Holdings {
     ghost invariant = { λ h. HaveFigures (map standing_of h.rows.items) (held_under h.by_name) h.held.items h.sums };
 }
 
-/// The row that was shared, unless memory runs out.
+/// Returns the row as an owned value, or `Memory` if an allocation fails.
 fn own_row(alloc: Global, shared: Arc<Row>) -> Result<Row, Memory>
     ensures { IfOk result (λ row. row ≡ arc_value shared) }
 {
@@ -60,7 +60,7 @@ fn own_row(alloc: Global, shared: Arc<Row>) -> Result<Row, Memory>
     }
 }
 
-/// The same streams again, each row shared, unless memory runs out.
+/// Returns a copy of the streams, with their rows shared, or `Memory` if an allocation fails.
 fn copied_stands(alloc: Global, stands: &[Stand]) -> Result<Vec<Stand>, Memory>
     ensures { IfOk result (λ copies. map standing_of copies.items ≡ map standing_of stands.now) }
 {
@@ -75,7 +75,7 @@ fn copied_stands(alloc: Global, stands: &[Stand]) -> Result<Vec<Stand>, Memory>
     Ok(copies)
 }
 
-/// Makes room for one more in each list, unless memory runs out.
+/// Makes room for one more element in each list. Returns `Memory` if an allocation fails.
 fn reserve_each(rows: &mut Vec<Stand>, held: &mut Vec<u32>) -> Result<(), Memory>
     ensures rows { rows.new.items ≡ rows.old.items }
     ensures held { held.new.items ≡ held.old.items }
@@ -86,7 +86,7 @@ fn reserve_each(rows: &mut Vec<Stand>, held: &mut Vec<u32>) -> Result<(), Memory
     Ok(())
 }
 
-/// Takes a number out of a list in which it stands by size.
+/// Removes a number from an ascending list.
 fn take_out(held: &mut Vec<u32>, number: u32)
     requires order { AllPairs (λ (a b : ℕ). a < b) held.old.items }
     requires there { Contains held.old.items number }
@@ -98,7 +98,7 @@ fn take_out(held: &mut Vec<u32>, number: u32)
 }
 
 impl Holdings {
-    /// No streams, of so many links, unless memory runs out.
+    /// Returns no streams, for this number of links, or `Memory` if an allocation fails.
     pub(crate) fn new(alloc: Global, links: u16) -> Result<Holdings, Memory>
         ensures rows { IfOk result (λ holdings. holdings.rows ≡ []) }
         ensures links { IfOk result (λ holdings. holdings.links ≡ links) }
@@ -112,7 +112,7 @@ impl Holdings {
         })
     }
 
-    /// The stream that is held under a name.
+    /// Returns the number of the stream held under a name, or `None` if the name is free.
     pub(crate) fn holder(&self, name: &Name) -> Option<u32>
         ensures { MatchOption result (IsFree self.now.rows name.now) (IsHolder self.now.rows name.now) }
     {
@@ -120,14 +120,14 @@ impl Holdings {
         self.by_name.get(name).copied()
     }
 
-    /// How many streams there are, held or not.
+    /// Returns the number of streams, held or not.
     pub(crate) fn len(&self) -> u32
         ensures { result ≡ length self.now.rows }
     {
         self.rows.len() as u32
     }
 
-    /// The row of the stream of a number.
+    /// Returns the row of the stream with a number.
     pub(crate) fn row(&self, number: u32) -> &Row
         requires { number < length self.now.rows }
         ensures { (d : Standing) → (slice_index_or self.now.rows number d).row ≡ result.now }
@@ -135,7 +135,7 @@ impl Holdings {
         &self.rows[number as usize].row
     }
 
-    /// How many streams are held.
+    /// Returns the number of held streams.
     pub(crate) fn count(&self) -> usize
         ensures { result ≡ held_count self.now.rows }
     {
@@ -143,7 +143,7 @@ impl Holdings {
         self.held.len()
     }
 
-    /// The most that the held streams cost of a link in a cycle.
+    /// Returns the most that the held streams cost on a link in any cycle.
     pub(crate) fn most_of(&self, link: u16) -> u64
         requires { link < self.now.links }
         ensures { result ≡ held_most self.now.rows link }
@@ -152,7 +152,7 @@ impl Holdings {
         self.sums.most_of(link)
     }
 
-    /// The most that they cost of a hop's link in a cycle in which frames of this pace go by it.
+    /// Returns the most that the held streams cost on a hop's link in a cycle in which frames of this pace use the hop.
     pub(crate) fn most_at(&self, hop: &Hop, pace: Pace) -> u64
         requires inside { hop.now.link < self.now.links }
         requires good { IsGoodPace pace }
@@ -162,7 +162,7 @@ impl Holdings {
         self.sums.most_at(hop, pace)
     }
 
-    /// Makes room for a stream more, unless memory runs out.
+    /// Makes room for one more stream. Returns `Memory` if an allocation fails.
     pub(crate) fn reserve(&mut self) -> Result<(), Memory>
         ensures rows { self.new.rows ≡ self.old.rows }
         ensures links { self.new.links ≡ self.old.links }
@@ -172,7 +172,7 @@ impl Holdings {
         reserve_each(rows, held)
     }
 
-    /// Adds a stream that is held, behind the others, where its name is free and there is room, unless memory runs out.
+    /// Appends a held stream whose name is free and for which there is room. Returns `Memory` if an allocation fails.
     pub(crate) fn push(&mut self, alloc: Global, row: Row) -> Result<(), Memory>
         requires room { 0 < self.old.room }
         requires few { length self.old.rows + 1 < 2 ^ 32 }
@@ -194,7 +194,7 @@ impl Holdings {
         Ok(())
     }
 
-    /// Takes the row of a stream that was withdrawn. It is held on.
+    /// Replaces the row of a stream by that of the withdrawn stream. It is still held.
     pub(crate) fn end(&mut self, number: u32, row: Arc<Row>)
         requires inside { number < length self.old.rows }
         requires ended { (d : Standing) → IsEnded (slice_index_or self.old.rows number d).row (arc_value row) }
@@ -204,7 +204,7 @@ impl Holdings {
         self.rows[number as usize].row = row;
     }
 
-    /// Lets go of a stream that is held.
+    /// Releases a held stream.
     pub(crate) fn let_go(&mut self, number: u32)
         requires { IsHeldAt self.old.rows number }
         ensures rows { (d : Standing) → self.new.rows ≡ slice_set self.old.rows number (released (slice_index_or self.old.rows number d)) }
@@ -219,7 +219,7 @@ impl Holdings {
         self.rows[place].held = false;
     }
 
-    /// The rows of the streams that are held, by number, each shared, unless memory runs out.
+    /// Returns the rows of the held streams, by number, each shared, or `Memory` if an allocation fails.
     pub(crate) fn held_rows(&self, alloc: Global) -> Result<Vec<Arc<Row>>, Memory>
         ensures { IfOk result (λ rows. map (λ row. arc_value row) rows.items ≡ map (λ (stand : Standing). stand.row) (filter (λ (stand : Standing). stand.held) self.now.rows)) }
     {
@@ -231,7 +231,7 @@ impl Holdings {
         Ok(rows)
     }
 
-    /// The same streams again, unless memory runs out. The two share their rows.
+    /// Returns a copy of the streams, or `Memory` if an allocation fails. The two share their rows.
     pub(crate) fn try_copy(&self, alloc: Global) -> Result<Holdings, Memory>
         ensures rows { IfOk result (λ copy. copy.rows ≡ self.now.rows) }
         ensures links { IfOk result (λ copy. copy.links ≡ self.now.links) }
@@ -244,7 +244,7 @@ impl Holdings {
         })
     }
 
-    /// The rows of the streams, by number, unless memory runs out.
+    /// Returns the rows of the streams, by number, or `Memory` if an allocation fails.
     pub(crate) fn into_rows(self, alloc: Global) -> Result<Vec<Row>, Memory>
         ensures { IfOk result (λ rows. rows.items ≡ map (λ (stand : Standing). stand.row) self.rows) }
     {

@@ -1,4 +1,4 @@
-//! What a request is by itself, whatever is held.
+//! The judgement of a request by itself, regardless of what is held.
 ghost use Rattle.std.specs.Prelude.{◌≡◌, ◌<◌, ◌≤◌, ◌^◌, IfOk, MatchOption, false};
 ghost use Rattle.cqf_model.specs.History.{is_pace};
 ghost use Rattle.cqf_model.specs.Limits.{most_reserved};
@@ -14,7 +14,7 @@ use cqf_topology::{Domain, PacedRequest, Request};
 use cqf_units::{Cycle, Memory, Name, Octets, cost};
 use std::alloc::Global;
 
-/// A request of good form: its name, what it costs of each link of its tree in octets in a cycle of its own, its pace, and that tree.
+/// A request of good form: its name, its cost on each link of its tree in octets in a cycle of its own, its pace, and its tree.
 #[derive(Debug, Drop)]
 pub struct JudgedRequest {
     pub name: Name,
@@ -24,7 +24,7 @@ pub struct JudgedRequest {
 }
 
 impl JudgedRequest {
-    /// The request of good form that has this row, whatever its number and its cycles.
+    /// Returns the request of good form that has this row, regardless of the row's number and cycles.
     pub(crate) fn of_row(row: &Row) -> JudgedRequest
         requires { row.now.octets ≤ most_reserved }
         ensures { IsJudgedOf row.now result }
@@ -37,7 +37,8 @@ impl JudgedRequest {
         }
     }
 
-    /// The row of the stream, which reserves so many octets, of a number and from a cycle on, unless memory runs out.
+    /// Returns the row of the stream, with its reservation, its number, and the cycle from which it is live, or `Memory` if an allocation
+    /// fails.
     pub fn into_row(
         self,
         alloc: Global,
@@ -59,7 +60,7 @@ impl JudgedRequest {
     }
 }
 
-/// The pace of a stream that is offered in one of so many cycles, of which this is the first, where there is one.
+/// Returns the pace of a stream that is offered in one of every `every` cycles, first in the cycle `phase`, or `None` if this is no pace.
 fn pace_of(every: u32, phase: u32) -> Option<Pace>
     ensures { MatchOption result (is_pace every phase ≡ false) (IsPaceOf every phase) }
 {
@@ -75,7 +76,7 @@ fn pace_of(every: u32, phase: u32) -> Option<Pace>
     })
 }
 
-/// What a request is by itself, by its parts.
+/// Judges a request by itself, given its parts.
 fn judge_parts(
     domain: &Domain,
     name: &str,
@@ -105,12 +106,12 @@ fn judge_parts(
     })
 }
 
-/// What a request is by itself, whose stream is offered in each cycle. The caller sees to it that its branches have fewer than 2^64 places
+/// Judges a request by itself, for a stream that is offered in each cycle. The caller ensures that its branches have fewer than 2^64 names
 /// together.
 ///
 /// # Errors
-/// The first reason against its form: `BadName`, `BadOctets`, `UnknownNode`, `BrokenPath`, `LoopingPath`, `NotATree`, each
-/// over all branches before the next, and `TooManyHops`.
+/// The first reason against its form: `BadName`, `BadOctets`, `UnknownNode`, `BrokenPath`, `LoopingPath`, `NotATree`, each over all
+/// branches before the next, and `TooManyHops`.
 pub fn judge(domain: &Domain, request: &Request) -> Result<JudgedRequest, Refused>
     requires { places_of (branches_of request.now.paths.items) < 2 ^ 64 }
     ensures { Judges domain.now (asked_of request.now) result }
@@ -119,12 +120,11 @@ pub fn judge(domain: &Domain, request: &Request) -> Result<JudgedRequest, Refuse
     judge_parts(domain, name, request.octets, 1, 0, paths)
 }
 
-/// What a request is by itself, whose stream is offered in some cycles. The caller sees to it that its branches have fewer than 2^64 places
+/// Judges a request by itself, for a stream that is offered in some cycles. The caller ensures that its branches have fewer than 2^64 names
 /// together.
 ///
 /// # Errors
-/// As [`judge`], and behind `BadOctets` with `BadPace`, where the number of cycles, in one of which the stream is offered, doesn't divide
-/// 80, or the first of these isn't below that number.
+/// As for [`judge`]. After `BadOctets` comes `BadPace`, if `every` doesn't divide 80 or `phase` isn't below `every`.
 pub fn judge_paced(domain: &Domain, request: &PacedRequest) -> Result<JudgedRequest, Refused>
     requires { places_of (branches_of request.now.paths.items) < 2 ^ 64 }
     ensures { Judges domain.now (asked_paced request.now) result }

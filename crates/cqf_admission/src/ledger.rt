@@ -1,4 +1,4 @@
-//! The administration of streams over requests and a script that stand elsewhere, none of which it copies.
+//! The admission of streams, with references to requests and a script that the caller keeps. None of these is copied.
 ghost use Rattle.std.specs.Prelude.{◌≡◌, ◌≤◌, ◌<◌, [], map, length, IfOk};
 ghost use Rattle.cqf_model.specs.Domain.{budget};
 ghost use Rattle.cqf_model.specs.History.{Admits, IsLegalHistory, Withdraws, seals, streams_of};
@@ -23,16 +23,16 @@ use cqf_units::{Cycle, Memory, Octets};
 use std::alloc::Global;
 use std::marker::Model;
 
-/// An admission controller over a domain, with its log of calls. It answers as [`Admission`](crate::Admission)
-/// does, but copies no request and makes no table: a call takes a time that grows with its own request's tree, and a Seal one
-/// that grows with the streams that end in it.
+/// An admission controller for a domain, with its log of calls. It answers as [`Admission`](crate::Admission) does, but copies no request
+/// and makes no table. The time of a call grows with its own request's tree, and the time of a Seal with the number of streams that end in
+/// it.
 #[derive(Drop)]
 pub struct Ledger<'s> {
     alloc: Global,
     domain: &'s Domain,
     requests: &'s [PacedRequest],
     script: &'s [u8],
-    /// By place, what is known of each request's form.
+    /// What is known of each request's form, by index.
     forms: Vec<RequestForm>,
     state: State,
     log: Vec<Logged>,
@@ -62,10 +62,10 @@ impl<'s> Model for Ledger<'s> {
 }
 
 impl<'s> Ledger<'s> {
-    /// A ledger for a domain, over these requests and a script's text, with an empty log.
+    /// Returns a ledger for a domain, these requests and a script's text, with an empty log.
     ///
     /// # Errors
-    /// Where a growth is refused.
+    /// `Memory` if an allocation fails.
     pub fn new(
         alloc: Global,
         domain: &'s Domain,
@@ -90,15 +90,15 @@ impl<'s> Ledger<'s> {
         })
     }
 
-    /// Does nothing, and makes known to a proof what each call keeps: the history is legal.
+    /// Does nothing. It makes a fact that each call preserves known to a proof: the history is legal.
     pub fn know(&self)
         ensures legal { IsLegalHistory self.now.administration.domain self.now.administration.entries }
     {
-        // a use of a field: with it the invariant is known
+        // the use of a field makes the invariant known
         let _ = &self.log;
     }
 
-    /// All entries, in order.
+    /// Returns all entries, in order.
     pub fn log(&self) -> &[Logged]
         ensures entries { map (recorded_in self.now.requests self.now.script) result.now ≡ self.now.administration.entries }
         ensures legal { IsLegalHistory self.now.administration.domain self.now.administration.entries }
@@ -107,10 +107,10 @@ impl<'s> Ledger<'s> {
         self.log.as_slice()
     }
 
-    /// All entries, in order, and the rows of all streams that were ever granted, by number, of a ledger that is over.
+    /// Returns all entries, in order, and the rows of all streams that were ever granted, by number, of a ledger that is no longer used.
     ///
     /// # Errors
-    /// Where a growth is refused.
+    /// `Memory` if an allocation fails.
     pub fn into_parts(self) -> Result<(Vec<Logged>, Vec<Row>), Memory>
         ensures entries { IfOk result (λ parts. map (recorded_in self.entry.requests self.entry.script) parts.0.items ≡ self.entry.administration.entries) }
         ensures legal { IsLegalHistory self.entry.administration.domain self.entry.administration.entries }
@@ -121,21 +121,22 @@ impl<'s> Ledger<'s> {
         Ok((self.log, rows))
     }
 
-    /// The next cycle to be closed to changes: the number of Seals so far. A call has its effect from this cycle on.
+    /// Returns the next cycle to be closed to changes, which is the number of Seals so far. A call takes effect from this cycle on.
     pub fn next_cycle(&self) -> Cycle
         ensures { result.0 ≡ seals self.now.administration.entries }
     {
         self.state.next_cycle()
     }
 
-    /// Asks for the stream of the request at this place. Where it is granted, the receipt has its number and the cycle from
-    /// which it is live; it is held, with its costs and its name, from then on.
+    /// Requests the stream of the request at index `place`. If it is granted, the receipt has its number and the cycle from which it is
+    /// live. From then on it is held, with its costs and its name.
     ///
-    /// Refused with `HistoryFull`, before all else, where 100,000 entries aren't Seals; with `Memory` where a growth is
-    /// refused; then with the first reason that is due, in this order: `BadName`, `BadOctets`, `UnknownNode`,
-    /// `BrokenPath`, `LoopingPath`, `NotATree`, each over all branches before the next, `TooManyHops`, `NameHeld`, `TooManyStreams`
-    /// (as many are held as the domain may have), `BudgetShort`. `HistoryFull` and `Memory` change nothing; each other call enters the log with its answer
-    /// 
+    /// # Errors
+    /// `HistoryFull`, before all else, if 100,000 entries aren't Seals. `Memory` if an allocation fails. Then the first reason that is due,
+    /// in this order: `BadName`, `BadOctets`, `BadPace`, `UnknownNode`, `BrokenPath`, `LoopingPath`, `NotATree`, each over all branches
+    /// before the next, `TooManyHops`, `NameHeld`, `TooManyStreams` (as many streams are held as the domain may have), `BudgetShort`. If
+    /// none is due, `Memory` if the allocation of the stream's row fails. `HistoryFull` and `Memory` change nothing. Each other call enters
+    /// the log with its answer.
     pub fn admit(&mut self, seat: u16, place: usize) -> Result<Receipt, Refused>
         requires { place < length self.old.requests }
         ensures requests { self.new.requests ≡ self.old.requests }
@@ -162,10 +163,10 @@ impl<'s> Ledger<'s> {
         answer
     }
 
-    /// Takes what the request at this place is by itself from somebody who found its row, so that no call looks it over again.
+    /// Takes over the row of the request at index `place`, which is of good form, so that no call checks the request again.
     ///
     /// # Errors
-    /// Where a growth is refused.
+    /// `Memory` if an allocation fails.
     pub fn learn(&mut self, place: usize, row: &Row) -> Result<(), Memory>
         requires there { place < length self.old.requests }
         requires row { IsRowOfGoodForm self.old.administration.domain (request_at self.old.requests place) row.now }
@@ -175,11 +176,11 @@ impl<'s> Ledger<'s> {
         Ok(())
     }
 
-    /// Withdraws the stream whose name stands in the script, from a place on and of so many octets. The receipt has its
-    /// number and the first cycle in which it is live no more. It is held on for as many cycles as its deepest link is deep.
+    /// Withdraws the stream whose name is in the script, from index `from` on and with this number of octets. The receipt has its number
+    /// and the first cycle in which it is no longer live. It is held for as many more cycles as the greatest hop number of its tree.
     ///
-    /// Refused with `HistoryFull` and `Memory` as [`Ledger::admit`], then with `NotHeld` where no held stream has the name,
-    /// and `AlreadyWithdrawn`.
+    /// # Errors
+    /// `HistoryFull` and `Memory` as for [`Ledger::admit`]. Then `NotHeld` if no held stream has the name, or `AlreadyWithdrawn`.
     pub fn withdraw(&mut self, seat: u16, from: usize, octets: u8) -> Result<Receipt, Refused>
         requires { StandsIn self.old.requests self.old.script (Withdraw from octets) }
         ensures requests { self.new.requests ≡ self.old.requests }
@@ -198,9 +199,10 @@ impl<'s> Ledger<'s> {
         answer
     }
 
-    /// Closes the next cycle to changes, and gives its number.
+    /// Closes the next cycle to changes and returns its number.
     ///
-    /// Refused with `CyclesSpent` after 100,000 Seals, and with `Memory`; neither changes anything.
+    /// # Errors
+    /// `CyclesSpent` after 100,000 Seals. `Memory` if an allocation fails. Neither changes anything.
     pub fn seal(&mut self, seat: u16) -> Result<Cycle, SealFault>
         ensures requests { self.new.requests ≡ self.old.requests }
         ensures script { self.new.script ≡ self.old.script }
@@ -217,7 +219,7 @@ impl<'s> Ledger<'s> {
         Ok(cycle)
     }
 
-    /// What the streams that are held in the next cycle cost of a link at most, in octets in a cycle: never more than its budget.
+    /// Returns the most that the streams held in the next cycle cost on a link in any cycle, in octets: never more than the link's budget.
     pub fn held_on(&self, link: u16) -> Octets
         requires { link < length self.now.administration.domain.links }
         ensures held { result.0 ≡ most_cost (held_of self.now.administration) link }

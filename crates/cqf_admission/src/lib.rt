@@ -1,26 +1,28 @@
 //! The admission of streams into a domain, and the scripts that call for it.
 //!
-//! No link is ever over its budget in a cycle. A withdrawn stream keeps its costs and its name until its last frame has left the last bridge of
-//! its deepest branch.
+//! In no cycle do streams cost more on a link than its budget. A withdrawn stream keeps its costs and its name until its last frame has
+//! left the last bridge of its deepest branch.
 //!
-//! - **Two ways in.** [`Admission`] answers requests and withdrawals, keeps the history of calls, and closes cycles to changes one by one, each
-//!   with its [`Table`]: the streams that are held in it, of which [`Row::live`] tells which are live. [`Ledger`] answers the same by where
-//!   requests and names stand, and copies none: it keeps a log of [`Logged`] entries, and makes no table.
-//! - **Calls.** An [`Entry`] is what a history has of one: whose it was, the [`Call`], and the [`Reply`]. A [`Command`] is what an administrator
-//!   calls for beside Seals; a [`SealFault`] is why a cycle isn't closed.
-//! - **A request by itself**, whatever is held: [`judge`] gives a [`JudgedRequest`], one of good form, or the first reason against it, and
-//!   [`judge_paced`] does so where the stream is offered in one of so many cycles. [`find_tree`] has the hops of its branches, each a list of
-//!   names of nodes: the domain has each node; a link goes from each to the next, from a first bridge over no more in all than a branch may have
-//!   on to a station; no node stands twice in a branch; any two branches begin at one bridge and part for good; and the tree has no more hops
-//!   than may be. Each of these is asked of all branches before the next, and a place counts through the branches as one list, of
-//!   [`count_places`]. No branch at all is `BrokenPath 0`.
-//! - **Sums.** [`budget_on`] is what a link has for all, by its guard time, [`guard_on`]. [`CycleSums`] are those by link and cycle of streams that come and go; [`add_on`] adds to sums by link alone.
-//! - **Scripts**, line by line. [`read_script`] reads the calls of one, each with its seat, and [`administrators`] the seat of its Seals;
-//!   [`read_paced_script`] those for streams that are offered in some cycles. [`read_orders`] reads the same without a copy of what is named: an
-//!   [`Ordered`] says [`What`] is called for by where it stands, among the requests, which [`Names`] finds by their names, or in the text, from
-//!   which [`word_of`] reads it. [`calls_of`] gives the calls of such orders. [`is_order`] and [`is_seal_line`] tell the forms that a line may
-//!   have, and a [`ScriptFault`] why a script is refused, and at which line. [`script_is_its_lines`] is a law, a function that does nothing: one
-//!   call a line, or the fault of the first line that has one.
+//! - **Two controllers.** [`Admission`] answers requests and withdrawals, keeps the history of calls, and closes cycles to changes one by
+//!   one. It returns the [`Table`] of each: the streams that are held in the cycle. [`Row::live`] says which of them are live. [`Ledger`]
+//!   gives the same answers. It refers to requests and names by index and copies none, keeps a log of [`Logged`] entries, and makes no
+//!   table.
+//! - **Calls.** An [`Entry`] of a history has the seat of a call, the [`Call`], and the [`Reply`]. A [`Command`] is a call by an
+//!   administrator other than a Seal. A [`SealFault`] is why a cycle isn't closed.
+//! - **A request by itself**, regardless of what is held: [`judge`] returns a [`JudgedRequest`], one of good form, or the first reason
+//!   against it. [`judge_paced`] does the same for a stream that is offered in some cycles. [`find_tree`] returns the hops of the request's
+//!   branches. Each branch is a list of names of nodes. The checks are: the domain has each node; a link leads from each node to the next,
+//!   from a first bridge to a station, over no more nodes than a branch may have; no node occurs twice in a branch; any two branches begin
+//!   at the same bridge and part for good; and the tree has no more hops than it may have. Each check is made over all branches before the
+//!   next. An index counts through the branches as one list, which has [`count_places`] names. No branch at all is `BrokenPath 0`.
+//! - **Sums.** [`budget_on`] is what a link has for all streams, given its guard band, [`guard_on`]. [`CycleSums`] are the sums by link and
+//!   cycle of streams that are added and removed. [`add_on`] adds to sums by link alone.
+//! - **Scripts**, line by line. [`read_script`] reads the calls of a script, each with its seat, and [`administrators`] the seat of its
+//!   Seals. [`read_paced_script`] reads those for streams that are offered in some cycles. [`read_orders`] reads the same without a copy of
+//!   what is named: an [`Ordered`] says [`What`] is called for by an index, among the requests, which [`Names`] finds by their names, or in
+//!   the text, from which [`word_of`] reads it. [`calls_of`] returns the calls of such orders. [`is_order`] and [`is_seal_line`] recognize
+//!   the forms of a line. A [`ScriptFault`] is why a script is refused, and at which line. [`script_is_its_lines`] is a law, a function
+//!   that does nothing: there is one call for each line, or the fault of the first line with a fault.
 //!
 //! With a budget of 15,000 octets a cycle on each link:
 //!
@@ -34,7 +36,7 @@
 //! Trees, with links from bridge a to bridges b and c, from b to station s, and from c to station t:
 //!
 //! ```text
-//! a, b, s and a, c, t    a>b, b>s at depth 2 behind it, a>c, c>t at depth 2 behind it
+//! a, b, s and a, c, t    a>b, then b>s with hop number 2, a>c, then c>t with hop number 2
 //! a, b, s and a, x, t    UnknownNode 4
 //! a, b and a, c, t       BrokenPath 1
 //! a, b, s and b, s       NotATree 1
@@ -45,7 +47,7 @@
 //! ```text
 //! 0 admit y       seat 0, ordered as Admit(1)
 //! seal            seat 1: there is one administrator
-//! 0 withdraw x    seat 0, ordered by where x stands in the text
+//! 0 withdraw x    seat 0, ordered by the index of x in the text
 //! ```
 //!
 //! `0 admit z` is `UnknownStream 1`, a third `seal` is `TooMany`, and `8 admit x` is `BadLine`.

@@ -9,28 +9,28 @@ ghost use Rattle.cqf_admission.specs.Written.{written};
 pub(crate) enum Wish {
     /// To admit a stream.
     Admit,
-    /// To withdraw it.
+    /// To withdraw a stream.
     Withdraw,
 }
 
 /// An administrator's order.
 #[derive(Clone, Copy)]
 pub(crate) struct Order<'t> {
-    /// Whose order it is.
+    /// The administrator.
     pub(crate) seat: u16,
     pub(crate) wish: Wish,
     /// The stream's name.
     pub(crate) name: &'t str,
 }
 
-/// Whether the line is `seal`, which closes a cycle to changes.
+/// Returns whether the line is `seal`, which closes a cycle to changes.
 pub fn is_seal_line(line: &[u8]) -> bool
     ensures { result ≡ is_seal_line line.now }
 {
     b"seal".as_slice() == line
 }
 
-/// The administrator of a digit.
+/// Returns the administrator of a digit, 0 to 7.
 fn seat_of_digit(byte: u8) -> Option<u16>
     ensures value { result ≡ seat_of_digit byte }
     ensures small { IfSome result (λ seat. seat < 8) }
@@ -42,21 +42,21 @@ fn seat_of_digit(byte: u8) -> Option<u16>
     }
 }
 
-/// Whether the byte may stand in a word.
+/// Returns whether the byte may be in a word.
 fn is_word_byte(byte: u8) -> bool
     ensures { result ≡ is_word_byte byte }
 {
     b'!' <= byte && byte <= b'~'
 }
 
-/// Whether each of the bytes may stand in a word.
+/// Returns whether each of the bytes may be in a word.
 fn are_word_bytes(bytes: &[u8]) -> bool
     ensures { result ≡ list_all is_word_byte bytes.now }
 {
     bytes.iter().all(|byte| is_word_byte(*byte))
 }
 
-/// Whether the bytes are a word.
+/// Returns whether the bytes are a word.
 fn is_word(bytes: &[u8]) -> bool
     ensures { result ≡ is_word bytes.now }
 {
@@ -65,7 +65,7 @@ fn is_word(bytes: &[u8]) -> bool
     not_empty && not_too_long && are_word_bytes(bytes)
 }
 
-/// The bytes as a text, where they are a word: that is ASCII.
+/// Returns the bytes as a text if they are a word, which is ASCII.
 fn read_word(bytes: &[u8]) -> Option<&str>
     ensures { option_map (λ word. word.now) result ≡ if_word bytes.now }
 {
@@ -78,14 +78,14 @@ fn read_word(bytes: &[u8]) -> Option<&str>
     }
 }
 
-/// The word that stands behind a beginning.
+/// Returns the word that follows a prefix.
 fn word_behind<'t>(start: &[u8], text: &'t [u8]) -> Option<&'t str>
     ensures { option_map (λ word. word.now) result ≡ word_behind start.now text.now }
 {
     read_word(text.strip_prefix(start)?)
 }
 
-/// The order of an administrator, by what stands behind the digit.
+/// Returns the order of an administrator, given what follows the digit.
 fn order_behind(rest: &[u8], seat: u16) -> Option<Order<'_>>
     ensures value { option_map written result ≡ order_behind rest.now seat }
     ensures seat { IfSome result (λ order. order.seat ≡ seat) }
@@ -99,7 +99,7 @@ fn order_behind(rest: &[u8], seat: u16) -> Option<Order<'_>>
     Some(Order { seat, wish, name })
 }
 
-/// The order that the line writes, if it writes one.
+/// Returns the order that the line writes, if it writes one.
 pub(crate) fn read_order(line: &[u8]) -> Option<Order<'_>>
     ensures value { option_map written result ≡ order_of_line line.now }
     ensures small { IfSome result (λ order. order.seat < 8) }
@@ -109,7 +109,7 @@ pub(crate) fn read_order(line: &[u8]) -> Option<Order<'_>>
     order_behind(rest, seat)
 }
 
-/// Whether the line is `N admit NAME` or `N withdraw NAME`, as [`read_script`](crate::read_script) reads them.
+/// Returns whether the line is `N admit NAME` or `N withdraw NAME`, as [`read_script`](crate::read_script) reads them.
 pub fn is_order(line: &[u8]) -> bool
     ensures { result ≡ is_some (order_of_line line.now) }
 {

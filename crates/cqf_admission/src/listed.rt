@@ -1,4 +1,4 @@
-//! The rows of a cycle, as several tables share them.
+//! The rows of a cycle, shared by tables.
 ghost use Rattle.std.specs.Arc.{arc_value};
 ghost use Rattle.std.specs.Prelude.{◌≡◌, IfSome, Some, map, option_copied};
 ghost use Rattle.cqf_model.specs.Domain.{is_text};
@@ -12,7 +12,7 @@ use cqf_units::Name;
 use std::marker::Model;
 use std::sync::Arc;
 
-/// Rows that don't change any more. A row that tables have in common is there once.
+/// Rows that don't change any more. A row that several tables have is stored once.
 #[derive(Debug, Drop)]
 pub(crate) struct ListedRows {
     rows: Vec<Arc<Row>>,
@@ -34,7 +34,7 @@ impl Model for ListedRows {
     ghost invariant = { λ l. AreNumbered (arc_value l.numbers) l.numbered (map (λ row. arc_value row) l.rows.items) };
 }
 
-/// The row of a name, if one of them has it.
+/// Returns the row with a name, if one of the rows has it.
 fn find_named<'a>(rows: &'a [Arc<Row>], name: &Name) -> Option<&'a Row>
     ensures { option_copied result ≡ row_named (map (λ row. arc_value row) rows.now) name.now }
 {
@@ -46,14 +46,14 @@ fn find_named<'a>(rows: &'a [Arc<Row>], name: &Name) -> Option<&'a Row>
     None
 }
 
-/// Whether a row's stream has the name.
+/// Returns whether a row's stream has the name.
 fn is_named(row: &Row, name: &Name) -> bool
     ensures { result ≡ is_text row.now.name name.now }
 {
     row.name == *name
 }
 
-/// The row that stands at the place of its number, as each does while no stream has gone.
+/// Returns the row at the index that equals its number, as each row is until a stream is released.
 fn row_in_place(rows: &[Arc<Row>], no: u32) -> Option<&Row>
     requires { AreInOrder (map (λ row. arc_value row) rows.now) }
     ensures { IfSome result (λ row. row_of (map (λ row. arc_value row) rows.now) no ≡ Some row.now) }
@@ -62,7 +62,7 @@ fn row_in_place(rows: &[Arc<Row>], no: u32) -> Option<&Row>
     if row.no == no { Some(row) } else { None }
 }
 
-/// Of rows that stand by number the one whose stream has the number.
+/// Returns the row whose stream has the number. The rows are in the order of their numbers.
 fn row_with_number(rows: &[Arc<Row>], no: u32) -> Option<&Row>
     requires { AreInOrder (map (λ row. arc_value row) rows.now) }
     ensures { option_copied result ≡ row_of (map (λ row. arc_value row) rows.now) no }
@@ -76,7 +76,7 @@ fn row_with_number(rows: &[Arc<Row>], no: u32) -> Option<&Row>
     }
 }
 
-/// The row of a name whose number is known, where both lead to one row.
+/// Returns the row of a name whose number is known, if the row with this number has the name.
 fn find_numbered<'a>(rows: &'a [Arc<Row>], numbers: &Numbers, name: &Name) -> Option<&'a Row>
     requires { AreInOrder (map (λ row. arc_value row) rows.now) }
     ensures { option_copied result ≡ row_numbered (map (λ row. arc_value row) rows.now) numbers.now name.now }
@@ -87,7 +87,7 @@ fn find_numbered<'a>(rows: &'a [Arc<Row>], numbers: &Numbers, name: &Name) -> Op
 }
 
 impl ListedRows {
-    /// These rows, of which the first so many are found by the numbers of their names.
+    /// Returns these rows. The first `numbered` of them are found by the numbers of their names.
     pub(crate) fn new(rows: Vec<Arc<Row>>, numbers: Arc<Numbers>, numbered: usize) -> ListedRows
         requires { AreNumbered (arc_value numbers) numbered (map (λ row. arc_value row) rows.items) }
         ensures { result ≡ map (λ row. arc_value row) rows.items }
@@ -99,14 +99,14 @@ impl ListedRows {
         }
     }
 
-    /// The rows.
+    /// Returns the rows.
     pub(crate) fn rows(&self) -> &[Arc<Row>]
         ensures { map (λ row. arc_value row) result.now ≡ self.now }
     {
         self.rows.as_slice()
     }
 
-    /// The row whose stream has the name, where the rows stand in order.
+    /// Returns the row whose stream has the name. The rows are in order.
     pub(crate) fn row_named(&self, name: &Name) -> Option<&Row>
         requires { AreInOrder self.now }
         ensures { option_copied result ≡ row_named self.now name.now }
@@ -118,7 +118,7 @@ impl ListedRows {
         }
     }
 
-    /// The row whose stream has the number, where the rows stand in order.
+    /// Returns the row whose stream has the number. The rows are in order.
     pub(crate) fn row_of(&self, no: u32) -> Option<&Row>
         requires { AreInOrder self.now }
         ensures { option_copied result ≡ row_of self.now no }

@@ -8,11 +8,11 @@ use std::alloc::Global;
 use std::collections::BTreeMap;
 use std::marker::Model;
 
-/// The requests for streams that a script may admit, found by their names: a name means the first request of it.
+/// The requests for streams that a script may admit, found by their names. A name means the first request that has it.
 #[derive(Drop)]
 pub struct Names<'r> {
     requests: &'r [PacedRequest],
-    /// Where the first request of each name stands.
+    /// The index of the first request with each name.
     places: BTreeMap<&'r str, usize>,
 }
 
@@ -29,10 +29,10 @@ impl<'r> Model for Names<'r> {
 }
 
 impl<'r> Names<'r> {
-    /// The names of these requests, each looked at once.
+    /// Returns the names of these requests. Each request is read once.
     ///
     /// # Errors
-    /// Where a growth is refused.
+    /// `Memory` if an allocation fails.
     pub fn new(alloc: Global, requests: &'r [PacedRequest]) -> Result<Names<'r>, Memory>
         ensures { IfOk result (λ names. names ≡ requests.now) }
     {
@@ -47,7 +47,8 @@ impl<'r> Names<'r> {
         Ok(Names { requests, places })
     }
 
-    /// Where the first request of the name stands, in a time that doesn't grow with the requests.
+    /// Returns the index of the first request with the name, or `None` if no request has it. The time grows with the logarithm of the
+    /// number of requests.
     pub fn place_of(&self, name: &str) -> Option<usize>
         ensures { result ≡ place_named self.now name.now }
     {

@@ -1,4 +1,4 @@
-//! The numbers of streams by their names, as several tables share them.
+//! The numbers of streams by their names, shared by tables.
 ghost use Rattle.std.specs.Arc.{arc_value};
 ghost use Rattle.std.specs.Prelude.{◌≡◌, ◌≢◌, AllPairs, IfOk, length, map};
 ghost use Rattle.cqf_model.specs.declared.topology.Row.{Row as ARow};
@@ -11,7 +11,7 @@ use std::collections::BTreeMap;
 use std::marker::Model;
 use std::sync::Arc;
 
-/// The numbers of streams by their names, as they were when these were listed.
+/// The numbers of streams by their names, as they were when they were listed.
 #[derive(Debug, Drop)]
 pub(crate) struct Numbers {
     numbers: BTreeMap<Name, u32>,
@@ -26,14 +26,14 @@ impl Model for Numbers {
 }
 
 impl Numbers {
-    /// No numbers. It takes no memory.
+    /// Returns no numbers. This takes no memory.
     pub(crate) fn none(alloc: Global) -> Numbers {
         Numbers {
             numbers: BTreeMap::new(alloc),
         }
     }
 
-    /// The numbers of rows, no two of one name, by their names, unless memory runs out.
+    /// Returns the numbers of rows by their names, or `Memory` if an allocation fails. No two rows have the same name.
     pub(crate) fn new(alloc: Global, rows: &[Arc<Row>]) -> Result<Numbers, Memory>
         requires { AllPairs (λ (a b : ARow). a.name ≢ b.name) (map (λ row. arc_value row) rows.now) }
         ensures { IfOk result (λ list. AreNumbered list (length rows.now) (map (λ row. arc_value row) rows.now)) }
@@ -45,7 +45,7 @@ impl Numbers {
         Ok(Numbers { numbers })
     }
 
-    /// The number of the stream of a name, where the name is listed.
+    /// Returns the number of the stream with a name, if the name is listed.
     pub(crate) fn number_of(&self, name: &Name) -> Option<u32>
         ensures { result ≡ number_in self.now name.now }
     {

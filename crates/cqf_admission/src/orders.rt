@@ -1,28 +1,28 @@
-//! Orders, by where what they name stands.
+//! Orders that refer to what they name by index.
 ghost use Rattle.std.specs.Prelude.{◌≡◌, ◌+◌, ◌≤◌, length};
 ghost use Rattle.std.specs.Str.{IsUtf8};
 ghost use Rattle.cqf_admission.specs.Orders.{word_at};
 
-/// What an administrator calls for, by where it stands.
+/// What an administrator calls for, by index.
 #[derive(Clone, Copy, Debug, PartialEq, Eq)]
 pub enum What {
-    /// To admit the stream of the request at this place among all.
+    /// To admit the stream of the request at this index.
     Admit(usize),
-    /// To withdraw the stream whose name stands in the script's text: from which place on, and how many octets it has.
+    /// To withdraw the stream whose name is in the script's text, from this index on and with this number of octets.
     Withdraw { from: usize, octets: u8 },
     /// To close the next cycle to changes.
     Seal,
 }
 
-/// An administrator's order, by where it stands.
+/// An administrator's order, by index.
 #[derive(Clone, Copy, Debug, PartialEq, Eq)]
 pub struct Ordered {
-    /// Whose order it is.
+    /// The seat of the administrator.
     pub seat: u16,
     pub what: What,
 }
 
-/// The word of so many octets from a place of a script's text on.
+/// Returns the word in a script's text, from an index on, with this number of octets.
 pub fn word_of(script: &[u8], from: usize, octets: u8) -> &str
     requires inside { from + octets ≤ length script.now }
     requires text { IsUtf8 (word_at script.now from octets) }

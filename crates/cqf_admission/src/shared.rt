@@ -18,19 +18,19 @@ use std::alloc::Global;
 use std::marker::Model;
 use std::sync::Arc;
 
-/// A request that calls for its stream share. Where it was looked over for a domain, none of these calls looks it over again there.
+/// A request that the calls for its stream share. If it was checked for a domain, none of these calls checks it again there.
 #[derive(Debug, Drop)]
 pub struct SharedRequest {
     request: PacedRequest,
     found: Option<FoundForm>,
 }
 
-/// What was found where a request was looked over for a domain.
+/// The result of checking a request for a domain.
 #[derive(Debug, Drop)]
 struct FoundForm {
     domain: Arc<Domain>,
     form: RequestForm,
-    /// The request's branches in one list, so that they are compared in little time.
+    /// The request's branches as one list, so that they are compared quickly.
     text: Vec<u8>,
 }
 
@@ -45,7 +45,7 @@ impl Model for SharedRequest {
     ghost invariant = { λ s. IsFoundOf s.request s.found };
 }
 
-/// Whether a request has so few names that it is looked over sooner than domains are compared.
+/// Returns whether a request has so few names that checking it is faster than comparing two domains.
 fn is_short(domain: &Domain, request: &PacedRequest) -> bool {
     let nodes = usize::from(domain.bridges()) + usize::from(domain.stations());
     match count_places(request.paths.as_slice()) {
@@ -54,7 +54,7 @@ fn is_short(domain: &Domain, request: &PacedRequest) -> bool {
     }
 }
 
-/// Whether two lists have the same octets.
+/// Returns whether two lists have the same octets.
 fn is_same_text(one: &[u8], other: &[u8]) -> bool
     ensures { (result ≡ true) ↔ (one.now ≡ other.now) }
 {
@@ -62,7 +62,7 @@ fn is_same_text(one: &[u8], other: &[u8]) -> bool
 }
 
 impl SharedRequest {
-    /// A request that wasn't looked over: each call does so.
+    /// Returns a request that wasn't checked: each call checks it.
     pub fn new(request: PacedRequest) -> SharedRequest
         ensures { result ≡ request }
     {
@@ -72,10 +72,10 @@ impl SharedRequest {
         }
     }
 
-    /// A request that was looked over for a domain.
+    /// Returns a request that was checked for a domain.
     ///
     /// # Errors
-    /// Where a growth is refused, or no `usize` can count the places of its branches.
+    /// `Memory` if an allocation fails, or if a `usize` can't hold the number of names in its branches.
     pub fn judged(
         alloc: Global,
         domain: &Arc<Domain>,
@@ -93,14 +93,14 @@ impl SharedRequest {
         })
     }
 
-    /// The request.
+    /// Returns the request.
     pub fn request(&self) -> &PacedRequest
         ensures { result.now ≡ self.now }
     {
         &self.request
     }
 
-    /// The branches in one list, where the request was looked over.
+    /// Returns the branches as one list, if the request was checked.
     fn text(&self) -> Option<&[u8]>
         ensures { IfSome result (λ text. text.now ≡ spelled (branches_of self.now.paths.items)) }
     {
@@ -110,7 +110,7 @@ impl SharedRequest {
         Some(found.text.as_slice())
     }
 
-    /// Whether another request has the same branches, where both were looked over: they aren't compared name by name.
+    /// Returns whether another request has the same branches, or `None` unless both were checked. They aren't compared name by name.
     pub fn has_same_branches(&self, other: &SharedRequest) -> Option<bool>
         ensures { IfSome result (λ same. (same ≡ true) ↔ (branches_of self.now.paths.items ≡ branches_of other.now.paths.items)) }
     {
@@ -123,7 +123,8 @@ impl SharedRequest {
         Some(is_same_text(own, text))
     }
 
-    /// What was found for a domain, where the request was looked over for one that is the same.
+    /// Returns the result of checking the request, if it was checked for a domain that equals this one. Returns `None` if another check is
+    /// faster than comparing the domains.
     fn form_for(&self, domain: &Domain) -> Option<&RequestForm>
         ensures { IfSome result (λ form. IsFormOf domain.now (asked_paced self.now) form.now) }
     {
@@ -139,8 +140,8 @@ impl SharedRequest {
         Some(&found.form)
     }
 
-    /// What the request is by itself in a domain, as [`judge_paced`](crate::judge_paced) tells it, of which it takes the same. It isn't looked
-    /// over where it was for a domain that is the same, unless that is done sooner than to compare the two.
+    /// Judges the request by itself in a domain, as [`judge_paced`](crate::judge_paced) does. It isn't checked again if it was checked for
+    /// a domain that equals this one, unless that is faster than comparing the two.
     pub(crate) fn judge(&self, domain: &Domain) -> Result<JudgedRequest, Refused>
         requires { places_of (branches_of self.now.paths.items) < 2 ^ 64 }
         ensures { Judges domain.now (asked_paced self.now) result }
@@ -156,7 +157,7 @@ impl SharedRequest {
     }
 }
 
-/// A copy of a request that calls for its stream can share, unless memory runs out.
+/// Returns a copy of a request that calls for its stream can share, or `Memory` if an allocation fails.
 pub(crate) fn shared_request(
     alloc: Global,
     request: &PacedRequest,
@@ -168,10 +169,10 @@ pub(crate) fn shared_request(
     Ok(shared)
 }
 
-/// A copy likewise, that was looked over for a domain.
+/// Returns such a copy that was checked for a domain.
 ///
 /// # Errors
-/// As [`SharedRequest::judged`].
+/// As for [`SharedRequest::judged`].
 pub(crate) fn judged_request(
     alloc: Global,
     domain: &Arc<Domain>,

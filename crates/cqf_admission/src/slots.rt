@@ -8,14 +8,14 @@ use cqf_units::Memory;
 use std::alloc::Global;
 use std::marker::Model;
 
-/// The slot of the cycle in which a stream ends that is withdrawn from a cycle on and held on for so many.
+/// Returns the slot of the cycle in which a stream ends that is withdrawn from `cycle` on and held for `residence` more cycles.
 pub(crate) fn slot_of(cycle: u32, residence: u8) -> usize
     ensures { result ≡ (cycle + residence) % 128 }
 {
     ((u64::from(cycle) + u64::from(residence)) % 128) as usize
 }
 
-/// By slot, the numbers of the streams that end in a cycle that stands there.
+/// For each slot, the numbers of the streams that end in a cycle of this slot.
 #[derive(Debug, Drop)]
 pub(crate) struct Slots {
     lists: Vec<Vec<u32>>,
@@ -32,7 +32,7 @@ impl Model for Slots {
 }
 
 impl Slots {
-    /// No numbers, unless memory runs out.
+    /// Returns slots without numbers, or `Memory` if an allocation fails.
     pub(crate) fn new(alloc: Global) -> Result<Slots, Memory>
         ensures many { IfOk result (λ slots. length slots ≡ 128) }
         ensures empty { IfOk result (λ slots. (slot : ℕ) → slot < 128 → slice_index_or slots slot [] ≡ []) }
@@ -44,7 +44,7 @@ impl Slots {
         Ok(Slots { lists })
     }
 
-    /// Puts a number behind those of a slot, unless memory runs out.
+    /// Appends a number to a slot. Returns `Memory` if an allocation fails; then nothing is changed.
     pub(crate) fn put(&mut self, slot: usize, number: u32) -> Result<(), Memory>
         requires { slot < 128 }
         ensures more { OnOk result (self.new ≡ slice_set self.old slot (slice_index_or self.old slot [] ++ number ∷ [])) }
@@ -54,7 +54,7 @@ impl Slots {
         Ok(())
     }
 
-    /// Whether a slot has a number.
+    /// Returns whether a slot has a number. Returns `false` only if it has none.
     pub(crate) fn has(&self, slot: usize) -> bool
         requires { slot < 128 }
         ensures { result ≡ false → slice_index_or self.now slot [] ≡ [] }
@@ -62,7 +62,7 @@ impl Slots {
         !self.lists[slot].is_empty()
     }
 
-    /// The same numbers again, unless memory runs out.
+    /// Returns a copy of the slots, or `Memory` if an allocation fails.
     pub(crate) fn try_copy(&self, alloc: Global) -> Result<Slots, Memory>
         ensures { IfOk result (λ copy. copy ≡ self.now) }
     {
@@ -73,7 +73,7 @@ impl Slots {
         Ok(Slots { lists })
     }
 
-    /// Lets go of each stream whose number is in a slot, and empties that.
+    /// Releases each stream whose number is in a slot, and empties the slot.
     pub(crate) fn empty(&mut self, slot: usize, holdings: &mut Holdings)
         requires low { slot < 128 }
         requires held { (number : ℕ) → Contains (slice_index_or self.old slot []) number → IsHeldAt holdings.old.rows number }

@@ -1,4 +1,4 @@
-//! The branches of a request in one list of octets, by which those of two are compared at once.
+//! The branches of a request as one list of octets, so that those of two requests are compared at once.
 ghost use Rattle.std.specs.Prelude.{◌≡◌, ◌++◌, IfOk, OnOk};
 ghost use Rattle.cqf_admission.specs.Branches.{branch_of, branches_of};
 ghost use Rattle.cqf_admission.specs.Spelled.{spelled, spelled_branch, spelled_name};
@@ -6,7 +6,7 @@ ghost use Rattle.cqf_admission.specs.Spelled.{spelled, spelled_branch, spelled_n
 use cqf_units::Memory;
 use std::alloc::Global;
 
-/// Spells a name behind what is spelled.
+/// Appends the spelling of a name to a text.
 fn spell_name(text: &mut Vec<u8>, name: &[u8]) -> Result<(), Memory>
     ensures { OnOk result (text.new.items ≡ text.old.items ++ spelled_name name.now) }
 {
@@ -18,7 +18,7 @@ fn spell_name(text: &mut Vec<u8>, name: &[u8]) -> Result<(), Memory>
     Ok(())
 }
 
-/// Spells the names of a branch likewise.
+/// Appends the spelling of a branch to a text.
 fn spell_branch(text: &mut Vec<u8>, branch: &[String]) -> Result<(), Memory>
     ensures { OnOk result (text.new.items ≡ text.old.items ++ spelled_branch (branch_of branch.now)) }
 {
@@ -29,7 +29,7 @@ fn spell_branch(text: &mut Vec<u8>, branch: &[String]) -> Result<(), Memory>
     Ok(())
 }
 
-/// Some branches in one list of octets, unless memory runs out.
+/// Returns the spelling of the branches as one list of octets, or `Memory` if an allocation fails.
 pub(crate) fn spell(alloc: Global, paths: &[Vec<String>]) -> Result<Vec<u8>, Memory>
     ensures { IfOk result (λ text. text.items ≡ spelled (branches_of paths.now)) }
 {

@@ -1,5 +1,5 @@
-//! What an administration runs on in place of its history: the streams that it accepted, what the held ones cost, and which of them
-//! end in which cycle. No call looks through the streams.
+//! The state that an administration keeps in place of its history: the accepted streams, what the held ones cost, and which of them end in
+//! which cycle. No call looks through the streams.
 ghost use Rattle.std.specs.Arc.{arc_value};
 ghost use Rattle.std.specs.Prelude.{◌≡◌, ◌≢◌, ◌-◌, ◌<◌, ◌≤◌, ℕ, [], false, All, AllPairs, IfOk, List, OnErr, length, map, nat_le};
 ghost use Rattle.cqf_units.specs.Timing.{cost_of};
@@ -26,8 +26,8 @@ use std::alloc::Global;
 use std::marker::Model;
 use std::sync::Arc;
 
-/// A request of good form, lent: its name, how many octets its stream reserves in each cycle of its own, 64 to 1,000,000, its pace, and its
-/// tree.
+/// A request of good form, borrowed: its name, the octets that its stream reserves in each cycle of its own, 64 to 1,000,000, its pace, and
+/// its tree.
 #[derive(Clone, Copy)]
 pub(crate) struct GoodForm<'f> {
     pub name: &'f Name,
@@ -37,7 +37,7 @@ pub(crate) struct GoodForm<'f> {
 }
 
 impl<'f> GoodForm<'f> {
-    /// The request of good form that has this row, whatever its number and its cycles.
+    /// Returns the request of good form that has this row, regardless of the row's number and cycles.
     pub(crate) fn of_row(row: &'f Row) -> GoodForm<'f>
         ensures name { result.name.now ≡ row.now.name }
         ensures octets { result.octets ≡ row.now.octets }
@@ -52,7 +52,7 @@ impl<'f> GoodForm<'f> {
         }
     }
 
-    /// The request of so many octets that was judged.
+    /// Returns the judged request with this number of octets.
     pub(crate) fn of_judged(judged: &'f JudgedRequest, octets: u32) -> GoodForm<'f>
         ensures name { result.name.now ≡ judged.now.name }
         ensures octets { result.octets ≡ octets }
@@ -73,7 +73,7 @@ impl<'f> GoodForm<'f> {
 pub(crate) struct State {
     holdings: Holdings,
     slots: Slots,
-    /// How many cycles are closed to changes.
+    /// The number of cycles that are closed to changes.
     sealed: u32,
 }
 
@@ -91,8 +91,8 @@ impl Model for State {
     } };
 }
 
-/// What a hop's link has left of its budget beside the held streams, in octets, for frames of this pace: the least in a cycle in which they
-/// go by it.
+/// Returns what a hop's link has left of its budget besides the held streams, in octets, for frames of this pace: the least over the cycles
+/// in which they use the hop.
 fn left_of(domain: &Domain, holdings: &Holdings, hop: &Hop, pace: Pace) -> u32
     requires inside { hop.now.link < length domain.now.links }
     requires columns { holdings.now.links ≡ length domain.now.links }
@@ -106,7 +106,8 @@ fn left_of(domain: &Domain, holdings: &Holdings, hop: &Hop, pace: Pace) -> u32
     most.0 - taken as u32
 }
 
-/// Why the links of a tree have no room for a cost beside the held streams, in a stream's cycles: the first that has less left, if one has.
+/// Returns `BudgetShort` for the first link of a tree that has less left than the cost in one of the stream's cycles, besides the held
+/// streams. Returns `None` if no link is short.
 fn short_of(
     domain: &Domain,
     holdings: &Holdings,
@@ -131,7 +132,7 @@ fn short_of(
     None
 }
 
-/// The first reason against a stream for what is held.
+/// Returns the first reason against a stream because of what is held.
 fn refusal_of(domain: &Domain, holdings: &Holdings, form: GoodForm<'_>) -> Option<Refused>
     requires inside { All (λ hop. hop.link < length domain.now.links) form.tree.now }
     requires apart { AllPairs (λ (a b : ℕ). a ≢ b) (links_in form.tree.now) }
@@ -151,7 +152,7 @@ fn refusal_of(domain: &Domain, holdings: &Holdings, form: GoodForm<'_>) -> Optio
     short_of(domain, holdings, cost, form.pace, form.tree)
 }
 
-/// The row of a request of good form, of a number and from a cycle on, unless memory runs out.
+/// Returns the row of a request of good form, with a number and the cycle from which it is live, or `Memory` if an allocation fails.
 fn row_by(alloc: Global, form: GoodForm<'_>, no: u32, admitted: Cycle) -> Result<Row, Memory>
     requires { length form.tree.now ≤ most_hops }
     ensures { IfOk result (λ row. row ≡ row_by form.entry no admitted) }
@@ -167,7 +168,7 @@ fn row_by(alloc: Global, form: GoodForm<'_>, no: u32, admitted: Cycle) -> Result
     })
 }
 
-/// A row with its stream withdrawn from a cycle on, to be shared, unless memory runs out.
+/// Returns a row whose stream is withdrawn from a cycle on, to be shared, or `Memory` if an allocation fails.
 fn ended_row(alloc: Global, row: &Row, cycle: Cycle) -> Result<Arc<Row>, Memory>
     ensures { IfOk result (λ shared. arc_value shared ≡ ended row.now cycle) }
 {
@@ -177,7 +178,7 @@ fn ended_row(alloc: Global, row: &Row, cycle: Cycle) -> Result<Arc<Row>, Memory>
     Ok(shared)
 }
 
-/// The number of the held stream of a name that isn't withdrawn, or why there is none.
+/// Returns the number of the stream with a name that is held and not withdrawn, or why there is none.
 fn find_open(holdings: &Holdings, word: &str) -> Result<u32, Refused>
     ensures { FindsOpen holdings.now.rows word.now result }
 {
@@ -194,7 +195,7 @@ fn find_open(holdings: &Holdings, word: &str) -> Result<u32, Refused>
 }
 
 impl State {
-    /// The state of no calls, over so many links, unless memory runs out.
+    /// Returns the state without calls, for this number of links, or `Memory` if an allocation fails.
     pub(crate) fn new(alloc: Global, links: u16) -> Result<State, Memory>
         ensures { IfOk result (λ state. (d : ADomain) → length d.links ≡ links → IsStateOf d [] state) }
     {
@@ -205,14 +206,14 @@ impl State {
         })
     }
 
-    /// The next cycle to be closed to changes.
+    /// Returns the next cycle to be closed to changes.
     pub(crate) fn next_cycle(&self) -> Cycle
         ensures { result.0 ≡ self.now.sealed }
     {
         Cycle(self.sealed)
     }
 
-    /// Whether a history of so many entries, of which the Seals are no calls, has no room for a call: 100,000 of them aren't Seals.
+    /// Returns whether a history with this number of entries has no room for a call: 100,000 of them aren't Seals.
     pub(crate) fn is_full(&self, entries: usize) -> bool
         requires { self.now.sealed ≤ entries }
         ensures { result ≡ nat_le most_calls (entries - self.now.sealed) }
@@ -220,18 +221,18 @@ impl State {
         entries - self.sealed as usize >= MOST_CALLS
     }
 
-    /// How many streams were accepted.
+    /// Returns the number of accepted streams.
     pub(crate) fn accepted(&self) -> u32
         ensures { result ≡ length self.now.stands }
     {
         self.holdings.len()
     }
 
-    /// Grants the stream of a request of good form: its number is the next one, and it is live from the next cycle to be closed on;
-    /// or gives the first reason against it for what is held: `NameHeld`, `TooManyStreams`, `BudgetShort`.
+    /// Grants the stream of a request of good form. Its number is the next one, and it is live from the next cycle to be closed. If
+    /// something that is held is against it, returns the first reason: `NameHeld`, `TooManyStreams`, `BudgetShort`.
     ///
     /// # Errors
-    /// Where a growth is refused; then nothing is changed.
+    /// `Memory` if an allocation fails. Then nothing is changed.
     pub(crate) fn admit(
         &mut self,
         alloc: Global,
@@ -257,11 +258,11 @@ impl State {
         Ok(Ok(Receipt { no, effect }))
     }
 
-    /// Withdraws the held stream of a name from the next cycle to be closed on, and lists it among those that end when its last frame has
-    /// left; or gives the reason against that: `NotHeld`, `AlreadyWithdrawn`.
+    /// Withdraws the held stream with a name from the next cycle to be closed, and lists it among those that end when its last frame has
+    /// left. If this isn't possible, returns the reason: `NotHeld`, `AlreadyWithdrawn`.
     ///
     /// # Errors
-    /// Where a growth is refused; then nothing is changed.
+    /// `Memory` if an allocation fails. Then nothing is changed.
     pub(crate) fn withdraw(
         &mut self,
         alloc: Global,
@@ -286,8 +287,8 @@ impl State {
         }
     }
 
-    /// Closes the next cycle to changes, and lets go of the streams whose last frame has left by the cycle behind it. Whether there were
-    /// such.
+    /// Closes the next cycle to changes, and releases the streams whose last frame has left by the cycle after it. Returns `false` only if
+    /// there were none.
     pub(crate) fn seal(&mut self) -> bool
         requires history { SomeDomain self.old }
         requires some { self.old.sealed < most_cycles }
@@ -302,7 +303,7 @@ impl State {
         ends
     }
 
-    /// What the held streams take of a link's budget at most, in octets in a cycle.
+    /// Returns the most that the held streams take of a link's budget in any cycle, in octets.
     pub(crate) fn taken_of(&self, domain: &Domain, link: u16) -> Octets
         requires inside { link < length domain.now.links }
         requires history { SomeHistory domain.now self.now }
@@ -316,8 +317,8 @@ impl State {
         Octets(taken as u32)
     }
 
-    /// What a hop's link has left of its budget beside the held streams, in octets, in the cycles in which frames of a pace go by it: the
-    /// least in one of these.
+    /// Returns what a hop's link has left of its budget besides the held streams, in octets: the least over the cycles in which frames of
+    /// the pace use the hop.
     pub(crate) fn left_at(&self, domain: &Domain, hop: &Hop, pace: Pace) -> Octets
         requires inside { hop.now.link < length domain.now.links }
         requires good { IsGoodPace pace }
@@ -329,7 +330,7 @@ impl State {
         Octets(left_of(domain, &self.holdings, hop, pace))
     }
 
-    /// The rows of the held streams, by number, each shared, unless memory runs out.
+    /// Returns the rows of the held streams, by number, each shared, or `Memory` if an allocation fails.
     pub(crate) fn held_rows(&self, alloc: Global) -> Result<Vec<Arc<Row>>, Memory>
         ensures { IfOk result (λ rows. (d : ADomain) (entries : List Recorded) → IsStateOf d entries self.now →
             map (λ row. arc_value row) rows.items ≡ held_in d entries (seals entries)) }
@@ -337,14 +338,14 @@ impl State {
         self.holdings.held_rows(alloc)
     }
 
-    /// The rows of all streams that were ever granted, by number, unless memory runs out.
+    /// Returns the rows of all streams that were ever granted, by number, or `Memory` if an allocation fails.
     pub(crate) fn into_rows(self, alloc: Global) -> Result<Vec<Row>, Memory>
         ensures { IfOk result (λ rows. (d : ADomain) (entries : List Recorded) → IsStateOf d entries self → rows.items ≡ streams_of d entries) }
     {
         self.holdings.into_rows(alloc)
     }
 
-    /// The same state again, unless memory runs out. The two share their rows.
+    /// Returns a copy of the state, or `Memory` if an allocation fails. The two share their rows.
     pub(crate) fn try_copy(&self, alloc: Global) -> Result<State, Memory>
         ensures { IfOk result (StaysSo self.now) }
     {

@@ -12,8 +12,8 @@ use std::alloc::Global;
 use std::marker::Model;
 use std::sync::Arc;
 
-/// The table of a cycle that is closed to changes: the streams that are held in it, by number, no two of one number or
-/// name, each of a good pace.
+/// The table of a cycle that is closed to changes: the streams that are held in it, by number. No two have the same number or name, and
+/// each has a good pace.
 #[derive(Debug, Drop)]
 pub struct Table {
     cycle: Cycle,
@@ -34,7 +34,7 @@ impl Model for Table {
 }
 
 impl Table {
-    /// The table of a cycle with these rows.
+    /// Returns the table of a cycle with these rows.
     pub(crate) fn new(cycle: Cycle, listed: Arc<ListedRows>) -> Table
         requires order { AreInOrder (arc_value listed) }
         requires good { AreOfGoodPaces (arc_value listed) }
@@ -44,14 +44,14 @@ impl Table {
         Table { cycle, listed }
     }
 
-    /// The cycle that the table is of.
+    /// Returns the cycle of the table.
     pub fn cycle(&self) -> Cycle
         ensures { result.0 ≡ self.now.cycle }
     {
         self.cycle
     }
 
-    /// The streams that are held in the cycle, by number. Tables share the rows that they have in common.
+    /// Returns the streams that are held in the cycle, by number. Tables share the rows that they have in common.
     pub fn rows(&self) -> &[Arc<Row>]
         ensures rows { map (λ row. arc_value row) result.now ≡ self.now.rows }
         ensures order { AreInOrder self.now.rows }
@@ -60,7 +60,7 @@ impl Table {
         self.listed.rows()
     }
 
-    /// The row of the stream that has the name, where one is held.
+    /// Returns the row of the held stream with the name, or `None` if no held stream has it.
     pub fn row_named(&self, name: &Name) -> Option<&Row>
         ensures found { option_copied result ≡ row_named self.now.rows name.now }
         ensures the_row { IsRowNamed self.now.rows name.now (option_copied result) }
@@ -68,7 +68,7 @@ impl Table {
         self.listed.row_named(name)
     }
 
-    /// The row of the stream of this number, where it is held.
+    /// Returns the row of the held stream with this number, or `None` if no held stream has it.
     pub fn row_of(&self, no: u32) -> Option<&Row>
         ensures found { option_copied result ≡ row_of self.now.rows no }
         ensures the_row { IsRowOf self.now.rows no (option_copied result) }
@@ -76,7 +76,7 @@ impl Table {
         self.listed.row_of(no)
     }
 
-    /// The same table again, unless memory runs out. The two share their rows.
+    /// Returns a copy of the table, or `Memory` if an allocation fails. The two share their rows.
     pub fn try_copy(&self, _alloc: Global) -> Result<Table, Memory>
         ensures { IfOk result (λ copy. copy ≡ self.now) }
     {

@@ -1,4 +1,4 @@
-//! The rows of held streams, as tables share them.
+//! The rows of held streams, shared by tables.
 ghost use Rattle.std.specs.Arc.{arc_value};
 ghost use Rattle.std.specs.Prelude.{◌≡◌, ◌≢◌, [], AllPairs, IfOk, List, count_by, map, nat_lt};
 ghost use Rattle.cqf_model.specs.declared.topology.Row.{Row as ARow};
@@ -17,17 +17,17 @@ use std::alloc::Global;
 use std::marker::Model;
 use std::sync::Arc;
 
-/// How many rows may stand behind those that tables find by the numbers of their names: these are looked through one by
-/// one.
+/// How many rows there may be after those that tables find by the numbers of their names. These are searched one by one.
 const MOST_BEHIND: usize = 32;
 
-/// What tables are made from. A row that tables have in common is there once, and tables between which nothing changes are one list.
+/// The data from which tables are made. A row that several tables have is stored once, and tables between which nothing changes share one
+/// list.
 #[derive(Debug, Drop)]
 pub(crate) struct Tabling {
-    /// The rows of the last table, and whether they are those that are held yet.
+    /// The rows of the last table, and whether these are still the held rows.
     listed: Arc<ListedRows>,
     is_current: bool,
-    /// By these numbers tables find the streams of numbers below one.
+    /// The numbers by which tables find the streams with numbers below `below`.
     numbers: Arc<Numbers>,
     below: u32,
 }
@@ -46,7 +46,7 @@ impl Model for Tabling {
     } };
 }
 
-/// How many of some rows have numbers below one.
+/// Returns how many of the rows have numbers below `below`.
 fn count_below(rows: &[Arc<Row>], below: u32) -> usize
     ensures { result ≡ count_by (λ (row : ARow). nat_lt row.no below) (map (λ row. arc_value row) rows.now) }
 {
@@ -54,7 +54,7 @@ fn count_below(rows: &[Arc<Row>], below: u32) -> usize
 }
 
 impl Tabling {
-    /// What tables of no streams are made from, unless memory runs out.
+    /// Returns the data for tables without streams, or `Memory` if an allocation fails.
     pub(crate) fn new(alloc: Global) -> Result<Tabling, Memory>
         ensures { IfOk result (λ tabling. (d : Domain) → AreTablesOf d [] tabling) }
     {
@@ -68,14 +68,15 @@ impl Tabling {
         })
     }
 
-    /// Notes whether other rows are held than before.
+    /// Records whether the held rows have changed.
     pub(crate) fn note(&mut self, changed: bool)
         ensures { IsNoted self.old self.new changed }
     {
         self.is_current = self.is_current && !changed;
     }
 
-    /// Numbers the names of the held rows anew, where too many stand behind those that are found by their numbers.
+    /// Numbers the names of the held rows again if there are too many after those that are found by their numbers. Returns `Memory` if an
+    /// allocation fails.
     fn renumber(&mut self, alloc: Global, rows: &[Arc<Row>], accepted: u32) -> Result<(), Memory>
         requires names { AllPairs (λ (a b : ARow). a.name ≢ b.name) (map (λ row. arc_value row) rows.now) }
         ensures same { (d : Domain) (entries : List Recorded) → held_in d entries (seals entries) ≡ map (λ row. arc_value row) rows.now →
@@ -91,7 +92,8 @@ impl Tabling {
         Ok(())
     }
 
-    /// The rows for a table of what is held, unless memory runs out. Where nothing has changed since the last one this is that one's list.
+    /// Returns the rows for a table of what is held, or `Memory` if an allocation fails. If nothing has changed since the last table, this
+    /// is that table's list.
     pub(crate) fn share(&mut self, alloc: Global, state: &State) -> Result<Arc<ListedRows>, Memory>
         requires { SomeTables state.now self.old }
         ensures same { (d : Domain) (entries : List Recorded) → IsStateOf d entries state.now → AreTablesOf d entries self.old → AreTablesOf d entries self.new }
@@ -112,7 +114,7 @@ impl Tabling {
         Ok(shared)
     }
 
-    /// The same again, shared, unless memory runs out.
+    /// Returns a copy that shares the lists, or `Memory` if an allocation fails.
     pub(crate) fn try_copy(&self) -> Result<Tabling, Memory>
         ensures { IfOk result (λ copy. copy ≡ self.now) }
     {

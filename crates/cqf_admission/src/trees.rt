@@ -11,14 +11,14 @@ use arrayvec::ArrayVec;
 use cqf_model::{Hop, MOST_HOPS, Node, Refused};
 use cqf_topology::Domain;
 
-/// Whether one of some hops is by the link.
+/// Returns whether one of the hops uses the link.
 fn has_link(tree: &[Hop], link: u16) -> bool
     ensures { result ≡ list_any (λ hop. hop.link == link) tree.now }
 {
     tree.iter().any(|hop| hop.link == link)
 }
 
-/// Adds a hop behind those of a tree, where none of them is by its link and there is room.
+/// Appends a hop to a tree, if no hop of the tree uses its link and there is room.
 fn add_hop(tree: &mut ArrayVec<Hop, 201>, hop: Hop)
     ensures { (whole : List HopValue) → AreAsFarAsRoom tree.old.items whole → AreAsFarAsRoom tree.new.items (keep_link whole hop) }
 {
@@ -31,7 +31,7 @@ fn add_hop(tree: &mut ArrayVec<Hop, 201>, hop: Hop)
     tree.push(hop);
 }
 
-/// Adds the hops of a branch of no more than 65 nodes to those of a tree, as far as there is room.
+/// Adds the hops of a branch of at most 65 nodes to a tree, as far as there is room.
 fn add_branch(
     domain: &Domain,
     nodes: &[Option<Node>],
@@ -58,8 +58,8 @@ fn add_branch(
     }
 }
 
-/// The tree of some branches of no more than 65 nodes each: their hops, each link once, where it first stands,
-/// as far as there is room.
+/// Returns the tree of branches of at most 65 nodes each: their hops, each link once, in the order of first occurrence, as far as there is
+/// room.
 fn tree_along(domain: &Domain, nodes: &[Option<Node>], paths: &[Vec<String>]) -> ArrayVec<Hop, 201>
     requires few { All (λ branch. length branch ≤ 65) (branches_of paths.now) }
     requires nodes { AreNodes domain.now (flat_map (λ branch. branch) (branches_of paths.now)) nodes.now }
@@ -74,7 +74,7 @@ fn tree_along(domain: &Domain, nodes: &[Option<Node>], paths: &[Vec<String>]) ->
     tree
 }
 
-/// The hops of a tree that has no more of them than are represented.
+/// Returns the hops of a tree that has at most 200 of them.
 pub(crate) fn fitted(hops: &[Hop]) -> ArrayVec<Hop, 200>
     requires { length hops.now ≤ 200 }
     ensures { result.items ≡ hops.now }
@@ -84,7 +84,7 @@ pub(crate) fn fitted(hops: &[Hop]) -> ArrayVec<Hop, 200>
     tree
 }
 
-/// The first place of the branches whose node the domain lacks.
+/// Returns the first index of the branches whose node the domain lacks.
 fn unknown_place_of(domain: &Domain, nodes: &[Option<Node>], paths: &[Vec<String>]) -> Option<usize>
     requires few { places_of (branches_of paths.now) < 2 ^ 64 }
     requires nodes { AreNodes domain.now (flat_map (λ branch. branch) (branches_of paths.now)) nodes.now }
@@ -93,7 +93,7 @@ fn unknown_place_of(domain: &Domain, nodes: &[Option<Node>], paths: &[Vec<String
     first_fault_of(domain, Check::Known, nodes, paths)
 }
 
-/// The first place at which the branches are broken. Where there is no branch that is 0.
+/// Returns the first index at which the branches are broken, or 0 if there is no branch.
 fn broken_place_of(domain: &Domain, nodes: &[Option<Node>], paths: &[Vec<String>]) -> Option<usize>
     requires few { places_of (branches_of paths.now) < 2 ^ 64 }
     requires nodes { AreNodes domain.now (flat_map (λ branch. branch) (branches_of paths.now)) nodes.now }
@@ -105,7 +105,7 @@ fn broken_place_of(domain: &Domain, nodes: &[Option<Node>], paths: &[Vec<String>
     first_fault_of(domain, Check::Whole, nodes, paths)
 }
 
-/// The first place of the branches whose node stood earlier in its branch.
+/// Returns the first index of the branches whose node occurred earlier in its branch.
 fn looping_place_of(domain: &Domain, nodes: &[Option<Node>], paths: &[Vec<String>]) -> Option<usize>
     requires few { places_of (branches_of paths.now) < 2 ^ 64 }
     requires nodes { AreNodes domain.now (flat_map (λ branch. branch) (branches_of paths.now)) nodes.now }
@@ -114,15 +114,17 @@ fn looping_place_of(domain: &Domain, nodes: &[Option<Node>], paths: &[Vec<String
     first_fault_of(domain, Check::Simple, nodes, paths)
 }
 
-/// The tree of some branches: their hops, each link once, where it first stands. The branches have fewer than 2^64 places,
-/// as [`count_places`](crate::count_places) tells.
+/// Returns the tree of branches: their hops, each link once, in the order of first occurrence. The branches have fewer than 2^64 names
+/// together, as [`count_places`](crate::count_places) finds.
 ///
 /// # Errors
-/// The first reason why they are no tree, each asked of all branches before the next: `UnknownNode`, at the first
-/// place whose node the domain lacks; `BrokenPath`, at the first place that no link leads to from the one before, at which a
-/// branch begins with no bridge or ends with one, or behind as many nodes as a branch may have, and 0 where there is no branch; `LoopingPath`, at
-/// the first place whose node stood earlier in its branch; `NotATree`, with the number, from 0, of the first branch that
-/// begins elsewhere than one before it or doesn't part from it for good; `TooManyHops`. Places count from 0 through all branches.
+/// The first reason why they are no tree. Each is checked over all branches before the next. Indexes count from 0 through all branches.
+/// - `UnknownNode` with the first index whose node the domain lacks.
+/// - `BrokenPath` with the first index at which a branch is broken: no link leads there from the node before, the branch doesn't begin with
+///   a bridge or ends with one, or as many nodes as a branch may have come before it. It is 0 if there is no branch.
+/// - `LoopingPath` with the first index whose node occurred earlier in its branch.
+/// - `NotATree` with the number, from 0, of the first branch that begins elsewhere than one before it, or doesn't part from it for good.
+/// - `TooManyHops`.
 pub fn find_tree(domain: &Domain, paths: &[Vec<String>]) -> Result<ArrayVec<Hop, 200>, Refused>
     requires { places_of (branches_of paths.now) < 2 ^ 64 }
     ensures { FindsTree domain.now (branches_of paths.now) result }

@@ -1,5 +1,5 @@
-//! Sums by link and cycle: a stream's number comes to the sum of each of its links in the cycles in which its frames go by, and goes
-//! again.
+//! Sums by link and cycle. A stream's number is added to the sum of each of its links in the cycles in which its frames use the link, and
+//! removed later.
 ghost use Rattle.std.specs.Prelude.{◌≡◌, ◌≢◌, ◌<◌, ◌≤◌, ◌+◌, ◌-◌, ◌^◌, ◌%◌, ◌==◌, All, AllPairs, IfOk, fold, length, map, max};
 ghost use Rattle.cqf_admission.specs.Turns.{AreLessIn, AreMoreIn, AreNone, HasIn, HasRoomFor, most_at, most_of, turns_at};
 ghost use Rattle.cqf_admission.specs.Turns.{AreLessWhere, AreMoreWhere, HaveIn, HaveRoomIn, most_where};
@@ -12,10 +12,10 @@ use cqf_units::Memory;
 use std::alloc::Global;
 use std::marker::Model;
 
-/// How many sums a link has.
+/// The number of sums of a link.
 const TURNS: usize = MOST_EVERY as usize;
 
-/// Adds a number to each of some sums.
+/// Adds a number to each sum.
 fn add_to_each(turns: &mut [u64], number: u64)
     requires room { All (λ sum. sum + number < 2 ^ 64) turns.old }
     ensures { turns.new ≡ map (λ sum. sum + number) turns.old }
@@ -25,7 +25,7 @@ fn add_to_each(turns: &mut [u64], number: u64)
     }
 }
 
-/// Takes a number from each of some sums.
+/// Subtracts a number from each sum.
 fn take_from_each(turns: &mut [u64], number: u64)
     requires held { All (λ sum. number ≤ sum) turns.old }
     ensures { turns.new ≡ map (λ sum. sum - number) turns.old }
@@ -35,7 +35,7 @@ fn take_from_each(turns: &mut [u64], number: u64)
     }
 }
 
-/// Adds a number to one of so many sums, from the first on.
+/// Adds a number to every `every`-th sum, starting with the one at index `first`.
 fn add_to_some(turns: &mut [u64], first: usize, every: usize, number: u64)
     requires low { first < every }
     requires few { every ≤ most_every }
@@ -50,7 +50,7 @@ fn add_to_some(turns: &mut [u64], first: usize, every: usize, number: u64)
     }
 }
 
-/// Takes a number from one of so many sums, from the first on.
+/// Subtracts a number from every `every`-th sum, starting with the one at index `first`.
 fn take_from_some(turns: &mut [u64], first: usize, every: usize, number: u64)
     requires low { first < every }
     requires few { every ≤ most_every }
@@ -65,8 +65,8 @@ fn take_from_some(turns: &mut [u64], first: usize, every: usize, number: u64)
     }
 }
 
-/// Adds a number to those of a link's sums in whose cycles frames of this pace are so deep on their way. What was the greatest sum is given,
-/// and what then is comes back.
+/// Adds a number to the sums of a link in the cycles in which frames of this pace use a hop with this hop number. `most` is the greatest
+/// sum before. Returns the greatest sum after.
 fn add_to_turns(turns: &mut [u64], most: u64, pace: Pace, depth: u8, number: u64) -> u64
     requires of_link { length turns.old ≡ most_every }
     requires good { most_every % (pace.pause + 1) ≡ 0 }
@@ -89,7 +89,7 @@ fn add_to_turns(turns: &mut [u64], most: u64, pace: Pace, depth: u8, number: u64
     most_of_all(turns)
 }
 
-/// Takes a number from these, likewise.
+/// Subtracts a number from these sums likewise.
 fn take_from_turns(turns: &mut [u64], most: u64, pace: Pace, depth: u8, number: u64) -> u64
     requires of_link { length turns.old ≡ most_every }
     requires good { most_every % (pace.pause + 1) ≡ 0 }
@@ -112,7 +112,7 @@ fn take_from_turns(turns: &mut [u64], most: u64, pace: Pace, depth: u8, number: 
     most_of_all(turns)
 }
 
-/// The greatest of some sums.
+/// Returns the greatest sum.
 fn most_of_all(turns: &[u64]) -> u64
     ensures { result ≡ fold max 0 turns.now }
 {
@@ -123,7 +123,7 @@ fn most_of_all(turns: &[u64]) -> u64
     most
 }
 
-/// The greatest of one of so many sums, from the first on.
+/// Returns the greatest of every `every`-th sum, starting with the one at index `first`.
 fn most_of_some(turns: &[u64], first: usize, every: usize) -> u64
     requires low { first < every }
     requires few { every ≤ most_every }
@@ -139,13 +139,13 @@ fn most_of_some(turns: &[u64], first: usize, every: usize) -> u64
     most
 }
 
-/// Sums by link and cycle of what streams bring. All paces repeat after 80 cycles, so a link has a sum for each of these.
+/// Sums by link and cycle of the numbers of streams. All paces repeat after 80 cycles, so a link has a sum for each of these.
 #[derive(Debug, Drop)]
 pub struct CycleSums {
     links: usize,
-    /// Link by link, and of each by its cycle.
+    /// The sums link by link, and for each link by cycle.
     sums: Vec<u64>,
-    /// The greatest of each link's, which a stream without pauses asks for and moves with no look at the others.
+    /// The greatest sum of each link. A stream that is offered in each cycle needs and changes only this one.
     greatest: Vec<u64>,
 }
 
@@ -160,7 +160,7 @@ impl Model for CycleSums {
 }
 
 impl CycleSums {
-    /// Sums of nothing, of so many links, unless memory runs out.
+    /// Returns sums of 0, for this number of links, or `Memory` if an allocation fails.
     pub fn new(alloc: Global, links: u16) -> Result<CycleSums, Memory>
         ensures { IfOk result (λ sums. AreNone sums links) }
     {
@@ -172,8 +172,7 @@ impl CycleSums {
         })
     }
 
-    /// Adds the number of a stream that comes, with a tree of which no two hops are by the same link, and a pace that repeats after 80
-    /// cycles.
+    /// Adds the number of a stream. No two hops of its tree use the same link, and its pace repeats after 80 cycles.
     pub fn add(&mut self, tree: &[Hop], pace: Pace, number: u32)
         requires inside { All (λ link. link < self.old.links) (links_in tree.now) }
         requires apart { AllPairs (λ a b. a ≢ b) (links_in tree.now) }
@@ -195,7 +194,7 @@ impl CycleSums {
         }
     }
 
-    /// Takes away the number of a stream that goes.
+    /// Subtracts the number of a stream.
     pub fn take(&mut self, tree: &[Hop], pace: Pace, number: u32)
         requires inside { All (λ link. link < self.old.links) (links_in tree.now) }
         requires apart { AllPairs (λ a b. a ≢ b) (links_in tree.now) }
@@ -217,7 +216,7 @@ impl CycleSums {
         }
     }
 
-    /// The sums of a link, by cycle.
+    /// Returns the sums of a link, by cycle.
     fn turns_of(&self, link: u16) -> &[u64]
         requires { link < self.now.links }
         ensures value { result.now ≡ turns_at self.now link }
@@ -227,7 +226,7 @@ impl CycleSums {
         &self.sums[first..first + TURNS]
     }
 
-    /// The greatest sum of a hop's link in the cycles in which frames of this pace go by it.
+    /// Returns the greatest sum of a hop's link in the cycles in which frames of this pace use the hop.
     pub fn most_at(&self, hop: &Hop, pace: Pace) -> u64
         requires inside { hop.now.link < self.now.links }
         requires good { most_every % (pace.pause + 1) ≡ 0 }
@@ -244,7 +243,7 @@ impl CycleSums {
         )
     }
 
-    /// The greatest sum of a link in a cycle.
+    /// Returns the greatest sum of a link in any cycle.
     pub fn most_of(&self, link: u16) -> u64
         requires { link < self.now.links }
         ensures { result ≡ most_of self.now link }
@@ -252,7 +251,7 @@ impl CycleSums {
         self.greatest[usize::from(link)]
     }
 
-    /// The same sums again, unless memory runs out.
+    /// Returns a copy of the sums, or `Memory` if an allocation fails.
     pub fn try_copy(&self, alloc: Global) -> Result<CycleSums, Memory>
         ensures { IfOk result (λ copy. copy ≡ self.now) }
     {

@@ -1,4 +1,4 @@
--- What a comparison of a history with its seats comes to.
+-- The result of comparing a history with its seats.
 use Rattle.std.proofs.Common.{◌≡◌, ◌∙◌, ◌++◌, ℕ, suc, zero, ◌<◌, ◌==◌, List, [], ◌∷◌, Option, None, Some, All, map, drop, take}
 use Rattle.std.proofs.Common.{length, length-take, ap, refl, sym, subst, arith, eq-eqb, inl, inr}
 use Rattle.std.specs.Prelude.{Err, IfErr, Ok, Result}
@@ -16,14 +16,14 @@ use Rattle.cqf_desk.specs.Closing.{AreItsSeats, ComesToLeast, Disagrees, HasOpen
 use Rattle.cqf_desk.specs.Desk.{Counter, Sitting}
 use Rattle.cqf_desk.proofs.Rests.{front_is, rest_is, take-map}
 
--- a front of a history that was compared with a list of the opening part
+-- the first part of a history that was compared with the opening part
 front_of : (start : List Recorded) (held : List Recorded) (begun history : List Entry) → map recorded_of begun ≡ start → map recorded_of history ≡ held →
     map recorded_of (take (length begun) history) ≡ take (length start) held
 front_of start held begun history is its =
     sym (take-map recorded_of history (length begun)) ∙ ap (take (length begun)) its
     ∙ ap (λ (n : ℕ). take n held) (sym (length-map begun recorded_of) ∙ ap length is)
 
--- with the opening part no history is shorter
+-- no history with the opening part is shorter than it
 pub is_shorter : (start held : Administration) (begun history : List Entry) → map recorded_of begun ≡ start.entries → map recorded_of history ≡ held.entries →
     length history < length begun → HasOpening start held → ⊥
 is_shorter start held begun history is its less has =
@@ -34,14 +34,14 @@ is_shorter start held begun history is its less has =
     let front_many = length-take (length begun) history in
     omega (arith, less, front, many, fewer, front_many)
 
--- its front is that part
+-- its first part is the opening part
 pub is_front : (start held : Administration) (begun history first : List Entry) → map recorded_of begun ≡ start.entries → map recorded_of history
     ≡ held.entries →
     first ≡ take (length begun) history → HasOpening start held → map recorded_of first ≡ map recorded_of begun
 is_front start held begun history first is its is_first has =
     ap (map recorded_of) is_first ∙ front_of start.entries held.entries begun history is its ∙ has.begins ∙ sym is
 
--- what stands behind such a front
+-- what comes after such a first part
 pub goes_behind : (start held : Administration) (begun history first rest : List Entry) (n : ℕ) → map recorded_of begun ≡ start.entries →
     map recorded_of history ≡ held.entries →
     first ≡ take n history → rest ≡ drop n history → map recorded_of first ≡ map recorded_of begun → held.domain ≡ start.domain →
@@ -52,15 +52,15 @@ goes_behind start held begun history first rest n is its is_first is_rest same d
       ∙ (λ i. map recorded_of (sym is_first i) ++ map recorded_of (sym is_rest i)) ∙ ap (λ es. es ++ map recorded_of rest) (same ∙ is);
 }
 
--- the administration with these calls behind the opening part
+-- the administration with these calls after the opening part
 abbrev gone_by : Administration → List Recorded → Administration
 gone_by start rest = record { domain = start.domain; entries = start.entries ++ rest }
 
--- it is what has gone on with them
+-- it is the one that has continued with them
 is_gone : (start held : Administration) (rest : List Recorded) → FollowerHasGone start held rest → held ≡ gone_by start rest
 is_gone start held rest gone = (λ i. record { domain = gone.domain i; entries = gone.entries i })
 
--- its history is legal where that one is
+-- its history is legal if that one is
 legal_by : (start held : Administration) (rest : List Recorded) → FollowerHasGone start held rest → IsLegalHistory held.domain held.entries →
     IsLegalHistory start.domain (start.entries ++ rest)
 legal_by start held rest gone legal = subst (λ (a : Administration). IsLegalHistory a.domain a.entries) (is_gone start held rest gone) legal
@@ -69,19 +69,19 @@ legal_by start held rest gone legal = subst (λ (a : Administration). IsLegalHis
 opens : (start : Administration) (rest : List Recorded) → HasOpening start (gone_by start rest)
 opens start rest = record { domain = refl; begins = front_is start.entries rest }
 
--- what is none of these is none
+-- an option that is no `Some` is `None`
 pub is_none : (o : Option ℕ) → ((number : ℕ) → o ≡ Some number → ⊥) → o ≡ None
 is_none None none = refl
 is_none (Some number) none = absurd (none number refl)
 
--- what holds of each entry holds of each call
+-- what holds for each entry holds for each call
 each_known : (count : ℕ) (xs : List Entry) → All (λ (e : Recorded). e.seat < count) (map recorded_of xs) → All (λ (e : Entry). e.seat < count) xs
 each_known count [] all k d inside = absurd (omega (arith, inside))
 each_known count (x ∷ xs) all zero d inside = all 0 (recorded_of d) (omega arith)
 each_known count (x ∷ xs) all (suc k) d inside =
     each_known count xs (λ j r within. all (suc j) r (omega (arith, within))) k d (omega (arith, inside))
 
--- one that names the number of seats, since a call is of none of them
+-- a disagreement with the number of seats, since a call is of none of them
 pub names_none : (start held : Administration) (count : ℕ) (rest : List Entry) (seats : List Sitting) → FollowerHasGone start held (map recorded_of rest) →
     ComesToLeast start.domain (start.entries ++ map recorded_of rest) (length start.entries) seats None →
     (All (λ (e : Entry). e.seat < count) rest → ⊥) → Disagrees start count held seats count
@@ -97,7 +97,7 @@ names_none start held count rest seats gone comes unknown =
       ),
     ))
 
--- one that finds all as it is to be
+-- a comparison without a disagreement
 pub are_of_seats : (start held : Administration) (count : ℕ) (rest : List Entry) (seats : List Sitting) → FollowerHasGone start held (map recorded_of rest) →
     IsLegalHistory held.domain held.entries →
     ComesToLeast start.domain (start.entries ++ map recorded_of rest) (length start.entries) seats None →
@@ -111,7 +111,7 @@ are_of_seats start held count rest seats gone legal comes known =
       own = comes;
     })
 
--- whom a disagreement names is one of the seats, or how many there are
+-- a disagreement has the number of one of the seats, or the number of seats
 pub one_or_count : (start held : Administration) (count : ℕ) (seats : List Sitting) (number : ℕ) → Disagrees start count held seats number →
     IsOneOrCount count seats number
 one_or_count start held count seats number disagrees = elim disagrees [
@@ -127,14 +127,14 @@ close_fault desk seats held SeatMissing its legal settles = absurd settles
 close_fault desk seats held (SeatsDisagree number) its legal settles = (its, held, legal, settles)
 close_fault desk seats held Memory its legal settles = its
 
--- likewise of what comes of a comparison
+-- the same for the result of a comparison
 pub close_faults : (desk : Counter) (seats : List Sitting) (held : Administration) (result : Result History CloseFault) → AreItsSeats desk.seats seats →
     IsLegalHistory held.domain held.entries →
     IfErr result (λ fault. Settles desk.opening desk.seats held seats (Err fault)) → IfErr result (λ fault. IsCloseFault desk seats fault)
 close_faults desk seats held (Ok history) its legal settles = tt
 close_faults desk seats held (Err fault) its legal settles = close_fault desk seats held fault its legal settles
 
--- and whom it names is one of the seats, or how many there are
+-- its number is that of one of the seats, or the number of seats
 pub named_so : (start held : Administration) (count : ℕ) (seats : List Sitting) (result : Result History CloseFault) →
     IfErr result (λ fault. Settles start count held seats (Err fault)) → (number : ℕ) → result ≡ Err (SeatsDisagree number) → IsOneOrCount count seats number
 named_so start held count seats result settles number is =

@@ -1,4 +1,4 @@
--- What tests of a desk's seats say.
+-- The meaning of tests of a desk's seats.
 use Rattle.std.proofs.Common.{◌≡◌, ◌↔◌, ℕ, ◌<◌, ◌==◌, Bool, List, true, false, refl, sym, ◌∙◌}
 use Rattle.std.specs.List.{list_any}
 use Rattle.cqf_desk.specs.Closing.{AreItsSeats}
@@ -10,7 +10,7 @@ pub none_there : (count : ℕ) (seats : List Sitting) (number : ℕ) (found : Bo
     found ≡ false → AreItsSeats count seats → false ≡ true
 none_there count seats number found below is none all = sym none ∙ is ∙ all.each number below
 
--- a test that is true where this holds, and false where it doesn't
+-- a test that is true if and only if this holds
 pub decides : {X : Type 0} (so : Bool) → (so ≡ true → X) → (so ≡ false → X → ⊥) → (so ≡ true) ↔ X
 decides true holds fails = (holds, λ _. refl)
 decides false holds fails = (holds, λ x. absurd (fails refl x))

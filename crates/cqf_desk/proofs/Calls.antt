@@ -12,7 +12,7 @@ use Rattle.cqf_admission.specs.declared.entries.Entry.{Entry}
 use Rattle.cqf_admission.specs.Admission.{recorded_of}
 use Rattle.cqf_desk.proofs.Rests.{is_at, one_more, parts_at}
 
--- of the entries so far the seat has read its own
+-- the seat has read its own calls among the entries so far
 pub record HasRead (number : ℕ) (calls rest : List Entry) (next k : ℕ) : Type 0 where
   pub few : next ≤ length calls
   pub same : map recorded_of (take next calls) ≡ calls_by number (map recorded_of (take k rest))
@@ -54,7 +54,7 @@ pub reads_all : (number : ℕ) (calls rest : List Entry) (next k : ℕ) → HasR
 reads_all number calls rest next k read all through =
     ap (map recorded_of) (sym (take_all next calls all)) ∙ read.same ∙ ap (λ xs. calls_by number (map recorded_of xs)) (take_all k rest through)
 
--- where the seat has just its calls, its next one is the next of its own among the entries
+-- if the seat has exactly its calls, its next one is the next of its own among the entries
 pub next_call : (number : ℕ) (calls rest : List Entry) (next k : ℕ) (e : Entry) → HasRead number calls rest next k → k < length rest → e ≡ get_or rest k e →
     e.seat ≡ number → map recorded_of calls ≡ calls_by number (map recorded_of rest) → slice_get (map recorded_of calls) next ≡ Some (recorded_of e)
 next_call number calls rest next k e read inside is its all =
@@ -70,7 +70,7 @@ next_call number calls rest next k e read inside is its all =
     sym (length-take-le next calls read.few) ∙ sym (length-map (take next calls) recorded_of) ∙ ap length read.same in
     ap (λ (es : List Recorded). slice_get es next) (all ∙ whole) ∙ slice_get_behind front (recorded_of e) behind next many
 
--- so it has one
+-- so it has a next call
 pub none_lacks : (number : ℕ) (calls rest : List Entry) (next k : ℕ) (e : Entry) → HasRead number calls rest next k → k < length rest → e ≡ get_or rest k e →
     e.seat ≡ number → length calls ≤ next → map recorded_of calls ≡ calls_by number (map recorded_of rest) → ⊥
 none_lacks number calls rest next k e read inside is its few all =
@@ -88,7 +88,7 @@ same_there number calls rest next k e own read inside is its there own_is all =
     (sym (slice_get-map recorded_of calls next ∙ ap (option_map recorded_of) (is_at calls next own there own_is))
     ∙ next_call number calls rest next k e read inside is its all)
 
--- and it has no more
+-- and it has no more calls
 pub no_more : (number : ℕ) (calls rest : List Entry) (next k : ℕ) → HasRead number calls rest next k → length rest ≤ k →
     map recorded_of calls ≡ calls_by number (map recorded_of rest) → next ≡ length calls
 no_more number calls rest next k read through all =

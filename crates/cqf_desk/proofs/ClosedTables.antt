@@ -1,4 +1,4 @@
--- The table that a Seal closes, in the history up to it and in the whole one.
+-- The table that a Seal closes, in the history up to it and in the whole history.
 use Rattle.std.proofs.Common.{◌≡◌, ℕ, ◌+◌, ◌<◌, List, [], ◌∷◌, ◌++◌, true, refl, ap, sym, ◌∙◌, arith}
 use Rattle.std.proofs.lemmas.List.{append-nil, append_assoc}
 use Rattle.cqf_model.specs.declared.history.Reply.TheVariants.{Sealed}
@@ -7,7 +7,7 @@ use Rattle.cqf_model.specs.History.{Act, Admits, Recorded, Seals, Withdraws, hel
 use Rattle.cqf_laws_history.specs.StateLaws.{SealClosesTable, SealsAreCounted}
 use Rattle.cqf_laws_history.specs.TableLaws.{ClosedTablesStay}
 
--- no later calls change a table that is closed
+-- later calls don't change a closed table
 pub stays : ClosedTablesStay → SealsAreCounted → (d : Domain) (entries more : List Recorded) (cycle : ℕ) → cycle < seals entries →
     table_at d (entries ++ more) cycle ≡ table_at d entries cycle
 stays stay counted d entries [] cycle closed = ap (λ (es : List Recorded). table_at d es cycle) (append-nil entries)

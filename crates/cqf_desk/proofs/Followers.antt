@@ -9,16 +9,16 @@ use Rattle.cqf_desk.specs.declared.following.Follower.{Follower}
 use Rattle.cqf_desk.specs.Following.{HasMade, KeepsTables}
 use Rattle.cqf_desk.proofs.Rests.{one_more}
 
--- a follower has passed the first of these calls: it made them, and none of them is a Seal of the seat
+-- a follower has made the first of these calls, and none of them is a Seal of the seat
 pub record HasPassed (old new : Follower) (others : List Entry) (number k : ℕ) : Type 0 where
   pub keeps : KeepsTables old new number
   pub made : HasMade old new (map recorded_of (take k others))
 
--- one call is made where the admission goes on with it
+-- one call is made if the admission continues with it
 pub makes_one : (old new : Follower) (e : Recorded) → new.first ≡ old.first → FollowerGoesOn old.admission new.admission e → HasMade old new (e ∷ [])
 makes_one old new e same goes = record { first = same; domain = goes.domain; entries = goes.entries }
 
--- calls, and then others
+-- calls, followed by others
 makes_more : (old mid new : Follower) (calls more : List Recorded) → HasMade old mid calls → HasMade mid new more → HasMade old new (calls ++ more)
 makes_more old mid new calls more made then = record {
   first = then.first ∙ made.first;
@@ -26,7 +26,7 @@ makes_more old mid new calls more made then = record {
   entries = then.entries ∙ ap (λ es. es ++ more) made.entries ∙ append_assoc old.admission.entries calls more;
 }
 
--- one call more
+-- one more call
 pub passes_one : (old mid new : Follower) (others : List Entry) (number k : ℕ) (e : Entry) → HasPassed old mid others number k → k < length others →
     e ≡ get_or others k e → KeepsTables mid new number → HasMade mid new (recorded_of e ∷ []) → HasPassed old new others number (k + 1)
 passes_one old mid new others number k e passed inside is keeps made = record {
@@ -48,7 +48,7 @@ passes_none f others number = record {
   made = record { first = refl; domain = refl; entries = sym (append-nil f.admission.entries) };
 }
 
--- the calls behind those that were made
+-- the calls after those that were made
 pub rest_of : (f : Follower) (history done rest : List Entry) → map recorded_of done ≡ f.admission.entries → rest ≡ drop (length done) history →
     map recorded_of rest ≡ drop (length f.admission.entries) (map recorded_of history)
 rest_of f history done rest is behind =

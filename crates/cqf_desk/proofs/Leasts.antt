@@ -10,12 +10,12 @@ use Rattle.cqf_model.specs.History.{Recorded}
 use Rattle.cqf_desk.specs.Closing.{ComesToLeast, HasSuch, IsBorneOut}
 use Rattle.cqf_desk.specs.Desk.{Sitting}
 
--- with one seat more there is still such a one
+-- with one more seat there is still one with the property
 still_such : (IsSuch : Sitting → Type 0) (seats : List Sitting) (s : Sitting) (number : ℕ) → HasSuch IsSuch seats number →
     HasSuch IsSuch (seats ++ s ∷ []) number
 still_such IsSuch seats s number such = (such.0, Contains-append_left seats (s ∷ []) such.0 such.1, such.2, such.3)
 
--- a seat more that is borne out
+-- one more seat that is borne out
 borne_behind : (d : Domain) (entries : List Recorded) (first : ℕ) (seats : List Sitting) (s : Sitting) (least : Option ℕ) → IsBorneOut d entries first s →
     ComesToLeast d entries first seats least → ComesToLeast d entries first (seats ++ s ∷ []) least
 borne_behind d entries first seats s None borne all = All-push (IsBorneOut d entries first) seats s all borne
@@ -24,7 +24,7 @@ borne_behind d entries first seats s (Some number) borne least = (
   All-push (λ (t : Sitting). t.number < number → IsBorneOut d entries first t) seats s least.1 (λ _. borne),
 )
 
--- a seat more that isn't
+-- one more seat that isn't
 against_behind : (d : Domain) (entries : List Recorded) (first : ℕ) (seats : List Sitting) (s : Sitting) (least : Option ℕ) (n : ℕ) →
     n ≡ option_map_or (λ m. min m s.number) least s.number → (¬ IsBorneOut d entries first s) →
     ComesToLeast d entries first seats least → ComesToLeast d entries first (seats ++ s ∷ []) (Some n)
@@ -52,14 +52,14 @@ against_behind d entries first seats s (Some m) n is against least = elim (cases
   )
 ]
   where
-    -- the lesser of both
+    -- the smaller of both
     by_less : s.number < m → s.number ≡ n
     by_less less = omega (arith, is, less)
 
     by_more : m ≤ s.number → m ≡ n
     by_more more = omega (arith, is, more)
 
--- the same of fronts of a list
+-- the same for first parts of a list
 pub borne_more : (d : Domain) (entries : List Recorded) (first : ℕ) (seats : List Sitting) (k : ℕ) (s : Sitting) (least : Option ℕ) →
     k < length seats → s ≡ get_or seats k s →
     IsBorneOut d entries first s → ComesToLeast d entries first (take k seats) least → ComesToLeast d entries first (take (k + 1) seats) least
@@ -77,7 +77,7 @@ against_more d entries first seats k s least n inside is lesser against comes =
     (sym (take_more seats k s inside ∙ ap (λ (t : Sitting). take k seats ++ t ∷ []) (sym is)))
     (against_behind d entries first (take k seats) s least n lesser against comes)
 
--- a seat more, that is borne out or isn't
+-- one more seat, borne out or not
 pub least_more : (d : Domain) (entries : List Recorded) (first : ℕ) (seats : List Sitting) (k : ℕ) (s : Sitting) (number : ℕ)
     (least after : Option ℕ) (is_borne : Bool) →
     k < length seats → s ≡ get_or seats k s → number ≡ s.number → (is_borne ≡ true → after ≡ least) →

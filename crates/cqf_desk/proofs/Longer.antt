@@ -1,4 +1,4 @@
--- The tables that a seat closes in a history that goes on.
+-- The tables that a seat closes in a history that continues.
 use Rattle.std.proofs.Common.{◌≡◌, ℕ, ◌+◌, ◌-◌, ◌<◌, ◌≤◌, ◌==◌, Bool, List, Some, [], ◌∷◌, ◌++◌, true, false, map}
 use Rattle.std.proofs.Common.{length, take, drop, refl, ap, sym, ◌∙◌, arith, length-append, subst}
 use Rattle.std.specs.Prelude.{slice_get}
@@ -25,7 +25,7 @@ use Rattle.cqf_desk.proofs.ClosedTables.{is_the_seal, stays, table_there}
 use Rattle.cqf_desk.proofs.Rests.{front_is, parts_at}
 use Rattle.cqf_desk.proofs.Steps.{closes, one_place, some_at}
 
--- entries more have no fewer Seals
+-- more entries don't have fewer Seals
 pub not_fewer : SealsAreCounted → (es more : List Recorded) → seals es ≤ seals (es ++ more)
 not_fewer counted es [] =
     let same : seals (es ++ []) ≡ seals es = ap seals (append-nil es) in
@@ -36,7 +36,7 @@ not_fewer counted es (e ∷ more) =
     let same : seals ((es ++ e ∷ []) ++ more) ≡ seals (es ++ e ∷ more) = ap seals (append_assoc es (e ∷ []) more) in
     omega (arith, longer, further, same)
 
--- the cycle of a Seal within is closed by the end
+-- the cycle of a Seal among the entries is closed by their end
 is_closed : SealsAreCounted → (es : List Recorded) (place : ℕ) (e : Recorded) → slice_get es place ≡ Some e → is_seal e.act ≡ true →
     seals (take place es) < seals es
 is_closed counted es place e at its =
@@ -50,7 +50,7 @@ is_closed counted es place e at its =
     ap seals (append_assoc (take place es) (e ∷ []) parts.0 ∙ sym parts.1) in
     omega (arith, one_more, further, whole)
 
--- a Seal within closes the same table as the history goes on
+-- a Seal among the entries closes the same table when the history continues
 same_table : ClosedTablesStay → SealsAreCounted → (d : Domain) (es more : List Recorded) (place : ℕ) (e : Recorded) → place < length es →
     slice_get es place ≡ Some e → is_seal e.act ≡ true → table_closed d (es ++ more) place ≡ table_closed d es place
 same_table stay counted d es more place e inside at its =
@@ -58,12 +58,12 @@ same_table stay counted d es more place e inside at its =
     (λ i. record { cycle = seals (front i); rows = table_at d (es ++ more) (seals (front i)) })
     ∙ (λ i. record { cycle = seals (take place es); rows = stays stay counted d es more (seals (take place es)) (is_closed counted es place e at its) i })
 
--- and so the seat closes the same there
+-- so the seat closes the same there
 same_closed : ClosedTablesStay → SealsAreCounted → (d : Domain) (es more : List Recorded) (number place : ℕ) → place < length es →
     closed_by d (es ++ more) number place ≡ closed_by d es number place
 same_closed stay counted d es more number place inside = by_seal (is_seal_by number there.0) refl
   where
-    -- what stands there
+    -- the entry there
     there : (e : Recorded) × (slice_get es place ≡ Some e)
     there = some_at es place inside
 
@@ -77,7 +77,7 @@ same_closed stay counted d es more number place inside = by_seal (is_seal_by num
         closes d (es ++ more) number place there.0 false (slice_get_front es more place inside ∙ there.1) none
         ∙ sym (closes d es number place there.0 false there.1 none)
 
--- with one entry more a seat has closed what it closes by that one, behind its tables before
+-- one more entry adds the table that the seat closes by it
 one_entry : ClosedTablesStay → SealsAreCounted → (d : Domain) (es : List Recorded) (e : Recorded) (first number : ℕ) → first ≤ length es →
     tables_by d (es ++ e ∷ []) first number ≡ tables_by d es first number ++ closed_by d (es ++ e ∷ []) number (length es)
 one_entry stay counted d es e first number begun =
@@ -90,7 +90,7 @@ one_entry stay counted d es e first number begun =
     (λ i inside. same_closed stay counted d es (e ∷ []) number (first + i) (omega (arith, inside, begun))))
     ∙ ap (λ place. tables_by d es first number ++ closed_by d (es ++ e ∷ []) number place) last
 
--- with a call that is no Seal of the seat it has the same tables
+-- a call that isn't a Seal of the seat leaves its tables
 by_other : ClosedTablesStay → SealsAreCounted → (d : Domain) (es : List Recorded) (e : Recorded) (first number : ℕ) → first ≤ length es →
     is_seal_by number e ≡ false → tables_by d (es ++ e ∷ []) first number ≡ tables_by d es first number
 by_other stay counted d es e first number begun none =
@@ -98,7 +98,7 @@ by_other stay counted d es e first number begun none =
     ∙ ap (λ ts. tables_by d es first number ++ ts) (closes d (es ++ e ∷ []) number (length es) e false (slice_get_behind es e [] (length es) refl) none)
     ∙ append-nil (tables_by d es first number)
 
--- with a Seal of the seat it has the next table more
+-- a Seal of the seat adds the next table
 by_own : ClosedTablesStay → SealsAreCounted → SealClosesTable → (d : Domain) (es : List Recorded) (e : Recorded) (first number : ℕ) → first ≤ length es →
     is_seal_by number e ≡ true → e.reply ≡ Sealed →
     tables_by d (es ++ e ∷ []) first number ≡ tables_by d es first number ++ next_table (record { domain = d; entries = es }) ∷ []
@@ -123,13 +123,13 @@ by_others stay counted d es (e ∷ more) first number begun none =
     ∙ by_others stay counted d (es ++ e ∷ []) more first number (omega (arith, longer, begun)) parts.1
     ∙ by_other stay counted d es e first number begun parts.0
 
--- the tables of an administration that goes on
+-- the tables of an administration that continues
 gone_on : (old new : Administration) (e : Recorded) (first after number : ℕ) → after ≡ first → FollowerGoesOn old new e →
     tables_by old.domain (old.entries ++ e ∷ []) first number ≡ tables_by new.domain new.entries after number
 gone_on old new e first after number same goes =
     (λ i. tables_by (sym goes.domain i) (sym goes.entries i) (sym same i) number)
 
--- a follower that goes on has begun with as many entries
+-- a follower that continues has the same opening part
 begun_so : (old new : Administration) (e : Recorded) (first after : ℕ) → after ≡ first → FollowerGoesOn old new e → first ≤ length old.entries
     → after ≤ length new.entries
 begun_so old new e first after same goes begun =
@@ -137,7 +137,7 @@ begun_so old new e first after same goes begun =
     let longer = length-append old.entries (e ∷ []) in
     omega (arith, same, long, longer, begun)
 
--- a follower that has made all calls behind an opening part, by which the seat closes its tables
+-- a follower that has made all calls after an opening part, by which the seat closes its tables
 pub joins_so : (opening again : Administration) (f : Follower) (rest : List Recorded) (tables : List CycleTable) (number : ℕ) →
     f ≡ record { first = length opening.entries; admission = again } → FollowerHasGone opening again rest →
     tables ≡ tables_by opening.domain (opening.entries ++ rest) (length opening.entries) number → HasTables f number tables
@@ -149,15 +149,15 @@ joins_so opening again f rest tables number is gone own =
       own = own ∙ (λ i. tables_by (sym gone.domain i) (sym gone.entries i) (length opening.entries) number);
     })
 
--- the tables of one that is as it was
+-- the tables of an unchanged follower
 pub keeps_all : (old new : Follower) (number : ℕ) → new ≡ old → KeepsTables old new number
 keeps_all old new number same = λ tables has. subst (λ (f : Follower). HasTables f number tables) (sym same) has
 
--- and of one that went on, and then as it was
+-- the tables of a follower that continued in two steps
 pub keeps_on : (old mid new : Follower) (number : ℕ) → KeepsTables old mid number → KeepsTables mid new number → KeepsTables old new number
 keeps_on old mid new number keeps then = λ tables has. then tables (keeps tables has)
 
--- a follower goes on by a call that is no Seal of the seat
+-- a follower continues with a call that isn't a Seal of the seat
 pub keeps_tables : ClosedTablesStay → SealsAreCounted → (old new : Follower) (e : Recorded) (number : ℕ) → new.first ≡ old.first →
     FollowerGoesOn old.admission new.admission e → is_seal_by number e ≡ false → KeepsTables old new number
 keeps_tables stay counted old new e number same goes none = λ tables has. record {
@@ -166,7 +166,7 @@ keeps_tables stay counted old new e number same goes none = λ tables has. recor
       ∙ gone_on old.admission new.admission e old.first new.first number same goes;
 }
 
--- and by one of its Seals
+-- a follower continues with a Seal of the seat
 pub adds_table : ClosedTablesStay → SealsAreCounted → SealClosesTable → (old new : Follower) (e : Recorded) (number : ℕ) (table : CycleTable)
     → new.first ≡ old.first →
     FollowerGoesOn old.admission new.admission e → is_seal_by number e ≡ true → e.reply ≡ Sealed → table ≡ next_table old.admission →
@@ -179,7 +179,7 @@ adds_table stay counted closing old new e number table same goes its sealed is =
       ∙ gone_on old.admission new.admission e old.first new.first number same goes;
 }
 
--- calls that come first, and behind them no Seal of the seat
+-- calls that come first, without a Seal of the seat after them
 pub up_to_seal : (followed rest front behind : List Entry) (number n : ℕ) → front ≡ take n rest → behind ≡ drop n rest → map recorded_of followed
     ≡ map recorded_of front →
     list_any (λ (e : Entry). is_seal_by number (recorded_of e)) behind ≡ false → IsUpToSeal (map recorded_of followed) (map recorded_of rest) number
@@ -202,7 +202,7 @@ followed_so stay counted f opening followed rest number first gone up = λ table
     ∙ ap (λ (es : List Recorded). tables_by opening.domain es (length opening.entries) number)
     (append_assoc opening.entries followed up.0 ∙ ap (λ (es : List Recorded). opening.entries ++ es) (sym up.1))
 
--- the same of one that has begun with as many entries as were compared
+-- the same for a follower with the opening part that was compared
 pub has_followed : ClosedTablesStay → SealsAreCounted → (f : Follower) (opening : Administration) (start : List Entry) (followed rest : List Recorded)
     (number : ℕ) →
     f.first ≡ length start → map recorded_of start ≡ opening.entries → FollowerHasGone opening f.admission followed → IsUpToSeal followed rest number →

@@ -1,4 +1,4 @@
--- Calls with which no legal history goes on.
+-- Calls with which no legal history continues.
 use Rattle.std.proofs.Common.{◌≡◌, ℕ, ◌+◌, ◌<◌, ◌≤◌, Bool, List, Some, [], ◌∷◌, ◌++◌, true, false, map, length, take}
 use Rattle.std.proofs.Common.{get_or, refl, ap, sym, ◌∙◌, arith, length-append, subst, if◌then◌else◌, inl, inr}
 use Rattle.std.specs.Prelude.{◌≢◌, IfOk, Result, slice_get}
@@ -27,14 +27,14 @@ use Rattle.cqf_desk.proofs.Rests.{front_is, parts_at}
 use Rattle.cqf_desk.proofs.Longer.{not_fewer}
 use Rattle.cqf_desk.proofs.Steps.{HasClosed, HasGoneOn, closes_there, rest_length, so_far, stands}
 
--- the answer that a legal history has there is the one that is due
+-- the answer in a legal history is the one that is due
 is_due : (a : Administration) (e : Recorded) (more : List Recorded) → IsLegalHistory a.domain (a.entries ++ e ∷ more) → e.reply
     ≡ reply_to a.domain a.entries e.act
 is_due a e more legal =
     legal.replies (length a.entries) e (slice_get_behind a.entries e more (length a.entries) refl)
     ∙ ap (λ (es : List Recorded). reply_to a.domain es e.act) (front_is a.entries (e ∷ more))
 
--- with entries more there are no fewer calls that aren't Seals
+-- more entries don't have fewer calls that aren't Seals
 calls_not_fewer : SealsAreCounted → (es more : List Recorded) → calls es ≤ calls (es ++ more)
 calls_not_fewer counted es [] =
     let same : calls (es ++ []) ≡ calls es = ap calls (append-nil es) in
@@ -51,7 +51,7 @@ calls_not_fewer counted es (e ∷ more) =
     at_most_one true = omega arith
     at_most_one false = omega arith
 
--- no legal history goes on with a call where it is full
+-- no legal history continues with a call if it is full
 full_there : SealsAreCounted → (a : Administration) (e : Recorded) → is_seal e.act ≡ false → most_calls ≤ calls a.entries → GoesOnNowhere a e
 full_there counted a e none full = λ more legal.
     let longer : seals (a.entries ++ e ∷ []) ≡ seals a.entries + 0 =
@@ -62,7 +62,7 @@ full_there counted a e none full = λ more legal.
     let same : calls ((a.entries ++ e ∷ []) ++ more) ≡ calls (a.entries ++ e ∷ more) = ap calls (append_assoc a.entries (e ∷ []) more) in
     omega (arith, full, longer, one, within, further, same, legal.few_calls)
 
--- nor with a Seal where all cycles are spent
+-- nor with a Seal if all cycles are spent
 spent_there : SealsAreCounted → (a : Administration) (e : Recorded) → is_seal e.act ≡ true → most_cycles ≤ seals a.entries → GoesOnNowhere a e
 spent_there counted a e its spent = λ more legal.
     let longer : seals (a.entries ++ e ∷ []) ≡ seals a.entries + 1 =
@@ -71,7 +71,7 @@ spent_there counted a e its spent = λ more legal.
     let same : seals ((a.entries ++ e ∷ []) ++ more) ≡ seals (a.entries ++ e ∷ more) = ap seals (append_assoc a.entries (e ∷ []) more) in
     omega (arith, spent, longer, further, same, legal.few_seals)
 
--- what a request or a withdrawal comes to
+-- the result of making a request or a withdrawal again
 pub comes_answered : SealsAreCounted → (old new : Administration) (e : Recorded) (answer : Result Receipt Refused) (result : Made) →
     Answers old new e.seat e.act answer → is_seal e.act ≡ false → IsAnsweredSo answer e.reply result → ComesTo old new e result
 comes_answered counted old new e answer made.Answered answers none so = (
@@ -88,7 +88,7 @@ comes_answered counted old new e answer made.Otherwise answers none so = elim so
 ]
 comes_answered counted old new e answer made.Memory answers none so = answers.unchanged so
 
--- what a Seal comes to
+-- the result of making a Seal again
 pub comes_closed : SealsAreCounted → (old new : Administration) (e : Recorded) (answer : Result CycleTable SealFault) (result : Made) →
     Closes old new e.seat answer → IfOk answer (λ table. LetsGo old new table) → e.act ≡ Seals → IsClosedSo answer e.reply result → ComesTo old new e result
 comes_closed counted old new e answer made.Answered closes lets act so = absurd so
@@ -109,7 +109,7 @@ comes_closed counted old new e answer made.Otherwise closes lets act so = elim s
 ]
 comes_closed counted old new e answer made.Memory closes lets act so = (subst (Closes old new e.seat) so closes).1
 
--- a history isn't legal where calls so far have come to one with which none goes on
+-- a history isn't legal if no legal history continues with one of its calls
 pub not_legal : (start again : Administration) (rest : List Entry) (k : ℕ) (e : Entry) → HasGoneOn start again rest k → k < length rest → e ≡ get_or rest k e →
     GoesOnNowhere again (recorded_of e) → IsLegalHistory start.domain (start.entries ++ map recorded_of rest) → ⊥
 not_legal start again rest k e gone inside is nowhere legal =
@@ -120,7 +120,7 @@ not_legal start again rest k e gone inside is nowhere legal =
     nowhere parts.0 (subst (λ (d : Domain). IsLegalHistory d (again.entries ++ recorded_of e ∷ parts.0)) (sym gone.domain)
     (subst (λ (es : List Recorded). IsLegalHistory start.domain es) whole legal))
 
--- nor has a seat closed such tables there, where it closes another by its Seal
+-- nor has a seat closed such tables if it closes another one by its Seal
 pub not_its_tables : ClosedTablesStay → SealsAreCounted → SealClosesTable → (start again : Administration) (rest : List Entry) (number : ℕ)
     (tables : List CycleTable) (next k : ℕ) (e : Entry) →
     HasClosed start again rest number tables next k → k < length rest → e ≡ get_or rest k e → is_seal_by number (recorded_of e) ≡ true → e.reply ≡ Sealed →
@@ -135,7 +135,7 @@ not_its_tables stay counted closing start again rest number tables next k e has 
     let many : next ≡ length (each_below f k) = sym (length-take-le next tables has.few) ∙ ap length has.closed in
     other (ap (λ ts. slice_get ts next) whole ∙ slice_get_behind (each_below f k) (next_table again) parted.0 next many)
 
--- where a step stops, the seat closes other tables in a legal history
+-- if a step stops, the seat closes other tables in a legal history
 pub stops_so : ClosedTablesStay → SealsAreCounted → SealClosesTable → (start again : Administration) (rest : List Entry) (number : ℕ)
     (tables : List CycleTable) (next k : ℕ) (e : Entry) →
     HasClosed start again rest number tables next k → k < length rest → e ≡ get_or rest k e → FollowerStops again (recorded_of e) number tables next →
@@ -146,7 +146,7 @@ stops_so stay counted closing start again rest number tables next k e has inside
   | inr other ↦ not_its_tables stay counted closing start again rest number tables next k e has inside is other.0 other.1 other.2 same
 ]
 
--- where not all tables were closed, they are others
+-- if not all tables were closed, they differ
 pub too_many : (start again : Administration) (rest : List Entry) (number : ℕ) (tables : List CycleTable) (next k : ℕ) →
     HasClosed start again rest number tables next k → length rest ≡ k → (next ≡ length tables → ⊥) →
     tables ≢ tables_by start.domain (start.entries ++ map recorded_of rest) (length start.entries) number

@@ -1,4 +1,4 @@
--- Calls made once more, one by one.
+-- Calls made again, one by one.
 use Rattle.std.proofs.Common.{◌≡◌, ℕ, ◌+◌, ◌-◌, ◌<◌, ◌≤◌, ◌==◌, Bool, List, Option, Some, [], ◌∷◌, ◌++◌, true, false}
 use Rattle.std.proofs.Common.{map, length, take, get_or, refl, ap, sym, ◌∙◌, arith, length-append, subst, add-one}
 use Rattle.std.proofs.Common.{if◌then◌else◌}
@@ -25,16 +25,16 @@ use Rattle.cqf_laws_history.specs.StateLaws.{SealClosesTable, SealsAreCounted}
 use Rattle.cqf_desk.proofs.ClosedTables.{table_there}
 use Rattle.cqf_desk.proofs.Rests.{parts_at, before, behind, is_at, one_more, take-map}
 
--- an administration has gone on with the first of these calls
+-- an administration has continued with the first of these calls
 pub record HasGoneOn (start again : Administration) (rest : List Entry) (k : ℕ) : Type 0 where
   pub domain : again.domain ≡ start.domain
   pub entries : again.entries ≡ start.entries ++ map recorded_of (take k rest)
 
--- with none yet
+-- it has made none yet
 pub none_made : (start : Administration) (rest : List Entry) → HasGoneOn start start rest 0
 none_made start rest = record { domain = refl; entries = sym (append-nil start.entries) }
 
--- with one more
+-- it has made one more
 pub one_made : (start again new : Administration) (rest : List Entry) (k : ℕ) (e : Entry) → HasGoneOn start again rest k → k < length rest →
     e ≡ get_or rest k e →
     FollowerGoesOn again new (recorded_of e) → HasGoneOn start new rest (k + 1)
@@ -56,7 +56,7 @@ pub record HasClosed (start again : Administration) (rest : List Entry) (number 
 pub none_closed : (start : Administration) (rest : List Entry) (number : ℕ) (tables : List CycleTable) → HasClosed start start rest number tables 0 0
 none_closed start rest number tables = record { gone = none_made start rest; few = omega arith; closed = refl }
 
--- what stands at a place behind the opening part
+-- the entry at an index after the opening part
 pub stands : (start : List Recorded) (rest : List Entry) (k : ℕ) (e : Entry) → k < length rest → e ≡ get_or rest k e →
     slice_get (start ++ map recorded_of rest) (length start + k) ≡ Some (recorded_of e)
 stands start rest k e inside is =
@@ -69,17 +69,17 @@ closes d entries number place e b at is =
     ap (λ (o : Option Recorded). option_map_or (λ (r : Recorded). if is_seal_by number r then table_closed d entries place ∷ [] else []) o []) at
     ∙ ap (λ (t : Bool). if t then table_closed d entries place ∷ [] else []) is
 
--- one place more
+-- one more index
 pub one_place : (f : ℕ → List CycleTable) (k : ℕ) → each_below f (k + 1) ≡ each_below f k ++ f k
 one_place f k = ap (each_below f) (add-one k)
 
--- there is an element at a place within
+-- there is an element at each index of a list
 pub some_at : {X : Type 0} (xs : List X) (i : ℕ) → i < length xs → (x : X) × (slice_get xs i ≡ Some x)
 some_at [] i inside = absurd (omega (arith, inside))
 some_at (x ∷ xs) zero inside = (x, refl)
 some_at (x ∷ xs) (suc i) inside = some_at xs i (omega (arith, inside))
 
--- a call that is no Seal of the seat
+-- a call that isn't a Seal of the seat
 pub closes_nothing : (start again new : Administration) (rest : List Entry) (number : ℕ) (tables : List CycleTable) (next k : ℕ) (e : Entry) →
     HasClosed start again rest number tables next k → k < length rest → e ≡ get_or rest k e → FollowerGoesOn again new (recorded_of e) →
     is_seal_by number (recorded_of e) ≡ false → HasClosed start new rest number tables next (k + 1)
@@ -96,7 +96,7 @@ closes_nothing start again new rest number tables next k e has inside is goes no
           ∙ append-nil (each_below (λ i. closed_by start.domain all number (length start.entries + i)) k));
     }
 
--- the history so far is the beginning of the whole one
+-- the history so far is the first part of the whole one
 pub so_far : (start again : Administration) (rest : List Entry) (k : ℕ) → HasGoneOn start again rest k →
     take (length start.entries + k) (start.entries ++ map recorded_of rest) ≡ again.entries
 so_far start again rest k gone =
@@ -148,7 +148,7 @@ pub steps_on : ClosedTablesStay → SealsAreCounted → SealClosesTable → (sta
 steps_on stay counted closing start again new rest number tables next after k e has inside is steps =
     by_seal (is_seal_by number (recorded_of e)) refl steps.moves
   where
-    -- whether or not it is a Seal of the seat
+    -- by whether it is a Seal of the seat
     by_seal : (b : Bool) → is_seal_by number (recorded_of e) ≡ b → MovesOn b tables next after (next_table again) →
         HasClosed start new rest number tables after (k + 1)
     by_seal true its moves =
@@ -162,7 +162,7 @@ steps_on stay counted closing start again new rest number tables next after k e 
         subst (λ n. HasClosed start new rest number tables n (k + 1)) (sym moves)
         (closes_nothing start again new rest number tables next k e has inside is steps.goes none)
 
--- how many calls there are behind the opening part
+-- the number of calls after the opening part
 pub rest_length : (start : List Recorded) (rest : List Entry) → length (start ++ map recorded_of rest) - length start ≡ length rest
 rest_length start rest =
     let both = length-append start (map recorded_of rest) in
@@ -194,7 +194,7 @@ closes_none start rest number none =
     (length (start.entries ++ map recorded_of rest) - length start.entries)
     (λ i inside. nothing_at i (omega (arith, inside, rest_length start.entries rest)))
   where
-    -- no table at any place
+    -- no table at any index
     nothing_at : (i : ℕ) → i < length rest → closed_by start.domain (start.entries ++ map recorded_of rest) number (length start.entries + i) ≡ []
     nothing_at i inside =
         let there = some_at rest i inside in
@@ -202,6 +202,6 @@ closes_none start rest number none =
         (behind start.entries (map recorded_of rest) i ∙ slice_get-map recorded_of rest i ∙ ap (option_map recorded_of) there.1)
         (none_member (λ (e : Entry). is_seal_by number (recorded_of e)) rest there.0 none (contains_at rest i there.0 there.1))
 
--- what is said of what there is
+-- a property of an option's value
 pub some_of : {X : Type 0} (P : X → Type 0) (o : Option X) (x : X) → o ≡ Some x → IfSome o P → P x
 some_of P o x is holds = subst (λ p. IfSome p P) is holds

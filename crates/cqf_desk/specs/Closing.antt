@@ -1,4 +1,4 @@
--- What a closed desk's history is to its seats.
+-- What the history of a closed desk is for the desk's seats.
 use Rattle.std.specs.Prelude.{ℕ, Bool, ◌≡◌, ◌+◌, ◌-◌, ◌<◌, ◌⊎◌, List, [], ◌∷◌, ◌==◌, ◌&&◌}
 use Rattle.std.specs.Prelude.{if◌then◌else◌, true, Option, None, Some, Result, Ok, Err}
 use Rattle.std.specs.Prelude.{All, Contains, drop, length, map, slice_get, take}
@@ -19,42 +19,43 @@ use Rattle.cqf_desk.specs.Desk.{Counter, Sitting}
 abbrev pub is_seal_by : ℕ → Recorded → Bool
 is_seal_by number e = (e.seat == number) && is_seal e.act
 
--- the table of the cycle that a Seal at a place closes
+-- the table of the cycle that a Seal at an index closes
 abbrev pub table_closed : Domain → List Recorded → ℕ → CycleTable
 table_closed d entries place =
     record { cycle = seals (take place entries); rows = table_at d entries (seals (take place entries)) }
 
--- the table that one seat closes at a place, where it does
+-- the table that one seat closes at an index, if it closes one
 abbrev pub closed_by : Domain → List Recorded → ℕ → ℕ → List CycleTable
 closed_by d entries number place =
     option_map_or (λ (e : Recorded). if is_seal_by number e then table_closed d entries place ∷ [] else []) (slice_get entries place) []
 
--- the tables that one seat's Seals close behind so many entries, in order
+-- the tables that one seat's Seals close after the first `first` entries, in order
 abbrev pub tables_by : Domain → List Recorded → ℕ → ℕ → List CycleTable
 tables_by d entries first number = each_below (λ i. closed_by d entries number (first + i)) (length entries - first)
 
--- the seat has just its calls of the history behind so many entries, and the tables of its Seals there
+-- the seat's calls are exactly its calls in the history after the first `first` entries, and its tables are those of its Seals there
 pub record IsBorneOut (d : Domain) (entries : List Recorded) (first : ℕ) (seat : Sitting) : Type 0 where
   pub calls : seat.calls ≡ calls_by seat.number (drop first entries)
   pub tables : seat.tables ≡ tables_by d entries first seat.number
 
--- as many seats as the desk has, and one of each number
+-- there are as many seats as the desk has, one for each number
 pub record AreItsSeats (count : ℕ) (seats : List Sitting) : Type 0 where
   pub many : length seats ≡ count
   pub each : (number : ℕ) → number < count → list_any (λ (s : Sitting). s.number == number) seats ≡ true
 
--- a history with the opening part, behind which the seats' calls go on legally, and no others
+-- a legal history that begins with the opening part. The calls after it are those of the seats, and no others
 pub record IsOfSeats (opening : List Recorded) (d : Domain) (count : ℕ) (seats : List Sitting) (entries : List Recorded) : Type 0 where
   pub legal : IsLegalHistory d entries
   pub begins : take (length opening) entries ≡ opening
   pub known : All (λ (e : Recorded). e.seat < count) (drop (length opening) entries)
   pub own : All (IsBorneOut d entries (length opening)) seats
 
--- one of the seats has the number and is so
+-- one of the seats has the number and the property
 abbrev pub HasSuch : (Sitting → Type 0) → List Sitting → ℕ → Type 0
 HasSuch IsSuch seats number = (seat : Sitting) × Contains seats seat × (seat.number ≡ number) × IsSuch seat
 
--- what a comparison of the seats comes to: all are borne out; or this is the least number of a seat that isn't
+-- the result of comparing the seats with the history: the history bears all of them out; or this is the least number of a seat that it
+-- doesn't bear out
 abbrev pub ComesToLeast : Domain → List Recorded → ℕ → List Sitting → Option ℕ → Type 0
 ComesToLeast d entries first seats None = All (IsBorneOut d entries first) seats
 ComesToLeast d entries first seats (Some number) =
@@ -65,8 +66,8 @@ pub record HasOpening (opening held : Administration) : Type 0 where
   pub domain : held.domain ≡ opening.domain
   pub begins : take (length opening.entries) held.entries ≡ opening.entries
 
--- whom a disagreement names: the least of the seats that aren't borne out; or none of them, but how many there are, where the history
--- hasn't the opening part, or all seats are borne out, and not all calls behind that part are theirs
+-- which number a disagreement has: the least number of a seat that isn't borne out; or the number of seats, if the history doesn't have the
+-- opening part, or if all seats are borne out but not all calls after that part are theirs
 abbrev pub Disagrees : Administration → ℕ → Administration → List Sitting → ℕ → Type 0
 Disagrees opening count held seats number =
     (HasOpening opening held × ComesToLeast held.domain held.entries (length opening.entries) seats (Some number))
@@ -74,26 +75,26 @@ Disagrees opening count held seats number =
     ⊎ (HasOpening opening held × ComesToLeast held.domain held.entries (length opening.entries) seats None ×
     (¬ All (λ (e : Recorded). e.seat < count) (drop (length opening.entries) held.entries)))))
 
--- the number of one of the seats, or how many there are
+-- the number of one of the seats, or the number of seats
 abbrev pub IsOneOrCount : ℕ → List Sitting → ℕ → Type 0
 IsOneOrCount count seats number = (list_any (λ (s : Sitting). s.number == number) seats ≡ true) ⊎ (number ≡ count)
 
--- why a desk isn't closed: its seats aren't handed in; or this is whom the comparison with its history names. Which legal history it is
--- no clause can say, since it stands behind a lock
+-- why a desk isn't closed: the seats aren't the desk's; or this is the number that the comparison with its history gives. No clause can say
+-- which legal history it is, since it is protected by a lock
 abbrev pub IsCloseFault : Counter → List Sitting → CloseFault → Type 0
 IsCloseFault desk seats SeatMissing = ¬ AreItsSeats desk.seats seats
 IsCloseFault desk seats (SeatsDisagree number) =
     AreItsSeats desk.seats seats × (held : Administration) × IsLegalHistory held.domain held.entries × Disagrees desk.opening desk.seats held seats number
 IsCloseFault desk seats Memory = AreItsSeats desk.seats seats
 
--- what a comparison comes to
+-- the result of a comparison
 abbrev pub Settles : Administration → ℕ → Administration → List Sitting → Result (Unit {0}) CloseFault → Type 0
 Settles opening count held seats (Ok done) = IsOfSeats opening.entries opening.domain count seats held.entries
 Settles opening count held seats (Err SeatMissing) = ⊥
 Settles opening count held seats (Err (SeatsDisagree seat)) = Disagrees opening count held seats seat
 Settles opening count held seats (Err Memory) = Unit {0}
 
--- what a desk is closed with, by its seats
+-- the result of closing a desk, given its seats
 pub record IsClosed (desk : Counter) (seats : List Sitting) (history : History) : Type 0 where
   pub its : AreItsSeats desk.seats seats
   pub opening : history.opening ≡ length desk.opening.entries

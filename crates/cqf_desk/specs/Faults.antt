@@ -1,4 +1,4 @@
--- Faults of a close as texts: the fault's name, and then its value.
+-- Faults of closing a desk as texts: a fault's name, followed by a space and its value if it has one.
 use Rattle.std.specs.Prelude.{ℕ, ◌++◌, List, codes, decimal}
 use Rattle.cqf_desk.specs.declared.faults.CloseFault.{CloseFault}
 use Rattle.cqf_desk.specs.declared.faults.CloseFault.TheVariants.{SeatMissing, SeatsDisagree, Memory}

@@ -1,6 +1,6 @@
 pub mod Closing
 pub mod Desk
 pub mod Following
--- what the inner functions say
+-- properties of the internal functions
 pub mod Again
 pub mod Faults

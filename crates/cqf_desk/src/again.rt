@@ -1,4 +1,4 @@
-//! A history's calls, made once more.
+//! The calls of a history, made again.
 ghost use Rattle.std.specs.Prelude.{◌≡◌, ◌≢◌, ◌↔◌, ◌++◌, true, false, Some, length, map, slice_get, IfOk};
 ghost use Rattle.cqf_model.specs.History.{IsLegalHistory};
 ghost use Rattle.cqf_admission.specs.Admission.{recorded_of};
@@ -12,20 +12,20 @@ use cqf_laws_history::{closed_tables_stay, state_follows_history};
 use cqf_units::Memory;
 use std::alloc::AllocError;
 
-/// What a call comes to that is made once more.
+/// The result of making a call again.
 #[derive(Drop)]
 pub(crate) enum Made {
-    /// It enters with the same answer.
+    /// The call enters with the same answer.
     Answered,
-    /// It is a Seal, and closes this table.
+    /// The call is a Seal, and closes this table.
     Closed(Table),
-    /// Its answer is another.
+    /// The answer differs.
     Otherwise,
-    /// A growth was refused.
+    /// An allocation failed.
     Memory,
 }
 
-/// What a request or a withdrawal comes to with this answer, where it got that reply.
+/// Returns the result for a request or a withdrawal with this answer, given the reply that it got before.
 fn answered(answer: Result<Receipt, Refused>, reply: Reply) -> Made
     ensures { IsAnsweredSo answer reply result }
 {
@@ -41,7 +41,7 @@ fn answered(answer: Result<Receipt, Refused>, reply: Reply) -> Made
     Made::Answered
 }
 
-/// What a Seal comes to with this answer, where it got that reply.
+/// Returns the result for a Seal with this answer, given the reply that it got before.
 fn closed(answer: Result<Table, SealFault>, reply: Reply) -> Made
     ensures { IsClosedSo answer reply result }
 {
@@ -55,7 +55,7 @@ fn closed(answer: Result<Table, SealFault>, reply: Reply) -> Made
     }
 }
 
-/// Makes a call once more.
+/// Makes a call again.
 pub(crate) fn make(admission: &mut Admission, entry: &Entry) -> Made
     ensures { ComesTo admission.old admission.new (recorded_of entry.now) result }
 {
@@ -74,7 +74,7 @@ pub(crate) fn make(admission: &mut Admission, entry: &Entry) -> Made
     }
 }
 
-/// Whether the table at a place is this one.
+/// Returns whether the table at an index is this one.
 fn is_at(tables: &[Table], place: usize, table: &Table) -> bool
     ensures { (result ≡ true) ↔ (slice_get tables.now place ≡ Some table.now) }
 {
@@ -84,8 +84,8 @@ fn is_at(tables: &[Table], place: usize, table: &Table) -> bool
     }
 }
 
-/// Makes a call once more, and looks for the table that the seat closes by it among the seat's tables, from a place on:
-/// the place where the next one stands. None where an answer or the table is another.
+/// Makes a call again. If the seat closes a table by it, looks for this table at index `next` of the seat's tables. Returns the index of
+/// the next table, or `None` if the answer or the table differs.
 fn step(
     again: &mut Admission,
     entry: &Entry,
@@ -114,7 +114,8 @@ fn step(
     }
 }
 
-/// Whether these are the tables that a seat's Seals close as an admission goes on with these calls.
+/// Returns whether these are the tables that a seat's Seals close when an admission continues with these calls, or `Memory` if an allocation
+/// fails.
 pub(crate) fn has_tables(
     again: &mut Admission,
     rest: &[Entry],

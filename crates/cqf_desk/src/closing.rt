@@ -1,4 +1,4 @@
-//! The comparisons by which a desk is closed.
+//! The comparisons that are made when a desk is closed.
 ghost use Rattle.std.specs.Prelude.{ℕ, ◌≡◌, ◌↔◌, ◌++◌, ◌==◌, ◌<◌, true, false, None, Some, length, map, min, All, Err, IfErr, IfOk, IsErrOf};
 ghost use Rattle.std.specs.List.{list_any};
 ghost use Rattle.std.specs.Option.{option_map_or};
@@ -17,14 +17,14 @@ use cqf_admission::{Admission, Entry, Table};
 use cqf_units::Memory;
 use std::alloc::Global;
 
-/// Whether one of the seats has the number.
+/// Returns whether one of the seats has the number.
 fn is_there(seats: &[Seat], number: u16) -> bool
     ensures { result ≡ list_any (λ s. s.number == number) seats.now }
 {
     seats.iter().any(|seat| seat.number() == number)
 }
 
-/// Whether these are the seats of a desk that has so many: as many, and one of each number.
+/// Returns whether these are the seats of a desk with `count` seats: that many, one for each number.
 pub(crate) fn are_its_seats(count: u16, seats: &[Seat]) -> bool
     ensures { (result ≡ true) ↔ AreItsSeats count seats.now }
 {
@@ -39,14 +39,14 @@ pub(crate) fn are_its_seats(count: u16, seats: &[Seat]) -> bool
     true
 }
 
-/// Whether each of the calls is of one of so many seats.
+/// Returns whether each of the calls has a seat below `count`.
 fn are_known(rest: &[Entry], count: u16) -> bool
     ensures { (result ≡ true) ↔ All (λ e. e.seat < count) rest.now }
 {
     rest.iter().all(|entry| entry.seat < count)
 }
 
-/// Whether these are the calls of the seat among all calls.
+/// Returns whether these are the calls of the seat among all calls.
 fn has_calls(calls: &[Entry], rest: &[Entry], number: u16) -> bool
     ensures { (result ≡ true) ↔ (map recorded_of calls.now ≡ calls_by number (map recorded_of rest.now)) }
 {
@@ -65,7 +65,7 @@ fn has_calls(calls: &[Entry], rest: &[Entry], number: u16) -> bool
     next == calls.len()
 }
 
-/// Whether these are the tables that a seat's Seals close behind an opening part.
+/// Returns whether these are the tables that a seat's Seals close after an opening part.
 fn closes_tables(
     alloc: Global,
     opening: &Admission,
@@ -82,8 +82,8 @@ fn closes_tables(
     Ok(so)
 }
 
-/// Whether the seat's tables are those that its Seals close. Only for a seat that has sealed, and whose follower hasn't
-/// followed this history, the calls are made once more.
+/// Returns whether the seat's tables are those that its Seals close. The calls are made again only if the seat has sealed and its follower
+/// hasn't followed this history.
 fn has_its_tables(
     alloc: Global,
     opening: &Admission,
@@ -105,7 +105,7 @@ fn has_its_tables(
     closes_tables(alloc, opening, rest, number, tables)
 }
 
-/// Whether the seat's calls and tables are those of the history that has these calls behind its opening part.
+/// Returns whether the seat's calls and tables are those of the history with these calls after its opening part.
 fn bears_out(
     alloc: Global,
     opening: &Admission,
@@ -122,7 +122,7 @@ fn bears_out(
     has_its_tables(alloc, opening, rest, seat)
 }
 
-/// The least number of a seat that isn't borne out, where there is one.
+/// Returns the least number of a seat that the history doesn't bear out, or `None` if it bears all of them out.
 fn first_against(
     alloc: Global,
     opening: &Admission,
@@ -140,7 +140,7 @@ fn first_against(
     Ok(least)
 }
 
-/// The least number so far, with one more seat's that is borne out or isn't.
+/// Returns the least number so far, given one more seat and whether it is borne out.
 fn least_with(least: Option<u16>, is_borne: bool, number: u16) -> Option<u16>
     ensures borne { is_borne ≡ true → result ≡ least }
     ensures against { is_borne ≡ false → result ≡ Some (option_map_or (λ n. min n number) least number) }
@@ -151,7 +151,7 @@ fn least_with(least: Option<u16>, is_borne: bool, number: u16) -> Option<u16>
     Some(lesser(least, number))
 }
 
-/// The lesser of two numbers, of which one may be missing.
+/// Returns the smaller of two numbers. The first may be missing.
 fn lesser(least: Option<u16>, number: u16) -> u16
     ensures { result ≡ option_map_or (λ n. min n number) least number }
 {
@@ -184,7 +184,7 @@ fn check(
     Ok(())
 }
 
-/// The history of a desk with these seats of its own, where it is what they kept.
+/// Returns the history of a desk, given its own seats, if it is what they kept.
 pub(crate) fn settle(
     alloc: Global,
     opening: &Admission,

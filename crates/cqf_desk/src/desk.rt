@@ -17,12 +17,12 @@ use std::alloc::Global;
 use std::marker::Model;
 use std::sync::{Arc, Mutex, Wait};
 
-/// An admission behind a lock, at which threads ask with seats of their own. A seat that seals follows its
-/// history, so that mostly the desk is closed without a look at that seat's tables.
+/// An admission protected by a lock. Threads make calls to it, each with a seat of its own. A seat that seals follows the history, so the desk is
+/// usually closed without looking at that seat's tables.
 #[derive(Drop)]
 pub struct Desk {
     alloc: Global,
-    /// The admission as it was handed in.
+    /// The admission as it was given.
     opening: Admission,
     seats: u16,
     admission: Mutex<Admission>,
@@ -37,8 +37,8 @@ impl Model for Desk {
 }
 
 impl Desk {
-    /// A desk over an admission, and so many seats, numbered from 0. What the admission's history has already is
-    /// the opening part. `Memory` where a growth is refused; then the admission is gone. It waits for nobody.
+    /// Returns a desk for an admission, and `seats` seats, numbered from 0. The present history of the admission is the opening part.
+    /// Returns `Memory` if an allocation fails; the admission is dropped then. Doesn't wait.
     pub fn new(alloc: Global, admission: Admission, seats: u16) -> Result<(Desk, Vec<Seat>), Memory>
         ensures desk { IfOk result (λ made. made.0 ≡ record { opening = admission; seats = seats }) }
         ensures seats { IfOk result (λ made. made.1.items ≡ fresh_seats seats) }
@@ -53,9 +53,12 @@ impl Desk {
         Ok((desk, numbered))
     }
 
-    /// Asks for a stream. The answer is that of [`Admission::admit`] behind the calls that were made before, and the seat
-    /// keeps the call with that very answer. With `HistoryFull` and `Memory` neither the history nor the seat changes;
-    /// `Memory` comes only where `HistoryFull` isn't due. It waits for the lock alone.
+    /// Requests a stream. The answer is that of [`Admission::admit`] after all earlier calls, and the seat keeps the call with the same
+    /// answer. The contract says this of some legal history; [`Desk::close`] returns it. Waits only for the lock.
+    ///
+    /// # Errors
+    /// As for [`Admission::admit`]. With `HistoryFull` and `Memory` neither the history nor the seat changes. `Memory` is returned only if
+    /// `HistoryFull` isn't due.
     pub fn admit<R: Wait>(
         &self,
         rt: &R,
@@ -71,8 +74,8 @@ impl Desk {
         seat.admit(&mut self.admission.lock(rt), asked, request)
     }
 
-    /// Asks for a stream that is offered in some cycles, likewise by [`Admission::admit_shared`]: the history and the seat share the
-    /// request with the caller, and copy nothing.
+    /// Requests a stream that is offered in some cycles, as [`Desk::admit`] does, by [`Admission::admit_shared`]. The history and the seat
+    /// share the request with the caller, and copy nothing.
     pub fn admit_shared<R: Wait>(
         &self,
         rt: &R,
@@ -88,7 +91,7 @@ impl Desk {
         seat.admit_shared(&mut self.admission.lock(rt), asked, request)
     }
 
-    /// Withdraws the stream of a name, likewise by [`Admission::withdraw`].
+    /// Withdraws the stream with a name, by [`Admission::withdraw`], in the same way as [`Desk::admit`] requests one.
     pub fn withdraw<R: Wait>(&self, rt: &R, seat: &mut Seat, name: &str) -> Result<Receipt, Refused>
         ensures keeps { Keeps seat.old seat.new (Withdraws name.now) result }
         ensures answered { IsAnsweredSomewhere seat.old.number (Withdraws name.now) result }
@@ -99,10 +102,13 @@ impl Desk {
         seat.withdraw(&mut self.admission.lock(rt), asked, name)
     }
 
-    /// Closes the next cycle to changes, by [`Admission::seal`]. The seat keeps the Seal and a table, which is the cycle's
-    /// where the desk closes. It follows the history up to there, unless a call answers otherwise; then its tables are compared
-    /// as the desk is closed. With `CyclesSpent` and `Memory` neither the history nor the seat changes; `Memory` comes where any
-    /// growth is refused, also of what follows the history, and only where `CyclesSpent` isn't due. It waits for the lock alone.
+    /// Closes the next cycle to changes, by [`Admission::seal`]. The seat keeps the Seal and a table of that cycle. If the desk closes, it
+    /// is the table that the Seal closed. The seat follows the history up to there, unless a call is answered otherwise; then its tables
+    /// are compared when the desk is closed. Waits only for the lock.
+    ///
+    /// # Errors
+    /// As for [`Admission::seal`]. With `CyclesSpent` and `Memory` neither the history nor the seat changes. `Memory` is returned if any
+    /// allocation fails, including those of the follower, and only if `CyclesSpent` isn't due.
     pub fn seal<R: Wait>(&self, rt: &R, seat: &mut Seat) -> Result<(), SealFault>
         ensures keeps { KeepsSeal seat.old seat.new result }
         ensures sealed { IsSealedSomewhere seat.old seat.new result }
@@ -110,14 +116,15 @@ impl Desk {
         seat.seal(self.alloc, &self.opening, &mut self.admission.lock(rt))
     }
 
-    /// The history of all calls, once all seats are handed back. It is legal and begins with the opening part; behind that
-    /// stand the calls of the desk's seats and no others, and each seat has just its own of them, in its order, with the
-    /// replies that it got, and the tables of its Seals. It waits for nobody.
+    /// Returns the history of all calls, given all seats. It is legal and begins with the opening part, followed by exactly the calls of
+    /// the desk's seats. Each seat has exactly its own calls, in its order, with the replies that it got, and the tables of its Seals.
+    /// Doesn't wait.
     ///
-    /// Refused with `SeatMissing` where the seats aren't the desk's, one of each number; with `SeatsDisagree` and the least
-    /// number of a seat that, as one of another desk, has other calls or tables than the history has of it, or the number of
-    /// seats, where the history isn't the opening part with calls of the desk's seats behind it; and with `Memory`, also where
-    /// a seat has disagreed already. The desk and the seats are gone then too.
+    /// # Errors
+    /// `SeatMissing` if the seats aren't the desk's, one for each number. `SeatsDisagree` with the least number of a seat, such as one of
+    /// another desk, whose calls or tables differ from those of the history; or with the number of seats, if the history isn't the opening
+    /// part followed by calls of the desk's seats. `Memory` if an allocation fails, even if a seat already disagreed. The desk and the
+    /// seats are dropped in each case.
     pub fn close(self, seats: Vec<Seat>) -> Result<History, CloseFault>
         ensures missing { IsErrOf result CloseFault.SeatMissing ↔ (AreItsSeats self.seats seats.items → ⊥) }
         ensures named { (number : ℕ) → IsErrOf result (CloseFault.SeatsDisagree number) → IsOneOrCount self.seats seats.items number }
@@ -130,7 +137,7 @@ impl Desk {
         self.settled(seats.as_slice())
     }
 
-    /// The history of a desk of which these are the seats, likewise.
+    /// Returns the history of a desk like [`Desk::close`], given the seats of the desk.
     fn settled(self, seats: &[Seat]) -> Result<History, CloseFault>
         requires { AreItsSeats self.seats seats.now }
         ensures missing { IsErrOf result CloseFault.SeatMissing → ⊥ }
@@ -143,7 +150,7 @@ impl Desk {
     }
 }
 
-/// So many seats with which nobody has called yet.
+/// Returns seats before any call, or `Memory` if an allocation fails.
 fn new_seats(alloc: Global, seats: u16) -> Result<Vec<Seat>, Memory>
     ensures { IfOk result (λ numbered. numbered.items ≡ fresh_seats seats) }
 {

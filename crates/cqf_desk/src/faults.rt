@@ -6,16 +6,16 @@ use cqf_units::Memory;
 use std::fmt;
 use thiserror::Error;
 
-/// Why a desk gives no history as it is closed. `SeatMissing` comes before the others, and `Memory` also where a
-/// seat has disagreed already. It prints as its name, and then its value.
+/// Why closing a desk returns no history. `SeatMissing` comes before the others. `Memory` is possible even if a seat already disagreed. A
+/// fault prints as its name, followed by its value if it has one.
 #[derive(Clone, Copy, Debug, PartialEq, Eq, Drop, Error)]
 pub enum CloseFault {
-    /// The seats that are handed in aren't those of the desk, one of each number.
+    /// The seats aren't those of the desk, one for each number.
     SeatMissing,
-    /// The least number of a seat whose calls or tables aren't those of the history; or the number of seats, where the history
-    /// isn't the opening part with calls of the desk's seats behind it.
+    /// The least number of a seat whose calls or tables aren't those of the history; or the number of seats, if the history isn't the
+    /// opening part followed by calls of the desk's seats.
     SeatsDisagree(u16),
-    /// A growth was refused.
+    /// An allocation failed.
     Memory,
 }
 
@@ -31,7 +31,7 @@ impl fmt::Display for CloseFault {
     }
 }
 
-/// Want of memory, as a fault.
+/// Converts a failed allocation into a fault.
 impl From<Memory> for CloseFault {
     ghost use Rattle.cqf_desk.specs.declared.faults.CloseFault.TheVariants as variant;
 

@@ -1,4 +1,4 @@
-//! What follows the history of a desk for a seat that seals.
+//! The follower of a desk's history, for a seat that seals.
 ghost use Rattle.std.specs.Prelude.{ℕ, ◌≡◌, ◌++◌, List, [], ◌∷◌, Ok, true, false, drop, length, map, IfOk, IfSome, MatchOption};
 ghost use Rattle.std.specs.List.{list_any};
 ghost use Rattle.cqf_admission.specs.Admission.{recorded_of};
@@ -14,10 +14,10 @@ use cqf_laws_history::{closed_tables_stay, state_follows_history};
 use cqf_units::Memory;
 use std::alloc::{AllocError, Global};
 
-/// A copy of the admission that a desk was made with, on which all calls up to a seat's last Seal were made once more.
+/// A copy of the admission with which a desk was made. All calls up to a seat's last Seal were made again on it.
 #[derive(Debug, Drop)]
 pub(crate) struct Follower {
-    /// How many entries the opening part has.
+    /// The number of entries of the opening part.
     first: usize,
     admission: Admission,
 }
@@ -26,27 +26,27 @@ pub(crate) struct Follower {
 pub(crate) enum Followed {
     /// It made all of them.
     All,
-    /// One is a Seal of its seat, or its answer is another.
+    /// One is a Seal of its seat, or is answered otherwise.
     Otherwise,
-    /// A growth was refused. It has made the calls before, and goes on from there.
+    /// An allocation failed. The follower has made the calls before, and can continue from there.
     Memory,
 }
 
-/// Whether an entry is a Seal of the seat.
+/// Returns whether an entry is a Seal of the seat.
 fn is_seal_of(entry: &Entry, number: u16) -> bool
     ensures { result ≡ is_seal_by number (recorded_of entry.now) }
 {
     entry.seat == number && matches!(entry.call, Call::Seal)
 }
 
-/// Whether one of the calls is a Seal of the seat.
+/// Returns whether one of the calls is a Seal of the seat.
 pub(crate) fn has_seal(rest: &[Entry], number: u16) -> bool
     ensures { result ≡ list_any (λ e. is_seal_by number (recorded_of e)) rest.now }
 {
     rest.iter().any(|entry| is_seal_of(entry, number))
 }
 
-/// Whether the calls that were followed are the first of these, with no Seal of the seat behind them.
+/// Returns whether the followed calls are the first of these, and no Seal of the seat comes after them.
 fn are_up_to_seal(followed: &[Entry], rest: &[Entry], number: u16) -> bool
     ensures { result ≡ true → IsUpToSeal (map recorded_of followed.now) (map recorded_of rest.now) number }
 {
@@ -60,7 +60,7 @@ fn are_up_to_seal(followed: &[Entry], rest: &[Entry], number: u16) -> bool
     are_same_entries(followed, front)
 }
 
-/// The entries of an admission behind an opening part, where it has that part in the same domain.
+/// Returns the entries of an admission after an opening part, or `None` if the admission doesn't have this part in the same domain.
 pub(crate) fn entries_behind<'a>(opening: &Admission, held: &'a Admission) -> Option<&'a [Entry]>
     ensures { MatchOption result (HasOpening opening.now held.now → ⊥) (λ rest. FollowerHasGone opening.now held.now (map recorded_of rest.now)) }
 {
@@ -80,7 +80,7 @@ pub(crate) fn entries_behind<'a>(opening: &Admission, held: &'a Admission) -> Op
 }
 
 impl Follower {
-    /// Makes a call once more that is no Seal of the seat.
+    /// Makes a call again that isn't a Seal of the seat.
     fn passes(&mut self, entry: &Entry, number: u16) -> Followed
         ensures { FollowsSeat self.old self.new number (recorded_of entry.now ∷ []) result }
     {
@@ -97,7 +97,7 @@ impl Follower {
         }
     }
 
-    /// Makes all of these calls once more likewise.
+    /// Makes all of these calls again, likewise.
     fn passes_all(&mut self, others: &[Entry], number: u16) -> Followed
         ensures { FollowsSeat self.old self.new number (map recorded_of others.now) result }
     {
@@ -111,7 +111,7 @@ impl Follower {
         Followed::All
     }
 
-    /// Follows a history in which no call behind those that it has made is a Seal of the seat.
+    /// Follows a history. None of its calls after those already made may be a Seal of the seat.
     fn follow(&mut self, history: &[Entry], number: u16) -> Followed
         ensures { FollowsSeat self.old self.new number (drop (length self.old.admission.entries) (map recorded_of history.now)) result }
     {
@@ -122,7 +122,7 @@ impl Follower {
         self.passes_all(history.split_at(done).1, number)
     }
 
-    /// Makes a Seal of the seat, and gives its table.
+    /// Makes a Seal of the seat, and returns its table.
     fn closes(&mut self, number: u16) -> Made
         ensures { ClosesOwn self.old self.new number result }
     {
@@ -144,7 +144,7 @@ impl Follower {
         }
     }
 
-    /// Whether it followed the history that has these calls behind its opening part, up to the seat's last Seal in it.
+    /// Returns whether the follower has followed the history with these calls after its opening part, up to the seat's last Seal in it.
     pub(crate) fn has_followed(&self, opening: &Admission, rest: &[Entry], number: u16) -> bool
         ensures { result ≡ true → HasFollowed self.now opening.now (map recorded_of rest.now) number }
     {
@@ -160,8 +160,8 @@ impl Follower {
     }
 }
 
-/// What follows a history for a seat with these tables: a copy of the admission that the desk was made with, on which all calls
-/// of the history were made once more. None where a call gets another answer, or a Seal of the seat closes another table.
+/// Returns a follower of a history for a seat with these tables: a copy of the admission with which the desk was made, on which all calls
+/// of the history were made again. Returns `None` if a call is answered otherwise, or if a Seal of the seat closes another table.
 fn joined(
     alloc: Global,
     opening: &Admission,
@@ -186,7 +186,7 @@ fn joined(
     }
 }
 
-/// Makes what follows the history for a seat with these tables, where it can be followed. The error is want of memory.
+/// Makes a follower of the history for a seat with these tables, if the history can be followed. Returns `Memory` if an allocation fails.
 fn join(
     follower: &mut Vec<Follower>,
     alloc: Global,
@@ -211,8 +211,8 @@ fn join(
     }
 }
 
-/// Lets what follows the history, where there is something, make the calls that it hasn't made, none of which is a Seal of the
-/// seat. What can't is let go of. The error is want of memory; it goes on from there then.
+/// Makes the follower, if there is one, continue with the calls that it hasn't made. None of these is a Seal of the seat. A follower that
+/// can't continue is dropped. Returns `Memory` if an allocation fails; the follower can then continue from there.
 fn go_on(follower: &mut Vec<Follower>, history: &[Entry], number: u16) -> Result<(), Memory>
     ensures { StayFollowed follower.old.items follower.new.items number }
 {
@@ -228,8 +228,8 @@ fn go_on(follower: &mut Vec<Follower>, history: &[Entry], number: u16) -> Result
     Ok(())
 }
 
-/// Brings what follows a seat's history up to its end: where an opening part is given, it is made anew from there, and else it goes
-/// on. The error is want of memory.
+/// Brings a seat's follower up to the end of the history. If an opening part is given, the follower is made anew from it; otherwise the
+/// present one continues. Returns `Memory` if an allocation fails.
 pub(crate) fn catch_up(
     follower: &mut Vec<Follower>,
     alloc: Global,
@@ -246,8 +246,8 @@ pub(crate) fn catch_up(
     }
 }
 
-/// Makes a Seal of the seat on what follows its history: the table of it, and none where nothing follows. The error is want of
-/// memory; then it hasn't made the Seal.
+/// Makes a Seal of the seat on its follower. Returns the Seal's table, or `None` if there is no follower. Returns `Memory` if an allocation
+/// fails; then the follower hasn't made the Seal.
 pub(crate) fn close_own(follower: &mut Vec<Follower>, number: u16) -> Result<Option<Table>, Memory>
     ensures { (tables : List CycleTable) → AreFollowed follower.old.items number tables → AreFollowedWith follower.new.items number tables result }
 {
@@ -264,8 +264,8 @@ pub(crate) fn close_own(follower: &mut Vec<Follower>, number: u16) -> Result<Opt
     Ok(None)
 }
 
-/// The table that a seat keeps of its Seal, for which it got that one: the follower's own. Where there is none, or it is of another
-/// cycle, the follower is let go of, and it is the table that the seat got.
+/// Returns the table that a seat keeps of a Seal that returned `table`: the follower's own. If there is none, or it is of another cycle,
+/// the follower is dropped, and `table` is returned.
 pub(crate) fn kept(follower: &mut Vec<Follower>, own: Option<Table>, table: Table) -> Table
     ensures followed { (number : ℕ) → (tables : List CycleTable) → AreFollowedWith follower.old.items number tables (Ok own) →
         AreFollowed follower.new.items number (tables ++ result ∷ []) }

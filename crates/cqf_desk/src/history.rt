@@ -1,11 +1,11 @@
-//! What a desk is closed with.
+//! The result of closing a desk.
 
 use cqf_admission::Entry;
 
-/// The history of a desk that was closed.
+/// The history of a closed desk.
 #[derive(Debug, Drop)]
 pub struct History {
-    /// How many entries were there when the desk was made.
+    /// The number of entries when the desk was made.
     pub opening: usize,
     /// All entries, those of the opening part first.
     pub entries: Vec<Entry>,

@@ -1,10 +1,10 @@
-//! One admission that several threads share: administrators ask at a desk, each with a seat of their own.
+//! An admission that several threads share. Administrators make calls to a desk, each with a seat of their own.
 //!
-//! - [`Desk`] answers requests, withdrawals and Seals as its [`Admission`](cqf_admission::Admission) does, one after the
-//!   other, whichever thread asks.
-//! - [`Seat`] keeps the calls that were made with it, each with the answer that it got, and the tables of its Seals.
-//! - [`Desk::close`] gives the [`History`]: legal, with each seat's calls in that seat's order, and no others. What a seat
-//!   kept and what the history has are compared there, and a [`CloseFault`] says where they differ.
+//! - [`Desk`] answers requests, withdrawals and Seals as its [`Admission`](cqf_admission::Admission) does, one after the other, from any
+//!   thread.
+//! - [`Seat`] keeps the calls that were made with it, each with its answer, and the tables of its Seals.
+//! - [`Desk::close`] returns the [`History`]: it is legal, and has each seat's calls in that seat's order, and no others. What the seats
+//!   kept is compared with the history there. A [`CloseFault`] says where they differ.
 //!
 //! ```text
 //! Desk::new(alloc, admission, 2)          the desk and seats 0 and 1

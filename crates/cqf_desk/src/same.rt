@@ -1,4 +1,4 @@
-//! Whether what a seat kept is what a history has.
+//! Comparisons of what a seat kept with a history.
 ghost use Rattle.std.specs.Arc.{arc_value};
 ghost use Rattle.std.specs.Prelude.{◌≡◌, ◌↔◌, true, map};
 ghost use Rattle.cqf_admission.specs.Admission.{act_of, recorded_of};
@@ -10,21 +10,21 @@ use cqf_model::Hop;
 use cqf_topology::{PacedRequest, Request};
 use std::sync::Arc;
 
-/// Whether two texts are the same.
+/// Returns whether two texts are the same.
 fn is_same_text(one: &str, other: &str) -> bool
     ensures { (result ≡ true) ↔ (one.now ≡ other.now) }
 {
     one == other
 }
 
-/// Whether two lists of branches have the same names.
+/// Returns whether two lists of branches have the same names.
 fn are_same_paths(these: &[Vec<String>], those: &[Vec<String>]) -> bool
     ensures { (result ≡ true) ↔ (branches_of these.now ≡ branches_of those.now) }
 {
     these == those
 }
 
-/// Whether two requests ask for the same.
+/// Returns whether two requests are for the same.
 fn is_same_request(one: &Request, other: &Request) -> bool
     ensures { (result ≡ true) ↔ (asked_of one.now ≡ asked_of other.now) }
 {
@@ -37,7 +37,7 @@ fn is_same_request(one: &Request, other: &Request) -> bool
     are_same_paths(one.paths.as_slice(), other.paths.as_slice())
 }
 
-/// Whether two requests have the same branches. Where both were looked over, it takes little time.
+/// Returns whether two requests have the same branches. This is fast if both were checked.
 fn have_same_branches(one: &SharedRequest, other: &SharedRequest) -> bool
     ensures { (result ≡ true) ↔ (branches_of one.now.paths.items ≡ branches_of other.now.paths.items) }
 {
@@ -48,7 +48,7 @@ fn have_same_branches(one: &SharedRequest, other: &SharedRequest) -> bool
     are_same_paths(these.paths.as_slice(), those.paths.as_slice())
 }
 
-/// Whether two requests with paces ask for the same.
+/// Returns whether two requests with paces are for the same.
 fn is_same_shared(one: &SharedRequest, other: &SharedRequest) -> bool
     ensures { (result ≡ true) ↔ (asked_paced one.now ≡ asked_paced other.now) }
 {
@@ -62,7 +62,7 @@ fn is_same_shared(one: &SharedRequest, other: &SharedRequest) -> bool
     have_same_branches(one, other)
 }
 
-/// Whether a request asks for a stream of each cycle, and for that which another asks for.
+/// Returns whether a request with a pace is for a stream that is offered in each cycle, and for the same as the other request.
 fn is_plainly(one: &PacedRequest, other: &Request) -> bool
     ensures { (result ≡ true) ↔ (asked_paced one.now ≡ asked_of other.now) }
 {
@@ -75,7 +75,7 @@ fn is_plainly(one: &PacedRequest, other: &Request) -> bool
     are_same_paths(one.paths.as_slice(), other.paths.as_slice())
 }
 
-/// Whether two calls are for the same.
+/// Returns whether two calls are for the same.
 fn is_same_call(one: &Call, other: &Call) -> bool
     ensures { (result ≡ true) ↔ (act_of one.now ≡ act_of other.now) }
 {
@@ -93,7 +93,7 @@ fn is_same_call(one: &Call, other: &Call) -> bool
     }
 }
 
-/// Whether two entries are of the same seat, call and answer.
+/// Returns whether two entries have the same seat, call and answer.
 pub(crate) fn is_same_entry(one: &Entry, other: &Entry) -> bool
     ensures { (result ≡ true) ↔ (recorded_of one.now ≡ recorded_of other.now) }
 {
@@ -106,7 +106,7 @@ pub(crate) fn is_same_entry(one: &Entry, other: &Entry) -> bool
     is_same_call(&one.call, &other.call)
 }
 
-/// Whether two lists have the same entries.
+/// Returns whether two lists have the same entries.
 pub(crate) fn are_same_entries(these: &[Entry], those: &[Entry]) -> bool
     ensures { (result ≡ true) ↔ (map recorded_of these.now ≡ map recorded_of those.now) }
 {
@@ -121,21 +121,21 @@ pub(crate) fn are_same_entries(these: &[Entry], those: &[Entry]) -> bool
     true
 }
 
-/// Whether two lists have the same bytes.
+/// Returns whether two lists have the same bytes.
 fn are_same_bytes(these: &[u8], those: &[u8]) -> bool
     ensures { (result ≡ true) ↔ (these.now ≡ those.now) }
 {
     these == those
 }
 
-/// Whether two hops are the same.
+/// Returns whether two hops are the same.
 fn is_same_hop(one: &Hop, other: &Hop) -> bool
     ensures { (result ≡ true) ↔ (one.now ≡ other.now) }
 {
     one.link == other.link && one.depth == other.depth && one.from == other.from
 }
 
-/// Whether two lists have the same hops.
+/// Returns whether two lists have the same hops.
 fn are_same_hops(these: &[Hop], those: &[Hop]) -> bool
     ensures { (result ≡ true) ↔ (these.now ≡ those.now) }
 {
@@ -150,7 +150,7 @@ fn are_same_hops(these: &[Hop], those: &[Hop]) -> bool
     true
 }
 
-/// Whether two rows say the same of one stream.
+/// Returns whether two rows are the same.
 fn is_same_row(one: &Row, other: &Row) -> bool
     ensures { (result ≡ true) ↔ (one.now ≡ other.now) }
 {
@@ -169,7 +169,7 @@ fn is_same_row(one: &Row, other: &Row) -> bool
     are_same_hops(one.tree.as_slice(), other.tree.as_slice())
 }
 
-/// Whether two lists have the same rows.
+/// Returns whether two lists have the same rows.
 fn are_same_rows(these: &[Arc<Row>], those: &[Arc<Row>]) -> bool
     ensures { (result ≡ true) ↔ (map (λ row. arc_value row) these.now ≡ map (λ row. arc_value row) those.now) }
 {
@@ -184,7 +184,7 @@ fn are_same_rows(these: &[Arc<Row>], those: &[Arc<Row>]) -> bool
     true
 }
 
-/// Whether two tables are of one cycle, with the same rows.
+/// Returns whether two tables are of the same cycle, with the same rows.
 pub(crate) fn is_same_table(one: &Table, other: &Table) -> bool
     ensures { (result ≡ true) ↔ (one.now ≡ other.now) }
 {

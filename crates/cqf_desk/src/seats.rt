@@ -19,19 +19,19 @@ use std::alloc::Global;
 use std::marker::Model;
 use std::sync::Arc;
 
-/// A seat of a desk: a number, the calls that were made with it, in order, with the answers that they got, and the tables
-/// of its Seals. A seat that seals follows the history: at each Seal all calls up to it have been made once more
-/// on a copy of the admission that the desk was made with, unless an answer was another.
+/// A seat of a desk: a number, the calls that were made with it, in order, with their answers, and the tables of its Seals. A seat that
+/// seals follows the history: at each Seal all calls up to it have been made again on a copy of the admission with which the desk was made,
+/// unless one was answered otherwise.
 #[derive(Debug, Drop)]
 pub struct Seat {
     number: u16,
     calls: Vec<Entry>,
     tables: Vec<Table>,
-    /// What follows the history, one at most: its tables are these. It stands in a `Vec`, so that whoever lets go of a seat
-    /// lets go of it in one step.
+    /// The follower of the history, at most one. Its tables are those of the seat. It is in a `Vec`, so that a seat and its follower are
+    /// dropped in one step.
     follower: Vec<Follower>,
-    /// Whether what follows is to be made at the next Seal: nothing has followed yet, or what did was ahead of a Seal that there was no
-    /// memory for.
+    /// Whether a follower is to be made at the next Seal: there was none yet, or the last one was ahead by a Seal for which an allocation
+    /// failed.
     joins: bool,
 }
 
@@ -49,7 +49,7 @@ impl Model for Seat {
 }
 
 impl Seat {
-    /// A seat with which nobody has called yet.
+    /// Returns a seat before any call.
     pub(crate) fn new(alloc: Global, number: u16) -> Seat
         ensures { result ≡ record { number = number; calls = []; tables = [] } }
     {
@@ -62,21 +62,21 @@ impl Seat {
         }
     }
 
-    /// The seat's number, from 0. Entries of the history have it.
+    /// Returns the seat's number, from 0. Entries of the history have this number.
     pub fn number(&self) -> u16
         ensures { result ≡ self.now.number }
     {
         self.number
     }
 
-    /// The table of the seat's newest Seal, where it has sealed a cycle. It takes no memory.
+    /// Returns the table of the seat's newest Seal, or `None` if the seat hasn't sealed a cycle. This takes no memory.
     pub fn last_table(&self) -> Option<&Table>
         ensures { option_copied result ≡ slice_get self.now.tables (length self.now.tables - 1) }
     {
         self.tables.last()
     }
 
-    /// The calls that were made with the seat, and the tables of its Seals.
+    /// Returns the calls that were made with the seat.
     pub(crate) fn calls(&self) -> &[Entry]
         ensures { map recorded_of result.now ≡ self.now.calls }
     {
@@ -89,8 +89,8 @@ impl Seat {
         self.tables.as_slice()
     }
 
-    /// Whether the seat's tables are those that its Seals close in the history that has these calls behind its opening part,
-    /// by what followed that history.
+    /// Returns whether the seat's follower shows that the seat's tables are those that its Seals close in the history with these calls
+    /// after its opening part.
     pub(crate) fn has_followed(&self, opening: &Admission, rest: &[Entry]) -> bool
         ensures { result ≡ true →
             self.now.tables ≡ tables_by opening.now.domain (opening.now.entries ++ map recorded_of rest.now) (length opening.now.entries) self.now.number }
@@ -101,7 +101,7 @@ impl Seat {
         }
     }
 
-    /// Makes a request of an admission, and keeps it with its answer. `asked` is the request again.
+    /// Makes a request to an admission, and keeps it with its answer. `asked` is a copy of the request.
     pub(crate) fn admit(
         &mut self,
         admission: &mut Admission,
@@ -148,7 +148,7 @@ impl Seat {
         answer
     }
 
-    /// Makes a withdrawal likewise. `asked` is the name again.
+    /// Makes a withdrawal likewise. `asked` is a copy of the name.
     pub(crate) fn withdraw(
         &mut self,
         admission: &mut Admission,
@@ -169,8 +169,8 @@ impl Seat {
         answer
     }
 
-    /// Closes the next cycle of an admission to changes, and keeps the Seal and its table. The first Seal makes a follower of
-    /// the admission that the desk was made with. Each growth that is refused, of the follower too, refuses the Seal.
+    /// Closes the next cycle of an admission to changes, and keeps the Seal and its table. The first Seal makes a follower from the
+    /// admission with which the desk was made. If any allocation fails, including those of the follower, the Seal is refused.
     pub(crate) fn seal(
         &mut self,
         alloc: Global,
@@ -216,7 +216,7 @@ impl Seat {
                 Ok(())
             }
             Err(fault) => {
-                // what follows has made a Seal that isn't in the history: it is made anew at the next one
+                // the follower has made a Seal that isn't in the history: the next Seal makes a new follower
                 self.follower.clear();
                 self.joins = true;
                 Err(fault)
@@ -225,7 +225,7 @@ impl Seat {
     }
 }
 
-/// The answer to a request or a withdrawal that there is no memory for.
+/// Returns the answer to a request or a withdrawal for which an allocation failed.
 pub(crate) fn unasked(admission: &Admission) -> Result<Receipt, Refused>
     ensures legal { IsLegalHistory admission.now.domain admission.now.entries }
     ensures full { (result ≡ Err Refused.HistoryFull) ↔ (most_calls ≤ calls admission.now.entries) }
@@ -237,7 +237,7 @@ pub(crate) fn unasked(admission: &Admission) -> Result<Receipt, Refused>
     Err(Refused::Memory)
 }
 
-/// Why a cycle isn't closed where there is no memory for its Seal.
+/// Returns why a cycle isn't closed if an allocation for its Seal failed.
 fn unsealed(admission: &Admission) -> SealFault
     ensures { Closes admission.now admission.now 0 (Err result) }
 {
@@ -247,7 +247,7 @@ fn unsealed(admission: &Admission) -> SealFault
     SealFault::Memory
 }
 
-/// Whether a call with this answer enters the history.
+/// Returns whether a call with this answer enters the history.
 pub(crate) fn enters(answer: &Result<Receipt, Refused>) -> bool
     ensures { result ≡ is_entered answer.now }
 {
@@ -260,7 +260,7 @@ pub(crate) fn enters(answer: &Result<Receipt, Refused>) -> bool
     }
 }
 
-/// The answer as the history has it.
+/// Returns the answer as the history has it.
 pub(crate) fn reply_of(answer: Result<Receipt, Refused>) -> Reply
     ensures { result ≡ reply_of answer }
 {
@@ -270,7 +270,7 @@ pub(crate) fn reply_of(answer: Result<Receipt, Refused>) -> Reply
     }
 }
 
-/// Adds a call behind a seat's others, where there is room.
+/// Appends a call to a seat's calls, which have room for it.
 fn enter(calls: &mut Vec<Entry>, seat: u16, call: Call, reply: Reply)
     requires { vec_len calls.old < vec_capacity calls.old }
     ensures { calls.new.items ≡ calls.old.items ++ record { seat = seat; call = call; reply = reply } ∷ [] }
@@ -278,7 +278,7 @@ fn enter(calls: &mut Vec<Entry>, seat: u16, call: Call, reply: Reply)
     calls.push(Entry { seat, call, reply }).unwrap();
 }
 
-/// Adds a call with its answer likewise, where it has entered the history.
+/// Appends a call with its answer likewise, if it has entered the history.
 fn keep(calls: &mut Vec<Entry>, seat: u16, call: Call, answer: Result<Receipt, Refused>)
     requires { vec_len calls.old < vec_capacity calls.old }
     ensures entered { is_entered answer ≡ true → calls.new.items ≡ calls.old.items ++ record { seat = seat; call = call; reply = reply_of answer } ∷ [] }

@@ -1,4 +1,4 @@
--- What the arrivals that are read are like.
+-- The ranges and the order of the arrivals that are read.
 use Rattle.std.proofs.Common.{◌≡◌, ◌≤◌, ℕ, List, [], ◌∷◌, Option, Some, None, Ok, length, refl, subst}
 use Rattle.cqf_model.specs.declared.ports.Arrival.{Arrival}
 use Rattle.cqf_model.specs.Limits.{profile, rows_within}
@@ -21,7 +21,7 @@ arrival-with (Some at) (Some class) (Some octets) (Some frame) arrival early cla
     let same : made ≡ arrival = cc in
     subst IsArrival same (record { class = classed class refl; early = early at refl; least = (sized octets refl).0; most = (sized octets refl).1 })
 
--- an arrival that a record writes may be handed to a port
+-- an arrival that a record writes may be given to a port
 arrival-row : (fields : Fields) (arrival : Arrival) → in_four arrival_of fields ≡ Some arrival → IsArrival arrival
 arrival-row [] arrival e = cc
 arrival-row (a ∷ []) arrival e = cc

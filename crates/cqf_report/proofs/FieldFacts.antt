@@ -1,11 +1,11 @@
--- The fields of a record of four, by their places.
+-- The fields of a record of four or five, by index.
 use Rattle.std.proofs.Common.{◌∙◌, sym, ◌≡◌, ◌<◌, ℕ, zero, suc, List, [], ◌∷◌, Option, Some, None, length, ap, refl, arith}
 use Rattle.csv.specs.Records.{field_at}
 use Rattle.cqf_report.specs.Records.{Fields}
 use Rattle.cqf_report.specs.Table.{five_of, four_of, in_five, in_four}
 use Rattle.std.specs.Option.{option_map_or}
 
--- there is a field at each place below the number of fields
+-- there is a field at each index below the number of fields
 pub field_at-inside : (fields : Fields) (i : ℕ) → i < length fields → field_at fields i ≡ None → ⊥
 unfolding field_at
 field_at-inside [] i inside e = absurd (omega arith)
@@ -21,11 +21,11 @@ four_of-other (a ∷ b ∷ c ∷ []) other = refl
 four_of-other (a ∷ b ∷ c ∷ d ∷ []) other = absurd (other refl)
 four_of-other (a ∷ b ∷ c ∷ d ∷ e ∷ fields) other = refl
 
--- a text that is there is one text
+-- `Some` is injective
 some-inj : (a b : List ℕ) → ◌≡◌ {A = Option (List ℕ)} (Some a) (Some b) → a ≡ b
 some-inj a b e = cc
 
--- the four fields are those at the four places
+-- the four fields are those at the four indexes
 pub four_of-places : (fields : Fields) (p q r s : List ℕ) → length fields ≡ 4 → Some p ≡ field_at fields 0 → Some q ≡ field_at fields 1 →
     Some r ≡ field_at fields 2 → Some s ≡ field_at fields 3
     → four_of fields ≡ Some (p, q, r, s)
@@ -37,7 +37,7 @@ four_of-places (a ∷ b ∷ c ∷ []) p q r s size at0 at1 at2 at3 = cc
 four_of-places (a ∷ b ∷ c ∷ d ∷ []) p q r s size at0 at1 at2 at3 = rw (some-inj p a at0, some-inj q b at1, some-inj r c at2, some-inj s d at3) refl
 four_of-places (a ∷ b ∷ c ∷ d ∷ e ∷ fields) p q r s size at0 at1 at2 at3 = absurd (omega arith)
 
--- a record that has no four fields writes nothing
+-- a record without four fields writes nothing
 pub in_four-none : {A : Type 0} (read : List ℕ → List ℕ → List ℕ → List ℕ → Option A) (fields : Fields) → four_of fields ≡ None → in_four read fields ≡ None
 in_four-none read [] none = refl
 in_four-none read (a ∷ []) none = refl
@@ -57,7 +57,7 @@ in_four-some read (a ∷ b ∷ c ∷ d ∷ []) p q r s four =
     ap (λ (o : Option (List ℕ × List ℕ × List ℕ × List ℕ)). option_map_or (λ (f : List ℕ × List ℕ × List ℕ × List ℕ). read f.0 f.1 f.2 f.3) o None) four
 in_four-some read (a ∷ b ∷ c ∷ d ∷ e ∷ fields) p q r s four = cc
 
--- what a record writes, by what its four fields were read as
+-- what a record writes, given what its four fields were read as
 pub in_four-read : {A : Type 0} (read : List ℕ → List ℕ → List ℕ → List ℕ → Option A) (fields : Fields) (p q r s : List ℕ) (o what : Option A)
     → four_of fields ≡ Some (p, q, r, s) → o ≡ read p q r s → o ≡ what → in_four read fields ≡ what
 in_four-read read fields p q r s o what four is was = in_four-some read fields p q r s four ∙ sym is ∙ was
@@ -72,7 +72,7 @@ five_of-other (a ∷ b ∷ c ∷ d ∷ []) other = refl
 five_of-other (a ∷ b ∷ c ∷ d ∷ e ∷ []) other = absurd (other refl)
 five_of-other (a ∷ b ∷ c ∷ d ∷ e ∷ f ∷ fields) other = refl
 
--- the five fields are those at the five places
+-- the five fields are those at the five indexes
 pub five_of-places : (fields : Fields) (p q r s t : List ℕ) → length fields ≡ 5 → Some p ≡ field_at fields 0 → Some q ≡ field_at fields 1 →
     Some r ≡ field_at fields 2 → Some s ≡ field_at fields 3 → Some t ≡ field_at fields 4
     → five_of fields ≡ Some (p, q, r, s, t)
@@ -86,7 +86,7 @@ five_of-places (a ∷ b ∷ c ∷ d ∷ e ∷ []) p q r s t size at0 at1 at2 at3
     rw (some-inj p a at0, some-inj q b at1, some-inj r c at2, some-inj s d at3, some-inj t e at4) refl
 five_of-places (a ∷ b ∷ c ∷ d ∷ e ∷ f ∷ fields) p q r s t size at0 at1 at2 at3 at4 = absurd (omega arith)
 
--- a record that has no five fields writes nothing
+-- a record without five fields writes nothing
 pub in_five-none : {A : Type 0} (read : List ℕ → List ℕ → List ℕ → List ℕ → List ℕ → Option A) (fields : Fields) → five_of fields ≡ None →
     in_five read fields ≡ None
 in_five-none read [] none = refl

@@ -1,4 +1,4 @@
--- The fault that is told of a table's rows is the first.
+-- The fault that is reported for a table's rows is the first.
 use Rattle.std.proofs.Common.{◌≡◌, ◌≤◌, ◌<◌, ◌+◌, ℕ, List, [], ◌∷◌, ◌++◌, Bool, true, false, cond, Option, Some, None, Result, Ok, Err, MatchResult, nat_lt}
 use Rattle.std.proofs.Common.{length, slice_get, refl, ap, sym, subst, ◌∙◌, append_assoc, append-nil, length-append, ◌⊎◌, inl, inr, arith}
 use Rattle.std.proofs.lemmas.Bool.{cases_lt}
@@ -11,7 +11,7 @@ use Rattle.cqf_report.specs.declared.tables.TableFault.{TableFault}
 use Rattle.cqf_report.specs.declared.tables.TableFault.TheVariants.{TooMany, OutOfOrder}
 
 module _ {A : Type 0} (most : ℕ) (read : Fields → Option A) (instant : A → ℕ) where
-  -- a record writes one row
+  -- a record writes at most one row
   one-row : (rows : List Fields) (place : ℕ) (a b : A) → Writes read rows place a → Writes read rows place b → a ≡ b
   one-row rows place a b first second =
       some-inj (sym first.means ∙ ap read (fields-inj (sym first.stands ∙ second.stands)) ∙ second.means)
@@ -22,7 +22,7 @@ module _ {A : Type 0} (most : ℕ) (read : Fields → Option A) (instant : A →
       fields-inj : ◌≡◌ {A = Option Fields} (Some first.fields) (Some second.fields) → first.fields ≡ second.fields
       fields-inj e = cc
 
-  -- the instant that the next row may not be before: that of the last row of the front, or 0 in front of all
+  -- the instant that the next row may not be before: that of the last row so far, or 0 if there is none
   record IsLast (rows : List Fields) (place before : ℕ) : Type 0 where
     earlier : A
     k : ℕ
@@ -30,11 +30,11 @@ module _ {A : Type 0} (most : ℕ) (read : Fields → Option A) (instant : A →
     writes : Writes read rows k earlier
     its : instant earlier ≡ before
 
-  -- a row of an earlier instant than the one before it
+  -- a row whose instant is earlier than that of the previous row
   abbrev IsBefore : List Fields → ℕ → ℕ → Type 0
   IsBefore rows place before = ((place ≡ 0) × (before ≡ 0)) ⊎ IsLast rows place before
 
-  -- a row that is not before the last is in order
+  -- a row that isn't before the last one is in order
   in-order : (rows : List Fields) (place before : ℕ) (row : A) → IsBefore rows place before → before ≤ instant row
       → (k : ℕ) (earlier : A) → k + 1 ≡ place → Writes read rows k earlier → instant earlier ≤ instant row
   in-order rows place before row (inl start) h k earlier next writes = absurd (omega (arith, start.0, next))
@@ -44,7 +44,7 @@ module _ {A : Type 0} (most : ℕ) (read : Fields → Option A) (instant : A →
       let its : instant earlier ≡ before = ap instant (sym same) ∙ last.its in
       omega (arith, its, h)
 
-  -- one good record more
+  -- one more good record
   good-more : (rows : List Fields) (place : ℕ) → AreGoodBefore read instant rows place → IsGood read instant rows place →
       AreGoodBefore read instant rows (place + 1)
   good-more rows place good here k below = elim (cases_lt k place) [
@@ -52,24 +52,24 @@ module _ {A : Type 0} (most : ℕ) (read : Fields → Option A) (instant : A →
     | inr not_before ↦ let same : place ≡ k = omega (arith, below, not_before) in subst (λ m. IsGood read instant rows m) same here
   ]
 
-  -- the records are all good, or the first fault of them all is told
+  -- the records are all good, or the reported fault is the first fault of them all
   abbrev Told : List Fields → Result (List A) TableFault → Type 0
   Told rows told = MatchResult told
       (λ items. (length rows ≤ most) × AreGoodBefore read instant rows (length rows))
       (λ fault. IsFirstFault most read instant rows fault)
 
-  -- a row in front changes nothing of it
+  -- one more row before the others doesn't change this
   told-behind : (rows : List Fields) (row : A) (others : Result (List A) TableFault) → Told rows others → Told rows (with_row row others)
   told-behind rows row (Ok items) h = h
   told-behind rows row (Err fault) h = h
 
-  -- so it is of the records behind any good front
+  -- so it is for the records after any good ones
   abbrev TellsBehind : List Fields → Type 0
   TellsBehind rest = (front : List Fields) (number before : ℕ) → number ≡ length front + 1 → number ≤ most + 1
       → AreGoodBefore read instant (front ++ rest) (length front) → IsBefore (front ++ rest) (length front) before
       → Told (front ++ rest) (rows_from most read instant number before rest)
 
-  -- what is told of a text holds behind each front of it
+  -- what is reported for a text holds after any good records
   told-behind-front : (rest : List Fields) → TellsBehind rest
   told-behind-front [] front number before numbered few good last =
       let whole : length (front ++ []) ≡ length front = ap length (append-nil front) in
@@ -146,6 +146,6 @@ module _ {A : Type 0} (most : ℕ) (read : Fields → Option A) (instant : A →
           }
       by_many again false e = by_row again (read fields) refl (grind (arith, nat_tests))
 
-  -- of all of them
+  -- the same for all records
   pub tells-first : (rows : List Fields) → TellsFirst most read instant rows
   tells-first rows = told-behind-front rows [] 1 0 refl (omega arith) (λ k below. absurd (omega (arith, below))) (inl (refl, refl))

@@ -1,4 +1,4 @@
--- Lines that are put field by field.
+-- Lines that are written field by field.
 use Rattle.std.proofs.Common.{◌++◌, ℕ, List, [], ◌∷◌, Option, append_assoc, sym}
 use Rattle.std.specs.List.{join_with_byte}
 use Rattle.std.specs.declared.io.traits.Write as write
@@ -9,7 +9,7 @@ use Rattle.cqf_press.proofs.PressLemmas.{Puts-as, Puts-then}
 use Rattle.cqf_report.specs.Records.{Fields}
 use Rattle.cqf_report.specs.Written.{line_of_fields}
 
--- a field, a comma, and the line of the fields behind it
+-- a field, a comma, and the line of the following fields
 pub Puts-field : {W : Type 0} {s : sink.Ghosts W} {w : write.Ghosts W} {contents : W → Option (List ℕ)}
     {old mid after new : Press W s w} (field next : List ℕ) (fields : Fields)
     → Puts contents old mid field → Puts contents mid after (44 ∷ []) → Puts contents after new (line_of_fields (next ∷ fields))
@@ -33,7 +33,7 @@ Puts-six a b c d e f one after_a two after_b three after_c four after_d five aft
     (Puts-field e f [] five after_e
     (Puts-then f (10 ∷ []) six end)))))
 
--- the line of four
+-- the line of four fields
 pub Puts-four : {W : Type 0} {s : sink.Ghosts W} {w : write.Ghosts W} {contents : W → Option (List ℕ)}
     {p0 p1 p2 p3 p4 p5 p6 p7 p8 : Press W s w} (a b c d : List ℕ)
     → Puts contents p0 p1 a → Puts contents p1 p2 (44 ∷ []) → Puts contents p2 p3 b → Puts contents p3 p4 (44 ∷ [])

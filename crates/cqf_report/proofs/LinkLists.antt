@@ -18,7 +18,7 @@ module _ (starts : List Started) (lists : List (Vec ℕ Global)) (link place : �
   listed : list.items ≡ octets_listed starts link
   listed = list_there (octets_listed starts) 65536 lists link place list d by_link below at there
 
-  -- so it is as long as there are starts on the link
+  -- so its length is the number of starts on the link
   pub listed_frames : length list.items ≡ frames_on link starts
   listed_frames =
       let on : Started → Bool = λ start. start.link == link in

@@ -15,7 +15,7 @@ use Rattle.cqf_laws_coverage.specs.InOneCycle.{IsMost, most_on, octets_summed}
 use Rattle.cqf_laws_coverage.proofs.InOneCycle.{most_is_most, most_is_one}
 use Rattle.cqf_report.specs.LinkSums.{AreSumsInOrder, IsBefore, are_of_one_batch}
 
--- a start that is on another link, or of another cycle, doesn't count in a cycle
+-- a start on another link or in another cycle doesn't count
 counts_not : (on in_cycle : Bool) (octets : ℕ) → (on ≡ true → in_cycle ≡ true → ⊥) → (if on && in_cycle then octets else 0) ≡ 0
 counts_not true true octets apart = absurd (apart refl refl)
 counts_not true false octets apart = refl
@@ -26,7 +26,7 @@ octets_in-append : (link cycle : ℕ) (xs ys : List Started) → octets_summed l
 octets_in-append link cycle xs ys =
     sum_by-append (λ (start : Started). if (start.link == link) && (start.cycle.0 == cycle) then start.octets else 0) xs ys
 
--- starts none of which is on a link in a cycle have no octets there
+-- starts that aren't on a link in a cycle have no octets there
 octets_in-none : (link cycle : ℕ) (starts : List Started)
     → ((start : Started) → Contains starts start → start.link ≡ link → start.cycle.0 ≡ cycle → ⊥) → octets_summed link cycle starts ≡ 0
 octets_in-none link cycle starts apart =
@@ -34,7 +34,7 @@ octets_in-none link cycle starts apart =
     (λ start among. counts_not (start.link == link) (start.cycle.0 == cycle) start.octets
     (λ on in_cycle. apart start among (eqb-true start.link link on) (eqb-true start.cycle.0 cycle in_cycle)))
 
--- one that is on the link in the cycle counts
+-- a start on the link in the cycle counts
 counts_whole : (on in_cycle : Bool) (octets : ℕ) → on ≡ true → in_cycle ≡ true → (if on && in_cycle then octets else 0) ≡ octets
 counts_whole on in_cycle octets is_on is_in = rw (is_on, is_in) refl
 
@@ -63,7 +63,7 @@ module _ (link cycle : ℕ) (batch later : List Started)
   octets_here : octets_summed link cycle (batch ++ later) ≡ sum_by (λ (start : Started). start.octets) batch
   octets_here = omega (arith, octets_in-append link cycle batch later, octets_in-all link cycle batch same, octets_in-none link cycle later apart)
 
-  -- and adds nothing elsewhere
+  -- it adds nothing to other links or cycles
   octets_elsewhere : (other in_cycle : ℕ) → (other ≡ link → in_cycle ≡ cycle → ⊥) → octets_summed other in_cycle (batch ++ later)
       ≡ octets_summed other in_cycle later
   octets_elsewhere other in_cycle elsewhere =
@@ -71,7 +71,7 @@ module _ (link cycle : ℕ) (batch later : List Started)
       let place = same start among in elsewhere (sym on_other ∙ place.0) (sym in_other ∙ place.1)) in
       omega (arith, octets_in-append other in_cycle batch later, none)
 
-  -- so the most of its link is the batch's octets, or the most of those behind it
+  -- so the most of its link is the batch's octets, or the most of those after it
   most_here : IsMost link (batch ++ later) (max (sum_by (λ (start : Started). start.octets) batch) (most_on link later))
   most_here =
       let octets = sum_by (λ (start : Started). start.octets) batch in
@@ -99,7 +99,7 @@ module _ (link cycle : ℕ) (batch later : List Started)
         ];
       }
 
-  -- and the most of another link is that of those behind it
+  -- the most of another link is that of those after the batch
   most_elsewhere : (other : ℕ) → (other ≡ link → ⊥) → IsMost other (batch ++ later) (most_on other later)
   most_elsewhere other differ =
       let behind = most_is_most other later in
@@ -111,11 +111,11 @@ module _ (link cycle : ℕ) (batch later : List Started)
         ];
       }
 
--- two starts on one link in one cycle are of one batch
+-- two starts on the same link in the same cycle are of the same batch
 one_batch : (first second : Started) → first.link ≡ second.link → first.cycle.0 ≡ second.cycle.0 → are_of_one_batch first second ≡ true
 one_batch first second on in_cycle = rw (eq-eqb first.link second.link on, eq-eqb first.cycle.0 second.cycle.0 in_cycle) refl
 
--- what stands between two starts of one batch is of it
+-- a start between two starts of a batch is of that batch
 between : (first middle last : Started) → IsBefore first middle → IsBefore middle last → last.link ≡ first.link → last.cycle.0 ≡ first.cycle.0 →
     (first.link ≡ middle.link) × (first.cycle.0 ≡ middle.cycle.0)
 between first middle last (inl early) (inl late) on in_cycle = absurd (omega (arith, early, late, in_cycle))
@@ -129,11 +129,11 @@ module _ (rest batch later : List Started) (d : Started) (parts : rest ≡ batch
   at_batch : (k : ℕ) → k < length batch → get_or rest k d ≡ get_or batch k d
   at_batch k inside = ap (λ (xs : List Started). get_or xs k d) parts ∙ get_or_append_left batch later d k inside
 
-  -- an element behind the batch in the list
+  -- an element after the batch in the list
   at_later : (k : ℕ) → get_or rest (length batch + k) d ≡ get_or later k d
   at_later k = ap (λ (xs : List Started). get_or xs (length batch + k) d) parts ∙ get_or-append-add batch later k d
 
-  -- each start of the batch is on the link and of the cycle of its first
+  -- each start of the batch has the link and the cycle of the first
   as_first : (k : ℕ) → k < length batch → ((get_or batch k d).link ≡ (get_or batch 0 d).link) × ((get_or batch k d).cycle.0 ≡ (get_or batch 0 d).cycle.0)
   as_first zero inside = (refl, refl)
   as_first (suc k) inside =
@@ -149,14 +149,14 @@ module _ (rest batch later : List Started) (d : Started) (parts : rest ≡ batch
         sym (eqb-true (get_or batch k d).cycle.0 (get_or batch (suc k) d).cycle.0 both.1) ∙ before.1,
       )
 
-  -- and so is each by what it is
+  -- the same for any element of the batch
   pub of_batch : (start : Started) → Contains batch start → (start.link ≡ (get_or batch 0 d).link) × (start.cycle.0 ≡ (get_or batch 0 d).cycle.0)
   of_batch start among =
       let is : get_or batch among.0 d ≡ start = get_or_default batch among.0 d start among.1 ∙ among.2 in
       let place = as_first among.0 among.1 in
       (ap (λ (s : Started). s.link) (sym is) ∙ place.0, ap (λ (s : Started). s.cycle.0) (sym is) ∙ place.1)
 
-  -- the start behind the batch is of another
+  -- the start after the batch is of another batch
   next_differs : length batch < length rest → (get_or batch 0 d).link ≡ (get_or later 0 d).link →
       (get_or batch 0 d).cycle.0 ≡ (get_or later 0 d).cycle.0 → ⊥
   next_differs more on in_cycle =
@@ -166,7 +166,7 @@ module _ (rest batch later : List Started) (d : Started) (parts : rest ≡ batch
       let parted : are_of_one_batch (get_or batch (length batch - 1) d) (get_or later 0 d) ≡ false = rw (last, next) at (prefix.1 more d) in
       false≢true (sym parted ∙ one_batch (get_or batch (length batch - 1) d) (get_or later 0 d) (place.0 ∙ on) (place.1 ∙ in_cycle))
 
-  -- and so is each later one
+  -- so is each later one
   pub behind_batch : (start : Started) → Contains later start → start.link ≡ (get_or batch 0 d).link → start.cycle.0 ≡ (get_or batch 0 d).cycle.0 → ⊥
   behind_batch start (zero, inside, is) on in_cycle =
       let whole : length rest ≡ length batch + length later = ap length parts ∙ length-append batch later in
@@ -184,13 +184,13 @@ module _ (rest batch later : List Started) (d : Started) (parts : rest ≡ batch
       let place = between (get_or batch 0 d) (get_or later 0 d) start before after on in_cycle in
       next_differs (omega (arith, whole, inside)) place.0 place.1
 
--- what each link has as its most so far is, with what the rest has, the most of all
+-- for each link: its most so far and the most of the rest give the most of all
 pub record AreMostSoFar (starts rest : List Started) (most : List ℕ) : Type 0 where
   pub each_link : length most ≡ 65536
   pub ordered : AreSumsInOrder rest
   pub with_rest : (link : ℕ) → link < 65536 → max (slice_index most link) (most_on link rest) ≡ most_on link starts
 
--- before the first batch no link has any
+-- before the first batch each link has 0
 pub none_most : (starts : List Started) (most : List ℕ) → AreSumsInOrder starts → most ≡ replicate 65536 0 → AreMostSoFar starts starts most
 none_most starts most ordered is = record {
   each_link = ap length is ∙ length-replicate {A = ℕ} 65536 0;
@@ -198,13 +198,13 @@ none_most starts most ordered is = record {
   with_rest = λ link below. omega (arith, ap (λ (xs : List ℕ). slice_index xs link) is ∙ get_or-replicate 65536 link 0 0 below);
 }
 
--- behind the last batch each link has the most of all
+-- after the last batch each link has the most of all
 pub all_most : (starts rest : List Started) (most : List ℕ) → AreMostSoFar starts rest most → length rest ≡ 0 → (link : ℕ) → link < 65536 →
     slice_index most link ≡ most_on link starts
 all_most starts [] most so_far ended link below = omega (arith, so_far.with_rest link below)
 all_most starts (first ∷ rest) most so_far ended link below = absurd (omega (arith, ended))
 
--- one batch more
+-- one more batch
 pub more_most : (starts rest batch later : List Started) (most : List ℕ) (d : Started) (octets : ℕ) → rest ≡ batch ++ later → 0 < length batch →
     IsChunkByPrefix are_of_one_batch rest (length batch) → octets ≡ sum_by (λ (start : Started). start.octets) batch → AreMostSoFar starts rest most →
     AreMostSoFar starts later (slice_set most (get_or batch 0 d).link (max (slice_index most (get_or batch 0 d).link) octets))

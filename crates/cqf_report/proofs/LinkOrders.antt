@@ -1,4 +1,4 @@
--- The order in which the starts of a book stand.
+-- The order of the starts of a book.
 use Rattle.std.proofs.Common.{◌≡◌, ℕ, List, length, inl, inr, Contains, sym, ap, ◌∙◌, subst, arith}
 use Rattle.cqf_lists.specs.Lists.{each_below}
 use Rattle.cqf_lists.proofs.EachBelow.{contains_from_below}
@@ -19,7 +19,7 @@ module _ (d : Domain) (carried : Carried) where
       let from = contains_from_map (started cycle link) (batch d carried link cycle) x among in
       (ap (λ (s : Started). s.cycle.0) (sym from.2), ap (λ (s : Started). s.link) (sym from.2))
 
-  -- those of a cycle stand in order of link
+  -- the starts of a cycle are in order of link
   cycle_in_order : (cycle : ℕ) → AreSumsInOrder (each_below (starts_in d carried cycle) (length d.links))
   cycle_in_order cycle =
       pairs_below IsBefore (starts_in d carried cycle) (length d.links)
@@ -32,7 +32,7 @@ module _ (d : Domain) (carried : Carried) where
       let two = of_batch cycle k y in_y in
       inr (one.0 ∙ sym two.0, omega (arith, one.1, two.1, less)))
 
-  -- and all in order of cycle
+  -- all starts are in order of cycle
   pub starts_in_order : (cycles : ℕ) → AreSumsInOrder (starts_of d cycles carried)
   starts_in_order cycles =
       pairs_below IsBefore (λ cycle. each_below (starts_in d carried cycle) (length d.links)) cycles
@@ -42,7 +42,7 @@ module _ (d : Domain) (carried : Carried) where
       let two = contains_from_below (starts_in d carried k) (length d.links) y in_y in
       inl (omega (arith, (of_batch j one.0 x one.2).0, (of_batch k two.0 y two.2).0, less)))
 
--- so do those of every book
+-- so are those of every book
 pub book_in_order : (run : Run) (lists : ℕ → List Entry) (cycles : ℕ) (book : Contents) → IsBook run lists cycles book → AreSumsInOrder book.starts
 book_in_order run lists cycles book is =
     subst (λ (xs : List Started). AreSumsInOrder xs) (sym is.are_starts) (starts_in_order run.domain is.net.carried cycles)

@@ -1,5 +1,4 @@
--- What every table that is read has: what holds of each row that may be read, at most 1,000,000 rows, and instants in
--- order.
+-- Properties of every table that is read: what holds for each row that may be read, the number of rows, and the order of instants.
 use Rattle.std.proofs.Common.{◌≡◌, ◌≤◌, ◌+◌, ◌-◌, ◌&&◌, ℕ, Bool, true, false, List, [], ◌∷◌, All, AllPairs, Option, Some, None, Result, Ok, Err, if◌then◌else◌}
 use Rattle.std.proofs.Common.{nat_lt, nat_le, length, refl, subst, sym, ap, arith}
 use Rattle.std.proofs.lemmas.Bool.{and_parts, leb-true}
@@ -13,9 +12,9 @@ use Rattle.cqf_report.specs.declared.tables.TableFault.{TableFault}
 use Rattle.cqf_report.specs.declared.tables.TableFault.TheVariants.{BadHeader, BadRow, OutOfOrder, TooMany}
 use Rattle.cqf_text.specs.Decimal.{decimal_in, decimal_value, in_range}
 
--- what holds of each row that is read holds of each row of a table
+-- what holds for each row that is read holds for each row of a table
 module _ {A : Type 0} (P : A → Type 0) (most : ℕ) (read : Fields → Option A) (instant : A → ℕ) (each : (fields : Fields) (row : A) → read fields ≡ Some row → P row) where
-  -- one row more of which the fact holds
+  -- one more row with the property
   cons-each : (row : A) (others : Result (List A) TableFault) (items : List A) → P row → ((rest : List A) → others ≡ Ok rest → All P rest) →
       with_row row others ≡ Ok items → All P items
   cons-each row (Ok others) items first more e =
@@ -23,7 +22,7 @@ module _ {A : Type 0} (P : A → Type 0) (most : ℕ) (read : Fields → Option 
       subst (All P) same (All-cons P row others first (more others refl))
   cons-each row (Err fault) items first more e = cc
 
-  -- one record more
+  -- one more record
   row-each : (number before : ℕ) (fields : Fields) (o : Option A) (others : ℕ → Result (List A) TableFault) (items : List A) → read fields ≡ o →
       ((last : ℕ) (rest : List A) → others last ≡ Ok rest → All P rest)
       → row_then instant number before o others ≡ Ok items → All P items
@@ -47,7 +46,7 @@ module _ {A : Type 0} (P : A → Type 0) (most : ℕ) (read : Fields → Option 
       by true more e = cc
       by false more e = more e
 
-  -- and of a table's
+  -- and for those of a table
   pub table-each : (names : Fields) (rows : List Fields) (items : List A) → rows_under most names read instant rows ≡ Ok items → All P items
   table-each names [] items e = cc
   table-each names (first ∷ rows) items e = by (is_header names first) e
@@ -56,11 +55,11 @@ module _ {A : Type 0} (P : A → Type 0) (most : ℕ) (read : Fields → Option 
       by true e = rows-each 1 0 rows items e
       by false e = cc
 
--- a number that is read lies in its range
+-- a number that is read is in its range
 within-range : (least most m n : ℕ) → in_range least most m ≡ Some n → (least ≤ n) × (n ≤ most)
 within-range least most m n e = by (nat_le least m && nat_le m most) refl e
   where
-    -- what is taken because it is in the range is in it
+    -- a number that is returned because it is in the range is in it
     by : (b : Bool) → (nat_le least m && nat_le m most) ≡ b → (if b then Some m else None) ≡ Some n → (least ≤ n) × (n ≤ most)
     by true holds e =
         let parts : (nat_le least m ≡ true) × (nat_le m most ≡ true) = and_parts (nat_le least m) (nat_le m most) holds in
@@ -73,20 +72,20 @@ within-range least most m n e = by (nat_le least m && nat_le m most) refl e
 pub decimal_in-range : (least most : ℕ) (digits : List ℕ) (n : ℕ) → decimal_in least most digits ≡ Some n → (least ≤ n) × (n ≤ most)
 decimal_in-range least most digits n e = by (decimal_value digits) e
   where
-    -- what the digits write, where it is taken, is in the range
+    -- the number that the digits write, if it is returned, is in the range
     by : (o : Option ℕ) → option_and_then (in_range least most) o ≡ Some n → (least ≤ n) × (n ≤ most)
     by None e = cc
     by (Some m) e = within-range least most m n e
 
--- a fault is no list of rows
+-- a fault isn't a list of rows
 no_rows : {A : Type 0} (fault : TableFault) (rows : List A) → ¬ (Err fault ≡ Ok rows)
 no_rows fault rows h = cc
 
--- no rows are none
+-- the result for no records has no rows
 nil_ok : {A : Type 0} (rows : List A) → (let read : Result (List A) TableFault = Ok [] in read ≡ Ok rows) → [] ≡ rows
 nil_ok rows h = cc
 
--- one row more is one more
+-- one more row increases the number by one
 with_row-few : {A : Type 0} (row : A) (others : Result (List A) TableFault) (rows : List A) (most : ℕ) →
     ((rest : List A) → others ≡ Ok rest → length rest ≤ most) → with_row row others ≡ Ok rows → length rows ≤ most + 1
 with_row-few row (Ok rest) rows most few h =
@@ -96,28 +95,28 @@ with_row-few row (Ok rest) rows most few h =
     omega (arith, count, short)
 with_row-few row (Err fault) rows most few h = absurd (no_rows fault rows h)
 
--- where it isn't late
+-- the same if the row isn't early
 late-few : {A : Type 0} (number : ℕ) (row : A) (others : Result (List A) TableFault) (rows : List A) (most : ℕ) (late : Bool) →
     ((rest : List A) → others ≡ Ok rest → length rest ≤ most) → (if late then Err (OutOfOrder number) else with_row row others) ≡ Ok rows →
     length rows ≤ most + 1
 late-few number row others rows most true few h = absurd (no_rows (OutOfOrder number) rows h)
 late-few number row others rows most false few h = with_row-few row others rows most few h
 
--- where it is a row
+-- the same if it is a row
 row_then-few : {A : Type 0} (instant : A → ℕ) (number before : ℕ) (row : Option A) (others : ℕ → Result (List A) TableFault) (rows : List A) (most : ℕ) →
     ((last : ℕ) (rest : List A) → others last ≡ Ok rest → length rest ≤ most) → row_then instant number before row others ≡ Ok rows → length rows ≤ most + 1
 row_then-few instant number before None others rows most few h = absurd (no_rows (BadRow number) rows h)
 row_then-few instant number before (Some row) others rows most few h =
     late-few number row (others (instant row)) rows most (nat_lt (instant row) before) (few (instant row)) h
 
--- where the rows aren't too many
+-- the same if there are not too many rows
 unless-few : {A : Type 0} (most : ℕ) (number : ℕ) (read : Result (List A) TableFault) (rows : List A) (many : Bool) → nat_lt most number ≡ many →
     (number ≤ most → read ≡ Ok rows → length rows + number ≤ most + 1) → (if many then Err TooMany else read) ≡ Ok rows → length rows + number ≤ most + 1
 unless-few most number read rows true test few h = absurd (no_rows TooMany rows h)
 unless-few most number read rows false test few h =
     let within : number ≤ most = grind (arith, common_steps) in few within h
 
--- so the rows are as many as may be at most
+-- so there are at most `most` rows
 rows_from-few : {A : Type 0} (most : ℕ) (read : Fields → Option A) (instant : A → ℕ) (number before : ℕ) (records : List Fields) (rows : List A) → number ≤ most + 1 →
     rows_from most read instant number before records ≡ Ok rows → length rows + number ≤ most + 1
 rows_from-few {A} most read instant number before [] rows low h =
@@ -131,14 +130,14 @@ rows_from-few most read instant number before (fields ∷ records) rows low h =
     omega (arith, more)) e in
     omega (arith, rest_few)) h
 
--- under the right header
+-- the same after the right header
 named-few : {A : Type 0} (most : ℕ) (read : Fields → Option A) (instant : A → ℕ) (named : Bool) (records : List Fields) (rows : List A) →
     (if named then rows_from most read instant 1 0 records else Err BadHeader) ≡ Ok rows → length rows ≤ most
 named-few most read instant true records rows h = let few : length rows + 1 ≤ most + 1 = rows_from-few most read instant 1 0 records rows (omega arith) h in
     omega (arith, few)
 named-few most read instant false records rows h = absurd (no_rows BadHeader rows h)
 
--- a table has no more rows than it may
+-- a table has no more rows than it may have
 pub rows_under-few : {A : Type 0} (most : ℕ) (names : Fields) (read : Fields → Option A) (instant : A → ℕ) (records : List Fields) (rows : List A) →
     rows_under most names read instant records ≡ Ok rows → length rows ≤ most
 rows_under-few most names read instant [] rows h = absurd (no_rows BadHeader rows h)
@@ -156,7 +155,7 @@ AreInOrder-nil {A} instant before = record {
   in_order = λ i j d lower inside. absurd (omega arith);
 }
 
--- and one that isn't early before rows in order
+-- a row that isn't early, before rows in order, is in order
 AreInOrder-cons : {A : Type 0} (instant : A → ℕ) (before : ℕ) (row : A) (rows : List A) → before ≤ instant row → AreInOrder instant (instant row) rows →
     AreInOrder instant before (row ∷ rows)
 AreInOrder-cons {A} instant before row rows h more = record {
@@ -164,13 +163,13 @@ AreInOrder-cons {A} instant before row rows h more = record {
   in_order = AllPairs-cons (λ (a b : A). instant a ≤ instant b) row rows more.from_there more.in_order;
 }
 
--- a row in front of what was read
+-- a row before the rows that were read
 with_row-ok : {A : Type 0} (row : A) (others : Result (List A) TableFault) (rows : List A) → with_row row others ≡ Ok rows → (rest : List A) ×
     (others ≡ Ok rest) × (row ∷ rest ≡ rows)
 with_row-ok row (Ok rest) rows h = (rest, refl, cc)
 with_row-ok row (Err fault) rows h = absurd (no_rows fault rows h)
 
--- a row that isn't late keeps the order
+-- a row that isn't early keeps the order
 row-in_order : {A : Type 0} (instant : A → ℕ) (before number : ℕ) (row : A) (others : Result (List A) TableFault) (rows : List A) (late : Bool) →
     nat_lt (instant row) before ≡ late → ((rest : List A) → others ≡ Ok rest → AreInOrder instant (instant row) rest) →
     (if late then Err (OutOfOrder number) else with_row row others) ≡ Ok rows → AreInOrder instant before rows
@@ -180,7 +179,7 @@ row-in_order {A} instant before number row others rows false test more h =
     let not_before : before ≤ instant row = grind (arith, common_steps) in
     subst (λ (xs : List A). AreInOrder instant before xs) read.2 (AreInOrder-cons instant before row read.0 not_before (more read.0 read.1))
 
--- where it is a row
+-- the same if it is a row
 row_then-in_order : {A : Type 0} (instant : A → ℕ) (before number : ℕ) (row : Option A) (others : ℕ → Result (List A) TableFault) (rows : List A) →
     ((last : ℕ) (rest : List A) → others last ≡ Ok rest → AreInOrder instant last rest) → row_then instant number before row others ≡ Ok rows →
     AreInOrder instant before rows
@@ -188,7 +187,7 @@ row_then-in_order instant before number None others rows more h = absurd (no_row
 row_then-in_order instant before number (Some row) others rows more h =
     row-in_order instant before number row (others (instant row)) rows (nat_lt (instant row) before) refl (more (instant row)) h
 
--- where the rows aren't too many
+-- the same if there are not too many rows
 unless-in_order : {A : Type 0} (instant : A → ℕ) (before : ℕ) (read : Result (List A) TableFault) (rows : List A) (many : Bool) →
     (read ≡ Ok rows → AreInOrder instant before rows) → (if many then Err TooMany else read) ≡ Ok rows → AreInOrder instant before rows
 unless-in_order instant before read rows true ordered h = absurd (no_rows TooMany rows h)
@@ -204,13 +203,13 @@ rows_from-in_order most read instant number before (fields ∷ records) rows h =
     (row_then-in_order instant before number (read fields) (λ last. rows_from most read instant (number + 1) last records) rows
     (λ last rest e. rows_from-in_order most read instant (number + 1) last records rest e)) h
 
--- under the right header
+-- the same after the right header
 named-in_order : {A : Type 0} (most : ℕ) (read : Fields → Option A) (instant : A → ℕ) (named : Bool) (records : List Fields) (rows : List A) →
     (if named then rows_from most read instant 1 0 records else Err BadHeader) ≡ Ok rows → AreInOrder instant 0 rows
 named-in_order most read instant true records rows h = rows_from-in_order most read instant 1 0 records rows h
 named-in_order most read instant false records rows h = absurd (no_rows BadHeader rows h)
 
--- no row of a table is before one that stands before it
+-- no row of a table is before an earlier one
 pub rows_under-in_order : {A : Type 0} (most : ℕ) (names : Fields) (read : Fields → Option A) (instant : A → ℕ) (records : List Fields) (rows : List A) →
     rows_under most names read instant records ≡ Ok rows → AllPairs (λ (a b : A). instant a ≤ instant b) rows
 rows_under-in_order most names read instant [] rows h = absurd (no_rows BadHeader rows h)

@@ -1,4 +1,4 @@
--- The text of the sums by link, told from counts of frames and columns of octets.
+-- The text of the sums by link, written from counts of frames and columns of octets.
 use Rattle.std.proofs.Common.{◌≡◌, ℕ, ◌<◌, ◌++◌, List, inl, inr, sym, ap, ◌∙◌, length, fold, max, sum, get_or}
 use Rattle.std.proofs.lemmas.Bool.{cases_lt}
 use Rattle.cqf_lists.proofs.EachBelow.{same_below}
@@ -13,7 +13,7 @@ use Rattle.cqf_report.specs.SumsTold.{ReportIsTold}
 use Rattle.cqf_report.specs.Written.{line_of_fields}
 use Rattle.cqf_report.proofs.LinkLines.{same_sums}
 
--- the text is told
+-- the text is the one written from them
 pub report_is_told : ReportIsCounted → ColumnsTell → ReportIsTold
 report_is_told counted tell d entries offers background cycles book frames column accepted legal offered behind ordered is sums =
     ap (λ (lines : List ℕ). line_of_fields link_header ++ lines)
@@ -30,7 +30,7 @@ report_is_told counted tell d entries offers background cycles book frames colum
       | inr past ↦ sums.none_past link cycle is_link past ∙ sym ((counts link).later cycle past)
     ]
 
-    -- and its line
+    -- its line
     line : (link : ℕ) → link < length d.links → line_of_fields (link_fields d book.starts link) ≡ line_of_fields (column_fields d frames column link)
     line link is_link =
         let told = tell book.starts link (column link) (cells link is_link) in

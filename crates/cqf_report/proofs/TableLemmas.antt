@@ -1,4 +1,4 @@
--- How the rows of a table follow one another.
+-- The rows of a table, one after the other.
 use Rattle.std.proofs.Common.{◌≡◌, ◌≤◌, ◌<◌, ◌+◌, ℕ, true, false, List, [], ◌∷◌, ◌++◌, Option, Some, None, Result, Ok, Err, IfErr, IfOk, IsErrAnd, subst}
 use Rattle.std.proofs.Common.{nat_lt, length, refl, sym, ap, ◌∙◌, rules}
 use Rattle.std.proofs.lemmas.List.{append-nil}
@@ -10,14 +10,14 @@ use Rattle.cqf_report.specs.Table.{IsFaultOf, TakesHeader, TakesNext, has_header
 use Rattle.cqf_report.specs.declared.tables.TableFault.{TableFault}
 use Rattle.cqf_report.specs.declared.tables.TableFault.TheVariants.{BadHeader, TooMany, BadRow, OutOfOrder}
 
--- a row that has not the form of one
+-- a row that doesn't have the form of a row
 pub rows_from-bad : {A : Type 0} (most : ℕ) (read : Fields → Option A) (instant : A → ℕ) (number before : ℕ) (fields : Fields) (rest : List Fields)
     → number ≤ most → read fields ≡ None → rows_from most read instant number before (fields ∷ rest) ≡ Err (BadRow number)
 rows_from-bad most read instant number before fields rest few bad =
     let in_range : nat_lt most number ≡ false = search rules in
     rw (in_range, bad) refl
 
--- a row that is before the one before it
+-- a row that is before the previous row
 pub rows_from-back : {A : Type 0} (most : ℕ) (read : Fields → Option A) (instant : A → ℕ) (number before : ℕ) (fields : Fields) (rest : List Fields) (row : A)
     → number ≤ most → read fields ≡ Some row → instant row < before → rows_from most read instant number before (fields ∷ rest) ≡ Err (OutOfOrder number)
 rows_from-back most read instant number before fields rest row few good back =
@@ -25,7 +25,7 @@ rows_from-back most read instant number before fields rest row few good back =
     let goes_back : nat_lt (instant row) before ≡ true = search rules in
     rw (in_range, good, goes_back) refl
 
--- a row that stands, and those behind it
+-- a good row, and those after it
 pub rows_from-good : {A : Type 0} (most : ℕ) (read : Fields → Option A) (instant : A → ℕ) (number before : ℕ) (fields : Fields) (rest : List Fields) (row : A)
     → number ≤ most → read fields ≡ Some row → before ≤ instant row
     → rows_from most read instant number before (fields ∷ rest) ≡ with_row row (rows_from most read instant (number + 1) (instant row) rest)
@@ -34,30 +34,30 @@ rows_from-good most read instant number before fields rest row few good in_order
     let goes_on : nat_lt (instant row) before ≡ false = search rules in
     rw (in_range, good, goes_on) refl
 
--- one row more than a table may have
+-- one more row than a table may have
 pub rows_from-too_many : {A : Type 0} (most : ℕ) (read : Fields → Option A) (instant : A → ℕ) (number before : ℕ) (fields : Fields) (rest : List Fields)
     → most < number → rows_from most read instant number before (fields ∷ rest) ≡ Err TooMany
 rows_from-too_many most read instant number before fields rest many =
     let beyond : nat_lt most number ≡ true = search rules in
     rw beyond refl
 
--- the rows that were taken, in front of those that follow
+-- the rows that were taken, followed by the others
 abbrev pub behind : {A : Type 0} → List A → Result (List A) TableFault → Result (List A) TableFault
 behind [] others = others
 behind (row ∷ rows) others = with_row row (behind rows others)
 
--- a row more in front of what is read
+-- one more row before what is read
 pub behind-more : {A : Type 0} (rows : List A) (row : A) (others : Result (List A) TableFault) →
     behind (rows ++ row ∷ []) others ≡ behind rows (with_row row others)
 behind-more [] row others = refl
 behind-more (first ∷ rows) row others = ap (λ r. with_row first r) (behind-more rows row others)
 
--- rows behind rows
+-- rows followed by rows
 pub behind-ok : {A : Type 0} (rows others : List A) → behind rows (Ok others) ≡ Ok (rows ++ others)
 behind-ok [] others = refl
 behind-ok (first ∷ rows) others = ap (λ r. with_row first r) (behind-ok rows others)
 
--- a fault behind rows is the fault
+-- a fault after rows is the fault
 pub behind-err : {A : Type 0} (rows : List A) (fault : TableFault) → behind rows (Err fault) ≡ Err fault
 behind-err [] fault = refl
 behind-err (first ∷ rows) fault = ap (λ r. with_row first r) (behind-err rows fault)
@@ -78,11 +78,11 @@ next-refused most columns read instant number before rows few refuses other =
     let count : columns ≡ refuses.count = some-inj columns refuses.count refuses.expects in
     rw refuses.first (rows_from-bad most read instant number before refuses.fields refuses.rest few (other refuses.fields (λ e. refuses.other (sym count ∙ e))))
   where
-    -- options that are equal hold equal numbers
+    -- `Some` is injective
     some-inj : (a b : ℕ) → ◌≡◌ {A = Option ℕ} (Some a) (Some b) → a ≡ b
     some-inj a b e = cc
 
--- a row that was taken and is before the one before it is the first fault
+-- a row that was taken and is before the previous row is the first fault
 pub next-back : {A R : Type 0} (most : ℕ) (columns : ℕ) (read : Fields → Option A) (instant : A → ℕ) (remaining : R → Option (List ℕ)) (number before : ℕ)
     (fields : Fields) (rows : List Fields) (after : Reader R) (row : A)
     → number ≤ most → TakesRow remaining (Some columns) after fields rows → read fields ≡ Some row → instant row < before →
@@ -90,7 +90,7 @@ pub next-back : {A R : Type 0} (most : ℕ) (columns : ℕ) (read : Fields → O
 next-back most columns read instant remaining number before fields rows after row few takes good back =
     rw takes.first (rows_from-back most read instant number before fields takes.rest row few good back)
 
--- a row that was taken and stands
+-- a good row that was taken
 pub next-good : {A R : Type 0} (most : ℕ) (columns : ℕ) (read : Fields → Option A) (instant : A → ℕ) (remaining : R → Option (List ℕ)) (number before : ℕ)
     (fields : Fields) (rows : List Fields) (after : Reader R) (row : A)
     → number ≤ most → TakesRow remaining (Some columns) after fields rows → read fields ≡ Some row → before ≤ instant row
@@ -100,13 +100,13 @@ next-good most columns read instant remaining number before fields rows after ro
     let as_many : columns ≡ length fields = takes.fits in
     (takes.rest, rw (← as_many) at takes.goes_on, rw takes.first (rows_from-good most read instant number before fields takes.rest row few good in_order))
 
--- these rows were taken, up to and without the row of this number, and the reader still gives the others
+-- these rows were taken, those before the row with this number, and the reader still returns the others
 abbrev pub Taken : {A R : Type 0} → ℕ → ℕ → (Fields → Option A) → (A → ℕ) → (R → Option (List ℕ)) → Reader R → ℕ → ℕ → List A → Reader R → Type 0
 Taken most columns read instant remaining first number before taken after = (rows : List Fields) → StillGives remaining (Some columns) first rows
     → (rest : List Fields) × StillGives remaining (Some columns) after rest
     × (rows_from most read instant 1 0 rows ≡ behind taken (rows_from most read instant number before rest))
 
--- where the reader gives no further row, the table is what was taken
+-- if the reader returns no further row, the table has the rows that were taken
 pub taken-end : {A R : Type 0} (most : ℕ) (columns : ℕ) (read : Fields → Option A) (instant : A → ℕ) (remaining : R → Option (List ℕ)) (first : Reader R)
     (number before : ℕ) (taken : List A) (after : Reader R)
     → Taken most columns read instant remaining first number before taken after → ((rest : List Fields) → StillGives remaining (Some columns) after rest → rest ≡ [])
@@ -116,7 +116,7 @@ taken-end most columns read instant remaining first number before taken after so
     let ended : rows_from most read instant number before rest ≡ Ok [] = rw (none rest still) refl in
     is ∙ ap (behind taken) ended ∙ behind-ok taken [] ∙ ap Ok (append-nil taken)
 
--- where the next row has a fault, it is the table's
+-- if the next row has a fault, it is the table's fault
 pub taken-fault : {A R : Type 0} (most : ℕ) (columns : ℕ) (read : Fields → Option A) (instant : A → ℕ) (remaining : R → Option (List ℕ)) (first : Reader R)
     (number before : ℕ) (taken : List A) (after : Reader R) (fault : TableFault)
     → Taken most columns read instant remaining first number before taken after →
@@ -126,7 +126,7 @@ taken-fault most columns read instant remaining first number before taken after 
     let (rest, still, is) = so_far rows gives in
     is ∙ ap (behind taken) (bad rest still) ∙ behind-err taken fault
 
--- one row more was taken
+-- one more row was taken
 pub taken-more : {A R : Type 0} (most : ℕ) (columns : ℕ) (read : Fields → Option A) (instant : A → ℕ) (remaining : R → Option (List ℕ)) (first : Reader R)
     (number before : ℕ) (taken : List A) (after next : Reader R) (row : A)
     → Taken most columns read instant remaining first number before taken after →
@@ -161,11 +161,11 @@ pub header-other : {R : Type 0} (remaining : R → Option (List ℕ)) (names fie
     → TakesRow remaining None after fields rows → is_header names fields ≡ false → has_header names rows ≡ false
 header-other remaining names fields rows after takes other = rw takes.first other
 
--- a first record has no length to differ from
+-- a first record has no expected length
 pub header-unrefused : (rows : List Fields) → RefusesRow None rows → ⊥
 header-unrefused rows refuses = let e = refuses.expects in cc
 
--- the table's rows are those under its header
+-- the table's rows are those after its header
 pub under-header : {A R : Type 0} (most : ℕ) (read : Fields → Option A) (instant : A → ℕ) (remaining : R → Option (List ℕ)) (names : Fields) (rows : List Fields)
     (after : Reader R) (begins : TakesHeader remaining names rows after)
     → rows_under most names read instant rows ≡ rows_from most read instant 1 0 begins.rest
@@ -177,18 +177,18 @@ pub without-header : {A : Type 0} (most : ℕ) (read : Fields → Option A) (ins
 without-header most read instant names [] none = refl
 without-header most read instant names (first ∷ rows) none = rw none refl
 
--- what follows of an answer, where a fact of it follows from another
+-- a consequence of an error, from that of its cause
 pub err-of : {V : Type 0} (result : Result V TableFault) (P Q : TableFault → Type 0) → IfErr result P → ((fault : TableFault) → P fault → Q fault) →
     IfErr result Q
 err-of (Ok v) P Q h follows = tt
 err-of (Err fault) P Q h follows = follows fault h
 
--- of what is right, what follows from it
+-- the same for a result that is `Ok`
 pub ok-of : {V E : Type 0} (result : Result V E) (P Q : V → Type 0) → IfOk result P → ((v : V) → P v → Q v) → IfOk result Q
 ok-of (Ok v) P Q h follows = follows v h
 ok-of (Err fault) P Q h follows = tt
 
--- the table's rows, from the rows under its header
+-- the table's rows, from the rows after its header
 pub table-ok : {A V R : Type 0} (most : ℕ) (read : Fields → Option A) (instant : A → ℕ) (remaining : R → Option (List ℕ)) (items : V → List A) (names : Fields)
     (rows : List Fields) (after : Reader R) (result : Result V TableFault)
     → TakesHeader remaining names rows after
@@ -198,7 +198,7 @@ table-ok most read instant remaining items names rows after result begins h =
     ok-of result _ (λ v. rows_under most names read instant rows ≡ Ok (items v)) h
     (λ v is. under-header most read instant remaining names rows after begins ∙ is begins.rest begins.goes_on)
 
--- the table's fault, from the fault of the rows under its header
+-- the table's fault, from the fault of the rows after its header
 pub table-err : {A V R : Type 0} (most : ℕ) (read : Fields → Option A) (instant : A → ℕ) (remaining : R → Option (List ℕ)) (names : Fields) (rows : List Fields)
     (after : Reader R) (result : Result V TableFault)
     → TakesHeader remaining names rows after

@@ -1,4 +1,4 @@
--- How the records that a reader still gives follow one another.
+-- The records that a reader still returns, one after the other.
 use Rattle.std.proofs.Common.{◌≡◌, ◌≢◌, ◌≤◌, ◌<◌, ◌+◌, ◌==◌, ◌||◌, ℕ, zero, suc, Bool, true, false, List, [], ◌∷◌, ◌++◌, Option, Some, None, IfSome, option_map}
 use Rattle.std.proofs.Common.{if◌then◌else◌, length, refl, sym, ap, subst, ◌∙◌, arith, inl, inr}
 use Rattle.csv.specs.Machine.{Read, ends_at_end, field_after, fields_after, in_field, is_end, next_record, start_field, step}
@@ -12,16 +12,16 @@ use Rattle.csv.specs.declared.reader.Trim.TheVariants as trim
 use Rattle.csv.proofs.ReadFacts.{rows-end, rows-more}
 use Rattle.cqf_report.specs.Records.{Fields, RefusesRow, StillGives, TakesRow, records_of}
 
--- a step that ends a record leaves the machine between two records
+-- if a step ends a record, the machine is between two records
 abbrev EndsBetween : State × Action → Type 0
 EndsBetween x = is_end x.1 ≡ true → ends_at_end x.0 ≡ false
 
--- either of two that end between records
+-- either of two steps that end between records
 if-ends : (b : Bool) (x y : State × Action) → EndsBetween x → EndsBetween y → EndsBetween (if b then x else y)
 if-ends true x y f g = f
 if-ends false x y f g = g
 
--- behind a record the reader is between records
+-- after a record the reader is between records
 after-between : (b : Bool) → ends_at_end (if b then st.AfterCr else st.StartRecord) ≡ false
 after-between true = refl
 after-between false = refl
@@ -38,7 +38,7 @@ start_field-ends c = if-ends (c == 34) _ _ (λ e. cc) (in_field-ends c)
 start_record-ends : (c : ℕ) → EndsBetween (step default_config st.StartRecord c)
 start_record-ends c = if-ends ((c == 13) || (c == 10)) _ _ (λ e. cc) (start_field-ends c)
 
--- so each byte ends between records or goes on
+-- so each byte ends between records or continues the record
 step-ends : (s : State) (c : ℕ) → EndsBetween (step default_config s c)
 step-ends st.StartRecord c = start_record-ends c
 step-ends st.StartField c = start_field-ends c
@@ -54,16 +54,16 @@ abbrev tail_of : Option Read → List ℕ
 tail_of None = []
 tail_of (Some p) = p.2
 
--- what was read leaves the machine between two records, and no more than so many bytes
+-- a read leaves the machine between two records, with at most this number of bytes
 record Leaves (most : ℕ) (p : Read) : Type 0 where
   between : ends_at_end p.1 ≡ false
   short : length p.2 ≤ most
 
--- one read leaves what the other does
+-- equal reads leave the same
 leaves-along : (most : ℕ) (q p : Read) → Some q ≡ Some p → Leaves most q → Leaves most p
 leaves-along most q p e h = let same : q ≡ p = cc in subst (λ (r : Read). Leaves most r) same h
 
--- a record that is read leaves less
+-- reading a record leaves fewer bytes
 next-leaves : (s : State) (fields : Fields) (field xs : List ℕ) (p : Read) → next_record default_config s fields field xs ≡ Some p → Leaves (length xs) p
 unfolding next_record
 next-leaves s fields field [] p e = by (ends_at_end s) e
@@ -77,7 +77,7 @@ next-leaves s fields field (c ∷ rest) p e =
     (λ k. next-leaves (step default_config s c).0 (fields_after (step default_config s c).1 fields field)
     (field_after (step default_config s c).1 c field) rest p k) e
   where
-    -- a record leaves no more than there was, whether it ends with this byte or goes on
+    -- a record leaves no more than there was, whether it ends with this byte or not
     by : (b : Bool) → is_end (step default_config s c).1 ≡ b
         → (next_record default_config (step default_config s c).0 (fields_after (step default_config s c).1 fields field)
         (field_after (step default_config s c).1 c field) rest ≡ Some p → Leaves (length rest) p)
@@ -87,7 +87,7 @@ next-leaves s fields field (c ∷ rest) p e =
     by true ends more e = leaves-along _ _ p e (record { between = step-ends s c ends; short = omega arith })
     by false ends more e = let h = more e in record { between = h.between; short = omega (arith, h.short) }
 
--- a record that begins between two records takes a byte at least
+-- a record that begins between two records takes at least one byte
 next-shorter : (s : State) (xs : List ℕ) (p : Read) → ends_at_end s ≡ false → next_record default_config s [] [] xs ≡ Some p → length p.2 < length xs
 unfolding next_record
 next-shorter s [] p between e = by (ends_at_end s) between e
@@ -100,7 +100,7 @@ next-shorter s (c ∷ rest) p between e =
     by (is_end (step default_config s c).1)
     (λ k. next-leaves (step default_config s c).0 (fields_after (step default_config s c).1 [] []) (field_after (step default_config s c).1 c []) rest p k) e
   where
-    -- a record takes a byte at least, whether it ends with this one or goes on
+    -- a record takes at least one byte, whether it ends with this one or not
     by : (b : Bool)
         → (next_record default_config (step default_config s c).0 (fields_after (step default_config s c).1 [] [])
         (field_after (step default_config s c).1 c []) rest ≡ Some p → Leaves (length rest) p)
@@ -110,14 +110,14 @@ next-shorter s (c ∷ rest) p between e =
     by true more e = let same : rest ≡ p.2 = ap (λ (o : Option Read). tail_of o) e in omega (arith, ap length same)
     by false more e = let h = more e in omega (arith, h.short)
 
--- what the records of a text are, by whether there is a next one
+-- the records of a text, if there is a next one
 record Goes (turns : ℕ) (s : State) (xs : List ℕ) (p : Read) : Type 0 where
   left : ℕ
   enough : length p.2 < left
   between : ends_at_end p.1 ≡ false
   gives : records_from default_config turns s xs ≡ p.0 ∷ records_from default_config left p.1 p.2
 
--- while there are turns, the reader goes on
+-- while there are turns left, the reader goes on
 goes-on : (turns : ℕ) (s : State) (xs : List ℕ) (p : Read) → length xs < turns → ends_at_end s ≡ false → next_record default_config s [] [] xs ≡ Some p →
     Goes turns s xs p
 unfolding records_from
@@ -127,24 +127,24 @@ goes-on (suc turns) s xs p enough between e =
     let leaves = next-leaves s [] [] xs p e in
     record { left = turns; enough = omega (arith, shorter); between = leaves.between; gives = rw e refl }
 
--- and where no record is left it ends
+-- if no record is left, it ends
 goes-no-further : (turns : ℕ) (s : State) (xs : List ℕ) → next_record default_config s [] [] xs ≡ None → records_from default_config turns s xs ≡ []
 unfolding records_from
 goes-no-further zero s xs e = refl
 goes-no-further (suc turns) s xs e = rw e refl
 
--- the same records, by other names
+-- the same records under other names
 first-of : (rows : List Fields) (fields f : Fields) (left : ℕ) (s s2 : State) (xs ys : List ℕ) → rows ≡ f ∷ records_from default_config left s xs → fields ≡ f →
     s ≡ s2 → xs ≡ ys
     → rows ≡ fields ∷ records_from default_config left s2 ys
 first-of rows fields f left s s2 xs ys is same state bytes = rw (same, ← state, ← bytes) is
 
--- a length that stays as it was expected
+-- an expected length that doesn't change
 as-expected : (old new : Option ℕ) (count : ℕ) → IfSome old (λ n. new ≡ Some n) → new ≡ Some count → IfSome old (λ n. n ≡ count)
 as-expected None new count same is = tt
 as-expected (Some n) new count same is = let e : ◌≡◌ {A = Option ℕ} (Some n) (Some count) = sym same ∙ is in cc
 
--- a record that was read is the first of those that the reader gave
+-- a record that was read is the first of those that the reader returns
 pub takes-row : {R : Type 0} (rem : R → Option (List ℕ)) (expected : Option ℕ) (old new : Reader R) (fields : Fields) (rows : List Fields)
     → StillGives rem expected old rows → ReadRecord rem old new true fields → took_first new ≡ true → is_flexible new ≡ is_flexible old
     → TakesRow rem expected new fields rows
@@ -172,7 +172,7 @@ takes-row rem expected old new fields rows gives read took flexible =
       };
     }
 
--- where there is none, the reader gave none
+-- if there is none, the reader returns none
 pub takes-none : {R : Type 0} (rem : R → Option (List ℕ)) (expected : Option ℕ) (old new : Reader R) (fields : Fields) (rows : List Fields)
     → StillGives rem expected old rows → ReadRecord rem old new false fields → rows ≡ []
 takes-none rem expected old new fields rows gives read =
@@ -184,19 +184,19 @@ read-next : (s after : State) (xs : List ℕ) (left : Option (List ℕ)) (fields
 read-next s after xs None fields h = absurd h
 read-next s after xs (Some ys) fields h = by (next_record default_config s [] [] xs) refl h
   where
-    -- there is a next record, and it is what was read
+    -- there is a next record, and it is the one that was read
     by : (o : Option Read) → next_record default_config s [] [] xs ≡ o → NextIs o true fields after ys → (p : Read) ×
         (next_record default_config s [] [] xs ≡ Some p) × (fields ≡ p.0)
     by None e h = cc
     by (Some p) e h = (p, e, h.1)
 
--- the records, the first by its fields
+-- the records, given the fields of the first
 first-row : (rows : List Fields) (fields : Fields) (p : Read) (all : List Fields) (left : ℕ) → rows ≡ all →
     all ≡ p.0 ∷ records_from default_config left p.1 p.2 → fields ≡ p.0
     → rows ≡ fields ∷ records_from default_config left p.1 p.2
 first-row rows fields p all left e f same = e ∙ f ∙ rw same refl
 
--- a record that csv refuses for its length is the first of those that the reader gave
+-- a record that csv refuses for its length is the first of those that the reader returns
 pub refuses-row : {R : Type 0} (rem : R → Option (List ℕ)) (expected : Option ℕ) (old new : Reader R) (rows : List Fields) (count len : ℕ)
     → StillGives rem expected old rows → expected_len old ≡ Some count → count ≢ len → (fields : Fields) → TookRecord rem old new fields → length fields ≡ len
     → RefusesRow expected rows
@@ -214,7 +214,7 @@ refuses-row rem expected old new rows count len gives expects other fields took 
       other = rw same other;
     }
 
--- a reader at the start of a text gives its records
+-- a reader at the start of a text returns its records
 pub opened : {R : Type 0} (remaining : R → Option (List ℕ)) (reader : Reader R) (source : R) (bytes : List ℕ)
     → reader_config reader ≡ default_config → names_headers reader ≡ false → reader_headers reader ≡ None → is_flexible reader ≡ false →
     reader_trim reader ≡ trim.None

@@ -12,7 +12,7 @@ use Rattle.cqf_model.specs.Limits.{last_until}
 abbrev pub arrival_header : Fields
 arrival_header = codes "at" ∷ codes "class" ∷ codes "octets" ∷ codes "frame" ∷ []
 
--- the arrival, where each of its numbers is there
+-- the arrival, if all of its numbers are there
 abbrev pub arrival_with : Option ℕ → Option ℕ → Option ℕ → Option ℕ → Option Arrival
 arrival_with None class octets frame = None
 arrival_with (Some at) None octets frame = None
@@ -33,7 +33,7 @@ arrival_instant arrival = arrival.at.0
 abbrev pub arrivals_of_table : List ℕ → Result (List Arrival) TableFault
 arrivals_of_table text = table_read (rows_within profile) arrival_header (in_four arrival_of) arrival_instant text
 
--- what an arrival that is read is like, and all of them: no one is before one that stands before it
+-- the ranges of an arrival that is read; and of all arrivals, which are also in order of instant
 pub record IsArrival (arrival : Arrival) : Type 0 where
   pub class : arrival.class ≤ 7
   pub early : arrival.at.0 ≤ last_until

@@ -27,20 +27,20 @@ abbrev pub started_fields : List ℕ → Domain → Started → Fields
 started_fields what d started =
     what ∷ decimal started.cycle.0 ∷ name_of_link d started.link ∷ decimal started.frame ∷ decimal started.octets ∷ decimal started.start.0 ∷ []
 
--- a drop's cycle, bridge, frame, size and reason
+-- a drop: its cycle, bridge, frame, size and reason
 abbrev pub dropped_fields : Domain → Dropped → Fields
 dropped_fields d dropped =
     codes "drop" ∷ decimal dropped.cycle.0 ∷ name_of_bridge d dropped.bridge ∷ decimal dropped.frame ∷ decimal dropped.octets ∷ name_of_reason
     dropped.reason ∷ []
 
--- one line a transmission, and one line a drop, in their orders
+-- one line for each transmission, and one line for each drop, in their orders
 abbrev pub lines_of_starts : List ℕ → Domain → List Started → List ℕ
 lines_of_starts what d starts = flat_map (λ (started : Started). line_of_fields (started_fields what d started)) starts
 
 abbrev pub lines_of_drops : Domain → List Dropped → List ℕ
 lines_of_drops d drops = flat_map (λ (dropped : Dropped). line_of_fields (dropped_fields d dropped)) drops
 
--- the text of a book: the header, the transmissions of streams' frames, those of background frames, and then the drops
+-- the text of a book: the header, the transmissions of streams' frames, those of background frames, and last the drops
 abbrev pub text_of_book : Domain → Contents → List ℕ
 text_of_book d book =
     line_of_fields book_header

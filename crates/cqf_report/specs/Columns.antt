@@ -7,7 +7,7 @@ use Rattle.cqf_report.specs.LinkSums.{link_header, sums_fields}
 use Rattle.cqf_report.specs.Records.{Fields}
 use Rattle.cqf_report.specs.Written.{line_of_fields}
 
--- the line of a link by its frames and its octets in each cycle, and all of them behind the header
+-- the line of a link, given its frames and its octets in each cycle; and the lines of all links after the header
 abbrev pub column_fields : Domain → (ℕ → ℕ) → (ℕ → List ℕ) → ℕ → Fields
 column_fields d frames octets link = sums_fields (name_of_link d link) (frames link) (sum (octets link)) (fold max 0 (octets link))
 

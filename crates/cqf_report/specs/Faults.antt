@@ -1,4 +1,4 @@
--- The texts of a table's faults: a fault's name, and then its row's number, after a space.
+-- The texts of a table's faults: a fault's name, followed by a space and its row's number if it has one.
 use Rattle.std.specs.Prelude.{ℕ, ◌++◌, List, codes, decimal}
 use Rattle.cqf_report.specs.declared.tables.TableFault.{TableFault}
 use Rattle.cqf_report.specs.declared.tables.TableFault.TheVariants as table_fault

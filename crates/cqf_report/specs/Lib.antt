@@ -12,7 +12,7 @@ pub mod HistoryText
 pub mod LinkSums
 pub mod Columns
 pub mod SumsTold
--- what the inner functions say
+-- properties of the internal functions
 pub mod CallTexts
 pub mod OtherColumns
 pub mod ByLink

@@ -15,21 +15,21 @@ use Rattle.cqf_report.specs.declared.tables.TableFault.{TableFault}
 abbrev pub offer_header : Fields
 offer_header = codes "at" ∷ codes "bridge" ∷ codes "stream" ∷ codes "octets" ∷ []
 
--- the node, where it is a bridge
+-- the number of the node, if it is a bridge
 abbrev pub as_bridge : Option Node → Option ℕ
 as_bridge None = None
 as_bridge (Some (Bridge b)) = Some b
 as_bridge (Some (Station s)) = None
 
--- the bridge of a name. What has not the form of a name names none
+-- the bridge with a name. A text that doesn't have the form of a name names no bridge
 abbrev pub bridge_named : Domain → List ℕ → Option ℕ
 bridge_named d name = if is_name name then as_bridge (node_named d name) else None
 
--- the name, where it has the form of one
+-- a text, if it has the form of a name
 abbrev pub name_in : List ℕ → Option (List ℕ)
 name_in name = if is_name name then Some name else None
 
--- the offer, where each of its parts is there
+-- the offer, if all of its parts are there
 abbrev pub offer_with : Option ℕ → Option ℕ → Option (List ℕ) → Option ℕ → Option Offer
 offer_with None bridge stream octets = None
 offer_with (Some at) None stream octets = None
@@ -37,8 +37,8 @@ offer_with (Some at) (Some bridge) None octets = None
 offer_with (Some at) (Some bridge) (Some stream) None = None
 offer_with (Some at) (Some bridge) (Some stream) (Some octets) = Some (record { at = record { 0 = at }; bridge = bridge; stream = stream; octets = octets })
 
--- the offer that four fields write: an instant before 1,000,000,000,000, a bridge of the domain, any name of a stream,
--- and a size that Ethernet has (IEEE 802.3)
+-- the offer that four fields write: an instant before 1,000,000,000,000, a bridge of the domain, any name of a stream, and a size that
+-- Ethernet allows (IEEE 802.3)
 abbrev pub offer_of : Domain → List ℕ → List ℕ → List ℕ → List ℕ → Option Offer
 offer_of d at bridge stream octets =
     offer_with (decimal_in 0 999999999999 at) (bridge_named d bridge) (name_in stream) (decimal_in 64 1522 octets)

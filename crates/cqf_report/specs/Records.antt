@@ -1,4 +1,4 @@
--- What a text of comma-separated values holds, as the reader of the crate `csv` reads it, and what a reader still gives.
+-- The records of a text of comma-separated values, as the reader of the crate `csv` reads them, and what a reader still returns.
 use Rattle.std.specs.Prelude.{ℕ, ◌≡◌, ◌≢◌, ◌<◌, ⊤, List, [], ◌∷◌, Option, Some, IfSome, false, length}
 use Rattle.csv.specs.Machine.{ends_at_end}
 use Rattle.csv.specs.Reading.{Ready, default_config, expected_len, is_flexible, reader_config, reader_state, reader_trim, records, records_from, source_of}
@@ -8,7 +8,7 @@ use Rattle.csv.specs.declared.reader.Trim.TheVariants as trim
 use Rattle.cqf_report.specs.declared.records.TakenRecord.{TakenRecord}
 use Rattle.cqf_report.specs.declared.records.TakenRecord.TheVariants.{Row, End, Refused}
 
--- the fields of a record, each by its bytes
+-- the fields of a record, each as its bytes
 abbrev pub Fields : Type 0
 Fields = List (List ℕ)
 
@@ -16,7 +16,7 @@ Fields = List (List ℕ)
 abbrev pub records_of : List ℕ → List Fields
 records_of text = records default_config (strip_bom text)
 
--- the reader still gives these records, and expects this number of fields in each, if any
+-- the reader still returns these records, and expects this number of fields in each, if any is given
 pub record StillGives {R : Type 0} (remaining : R → Option (List ℕ)) (expected : Option ℕ) (reader : Reader R) (rows : List Fields) : Type 0 where
   pub ready : Ready reader
   pub untrimmed : reader_trim reader ≡ trim.None
@@ -30,7 +30,7 @@ pub record StillGives {R : Type 0} (remaining : R → Option (List ℕ)) (expect
   pub enough : length unread < turns
   pub gives : rows ≡ records_from default_config turns (reader_state reader) unread
 
--- the first of the rows was taken, has as many fields as are expected, and the reader still gives the others
+-- the first of the rows was taken and has the expected number of fields, if any; the reader still returns the others
 pub record TakesRow {R : Type 0} (remaining : R → Option (List ℕ)) (expected : Option ℕ) (after : Reader R) (fields : Fields)
     (rows : List Fields) : Type 0 where
   pub rest : List Fields
@@ -47,13 +47,13 @@ pub record RefusesRow (expected : Option ℕ) (rows : List Fields) : Type 0 wher
   pub expects : expected ≡ Some count
   pub other : count ≢ length fields
 
--- the next read is of one record again, unless there was none
+-- the reader can read another record, unless it has reached the end
 abbrev pub StaysReady : {R : Type 0} → TakenRecord → Reader R → Type 0
 StaysReady Row reader = Ready reader
 StaysReady End reader = ⊤
 StaysReady Refused reader = Ready reader
 
--- what was taken of the rows
+-- the result of taking a record: the next row, the end, or a row with another number of fields
 abbrev pub Takes : {R : Type 0} → (R → Option (List ℕ)) → Option ℕ → TakenRecord → Reader R → Fields → List Fields → Type 0
 Takes remaining expected Row after fields rows = TakesRow remaining expected after fields rows
 Takes remaining expected End after fields rows = rows ≡ []

@@ -10,15 +10,15 @@ use Rattle.cqf_report.specs.Written.{line_of_fields}
 abbrev pub start_header : Fields
 start_header = codes "class" ∷ codes "frame" ∷ codes "start" ∷ codes "end" ∷ []
 
--- a start's class, label, first instant and the instant at which its frame is over, where an octet takes so long
+-- a start's class, label, first instant, and the instant at which its frame ends, given the time of an octet
 abbrev pub start_fields : ℕ → Start → Fields
 start_fields octet_time start =
     decimal start.class ∷ decimal start.frame ∷ decimal start.start.0 ∷ decimal (ending_of start.start.0 start.octets octet_time) ∷ []
 
--- a line a start, in their order
+-- one line for each start, in their order
 abbrev pub lines_of_port : ℕ → List Start → List ℕ
 lines_of_port octet_time starts = flat_map (λ (start : Start). line_of_fields (start_fields octet_time start)) starts
 
--- the text of starts: the header, and then their lines
+-- the text of starts: the header, followed by their lines
 abbrev pub text_of_starts : ℕ → List Start → List ℕ
 text_of_starts octet_time starts = line_of_fields start_header ++ lines_of_port octet_time starts

@@ -1,4 +1,4 @@
--- The text of a book's sums by link, told from a count of frames and a column of octets for each link.
+-- The text of a book's sums by link, written from a count of frames and a column of octets for each link.
 use Rattle.std.specs.Prelude.{ℕ, ◌≡◌, List}
 use Rattle.cqf_model.specs.declared.frames.Background.{Background}
 use Rattle.cqf_model.specs.declared.frames.Offer.{Offer}
@@ -13,7 +13,7 @@ use Rattle.cqf_laws_coverage.specs.Told.{AreToldSums}
 use Rattle.cqf_report.specs.Columns.{columns_text}
 use Rattle.cqf_report.specs.LinkSums.{links_text}
 
--- where they are those of the hops of the covered offers, it is the text of the history's book
+-- if the counts and columns are those of the hops of the covered offers, this is the text of the sums of the history's book
 abbrev pub ReportIsTold : Type 0
 ReportIsTold =
     (d : Domain) (entries : List Recorded) (offers : List Offer) (background : List Background) (cycles : ℕ) (book : Contents)

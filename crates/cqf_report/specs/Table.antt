@@ -1,4 +1,4 @@
--- Tables: a header, and under it rows in order of instant. Rows count from 1.
+-- Tables: a header, followed by rows in order of instant. Rows count from 1.
 use Rattle.std.specs.Prelude.{ℕ, ◌≡◌, ◌≢◌, ◌+◌, List, [], ◌∷◌, Bool, true, false, Option, Some, None, Result, Ok, Err, if◌then◌else◌, length, nat_lt}
 use Rattle.std.specs.Cmp.Lexicographic.{pointwise}
 use Rattle.std.specs.Str.{bytes_eq}
@@ -11,7 +11,7 @@ use Rattle.cqf_report.specs.declared.tables.TableFault.TheVariants.{BadHeader, T
 abbrev pub is_header : Fields → Fields → Bool
 is_header names fields = pointwise bytes_eq names fields
 
--- the four fields of a record that has four, and the five of one that has five
+-- the four fields of a record with four fields, and the five of a record with five
 abbrev pub four_of : Fields → Option (List ℕ × List ℕ × List ℕ × List ℕ)
 four_of (first ∷ second ∷ third ∷ fourth ∷ []) = Some (first, second, third, fourth)
 four_of _ = None
@@ -20,7 +20,7 @@ abbrev pub five_of : Fields → Option (List ℕ × List ℕ × List ℕ × List
 five_of (first ∷ second ∷ third ∷ fourth ∷ fifth ∷ []) = Some (first, second, third, fourth, fifth)
 five_of _ = None
 
--- what a record of four fields writes, and one of five. One of another number of fields writes nothing
+-- what a record of four fields writes, and a record of five. A record with another number of fields writes nothing
 abbrev pub in_four : {A : Type 0} → (List ℕ → List ℕ → List ℕ → List ℕ → Option A) → Fields → Option A
 in_four read (first ∷ second ∷ third ∷ fourth ∷ []) = read first second third fourth
 in_four read _ = None
@@ -29,13 +29,12 @@ abbrev pub in_five : {A : Type 0} → (List ℕ → List ℕ → List ℕ → Li
 in_five read (first ∷ second ∷ third ∷ fourth ∷ fifth ∷ []) = read first second third fourth fifth
 in_five read _ = None
 
--- a row in front of the others
+-- a row before the others
 abbrev pub with_row : {A : Type 0} → A → Result (List A) TableFault → Result (List A) TableFault
 with_row row (Ok rows) = Ok (row ∷ rows)
 with_row row (Err fault) = Err fault
 
--- the row of this number, if it has the form of one and isn't before an instant, and then the others, each of which may
--- not be before this one
+-- the row with this number, if it has the form of a row and isn't before an instant, followed by the others, which may not be before this row
 abbrev pub row_then : {A : Type 0} → (A → ℕ) → ℕ → ℕ → Option A → (ℕ → Result (List A) TableFault) → Result (List A) TableFault
 row_then instant number before None others = Err (BadRow number)
 row_then instant number before (Some row) others =
@@ -48,7 +47,7 @@ rows_from most read instant number before (fields ∷ rows) =
     if nat_lt most number then Err TooMany
     else row_then instant number before (read fields) (λ last. rows_from most read instant (number + 1) last rows)
 
--- the rows under the header, or the first fault
+-- the rows after the header, or the first fault
 abbrev pub rows_under : {A : Type 0} → ℕ → Fields → (Fields → Option A) → (A → ℕ) → List Fields → Result (List A) TableFault
 rows_under most names read instant [] = Err BadHeader
 rows_under most names read instant (first ∷ rows) =
@@ -58,12 +57,12 @@ rows_under most names read instant (first ∷ rows) =
 abbrev pub table_read : {A : Type 0} → ℕ → Fields → (Fields → Option A) → (A → ℕ) → List ℕ → Result (List A) TableFault
 table_read most names read instant text = rows_under most names read instant (records_of text)
 
--- the fault is the table's first. Nothing is said of want of memory
+-- the fault is the table's first fault. Nothing is claimed about the fault `Memory`
 abbrev pub IsFaultOf : {A : Type 0} → Result (List A) TableFault → TableFault → Type 0
 IsFaultOf table fault = fault ≢ Memory → table ≡ Err fault
 
--- what taking the next row does, of the rows of so many columns from this number on: there is none; or it is taken, and the
--- reader still gives the others; or it is the first fault
+-- the effect of taking the next row of a table with `columns` columns: there is no further row; or the row is taken, and the reader still
+-- returns the others; or the result is the first fault
 abbrev pub TakesNext : {A R : Type 0} → ℕ → ℕ → (Fields → Option A) → (A → ℕ) → (R → Option (List ℕ)) → ℕ → ℕ → List Fields → Reader R
     → Result (Option A) TableFault → Type 0
 TakesNext most columns read instant remaining number before rows after (Ok None) = rows ≡ []
@@ -77,7 +76,7 @@ abbrev pub has_header : Fields → List Fields → Bool
 has_header names [] = false
 has_header names (first ∷ rows) = is_header names first
 
--- the header was taken, and the reader still gives the rows under it
+-- the header was taken, and the reader still returns the rows after it
 pub record TakesHeader {R : Type 0} (remaining : R → Option (List ℕ)) (names : Fields) (rows : List Fields) (after : Reader R) : Type 0 where
   pub first : Fields
   pub rest : List Fields

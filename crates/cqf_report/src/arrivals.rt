@@ -14,7 +14,7 @@ use cqf_units::Nanos;
 use csv::ByteRecord;
 use std::alloc::Global;
 
-/// The arrival that four fields write.
+/// Returns the arrival that four fields write, or `None` if they write none.
 fn read_arrival(at: &[u8], class: &[u8], octets: &[u8], frame: &[u8]) -> Option<Arrival>
     ensures { result ≡ arrival_of at.now class.now octets.now frame.now }
 {
@@ -38,7 +38,7 @@ fn read_arrival(at: &[u8], class: &[u8], octets: &[u8], frame: &[u8]) -> Option<
     })
 }
 
-/// The rows of arrivals.
+/// The format of rows of arrivals.
 struct ArrivalRows;
 
 impl RowFormat for ArrivalRows {
@@ -74,15 +74,15 @@ impl RowFormat for ArrivalRows {
     }
 }
 
-/// The arrivals that the text writes, in order.
+/// Returns the arrivals that the text writes, in order.
 ///
-/// The header is `at,class,octets,frame`. An arrival's instant is at most 100,000,000 ns, its class 0 to 7, its size 64
-/// to 1,522 octets (IEEE 802.3), and its label any number of 32 bits; no row's instant is before that of the row before
-/// it. What the crate `csv` accepts is accepted: quotes, CR LF, and a last row without its line end.
+/// The header is `at,class,octets,frame`. An arrival's instant is at most 100,000,000 ns, its class 0 to 7, its size 64 to 1,522 octets
+/// (IEEE 802.3), and its label any 32-bit number. No row's instant is before that of the previous row. The text may have all that the crate
+/// `csv` accepts: quotes, CR LF, and a last row without its line end.
 ///
 /// # Errors
-/// `BadHeader` where the first record is another or there is none; then the first fault of the rows in their order:
-/// `TooMany` at row 1,000,001, whatever it holds, `BadRow`, `OutOfOrder`; `Memory` where a growth is refused.
+/// `BadHeader` if the first record isn't the header or there is none. Then the first fault of the rows in their order: `TooMany` at row
+/// 1,000,001, regardless of its fields, `BadRow`, or `OutOfOrder`. `Memory` if an allocation fails.
 pub fn read_arrivals(alloc: Global, text: &[u8]) -> Result<Vec<Arrival>, TableFault>
     ensures ok { IfOk result (λ arrivals. arrivals_of_table text.now ≡ Ok arrivals.items) }
     ensures good { IfOk result (λ arrivals. AreArrivals arrivals.items) }

@@ -17,7 +17,7 @@ use cqf_units::{Name, Nanos};
 use csv::ByteRecord;
 use std::alloc::Global;
 
-/// The node that a field names.
+/// Returns the node that a field names, or `None` if there is no such node.
 fn read_node(domain: &Domain, field: &[u8]) -> Option<Node>
     ensures { result ≡ node_in domain.now field.now }
 {
@@ -27,7 +27,7 @@ fn read_node(domain: &Domain, field: &[u8]) -> Option<Node>
     }
 }
 
-/// The link from one node to another that two fields name.
+/// Returns the link from one node to another that two fields name, or `None` if there is no such link.
 fn read_link(domain: &Domain, from: &[u8], to: &[u8]) -> Option<u16>
     ensures { result ≡ link_named domain.now from.now to.now }
 {
@@ -43,7 +43,7 @@ fn read_link(domain: &Domain, from: &[u8], to: &[u8]) -> Option<u16>
     }
 }
 
-/// The background frame of a domain that five fields write.
+/// Returns the background frame of a domain that five fields write, or `None` if they write none.
 fn read_frame(
     domain: &Domain,
     at: &[u8],
@@ -74,7 +74,7 @@ fn read_frame(
     })
 }
 
-/// The rows of background frames of a domain.
+/// The format of rows of background frames of a domain.
 #[derive(Clone, Copy)]
 struct BackgroundRows<'d> {
     domain: &'d Domain,
@@ -118,17 +118,15 @@ impl RowFormat for BackgroundRows<'_> {
     }
 }
 
-/// The background frames that the text writes for the domain's links, in order.
+/// Returns the background frames that the text writes for the domain's links, in order.
 ///
-/// The header is `at,from,to,class,octets`. A frame's instant is before 1,000,000,000,000 ns, `from` and `to` are the names
-/// of the ends of one of the domain's links, its class is 0 to 5, and its size 64 to 1,522 octets (IEEE 802.3); no row's
-/// instant is before that of the row before it. What the crate `csv` accepts is accepted: quotes, CR LF, and a
-/// last row without its line end.
+/// The header is `at,from,to,class,octets`. A frame's instant is before 1,000,000,000,000 ns, `from` and `to` are the names of the ends of
+/// one of the domain's links, its class is 0 to 5, and its size 64 to 1,522 octets (IEEE 802.3). No row's instant is before that of the
+/// previous row. The text may have all that the crate `csv` accepts: quotes, CR LF, and a last row without its line end.
 ///
 /// # Errors
-/// As of `read_offers`: `BadHeader`; then the first fault of the rows in their order, `TooMany` at the row behind as many as the
-/// domain may have, `BadRow`,
-/// `OutOfOrder`; `Memory` where a growth is refused. A pair of names that is no link makes its row `BadRow`.
+/// As for `read_offers`: `BadHeader`; then the first fault of the rows in their order, `TooMany` at the first row beyond the domain's
+/// limit, `BadRow`, or `OutOfOrder`; `Memory` if an allocation fails. If a pair of names isn't a link, its row is `BadRow`.
 pub fn read_background(
     alloc: Global,
     domain: &Domain,

@@ -12,7 +12,7 @@ use cqf_topology::{Domain, put_bridge, put_link};
 use cqf_units::Memory;
 use std::alloc::Global;
 
-/// The word for a reason.
+/// Returns the word for a reason.
 pub fn reason_name(reason: Reason) -> &'static str
     ensures name { result.now ≡ name_of_reason reason }
     ensures plain { IsPlain result.now }
@@ -25,14 +25,14 @@ pub fn reason_name(reason: Reason) -> &'static str
     }
 }
 
-/// Puts the header of a book.
+/// Writes the header of a book.
 pub fn put_book_header<W: Sink>(press: &mut Press<'_, W>)
     ensures { Puts W.contents press.old press.new (line_of_fields book_header) }
 {
     press.put(b"what,cycle,where,frame,octets,detail\n");
 }
 
-/// Puts a transmission's line, which begins with the word for what it is.
+/// Writes the line of a transmission, which begins with the word for its kind.
 fn put_started<W: Sink>(press: &mut Press<'_, W>, what: &[u8], domain: &Domain, started: &Started)
     ensures { Puts W.contents press.old press.new (line_of_fields (started_fields what.now domain.now started.now)) }
 {
@@ -50,7 +50,7 @@ fn put_started<W: Sink>(press: &mut Press<'_, W>, what: &[u8], domain: &Domain, 
     press.put_byte(b'\n');
 }
 
-/// Puts a line for each transmission, which begins with the word for what they are.
+/// Writes a line for each transmission, which begins with the word for their kind.
 pub fn put_starts<W: Sink>(
     press: &mut Press<'_, W>,
     what: &[u8],
@@ -64,7 +64,7 @@ pub fn put_starts<W: Sink>(
     }
 }
 
-/// Puts a drop's line.
+/// Writes the line of a drop.
 fn put_dropped<W: Sink>(press: &mut Press<'_, W>, domain: &Domain, dropped: &Dropped)
     ensures { Puts W.contents press.old press.new (line_of_fields (dropped_fields domain.now dropped.now)) }
 {
@@ -82,7 +82,7 @@ fn put_dropped<W: Sink>(press: &mut Press<'_, W>, domain: &Domain, dropped: &Dro
     press.put_byte(b'\n');
 }
 
-/// Puts a line for each drop.
+/// Writes a line for each drop.
 pub fn put_drops<W: Sink>(press: &mut Press<'_, W>, domain: &Domain, drops: &[Dropped])
     ensures { Puts W.contents press.old press.new (lines_of_drops domain.now drops.now) }
 {
@@ -91,7 +91,7 @@ pub fn put_drops<W: Sink>(press: &mut Press<'_, W>, domain: &Domain, drops: &[Dr
     }
 }
 
-/// Puts the text of a book, as [`write_book`] gives it.
+/// Writes the text of a book, as [`write_book`] returns it.
 pub fn put_book<W: Sink>(press: &mut Press<'_, W>, domain: &Domain, book: &Book)
     ensures { Puts W.contents press.old press.new (text_of_book domain.now (contents_of book.now)) }
 {
@@ -101,11 +101,11 @@ pub fn put_book<W: Sink>(press: &mut Press<'_, W>, domain: &Domain, book: &Book)
     put_drops(press, domain, book.drops.as_slice());
 }
 
-/// The text of a book: the header `what,cycle,where,frame,octets,detail`; then one line a transmission of a stream's frame,
-/// `start,CYCLE,FROM>TO,FRAME,OCTETS,INSTANT`; then one line a transmission of a background frame,
-/// `background,CYCLE,FROM>TO,FRAME,OCTETS,INSTANT`; and then one line a drop, `drop,CYCLE,BRIDGE,FRAME,OCTETS,REASON`, each
-/// in the book's order. The reasons are `unknown`, `withdrawn`, `other-bridge` and `octets`; a link, bridge or
-/// station that the domain lacks has an empty name. The error is want of memory.
+/// Returns the text of a book, or `Memory` if an allocation fails. It has the header `what,cycle,where,frame,octets,detail`; one line for
+/// each transmission of a stream's frame, `start,CYCLE,FROM>TO,FRAME,OCTETS,INSTANT`; one line for each transmission of a background frame,
+/// `background,CYCLE,FROM>TO,FRAME,OCTETS,INSTANT`; and one line for each drop, `drop,CYCLE,BRIDGE,FRAME,OCTETS,REASON`. Each kind is in
+/// the book's order. The reasons are `unknown`, `withdrawn`, `other-bridge` and `octets`. A link, bridge or station that the domain lacks
+/// has an empty name.
 pub fn write_book(alloc: Global, domain: &Domain, book: &Book) -> Result<Vec<u8>, Memory>
     ensures { IfOk result (λ text. text.items ≡ text_of_book domain.now (contents_of book.now)) }
 {

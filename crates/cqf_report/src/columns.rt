@@ -11,7 +11,7 @@ use cqf_units::Memory;
 use std::alloc::Global;
 use std::thread::Threads;
 
-/// The most octets that are listed, 0 where none are.
+/// Returns the greatest of the listed octets, or 0 if none are listed.
 fn most_of(listed: &[u32]) -> u32
     ensures { result ≡ fold max 0 listed.now }
 {
@@ -22,8 +22,8 @@ fn most_of(listed: &[u32]) -> u32
     most
 }
 
-/// The sums by link as [`write_links`](crate::write_links) writes those of a book, from what each of the domain's links carries,
-/// by number. The error is want of memory.
+/// Returns the text of the sums by link that [`write_links`](crate::write_links) writes for a book, given what each of the domain's links
+/// carries, by number. Returns `Memory` if an allocation fails.
 pub fn write_columns(
     rt: &(impl Threads + Sync),
     alloc: Global,

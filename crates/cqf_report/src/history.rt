@@ -13,7 +13,7 @@ use cqf_press::{Press, Sheet, Sink, Told, told_text};
 use cqf_units::Memory;
 use std::alloc::Global;
 
-/// Puts a word, and a number behind it.
+/// Writes a word, followed by a number.
 fn put_numbered<W: Sink>(press: &mut Press<'_, W>, word: &[u8], number: usize)
     ensures { Puts W.contents press.old press.new (word.now ++ decimal number) }
 {
@@ -21,7 +21,7 @@ fn put_numbered<W: Sink>(press: &mut Press<'_, W>, word: &[u8], number: usize)
     press.put_number(number);
 }
 
-/// Puts that a link's budget has too few octets left.
+/// Writes that a link's budget has too few octets left.
 fn put_short<W: Sink>(press: &mut Press<'_, W>, link: u16, left: u32)
     ensures { Puts W.contents press.old press.new (text_of_refusal (Refused.BudgetShort link left)) }
 {
@@ -31,7 +31,7 @@ fn put_short<W: Sink>(press: &mut Press<'_, W>, link: u16, left: u32)
     press.put_number(left);
 }
 
-/// Puts a refusal's name, and its values behind it.
+/// Writes the name of a refusal, followed by its values.
 fn put_refusal<W: Sink>(press: &mut Press<'_, W>, refused: Refused)
     ensures { Puts W.contents press.old press.new (text_of_refusal refused) }
 {
@@ -54,7 +54,7 @@ fn put_refusal<W: Sink>(press: &mut Press<'_, W>, refused: Refused)
     }
 }
 
-/// Puts the stream's number and the effect cycle.
+/// Writes the stream's number and the effect cycle.
 fn put_receipt<W: Sink>(press: &mut Press<'_, W>, receipt: Receipt)
     ensures { Puts W.contents press.old press.new (reply_text (Reply.Accepted receipt)) }
 {
@@ -64,7 +64,7 @@ fn put_receipt<W: Sink>(press: &mut Press<'_, W>, receipt: Receipt)
     press.put_number(receipt.effect.0);
 }
 
-/// Puts why a call is refused.
+/// Writes why a call is refused.
 fn put_refused<W: Sink>(press: &mut Press<'_, W>, refused: Refused)
     ensures { Puts W.contents press.old press.new (reply_text (Reply.Refused refused)) }
 {
@@ -72,7 +72,7 @@ fn put_refused<W: Sink>(press: &mut Press<'_, W>, refused: Refused)
     put_refusal(press, refused);
 }
 
-/// Puts an answer.
+/// Writes an answer.
 fn put_reply<W: Sink>(press: &mut Press<'_, W>, reply: Reply)
     ensures { Puts W.contents press.old press.new (reply_text reply) }
 {
@@ -83,7 +83,7 @@ fn put_reply<W: Sink>(press: &mut Press<'_, W>, reply: Reply)
     }
 }
 
-/// Puts the line of a call that names a stream.
+/// Writes the line of a call that names a stream, without its end.
 pub(crate) fn put_call<W: Sink>(
     press: &mut Press<'_, W>,
     seat: u16,
@@ -100,7 +100,7 @@ pub(crate) fn put_call<W: Sink>(
     put_reply(press, reply);
 }
 
-/// Puts a Seal's line without its end.
+/// Writes the line of a Seal, without its end.
 pub(crate) fn put_seal<W: Sink>(press: &mut Press<'_, W>, seat: u16)
     ensures { Puts W.contents press.old press.new (decimal seat ++ codes " seal") }
 {
@@ -108,7 +108,7 @@ pub(crate) fn put_seal<W: Sink>(press: &mut Press<'_, W>, seat: u16)
     press.put(b" seal");
 }
 
-/// Puts an entry's line without its end.
+/// Writes the line of an entry, without its end.
 fn put_text<W: Sink>(press: &mut Press<'_, W>, entry: &Entry)
     ensures { Puts W.contents press.old press.new (entry_text entry.now.seat (act_of entry.now.call) entry.now.reply) }
 {
@@ -128,7 +128,7 @@ fn put_text<W: Sink>(press: &mut Press<'_, W>, entry: &Entry)
     }
 }
 
-/// Puts the line of an entry.
+/// Writes the line of an entry.
 fn put_entry<W: Sink>(press: &mut Press<'_, W>, entry: &Entry)
     ensures { Puts W.contents press.old press.new (line_of_entry (recorded_of entry.now)) }
 {
@@ -136,7 +136,7 @@ fn put_entry<W: Sink>(press: &mut Press<'_, W>, entry: &Entry)
     press.put_byte(b'\n');
 }
 
-/// Puts the text of a history, as [`write_history`] gives it.
+/// Writes the text of a history, as [`write_history`] returns it.
 pub fn put_history<W: Sink>(press: &mut Press<'_, W>, entries: &[Entry])
     ensures { Puts W.contents press.old press.new (history_text (map recorded_of entries.now)) }
 {
@@ -145,10 +145,10 @@ pub fn put_history<W: Sink>(press: &mut Press<'_, W>, entries: &[Entry])
     }
 }
 
-/// The text of a history: one line an entry, in their order. A call's line is `SEAT admit NAME REPLY` or
-/// `SEAT withdraw NAME REPLY`, with the name as it was asked for; a Seal's is `SEAT seal`. REPLY is `accepted NO EFFECT`, the
-/// stream's number and the cycle from which the call holds, or `refused FAULT`, the refusal's name and its values.
-/// The error is want of memory.
+/// Returns the text of a history, with one line for each entry, in their order, or `Memory` if an allocation fails. The line of a call is
+/// `SEAT admit NAME REPLY` or `SEAT withdraw NAME REPLY`, with the name as it was requested. The line of a Seal is `SEAT seal`. REPLY is
+/// `accepted NO EFFECT`, with the stream's number and the cycle from which the call has its effect, or `refused FAULT`, with the refusal's
+/// name and its values.
 pub fn write_history(alloc: Global, entries: &[Entry]) -> Result<Vec<u8>, Memory>
     ensures { IfOk result (λ text. text.items ≡ history_text (map recorded_of entries.now)) }
 {

@@ -1,4 +1,4 @@
-//! What the definitions of the tables mean in words of places alone, and what those of the sums by link tell of a book.
+//! What the definitions of the tables mean, in terms of indexes alone, and what those of the sums by link say about a book.
 
 ghost use Rattle.std.specs.Prelude.{ℕ, List};
 ghost use Rattle.cqf_model.specs.Book.{Contents, IsBook};
@@ -15,26 +15,26 @@ ghost use Rattle.cqf_report.specs.SumsTold.{ReportIsTold};
 ghost use Rattle.cqf_report.specs.Table.{in_five, in_four};
 ghost use Rattle.cqf_report.specs.TableLaws.{ReadInOrder, TellsFirst};
 
-/// Law: the fault that is told of the rows of a table is the first. Each row before it writes what a row of this table
-/// writes, and not before the row before it; it is the first that breaks one of the two, or there are more rows than may be.
+/// Law: the fault that is reported for the rows of a table is the first. Each row before it has the form of a row of this table and isn't
+/// before the previous row. The reported row is the first that breaks one of the two, or there are more rows than the limit.
 pub fn first_fault_is_told()
     ensures arrivals { (rows : List Fields) → TellsFirst (rows_within profile) (in_four arrival_of) arrival_instant rows }
     ensures offers { (d : DomainValue) (rows : List Fields) → TellsFirst (rows_within d.limits) (in_four (offer_of d)) offer_instant rows }
     ensures background { (d : DomainValue) (rows : List Fields) → TellsFirst (rows_within d.limits) (in_five (background_of_table d)) background_instant rows }
 {}
 
-/// Law: the offers that a text writes stand in order of instant.
+/// Law: the offers that a text writes are in order of instant.
 pub fn offers_are_read_in_order()
     ensures { ReadInOrder }
 {}
 
-/// Law: the starts of every book stand in order of cycle, and within a cycle in order of link.
+/// Law: the starts of every book are in order of cycle, and within a cycle in order of link.
 pub fn books_are_in_order()
     ensures { (run : Run) (lists : ℕ → List Entry) (cycles : ℕ) (book : Contents) → IsBook run lists cycles book → AreSumsInOrder book.starts }
 {}
 
-/// Law: the text of a book's sums by link is told from a count of frames and a column of octets for each link, where these are those of the hops
-/// of the covered offers.
+/// Law: the text of a book's sums by link can be written from a count of frames and a column of octets for each link, if these are those of
+/// the hops of the covered offers.
 pub fn report_is_told()
     ensures { ReportIsTold }
 {

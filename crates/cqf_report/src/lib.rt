@@ -1,19 +1,17 @@
-//! Tables as comma-separated values: offers, background frames and arrivals are read, by the crate `csv`; starts, books and histories
-//! are put on a press, line by line, or written as one list of bytes.
+//! Tables as comma-separated values. Offers, background frames and arrivals are read, by the crate `csv`. Starts, books and histories are
+//! written to a press, line by line, or returned as one list of bytes.
 //!
-//! - [`read_offers`] reads the offers of a run, [`read_background`] its background frames, and [`read_arrivals`] the
-//!   arrivals of a port.
-//! - [`TableFault`] says why a table is refused, and at which row.
-//! - `put_book` puts the text of a book, with a drop's reason as [`reason_name`] has it, [`put_history`] that of a history, and
-//!   [`put_log`] that of the history that a ledger's log stands for. No memory is asked for.
-//! - [`put_book_header`], [`put_starts`] and [`put_drops`] put the parts of a book's text, where the book isn't at hand as a whole, and
-//!   [`put_port_header`] and [`put_port_start`] those of the text of a port's starts.
-//! - [`write_book`] writes the book of a run, [`write_links`] its sums by link, as [`write_columns`] does from what its links carry,
-//!   [`write_history`] its history, and [`write_starts`] the starts of a port.
+//! - [`read_offers`] reads the offers of a run, [`read_background`] its background frames, and [`read_arrivals`] the arrivals of a port.
+//! - [`TableFault`] is why a table is refused, and at which row.
+//! - `put_book` writes the text of a book, with a drop's reason as [`reason_name`] returns it. [`put_history`] writes that of a history,
+//!   and [`put_log`] that of the history of a ledger's log. These request no memory.
+//! - [`put_book_header`], [`put_starts`] and [`put_drops`] write the parts of a book's text if there is no book as a whole.
+//!   [`put_port_header`] and [`put_port_start`] write those of the text of a port's starts.
+//! - [`write_book`] returns the text of a run's book, [`write_links`] that of its sums by link, as [`write_columns`] does from what its
+//!   links carry, [`write_history`] that of its history, and [`write_starts`] that of the starts of a port.
 //!
-//! `specs/` says what a text holds (`Records`, by what `csv` reads), what its rows mean (`Table`, `Offers`,
-//! `BackgroundFrames`, `Arrivals`), how a fault prints (`Faults`), and which text is put or written (`Written`, `Starts`, `Books`,
-//! `HistoryText`, `LinkSums`).
+//! `specs/` defines what a text holds (`Records`, by what `csv` reads), what its rows mean (`Table`, `Offers`, `BackgroundFrames`,
+//! `Arrivals`), how a fault prints (`Faults`), and which text is written (`Written`, `Starts`, `Books`, `HistoryText`, `LinkSums`).
 //!
 //! ```text
 //! read_arrivals(alloc, b"at,class,octets,frame\n10,6,64,1\n")
@@ -21,7 +19,7 @@
 //! read_arrivals(alloc, b"at,class,octets,frame\n10,8,64,1\n")
 //!     is Err(TableFault::BadRow(1)), since there is no class 8
 //! put_history(&mut press, admission.history());
-//!     puts "0 admit x accepted 0 0\n1 seal\n"
+//!     writes "0 admit x accepted 0 0\n1 seal\n"
 //! ```
 #![tactic(auto)]
 

@@ -1,4 +1,4 @@
-//! The sums of streams' frames by link, written as a text.
+//! The sums of streams' frames by link, as a text.
 
 ghost use Rattle.std.specs.Prelude.{ℕ, ◌≡◌, ◌≤◌, ◌<◌, ◌^◌, [], List, IfOk, OnOk, length, map, max, replicate, sum, sum_by, slice_index, slice_set};
 ghost use Rattle.cqf_lists.specs.ByNumber.{AddsTo, lists_of};
@@ -24,17 +24,17 @@ use std::thread::Threads;
 /// The most starts that are summed at a time.
 const PIECE: usize = 1_048_576;
 
-/// How many links a start can name.
+/// The number of links that a start can name.
 const LINKS: usize = 65_536;
 
-/// How many frames there are, and how many octets they have together.
+/// A number of frames, and the sum of their octets.
 #[derive(Clone, Copy)]
 pub(crate) struct FrameSums {
     pub(crate) frames: u128,
     pub(crate) octets: u128,
 }
 
-/// An empty list of octets for each of the links 0 to 65,535.
+/// Returns an empty list of octets for each of the links 0 to 65,535.
 fn no_octets(alloc: Global) -> Result<Vec<Vec<u32>>, Memory>
     ensures { IfOk result (λ by_link. AreListsByLink [] 65536 (lists_of by_link.items)) }
 {
@@ -45,7 +45,7 @@ fn no_octets(alloc: Global) -> Result<Vec<Vec<u32>>, Memory>
     Ok(by_link)
 }
 
-/// Puts octets behind those of a link.
+/// Appends octets to those of a link.
 fn list_octets(by_link: &mut Vec<Vec<u32>>, link: u16, octets: u32) -> Result<(), Memory>
     requires { length by_link.old.items ≡ 65536 }
     ensures { OnOk result (AddsTo (lists_of by_link.old.items) (lists_of by_link.new.items) link octets) }
@@ -54,7 +54,7 @@ fn list_octets(by_link: &mut Vec<Vec<u32>>, link: u16, octets: u32) -> Result<()
     Ok(())
 }
 
-/// The octets of the starts on each of the links 0 to 65,535, in their order: one look at each start.
+/// Returns the octets of the starts on each of the links 0 to 65,535, in their order. Each start is read once.
 fn octets_by_link(alloc: Global, starts: &[Started]) -> Result<Vec<Vec<u32>>, Memory>
     ensures { IfOk result (λ by_link. AreListsByLink starts.now 65536 (lists_of by_link.items)) }
 {
@@ -65,7 +65,7 @@ fn octets_by_link(alloc: Global, starts: &[Started]) -> Result<Vec<Vec<u32>>, Me
     Ok(by_link)
 }
 
-/// The sum of a piece of a link's octets, which many threads share.
+/// Returns the sum of a piece of a link's octets. Many threads share the work.
 fn sum_of_piece(rt: &(impl Threads + Sync), piece: &[u32]) -> u64
     requires { length piece.now ≤ 1048576 }
     ensures { result ≡ sum piece.now }
@@ -81,7 +81,7 @@ fn sum_of_piece(rt: &(impl Threads + Sync), piece: &[u32]) -> u64
         .sum(rt)
 }
 
-/// The sum of a link's octets, in pieces.
+/// Returns the sum of a link's octets, computed in pieces.
 pub(crate) fn sum_of(rt: &(impl Threads + Sync), listed: &[u32]) -> u128
     ensures { result ≡ sum listed.now }
 {
@@ -92,7 +92,7 @@ pub(crate) fn sum_of(rt: &(impl Threads + Sync), listed: &[u32]) -> u128
     octets
 }
 
-/// The sums of a link's starts, by the octets that are listed for each link.
+/// Returns the sums of a link's starts, given the octets listed for each link.
 fn sums_of_link(rt: &(impl Threads + Sync), by_link: &[Vec<u32>], link: u16) -> FrameSums
     requires { length by_link.now ≡ 65536 }
     ensures frames { (starts : List AStarted) → AreListsByLink starts 65536 (lists_of by_link.now) → result.frames ≡ frames_on link starts }
@@ -105,7 +105,7 @@ fn sums_of_link(rt: &(impl Threads + Sync), by_link: &[Vec<u32>], link: u16) -> 
     }
 }
 
-/// The octets of starts, all together.
+/// Returns the sum of the octets of starts.
 fn octets_of(alloc: Global, starts: &[Started]) -> Result<u128, Memory>
     ensures { IfOk result (λ octets. octets ≡ sum_by (λ start. start.octets) starts.now) }
 {
@@ -117,7 +117,7 @@ fn octets_of(alloc: Global, starts: &[Started]) -> Result<u128, Memory>
     Ok(octets)
 }
 
-/// The octets of each start.
+/// Returns the octets of each start.
 fn octet_column(alloc: Global, starts: &[Started]) -> Result<Vec<u32>, Memory>
     ensures { IfOk result (λ column. column.items ≡ map (λ start. start.octets) starts.now) }
 {
@@ -128,7 +128,7 @@ fn octet_column(alloc: Global, starts: &[Started]) -> Result<Vec<u32>, Memory>
     Ok(column)
 }
 
-/// Raises what a link has to a number, if that is more.
+/// Raises the entry of a link to a number, if the number is greater.
 fn raise(most: &mut Vec<u128>, link: u16, octets: u128)
     requires { length most.old.items ≡ 65536 }
     ensures { most.new.items ≡ slice_set most.old.items link (max (slice_index most.old.items link) octets) }
@@ -137,7 +137,7 @@ fn raise(most: &mut Vec<u128>, link: u16, octets: u128)
     most[place] = most[place].max(octets);
 }
 
-/// So many zeros.
+/// Returns a list of zeros.
 fn zeros(alloc: Global, count: usize) -> Result<Vec<u128>, Memory>
     ensures { IfOk result (λ zeros. zeros.items ≡ replicate count 0) }
 {
@@ -145,7 +145,8 @@ fn zeros(alloc: Global, count: usize) -> Result<Vec<u128>, Memory>
     Ok(zeros)
 }
 
-/// The most octets that each of the links 0 to 65,535 has in one cycle. Starts on one link in one cycle stand side by side.
+/// Returns the most octets that each of the links 0 to 65,535 has in one cycle. The starts are in order, so those on one link in one cycle
+/// are adjacent.
 fn most_by_link(alloc: Global, starts: &[Started]) -> Result<Vec<u128>, Memory>
     requires { AreSumsInOrder starts.now }
     ensures all { IfOk result (λ most. length most.items ≡ 65536) }
@@ -163,7 +164,7 @@ fn most_by_link(alloc: Global, starts: &[Started]) -> Result<Vec<u128>, Memory>
     Ok(most)
 }
 
-/// Puts the line of a link.
+/// Writes the line of a link.
 pub(crate) fn put_sums<W: Sink>(
     press: &mut Press<'_, W>,
     domain: &Domain,
@@ -184,17 +185,17 @@ pub(crate) fn put_sums<W: Sink>(
     press.put_byte(b'\n');
 }
 
-/// Puts the header.
+/// Writes the header.
 pub(crate) fn put_header<W: Sink>(press: &mut Press<'_, W>)
     ensures { Puts W.contents press.old press.new (line_of_fields link_header) }
 {
     press.put(b"link,frames,octets,most\n");
 }
 
-/// The sums of a book's streams' frames by link: the header `link,frames,octets,most`, and one line a link, by number,
-/// `FROM>TO,FRAMES,OCTETS,MOST`: how many frames the link started, how many octets they have together, and the most octets
-/// that it started in one cycle. Background frames don't count. The starts stand in order of cycle, and within a
-/// cycle in order of link, as in every book. The error is want of memory.
+/// Returns the sums of a book's streams' frames by link, or `Memory` if an allocation fails. The text has the header
+/// `link,frames,octets,most`, and one line for each link, by number, `FROM>TO,FRAMES,OCTETS,MOST`: the number of frames that the link
+/// started, the sum of their octets, and the most octets that it started in one cycle. Background frames don't count. The starts must be in
+/// order of cycle, and within a cycle in order of link, as in every book.
 pub fn write_links(
     rt: &(impl Threads + Sync),
     alloc: Global,

@@ -17,7 +17,7 @@ use cqf_units::{Name, Nanos};
 use csv::ByteRecord;
 use std::alloc::Global;
 
-/// The bridge that a field names.
+/// Returns the bridge that a field names, or `None` if there is no such bridge.
 fn read_bridge(domain: &Domain, field: &[u8]) -> Option<u16>
     ensures { result ≡ bridge_named domain.now field.now }
 {
@@ -29,14 +29,14 @@ fn read_bridge(domain: &Domain, field: &[u8]) -> Option<u16>
     }
 }
 
-/// The name that a field is.
+/// Returns the name that a field is, if it has the form of a name.
 fn read_name(field: &[u8]) -> Option<Name>
     ensures { result ≡ name_in field.now }
 {
     Name::new(field)
 }
 
-/// The offer to a domain that four fields write.
+/// Returns the offer to a domain that four fields write, or `None` if they write none.
 fn read_offer(
     domain: &Domain,
     at: &[u8],
@@ -66,7 +66,7 @@ fn read_offer(
     })
 }
 
-/// The rows of offers to a domain.
+/// The format of rows of offers to a domain.
 #[derive(Clone, Copy)]
 struct OfferRows<'d> {
     domain: &'d Domain,
@@ -109,17 +109,15 @@ impl RowFormat for OfferRows<'_> {
     }
 }
 
-/// The offers that the text writes to the domain, in order.
+/// Returns the offers that the text writes for the domain, in order.
 ///
-/// The header is `at,bridge,stream,octets`. An offer's instant is before 1,000,000,000,000 ns, its bridge is one of the
-/// domain's by name, its stream has the form of a name, and its size is 64 to 1,522 octets (IEEE 802.3); no row's
-/// instant is before that of the row before it. What the crate `csv` accepts is accepted: quotes, CR LF, and a
-/// last row without its line end.
+/// The header is `at,bridge,stream,octets`. An offer's instant is before 1,000,000,000,000 ns, its bridge is one of the domain's by name,
+/// its stream has the form of a name, and its size is 64 to 1,522 octets (IEEE 802.3). No row's instant is before that of the previous row.
+/// The text may have all that the crate `csv` accepts: quotes, CR LF, and a last row without its line end.
 ///
 /// # Errors
-/// As of `read_arrivals`: `BadHeader`; then the first fault of the rows in their order, `TooMany` at the row behind as many as the
-/// domain may have,
-/// `BadRow`, `OutOfOrder`; `Memory` where a growth is refused.
+/// As for `read_arrivals`: `BadHeader`; then the first fault of the rows in their order, `TooMany` at the first row beyond the domain's
+/// limit, `BadRow`, or `OutOfOrder`; `Memory` if an allocation fails.
 pub fn read_offers(alloc: Global, domain: &Domain, text: &[u8]) -> Result<Vec<Offer>, OfferFault>
     ensures ok { IfOk result (λ offers. offers_of domain.now text.now ≡ Ok offers.items) }
     ensures good { IfOk result (λ offers. AreOffers domain.now offers.items) }

@@ -10,19 +10,19 @@ use csv::{ByteRecord, Error, ErrorKind, Reader};
 use std::alloc::AllocError;
 use std::io::Read;
 
-/// What was taken of a reader.
+/// The result of taking a record from a reader.
 #[derive(Clone, Copy, Debug, PartialEq, Eq)]
 pub(crate) enum TakenRecord {
     /// The next record.
     Row,
-    /// Nothing: there is no further record.
+    /// There is no further record.
     End,
-    /// A record that has another number of fields than the first.
+    /// A record with another number of fields than the first.
     Refused,
 }
 
-/// Takes the reader's next record into `row`. The reader underneath reads from memory and doesn't fail, which the contract of
-/// the crate `csv` doesn't say; so such an error is told as want of memory. Nothing else is refused of a record of bytes.
+/// Takes the reader's next record into `row`. The underlying reader reads from memory and doesn't fail. The contract of the crate `csv`
+/// doesn't say so, so such an error is reported as `Memory`. A record of bytes has no other error.
 pub(crate) fn take_record<R: Read>(
     reader: &mut Reader<R>,
     row: &mut ByteRecord,

@@ -14,9 +14,9 @@ use csv::{ByteRecord, Reader};
 use std::alloc::Global;
 use std::io::Read;
 
-/// A kind of table: its header, and what its rows write.
+/// A kind of table: its header, and the meaning of its rows.
 pub(crate) trait RowFormat {
-    /// What a row writes.
+    /// The value of a row.
     type RowValue: Drop;
 
     ghost header: { List (List ℕ) };
@@ -25,22 +25,22 @@ pub(crate) trait RowFormat {
 
     ghost instant_of: { Self.RowValue → ℕ };
 
-    /// Whether the record is the header.
+    /// Returns whether the record is the header.
     fn names_columns(fields: &ByteRecord) -> bool
         ensures { result ≡ is_header header (fields_of fields.now) };
 
-    /// What the record writes, if it has the form of a row.
+    /// Returns what the record writes, or `None` if it doesn't have the form of a row.
     fn read_row(&self, fields: &ByteRecord) -> Option<Self::RowValue>
         ensures { result ≡ row_of self.now (fields_of fields.now) };
 
-    /// The row's instant, by which rows are in order.
+    /// Returns the row's instant. Rows are in order of instant.
     fn instant(row: &Self::RowValue) -> Nanos
         ensures { result.0 ≡ instant_of row.now };
 
     ghost no_row_of_others: { (format : Self) (fields : List (List ℕ)) → (length header ≡ length fields → ⊥) → row_of format fields ≡ None };
 }
 
-/// Takes the first record, which has to be the header.
+/// Takes the first record, which must be the header.
 fn take_header<F: RowFormat, R: Read>(
     _format: &F,
     reader: &mut Reader<R>,
@@ -65,7 +65,7 @@ fn take_header<F: RowFormat, R: Read>(
     }
 }
 
-/// Takes the row of this number, behind a row at `before`; `None` where there is no further row.
+/// Takes the row with this number, which may not be before the instant `before`. Returns `None` if there is no further row.
 fn next_row<F: RowFormat, R: Read>(
     format: &F,
     reader: &mut Reader<R>,
@@ -95,7 +95,7 @@ fn next_row<F: RowFormat, R: Read>(
     }
 }
 
-/// The rows that the reader still gives, from row 1 on, of no more than so many.
+/// Returns the rows that the reader still returns, from row 1 on. There may be at most `most`.
 fn read_rows<F: RowFormat, R: Read>(
     alloc: Global,
     format: &F,
@@ -125,7 +125,7 @@ fn read_rows<F: RowFormat, R: Read>(
     }
 }
 
-/// The rows of a text, no more than so many, or its first fault.
+/// Returns the rows of a text, at most `most`, or its first fault.
 pub(crate) fn read_table<F: RowFormat>(
     alloc: Global,
     format: &F,

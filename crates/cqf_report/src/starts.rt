@@ -11,14 +11,14 @@ use cqf_press::{Press, Sheet, Sink, Told, told_text};
 use cqf_units::{Memory, Octets, Rate, end_of};
 use std::alloc::Global;
 
-/// Puts the header of a port's starts.
+/// Writes the header of a port's starts.
 pub fn put_port_header<W: Sink>(press: &mut Press<'_, W>)
     ensures { Puts W.contents press.old press.new (line_of_fields start_header) }
 {
     press.put(b"class,frame,start,end\n");
 }
 
-/// Puts the line of a start, with the instant at which its frame is over at this rate.
+/// Writes the line of a start, with the instant at which its frame ends at this rate.
 pub fn put_port_start<W: Sink>(press: &mut Press<'_, W>, start: &Start, rate: Rate)
     requires { start.now.start.0 < 2 ^ 63 }
     ensures { Puts W.contents press.old press.new (line_of_fields (start_fields (ticks_of_octet rate) start.now)) }
@@ -34,7 +34,7 @@ pub fn put_port_start<W: Sink>(press: &mut Press<'_, W>, start: &Start, rate: Ra
     press.put_byte(b'\n');
 }
 
-/// Puts a line for each start.
+/// Writes a line for each start.
 fn put_each<W: Sink>(press: &mut Press<'_, W>, starts: &[Start], rate: Rate)
     requires { All (λ start. start.start.0 < 2 ^ 63) starts.now }
     ensures { Puts W.contents press.old press.new (lines_of_port (ticks_of_octet rate) starts.now) }
@@ -44,8 +44,8 @@ fn put_each<W: Sink>(press: &mut Press<'_, W>, starts: &[Start], rate: Rate)
     }
 }
 
-/// The text of starts: the header `class,frame,start,end`, and one line a start, in their order. `end` is the instant
-/// at which the frame is over, at this rate (IEEE 802.3). The error is want of memory.
+/// Returns the text of starts, or `Memory` if an allocation fails. It has the header `class,frame,start,end`, and one line for each start,
+/// in their order. `end` is the instant at which the frame ends at this rate (IEEE 802.3).
 pub fn write_starts(alloc: Global, starts: &[Start], rate: Rate) -> Result<Vec<u8>, Memory>
     requires { All (λ start. start.start.0 < 2 ^ 63) starts.now }
     ensures { IfOk result (λ text. text.items ≡ text_of_starts (ticks_of_octet rate) starts.now) }

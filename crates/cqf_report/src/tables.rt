@@ -1,4 +1,4 @@
-//! What is common to the tables that are read: their header, their fields and their faults.
+//! What the tables that are read have in common: their header, their fields and their faults.
 
 ghost use Rattle.std.specs.Prelude.{ℕ, ◌≡◌, ◌≤◌, ◌∷◌, [], List, IfSome, MatchOption, Some, None};
 ghost use Rattle.cqf_text.specs.Decimal.{decimal_in};
@@ -16,23 +16,23 @@ use std::fmt;
 use std::io::Read;
 use thiserror::Error;
 
-/// Why a table is refused. Rows are the records after the header, counted from 1. A fault prints as its name, and then
-/// its row.
+/// Why a table is refused. Rows are the records after the header, counted from 1. A fault prints as its name, followed by its row if it has
+/// one.
 #[derive(Clone, Copy, Debug, PartialEq, Eq, Error)]
 pub enum TableFault {
     /// The first record is not the header, or there is no record.
     BadHeader,
-    /// There are more rows than the limits allow, which are 1,000,000 unless they are set otherwise.
+    /// There are more rows than the limits allow. If none are set, these are 1,000,000 rows.
     TooMany,
-    /// A field of this row is not as it has to be, or it has another number of fields.
+    /// A field of this row isn't as required, or the row has another number of fields.
     BadRow(u32),
-    /// This row's instant is before that of the row before it.
+    /// This row's instant is before that of the previous row.
     OutOfOrder(u32),
-    /// A growth was refused.
+    /// An allocation failed.
     Memory,
 }
 
-/// Want of memory, as a fault.
+/// Converts a failed allocation into a fault.
 impl From<Memory> for TableFault {
     ghost use Rattle.cqf_report.specs.declared.tables.TableFault.TheVariants as variant;
 
@@ -43,7 +43,7 @@ impl From<Memory> for TableFault {
     }
 }
 
-/// Want of room for a value, likewise.
+/// Converts a failed allocation for a value likewise.
 impl<T: Drop> From<AllocFailed<T>> for TableFault {
     ghost use Rattle.cqf_report.specs.declared.tables.TableFault.TheVariants as variant;
 
@@ -71,7 +71,7 @@ impl fmt::Display for TableFault {
 /// Why a table of offers is refused.
 pub type OfferFault = TableFault;
 
-/// A record's four fields, where it has exactly four.
+/// Returns a record's four fields, if it has exactly four.
 pub(crate) fn four_fields(row: &ByteRecord) -> Option<(&[u8], &[u8], &[u8], &[u8])>
     ensures { MatchOption result (four_of (fields_of row.now) ≡ None) (λ fields. four_of (fields_of row.now)
         ≡ Some (fields.0.now, fields.1.now, fields.2.now, fields.3.now)) }
@@ -94,7 +94,7 @@ pub(crate) fn four_fields(row: &ByteRecord) -> Option<(&[u8], &[u8], &[u8], &[u8
     Some((first, second, third, fourth))
 }
 
-/// A record's five fields, where it has exactly five.
+/// Returns a record's five fields, if it has exactly five.
 pub(crate) fn five_fields(row: &ByteRecord) -> Option<(&[u8], &[u8], &[u8], &[u8], &[u8])>
     ensures { MatchOption result (five_of (fields_of row.now) ≡ None) (λ fields. five_of (fields_of row.now)
         ≡ Some (fields.0.now, fields.1.now, fields.2.now, fields.3.now, fields.4.now)) }
@@ -120,7 +120,7 @@ pub(crate) fn five_fields(row: &ByteRecord) -> Option<(&[u8], &[u8], &[u8], &[u8
     Some((first, second, third, fourth, fifth))
 }
 
-/// Whether the record has exactly these four fields.
+/// Returns whether the record has exactly these four fields.
 pub(crate) fn is_header_of(row: &ByteRecord, names: (&[u8], &[u8], &[u8], &[u8])) -> bool
     ensures { result ≡ is_header (names.entry.0.now ∷ names.entry.1.now ∷ names.entry.2.now ∷ names.entry.3.now ∷ []) (fields_of row.now) }
 {
@@ -130,7 +130,7 @@ pub(crate) fn is_header_of(row: &ByteRecord, names: (&[u8], &[u8], &[u8], &[u8])
     names.0 == first && names.1 == second && names.2 == third && names.3 == fourth
 }
 
-/// Whether the record has exactly these five fields.
+/// Returns whether the record has exactly these five fields.
 pub(crate) fn is_header_of_five(
     row: &ByteRecord,
     names: (&[u8], &[u8], &[u8], &[u8], &[u8]),
@@ -147,7 +147,7 @@ pub(crate) fn is_header_of_five(
         && names.4 == fifth
 }
 
-/// The decimal number of a field, if it is one of this range.
+/// Returns the decimal number in a field, if it is within this range.
 pub(crate) fn read_number(field: &[u8], least: u32, most: u32) -> Option<u32>
     ensures value { result ≡ decimal_in least most field.now }
     ensures most { IfSome result (λ number. number ≤ most) }
@@ -158,7 +158,7 @@ pub(crate) fn read_number(field: &[u8], least: u32, most: u32) -> Option<u32>
     Some(number as u32)
 }
 
-/// A reader that gives each record of the text, the header too.
+/// Returns a reader that returns each record of the text, including the header.
 pub(crate) fn open_table<R: Read>(alloc: Global, text: R) -> Reader<R>
     ensures ready { Ready result }
     ensures gives { (bytes : List ℕ) → R.remaining text ≡ Some bytes → StillGives R.remaining None result (records_of bytes) }

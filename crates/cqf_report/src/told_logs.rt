@@ -1,4 +1,4 @@
-//! The log of a ledger, told line by line as a history.
+//! The log of a ledger, written line by line as a history.
 
 ghost use Rattle.std.specs.Prelude.{map};
 ghost use Rattle.cqf_admission.specs.Asking.{asked_paced};
@@ -13,7 +13,7 @@ use cqf_admission::{Logged, What, word_of};
 use cqf_press::{Press, Sink};
 use cqf_topology::PacedRequest;
 
-/// Puts the line of an entry without its end.
+/// Writes the line of an entry, without its end.
 fn put_text<W: Sink>(
     press: &mut Press<'_, W>,
     requests: &[PacedRequest],
@@ -37,7 +37,7 @@ fn put_text<W: Sink>(
     }
 }
 
-/// Puts the line of an entry.
+/// Writes the line of an entry.
 fn put_logged<W: Sink>(
     press: &mut Press<'_, W>,
     requests: &[PacedRequest],
@@ -51,7 +51,7 @@ fn put_logged<W: Sink>(
     press.put_byte(b'\n');
 }
 
-/// Puts the text of the history that a log stands for, over these requests and a script's text.
+/// Writes the text of the history that a log represents, given the requests and the script's text.
 pub fn put_log<W: Sink>(
     press: &mut Press<'_, W>,
     requests: &[PacedRequest],

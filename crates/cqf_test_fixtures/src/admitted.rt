@@ -7,7 +7,7 @@ use cqf_admission::Admission;
 use cqf_topology::Domain;
 use std::alloc::Global;
 
-/// Whether a stream is admitted for seat 0.
+/// Returns whether a stream is admitted for seat 0.
 fn admits(alloc: Global, admission: &mut Admission, asked: &Asked) -> bool
     ensures { admission.new.domain ≡ admission.old.domain }
 {
@@ -17,7 +17,7 @@ fn admits(alloc: Global, admission: &mut Admission, asked: &Asked) -> bool
     }
 }
 
-/// Whether all streams are.
+/// Returns whether all streams are admitted for seat 0.
 fn admits_all(alloc: Global, admission: &mut Admission, streams: &[Asked]) -> bool
     ensures { admission.new.domain ≡ admission.old.domain }
 {
@@ -29,7 +29,7 @@ fn admits_all(alloc: Global, admission: &mut Admission, streams: &[Asked]) -> bo
     true
 }
 
-/// An admission over a domain that has admitted streams for seat 0 and closed no cycle.
+/// Returns an admission for a domain that has admitted the streams for seat 0 and closed no cycle, or `None` if a stream isn't admitted.
 pub fn admission_of(alloc: Global, domain: &Domain, streams: &[Asked]) -> Option<Admission>
     ensures domain { IfSome result (λ admission. admission.domain ≡ domain.now) }
     ensures unsealed { IfSome result (λ admission. seals admission.entries ≡ 0) }

@@ -1,4 +1,4 @@
-//! Streams that are asked for.
+//! Streams that are requested.
 
 use cqf_topology::Request;
 use cqf_units::Memory;
@@ -7,7 +7,7 @@ use std::alloc::Global;
 /// A stream: its name, its octets a cycle, and its branches.
 pub type Asked = (&'static str, u32, &'static [&'static [&'static str]]);
 
-/// The names of some nodes.
+/// Returns the names of nodes as texts.
 fn names(alloc: Global, nodes: &[&str]) -> Result<Vec<String>, Memory> {
     let mut list = Vec::new(alloc);
     for node in nodes {
@@ -16,7 +16,7 @@ fn names(alloc: Global, nodes: &[&str]) -> Result<Vec<String>, Memory> {
     Ok(list)
 }
 
-/// A request for a stream. `Memory` where a growth is refused.
+/// Returns a request for a stream, or `Memory` if an allocation fails.
 pub fn request(alloc: Global, asked: &Asked) -> Result<Request, Memory> {
     let (name, octets, branches) = *asked;
     let mut paths = Vec::new(alloc);
@@ -30,7 +30,7 @@ pub fn request(alloc: Global, asked: &Asked) -> Result<Request, Memory> {
     })
 }
 
-/// Whether a path goes along these nodes.
+/// Returns whether a path has these nodes.
 fn is_along(path: &[String], nodes: &[&str]) -> bool {
     path.len() == nodes.len()
         && path
@@ -39,7 +39,7 @@ fn is_along(path: &[String], nodes: &[&str]) -> bool {
             .all(|(node, name)| node.as_str() == *name)
 }
 
-/// Whether a request is for a stream of these values.
+/// Returns whether a request is for a stream with these values.
 pub fn is_request(request: &Request, asked: &Asked) -> bool {
     let (name, octets, branches) = *asked;
     request.name.as_str() == name

@@ -1,11 +1,11 @@
-//! Whether a run may be given some offers or background frames: what a call that runs a domain asks of its caller.
+//! Whether offers or background frames may be given to a run, as the calls that run a domain require.
 ghost use Rattle.std.specs.Prelude.{◌≡◌, true};
 ghost use Rattle.cqf_model.specs.Run.{AreBackground, AreOffers, IsBackground, IsOffer};
 
 use cqf_model::{Background, Offer};
 use cqf_topology::Domain;
 
-/// Whether an offer may be handed to a run of the domain.
+/// Returns whether an offer may be given to a run of the domain.
 fn is_offer(domain: &Domain, offer: &Offer) -> bool
     ensures { result ≡ true → IsOffer domain.now offer.now }
 {
@@ -15,7 +15,7 @@ fn is_offer(domain: &Domain, offer: &Offer) -> bool
     here && fits && early
 }
 
-/// Whether offers may be handed to a run of the domain: each is at one of its bridges, of 64 to 1,522 octets, and before
+/// Returns whether offers may be given to a run of the domain: each is at one of its bridges, has 64 to 1,522 octets, and comes before
 /// 1,000,000,000,000 ns.
 pub fn are_offers(domain: &Domain, offers: &[Offer]) -> bool
     ensures { result ≡ true → AreOffers domain.now offers.now }
@@ -28,7 +28,7 @@ pub fn are_offers(domain: &Domain, offers: &[Offer]) -> bool
     true
 }
 
-/// Whether a background frame may be handed to a run of the domain.
+/// Returns whether a background frame may be given to a run of the domain.
 fn is_background(domain: &Domain, frame: &Background) -> bool
     ensures { result ≡ true → IsBackground domain.now frame.now }
 {
@@ -39,8 +39,8 @@ fn is_background(domain: &Domain, frame: &Background) -> bool
     here && class && fits && early
 }
 
-/// Whether background frames may be handed to a run of the domain: each is on one of its links, of class 0 to 5, of 64 to
-/// 1,522 octets, and before 1,000,000,000,000 ns.
+/// Returns whether background frames may be given to a run of the domain: each is on one of its links, has class 0 to 5 and 64 to 1,522
+/// octets, and comes before 1,000,000,000,000 ns.
 pub fn are_background(domain: &Domain, frames: &[Background]) -> bool
     ensures { result ≡ true → AreBackground domain.now frames.now }
 {

@@ -1,12 +1,14 @@
-//! What the tests of several crates read, ask for, offer and expect. Only tests, and trials of refused memory, use this crate.
+//! What the tests of several crates read, request, offer and expect. Only tests, and trials of failed allocations, use this crate.
 //!
-//! - **Texts of domains**, of which a test makes changed forms with `replacen`: [`line`] is one of three bridges in a line, [`one_link`] one of a
-//!   single bridge, and [`ring`] one whose first and last bridge have links to each other too; [`fork`] is a line that branches. All have a cycle
-//!   time of 125,000 ns, a guard time of 5,000 ns, and links of 1,000 Mb/s with a delay of 500 ns.
-//! - **What is asked for and offered**: [`request`] makes a request of plain values, [`Asked`], and [`is_request`] tells whether one has such;
-//!   [`offers_of`] and [`background_of`] make frames, of each [`Offering`] and [`Backing`]. [`admission_of`] is an admission that has admitted
-//!   some streams. [`are_offers`] and [`are_background`] tell what a run of a domain may be given.
-//! - **What is expected**: [`are_begun`] and [`are_dropped`] tell whether a book has some starts, each [`Begun`], and some drops, each [`Fell`].
+//! - **Texts of domains**, which a test can change with `replacen`: [`line`] has three bridges in a line, [`one_link`] has a single bridge,
+//!   and [`ring`] also has links between its first and last bridge; [`fork`] is a line that branches. All have a cycle time of 125,000 ns,
+//!   a guard band of 5,000 ns, and links of 1,000 Mb/s with a delay of 500 ns.
+//! - **What is requested and offered**: [`request`] makes a request from plain values, [`Asked`], and [`is_request`] returns whether one
+//!   has these values. [`offers_of`] and [`background_of`] make frames from [`Offering`] and [`Backing`] values. [`admission_of`] returns
+//!   an admission that has admitted some streams. [`are_offers`] and [`are_background`] return whether a run of a domain may be given such
+//!   frames.
+//! - **What is expected**: [`are_begun`] and [`are_dropped`] return whether starts and drops of a book have the given values, [`Begun`] and
+//!   [`Fell`].
 #![tactic(auto)]
 
 mod admitted;
@@ -127,22 +129,22 @@ rate = 1000
 delay = 500
 "#;
 
-/// Bridges a, b and c in a line to station s: links 0 a>b, 1 b>c and 2 c>s.
+/// Returns bridges a, b and c in a line to station s: links 0 a>b, 1 b>c and 2 c>s.
 pub fn line() -> &'static str {
     LINE
 }
 
-/// Bridge a and station s: link 0 a>s.
+/// Returns bridge a and station s: link 0 a>s.
 pub fn one_link() -> &'static str {
     ONE_LINK
 }
 
-/// The line, and links between its ends: links 0 a>b, 1 b>c, 2 c>s, 3 a>c and 4 c>a.
+/// Returns the line with links between its ends: links 0 a>b, 1 b>c, 2 c>s, 3 a>c and 4 c>a.
 pub fn ring() -> &'static str {
     RING
 }
 
-/// Bridges a, b and c in a line to station s, and station t at bridge b: links 0 c>s, 1 a>b, 2 b>c and 3 b>t.
+/// Returns bridges a, b and c in a line to station s, and station t at bridge b: links 0 c>s, 1 a>b, 2 b>c and 3 b>t.
 pub fn fork() -> &'static str {
     FORK
 }

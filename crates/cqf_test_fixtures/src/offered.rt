@@ -1,4 +1,4 @@
-//! Offers and background frames, of their values.
+//! Offers and background frames, made from their values.
 
 use cqf_model::{Background, Offer};
 use cqf_units::{Memory, Name, Nanos};
@@ -10,7 +10,7 @@ pub type Offering = (u64, u16, &'static str, u32);
 /// A background frame: its instant, its link, its class and its octets.
 pub type Backing = (u64, u16, u8, u32);
 
-/// Offers of these values. `Memory` where a growth is refused, or where a name hasn't the form of one.
+/// Returns offers with these values. Returns `Memory` if an allocation fails, or if a name doesn't have the form of a name.
 pub fn offers_of(alloc: Global, rows: &[Offering]) -> Result<Vec<Offer>, Memory> {
     let mut offers = Vec::new(alloc);
     for (at, bridge, name, octets) in rows {
@@ -24,7 +24,7 @@ pub fn offers_of(alloc: Global, rows: &[Offering]) -> Result<Vec<Offer>, Memory>
     Ok(offers)
 }
 
-/// Background frames of these values. `Memory` where a growth is refused.
+/// Returns background frames with these values, or `Memory` if an allocation fails.
 pub fn background_of(alloc: Global, rows: &[Backing]) -> Result<Vec<Background>, Memory> {
     let mut background = Vec::new(alloc);
     for (at, link, class, octets) in rows {

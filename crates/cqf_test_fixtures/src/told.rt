@@ -1,4 +1,4 @@
-//! What a book tells, beside what is expected of it.
+//! Comparisons of a book's starts and drops with what is expected.
 
 use cqf_model::{Dropped, Reason, Started};
 
@@ -8,7 +8,7 @@ pub type Begun = (u32, u16, u32, u32, u64);
 /// A drop: its cycle, its bridge, its frame, its octets and its reason.
 pub type Fell = (u32, u16, u32, u32, Reason);
 
-/// Whether starts have these values.
+/// Returns whether starts have these values.
 pub fn are_begun(starts: &[Started], rows: &[Begun]) -> bool {
     starts.len() == rows.len()
         && starts.iter().zip(rows).all(|(start, row)| {
@@ -22,7 +22,7 @@ pub fn are_begun(starts: &[Started], rows: &[Begun]) -> bool {
         })
 }
 
-/// Whether drops have these values.
+/// Returns whether drops have these values.
 pub fn are_dropped(drops: &[Dropped], rows: &[Fell]) -> bool {
     drops.len() == rows.len()
         && drops.iter().zip(rows).all(|(drop, row)| {

@@ -71,7 +71,7 @@ first_taken-append e (x ∷ xs) ys =
     (first_taken-append (e ++ x ∷ []) xs ys
     ∙ ap (λ front. option_or (first_taken (e ++ x ∷ []) xs) (first_taken front ys)) (append_assoc e (x ∷ []) xs))
   where
-    -- one name in front, taken or not, leaves the first taken name in the first list, or else in the second
+    -- one more name first, taken or not, leaves the first taken name in the first list, or else in the second
     by : (b : Bool) → first_taken (e ++ x ∷ []) (xs ++ ys) ≡ option_or (first_taken (e ++ x ∷ []) xs) (first_taken (e ++ (x ∷ xs)) ys)
         → cond b (Some x) (first_taken (e ++ x ∷ []) (xs ++ ys)) ≡ option_or (cond b (Some x) (first_taken (e ++ x ∷ []) xs)) (first_taken (e ++ (x ∷ xs)) ys)
     by true rest = refl
@@ -151,23 +151,23 @@ module _ (d : DomainText) where
   pub checked-numbered : (bridges stations : List (List ℕ)) (links : List Link) → IsNumberedDomain d bridges stations links → checked d ≡ with_links d links
   checked-numbered bridges stations links n = rw (n.distinct, n.joined_are) refl
 
--- no element passes, where none has a place
+-- if no index passes, no element does
 none-passes : {A : Type 0} (p : A → Bool) (i : ℕ) (xs : List A) → position_from p i xs ≡ None → (k : ℕ) (x : A) → slice_get xs k ≡ Some x → p x ≡ false
 none-passes p i [] h k x at = absurd (cc)
 none-passes {A} p i (y ∷ ys) h k x at = by (p y) refl (λ none j there. none-passes p (i + 1) ys none j x there) h k at
   where
-    -- with one element more in front, no element passes
+    -- the same with one more element first
     by : (b : Bool) → p y ≡ b → (position_from p (i + 1) ys ≡ None → (j : ℕ) → slice_get ys j ≡ Some x → p x ≡ false)
         → cond b (Some i) (position_from p (i + 1) ys) ≡ None → (k : ℕ) → slice_get (y ∷ ys) k ≡ Some x → p x ≡ false
     by true e rest h k at = absurd (cc)
     by false e rest h zero at = let same : y ≡ x = cc in subst (λ z. p z ≡ false) same e
     by false e rest h (suc k) at = rest h k at
 
--- where no place passes, none does
+-- if no index passes, no element does
 pub position-None : {A : Type 0} (p : A → Bool) (xs : List A) → position p xs ≡ None → (k : ℕ) (x : A) → slice_get xs k ≡ Some x → p x ≡ false
 position-None p xs h = none-passes p 0 xs (sym (position_from-zero p xs) ∙ h)
 
--- numbers that a test told to be below, or not above
+-- numbers that a test found to be below, or not above
 pub not_reached : (most n : ℕ) → nat_le most n ≡ false → n < most
 not_reached most n e = grind (arith, nat_tests)
 
@@ -180,7 +180,7 @@ pub record HasEnds (d : Domain) (link : Link) : Type 0 where
   pub to_node : IsNode d link.to
   pub not_to_itself : link.to ≢ Bridge link.from
 
--- the place of a name is one of the names'
+-- the index of a name is below the number of names
 pub place-within : (name : List ℕ) (names : List (List ℕ)) (i : ℕ) → place_of name names ≡ Some i → i < length names
 place-within name names i h = (position-Some _ names i [] h).0
 
@@ -203,7 +203,7 @@ apart-ends d name l from to link from_there to_there h = by (same_node to (Bridg
     joint : Link
     joint = link_with from to l.times
 
-    -- a node that the test tells from the bridge isn't the bridge
+    -- a node that the test distinguishes from the bridge isn't the bridge
     differs : same_node to (Bridge from) ≡ false → to ≢ Bridge from
     differs e same = let at_itself : same_node (Bridge from) (Bridge from) ≡ false = subst (λ n. same_node n (Bridge from) ≡ false) same e in
         grind (arith, nat_tests)
@@ -224,12 +224,12 @@ joined_link-ends d l link h =
     (place-within l.from d.bridges from (ok_or-Ok _ (fault.UnknownName l.from) from at_from))
     (node-within d l.to to (ok_or-Ok _ (fault.UnknownName l.to) to at_to)) h2
 
--- and the delays of the text's, which are in order
+-- and its delays are those of the text, which are in order
 apart-ordered : (name : List ℕ) (l : DraftLink) (from : ℕ) (to : Node) (link : Link) → AreReadTimes l.times → apart name l from to ≡ Ok link →
     link.least ≤ link.delay
 apart-ordered name l from to link read h = by (same_node to (Bridge from)) h
   where
-    -- the link that is made has them, where its ends are apart
+    -- the link that is made has them, if its ends differ
     by : (b : Bool) → cond b (Err (fault.UnknownName name)) (Ok (link_with from to l.times)) ≡ Ok link → link.least ≤ link.delay
     by true h = absurd (cc)
     by false h = let same : link_with from to l.times ≡ link = cc in subst (λ (x : Link). x.least ≤ x.delay) same read.ordered
@@ -254,13 +254,13 @@ module _ (bridges stations : List (List ℕ)) (P : Link → Type 0) where
       by (joined_link bridges stations l) (joined bridges stations ls) refl refl
       (λ xs more j there. joined-each ls (λ n m inside. each (suc n) m inside) xs more j link there) h k at
     where
-      -- where it holds of each link of the rest, it does with this one in front
+      -- if the property holds of each link of the rest, it holds with this link before them
       there : (x : Link) (xs : List Link) → joined_link bridges stations l ≡ Ok x → ((j : ℕ) → slice_get xs j ≡ Some link → P link)
           → (k : ℕ) → slice_get (x ∷ xs) k ≡ Some link → P link
       there x xs here rest zero at = let same : x ≡ link = cc in subst P same (each 0 l refl x here)
       there x xs here rest (suc k) at = rest k at
 
-      -- it holds of each link, where the first and the rest are joined
+      -- the property holds of each link, if the first link and the rest are joined
       by : (r : Result Link DomainFault) (rest : Result (List Link) DomainFault) → joined_link bridges stations l ≡ r → joined bridges stations ls ≡ rest
           → ((xs : List Link) → joined bridges stations ls ≡ Ok xs → (j : ℕ) → slice_get xs j ≡ Some link → P link)
           → and_first r rest ≡ Ok links → (k : ℕ) → slice_get links k ≡ Some link → P link
@@ -274,7 +274,7 @@ pub joined-ends : (d : Domain) (ls : List DraftLink) (links : List Link) → joi
     slice_get links k ≡ Some link → HasEnds d link
 joined-ends d ls = joined-each d.bridges d.stations (HasEnds d) ls (λ k l inside. joined_link-ends d l)
 
--- what holds of all holds of the one at a place
+-- what holds of all elements holds of the element at an index
 of_place : {A : Type 0} (P : A → Type 0) (xs : List A) → All P xs → (k : ℕ) (x : A) → slice_get xs k ≡ Some x → P x
 of_place P xs all k x at = subst P (get_or_from_slice_get xs k x x at) (all k x (slice_get_within xs k x at))
 
@@ -339,7 +339,7 @@ checked-accepted t bridges stations links n once p =
       no_link_twice = once;
     }
   where
-    -- a delay that isn't found too long, with the clocks' difference, is below the guard time
+    -- a delay that isn't found too long, with the clocks' difference, is below the guard band
     short_delay : (link : Link) → has_long_delay t.sync t.guard (times_of link) ≡ false → link.delay + t.sync < guard_by t.guard link
     short_delay link e = not_reached (guard_by t.guard link) (link.delay + t.sync) e
 
@@ -347,10 +347,10 @@ checked-accepted t bridges stations links n once p =
     short_sync : (link : Link) → has_long_sync t.sync (times_of link) ≡ false → t.sync ≤ time_of 72 (ticks_of_octet link.rate) + link.least
     short_sync link e = not_above (time_of 72 (ticks_of_octet link.rate) + link.least) t.sync e
 
-    -- a gap that isn't found too long is at most the guard time
+    -- a gap that isn't found too long is at most the guard band
     short_gap : (link : Link) → has_long_gap t.guard (times_of link) ≡ false → time_of 12 (ticks_of_octet link.rate) ≤ guard_by t.guard link
     short_gap link e = not_above (guard_by t.guard link) (time_of 12 (ticks_of_octet link.rate)) e
 
-    -- a guard time that isn't found too long is below the cycle time
+    -- a guard band that isn't found too long is below the cycle time
     short_guard : (link : Link) → has_long_guard t.cycle_time t.guard (times_of link) ≡ false → guard_by t.guard link < t.cycle_time
     short_guard link e = not_reached t.cycle_time (guard_by t.guard link) e

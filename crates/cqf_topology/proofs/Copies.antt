@@ -4,7 +4,7 @@ use Rattle.cqf_model.specs.declared.limits.Limits.{Limits}
 use Rattle.cqf_model.specs.declared.topology.Link.{Link}
 use Rattle.cqf_model.specs.Domain.{Domain}
 
--- it is the other domain, where the limits and times are the same too
+-- it is the other domain, if the limits and times are the same too
 pub same-domain : (limits : Limits) (cycle_time guard sync : ℕ) (bridges bridges' stations stations' : List (List ℕ)) (links links' : List Link)
     → bridges ≡ bridges' → stations ≡ stations' → links ≡ links'
     → ◌≡◌ {A = Domain} (record { limits = limits; cycle_time = cycle_time; guard = guard; sync = sync; bridges = bridges; stations = stations; links = links })

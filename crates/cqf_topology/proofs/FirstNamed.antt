@@ -8,7 +8,7 @@ use Rattle.cqf_lists.proofs.Firsts.{position-push}
 use Rattle.cqf_model.specs.Domain.{is_text}
 use Rattle.cqf_model.proofs.Texts.{is_text_same, pointwise-is_text}
 
--- what isn't there is none
+-- an option that isn't `Some` is `None`
 pub none_of : {X : Type 0} (o : Option X) → is_some o ≡ false → o ≡ None
 none_of None h = refl
 none_of (Some x) h = absurd cc
@@ -23,7 +23,7 @@ is_text_either (x ∷ xs) (y ∷ ys) = λ i. either x y i && is_text_either xs y
     either : (x y : ℕ) → (x == y) ≡ (y == x)
     either x y = grind (arith, nat_tests)
 
--- what was found is found still, whatever comes behind
+-- what was found stays found if more follows
 or_found : {X : Type 0} (o later : Option X) → is_some o ≡ true → o ≡ or_else o later
 or_found None later h = absurd cc
 or_found (Some x) later h = refl
@@ -34,12 +34,12 @@ or_nothing (Some x) = refl
 
 module _ {X : Type 0} (text : X → List ℕ) (under : List ℕ → Option ℕ) (xs after : List X) (x : X)
     (leads : (name : List ℕ) → under name ≡ position (λ y. is_text (text y) name) xs) (more : after ≡ xs ++ x ∷ []) where
-  -- the first place of a name behind one element more
+  -- the first index of a name in the list with one more element at the end
   placed : (name : List ℕ) → position (λ y. is_text (text y) name) after ≡ or_else (under name) (cond (is_text (text x) name) (Some (length xs)) None)
   placed name = ap (position (λ y. is_text (text y) name)) more ∙ position-push (λ y. is_text (text y) name) xs x
       ∙ ap (λ o. or_else o (cond (is_text (text x) name) (Some (length xs)) None)) (sym (leads name))
 
-  -- one whose name is known changes no first place
+  -- an element whose name is known changes no first index
   pub known_name : is_some (under (text x)) ≡ true → (name : List ℕ) → under name ≡ position (λ y. is_text (text y) name) after
   known_name known name = by (is_text (text x) name) refl ∙ sym (placed name)
     where
@@ -49,7 +49,7 @@ module _ {X : Type 0} (text : X → List ℕ) (under : List ℕ → Option ℕ) 
           or_found (under name) _ (subst (λ n. is_some (under n) ≡ true) own known)
       by false is = or_nothing (under name) ∙ ap (λ b. or_else (under name) (cond b (Some (length xs)) None)) (sym is)
 
-  -- one whose name isn't takes the next place
+  -- an element whose name is new takes the next index
   pub new_name : (then : List ℕ → Option ℕ) (place : ℕ) → under (text x) ≡ None → place ≡ length xs →
       ((name : List ℕ) → then name ≡ cond (pointwise nat_eq (text x) name) (Some place) (under name)) →
       (name : List ℕ) → then name ≡ position (λ y. is_text (text y) name) after

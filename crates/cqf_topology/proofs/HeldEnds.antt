@@ -13,7 +13,7 @@ use Rattle.cqf_topology.specs.contracts.joined.EndPartialEq.TheImpl.{ghosts as e
 use Rattle.cqf_topology.specs.DomainText.{same_ends, first_twice}
 use Rattle.cqf_topology.specs.JoinedLink.{node_of, ends_held, ends_of, are_same_ends}
 
--- two ends are equal where their nodes are the same
+-- two ends are equal if their nodes are the same
 pub end_eq-node : (a b : End) → end.eq a b ≡ same_node (node_of a) (node_of b)
 end_eq-node (Bridge a) (Bridge b) = refl
 end_eq-node (Bridge a) (Station b) = refl
@@ -34,15 +34,15 @@ list_any-ends link (other ∷ links) = ap (λ b. same_ends link other || b) (lis
 module _ (links : List Link) (i : ℕ) (link : Link) (held : List (ℕ × Node)) (all : Option ℕ) (inside : i < length links)
     (is : link ≡ get_or links i link) (holds : held ≡ map ends_of (take i links))
     (before : first_twice (take i links) (drop i links) ≡ all) where
-  -- what is asked of the set is asked of the links so far
+  -- a question to the set of ends is a question to the links so far
   asked : list_any (are_same_ends (ends_of link)) held ≡ list_any (same_ends link) (take i links)
   asked = ap (list_any (are_same_ends (ends_of link))) holds ∙ list_any-ends link (take i links)
 
-  -- the link comes next
+  -- the link is the next one
   next_is : drop i links ≡ link ∷ drop (i + 1) links
   next_is = drop_more links i link inside ∙ ap (λ l. l ∷ drop (i + 1) links) (sym is)
 
-  -- what is left to look through is this link and those behind it
+  -- what is left to look through is this link and those after it
   opened : first_twice (take i links) (link ∷ drop (i + 1) links) ≡ all
   opened = ap (first_twice (take i links)) (sym next_is) ∙ before
 
@@ -53,7 +53,7 @@ module _ (links : List Link) (i : ℕ) (link : Link) (held : List (ℕ × Node))
       ∙ sym (ap (λ b. cond b (Some (length (take i links))) (first_twice (take i links ++ link ∷ []) (drop (i + 1) links))) (sym asked ∙ there))
       ∙ opened
 
-  -- one whose ends aren't leaves it to the rest
+  -- if the link's ends aren't held, the first of its kind is among the rest
   pub first_twice-next : list_any (are_same_ends (ends_of link)) held ≡ false → first_twice (take (i + 1) links) (drop (i + 1) links) ≡ all
   first_twice-next absent =
       ap (λ front. first_twice front (drop (i + 1) links)) one_more

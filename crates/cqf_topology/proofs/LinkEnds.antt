@@ -1,4 +1,4 @@
--- Links by their ends: where no two have the same, each one's are new, and the place of its ends is its own.
+-- Links by their ends: if no two links have the same ends, the ends of each are new, and the index of its ends is its own.
 use Rattle.std.proofs.Common.{◌≡◌, ℕ, ◌+◌, List, [], ◌∷◌, ◌++◌, Bool, true, false, ◌==◌, ◌&&◌, ◌||◌, ◌∙◌, map, refl, ap, sym, cond, ◌<◌, length, take}
 use Rattle.std.proofs.Common.{get_or, arith, eqb-true, eq-eqb}
 use Rattle.std.proofs.lemmas.List.{get_or-take, get_or_default, length-take-le}
@@ -30,7 +30,7 @@ list_any-keys : (from : ℕ) (to : Node) (keys : List (ℕ × Node))
 list_any-keys from to [] = refl
 list_any-keys from to (key ∷ keys) = (λ i. ((from == key.0) && node_eq-same to key.1 i) || list_any-keys from to keys i)
 
--- links that haven't the same ends
+-- links that don't have the same ends
 other-ends : (a b : Link) (same : Bool) → same_ends a b ≡ same → ¬ ((b.from ≡ a.from) × (b.to ≡ a.to)) → same ≡ false
 other-ends a b true e apart = let both = leads-only a.from b.from a.to b.to e in absurd (apart (sym both.0, sym both.1))
 other-ends a b false e apart = refl
@@ -46,7 +46,7 @@ module _ (links : List Link) (i : ℕ) (link : Link) (held : List (ℕ × Node))
       let this : get_or links i d ≡ link = get_or_default links i d link inside ∙ sym is in
       other-ends link (get_or (take i links) k d) _ refl (λ both. once k i d before inside (ap (λ (l : Link). l.from) (sym same) ∙ both.0 ∙ ap (λ (l : Link). l.from) (sym this), ap (λ (l : Link). l.to) (sym same) ∙ both.1 ∙ ap (λ (l : Link). l.to) (sym this))))
 
-  -- so they come behind those that are held
+  -- so its ends come after those that are held
   ends-next : (keys : List (ℕ × Node))
       → keys ≡ cond (list_any (λ y. number.eq link.from y.0 && node.eq link.to y.1) held) held (held ++ ends_of link ∷ []) → keys ≡ map ends_of (take (i + 1) links)
   ends-next keys e =
@@ -54,14 +54,14 @@ module _ (links : List Link) (i : ℕ) (link : Link) (held : List (ℕ × Node))
       ∙ ap (list_any (are_same_ends (ends_of link))) holds ∙ list_any-ends link (take i links) ∙ absent)
       ∙ held-next links i link held _ inside is holds refl
 
--- read with any default
+-- the same, read with any default
 pub ends-next-read : (links : List Link) (i : ℕ) (default : Link) (held keys : List (ℕ × Node)) → NoLinkTwice links → i < length links → held ≡ map ends_of (take i links)
     → keys ≡ cond (list_any (λ y. number.eq (get_or links i default).from y.0 && node.eq (get_or links i default).to y.1) held) held (held ++ ends_of (get_or links i default) ∷ [])
     → keys ≡ map ends_of (take (i + 1) links)
 ends-next-read links i default held keys once inside holds =
     ends-next links i (get_or links i default) held once inside (get_or_default links i default (get_or links i default) inside) holds keys
 
--- numbers are compared either way round
+-- numbers are compared alike in either order
 turned-number : (a b : ℕ) → (a == b) ≡ (b == a)
 turned-number a b = by (a == b) (b == a) refl refl
   where
@@ -71,7 +71,7 @@ turned-number a b = by (a == b) (b == a) refl refl
     by false true e f = let is : (a == b) ≡ true = eq-eqb a b (sym (eqb-true b a f)) in absurd cc
     by false false e f = refl
 
--- the place of ends among those of links
+-- the index of ends among those of links
 pub place-of-ends : (from : ℕ) (to : Node) (links : List Link)
     → position (λ y. number.eq from y.0 && node.eq to y.1) (map ends_of links) ≡ position (λ (link : Link). (link.from == from) && same_node link.to to) links
 place-of-ends from to links =

@@ -7,11 +7,11 @@ use Rattle.cqf_model.proofs.Texts.{is_text_same}
 use Rattle.cqf_model.specs.Domain.{Domain, is_text, node_or, node_named}
 use Rattle.cqf_topology.specs.DomainText.{IsDomain, place_of}
 
--- what isn't a name is no name's place
+-- a text that isn't a name has no index among names
 place_of-other : (text : List ℕ) (names : List (List ℕ)) → All (λ name. IsTrue (is_name name)) names → is_name text ≡ false → place_of text names ≡ None
 place_of-other text names named other = by (place_of text names) refl
   where
-    -- whatever place there seems to be, there is none
+    -- any index that is found leads to a contradiction
     by : (o : Option ℕ) → place_of text names ≡ o → o ≡ None
     by None at = refl
     by (Some i) at =

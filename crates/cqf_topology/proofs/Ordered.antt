@@ -21,13 +21,13 @@ sync-range table sync h =
     let (found, read, rest) = and_then-Ok (number_if Sync 0 10000000 table) _ sync h in
     by found (number_if-range Sync 0 10000000 table found read) rest
   where
-    -- whether it is said or not
+    -- whether the key is there or not
     by : (o : Option ℕ) → IfSome o (λ n. (0 ≤ n) × (n ≤ 10000000)) →
         ◌≡◌ {A = Result ℕ TomlFault} (Ok (unwrap_or o 0)) (Ok sync) → sync ≤ longest_cycle
     by None range h = let same : 0 ≡ sync = cc in subst (λ n. n ≤ longest_cycle) same (omega arith)
     by (Some n) range h = let same : n ≡ sync = cc in subst (λ n. n ≤ longest_cycle) same range.1
 
--- what a map gives of something it gives of that
+-- what a map of an option gives comes from a value of that option
 map-Some : {A B : Type 0} (f : A → B) (o : Option A) (y : B) → option_map f o ≡ Some y → (x : A) × (o ≡ Some x) × (f x ≡ y)
 map-Some f None y h = absurd (cc)
 map-Some f (Some x) y h = (x, refl, cc)

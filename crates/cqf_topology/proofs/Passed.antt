@@ -9,7 +9,7 @@ use Rattle.cqf_model.specs.Limits.{bridges_within, links_within, stations_within
 use Rattle.cqf_topology.specs.DomainText.{DomainText, first_long_delay, first_long_gap, first_long_guard, first_long_sync, first_twice, if_so, is_too_many, with_links}
 use Rattle.cqf_topology.proofs.Refusals.{refuse-Ok}
 
--- what the checks give
+-- the facts that the checks give
 pub record Passes (d : DomainText) (links : List Link) : Type 0 where
   pub no_twice : first_twice [] links ≡ None
   pub short : d.guard < d.cycle_time
@@ -21,19 +21,19 @@ pub record Passes (d : DomainText) (links : List Link) : Type 0 where
   pub few_links : length links ≤ links_within d.limits
   pub no_sync : first_long_sync d.sync links ≡ None
 
--- what isn't so fails its test
+-- if a test gives no unit, it is false
 pub not_so : (b : Bool) → if_so b ≡ None → b ≡ false
 not_so true e = absurd (cc)
 not_so false e = refl
 
--- none of three tests passes where their disjunction doesn't
+-- if a disjunction of three tests is false, each of them is false
 no_more : (a b c : Bool) → (a || b || c) ≡ false → (a ≡ false) × (b ≡ false) × (c ≡ false)
 no_more false false false e = (refl, refl, refl)
 no_more false false true e = absurd (cc)
 no_more false true c e = absurd (cc)
 no_more true b c e = absurd (cc)
 
--- a domain that is told has passed
+-- if a domain is returned, it passed the checks
 pub passes : (d : DomainText) (links : List Link) (found : Domain) → with_links d links ≡ Ok found → Passes d links
 passes d links found h =
     let twice = refuse-Ok (first_twice [] links) fault.LinkTwice _ found h in

@@ -1,4 +1,4 @@
--- Steps of reading and of checking that went well, and that did not.
+-- Steps of reading and of checking that succeeded, and that did not.
 use Rattle.std.proofs.Common.{◌≡◌, ◌≢◌, ℕ, ◌≤◌, ◌<◌, List, [], ◌∷◌, Bool, true, false, ◌&&◌, nat_le, cond, Option, Some, None, Result, Ok, Err, ℤ, pos, negsuc}
 use Rattle.std.proofs.Common.{length, All, IsTrue, ok_or, refl, ap, sym, subst, ◌∙◌, arith}
 use Rattle.std.specs.Option.{option_and_then}
@@ -15,22 +15,22 @@ use Rattle.cqf_lists.specs.Results.{and_then, refuse}
 use Rattle.cqf_topology.specs.Fields.{Gives, and_first, value_at, read_at, each_from, within_range, number_from, number_if, number_if_by, if_name, name_from, names_at}
 use Rattle.cqf_topology.specs.DomainText.{if_some}
 
--- two steps that went well
+-- two steps that succeeded
 pub and_then-Ok : {A B E : Type 0} (r : Result A E) (next : A → Result B E) (y : B) → and_then r next ≡ Ok y → (x : A) × (r ≡ Ok x) × (next x ≡ Ok y)
 and_then-Ok (Ok x) next y h = (x, refl, h)
 and_then-Ok (Err e) next y h = absurd (cc)
 
--- nothing was to be refused
+-- nothing was refused
 pub refuse-Ok : {A B E : Type 0} (o : Option A) (fault : A → E) (rest : Result B E) (y : B) → refuse o fault rest ≡ Ok y → (o ≡ None) × (rest ≡ Ok y)
 refuse-Ok None fault rest y h = (refl, h)
 refuse-Ok (Some x) fault rest y h = absurd (cc)
 
--- what is right was there
+-- the option had the value
 pub ok_or-Ok : {A E : Type 0} (o : Option A) (e : E) (x : A) → ok_or o e ≡ Ok x → o ≡ Some x
 ok_or-Ok None e x h = absurd (cc)
 ok_or-Ok (Some y) e x h = cc
 
--- what comes of something came of it
+-- the value of a step came from a value before it
 pub and_then-Some : {A B : Type 0} (f : A → Option B) (o : Option A) (y : B) → option_and_then f o ≡ Some y → (x : A) × (o ≡ Some x) × (f x ≡ Some y)
 and_then-Some f None y h = absurd (cc)
 and_then-Some f (Some x) y h = (x, refl, h)
@@ -62,11 +62,11 @@ pub number_if-range : (key : Key) (least most : ℕ) (table : Members) (found : 
     IfSome found (λ n. (least ≤ n) × (n ≤ most))
 number_if-range key least most table found h = by (value_at key table) h
   where
-    -- what is said of it
+    -- the fact about the number
     InRange : Option ℕ → Type 0
     InRange = λ o. IfSome o (λ n. (least ≤ n) × (n ≤ most))
 
-    -- whether there is one or not
+    -- whether the key is there or not
     by : (o : Option Data) → number_if_by o key least most table ≡ Ok found → InRange found
     by None h = let same : None ≡ found = cc in subst InRange same tt
     by (Some d) h =
@@ -74,13 +74,13 @@ number_if-range key least most table found h = by (value_at key table) h
         let same : Some n ≡ found = cc in
         subst InRange same (number-range key least most table n read)
 
--- what each element that was read is
+-- a property of each element that was read
 pub each_from-All : {A E : Type 0} (P : A → Type 0) (reader : Data → Result A E) → ((d : Data) (x : A) → reader d ≡ Ok x → P x)
     → (ds : Items) (xs : List A) → each_from reader ds ≡ Ok xs → All P xs
 each_from-All P reader good no_items xs h = let e : [] ≡ xs = cc in subst (All P) e (All-nil P)
 each_from-All {A} {E} P reader good (item d ds) xs h = by (reader d) (each_from reader ds) refl (each_from-All P reader good ds) refl h
   where
-    -- each element is so, where the first and the rest were read
+    -- each element has the property, if the first and the rest were read
     by : (r : Result A E) (rest : Result (List A) E) → reader d ≡ r → ((ys : List A) → each_from reader ds ≡ Ok ys → All P ys)
         → each_from reader ds ≡ rest → and_first r rest ≡ Ok xs → All P xs
     by (Err e) rest here all more h = absurd (cc)

@@ -1,4 +1,4 @@
--- The first element of a list that an earlier one equals, by a test of the two.
+-- The first element of a list that equals an earlier one, by a test of the two.
 use Rattle.std.proofs.Common.{◌≡◌, ◌≤◌, ◌<◌, ◌+◌, ℕ, zero, suc, List, [], ◌∷◌, ◌++◌, Bool, true, false, ◌||◌, cond, Option, Some, None, length, slice_get, refl}
 use Rattle.std.proofs.Common.{ap, sym, subst, ◌∙◌, append_assoc, length-append, inl, inr, arith}
 use Rattle.std.specs.List.{list_any}
@@ -6,35 +6,35 @@ use Rattle.std.proofs.lemmas.Bool.{cases_lt, true≢false}
 use Rattle.std.proofs.lemmas.Option.{slice_get_within}
 use Rattle.cqf_lists.proofs.Places.{slice_get_behind}
 
--- what stands in the front stands in the whole
+-- an element of the first part is in the whole list at the same index
 at-left : {X : Type 0} (xs ys : List X) (j : ℕ) (a : X) → slice_get xs j ≡ Some a → slice_get (xs ++ ys) j ≡ Some a
 at-left [] ys j a h = cc
 at-left (x ∷ xs) ys zero a h = h
 at-left (x ∷ xs) ys (suc j) a h = at-left xs ys j a h
 
--- and at a place of the front the whole has what the front has
+-- and at an index of the first part the whole list has the element of that part
 at-front : {X : Type 0} (xs ys : List X) (j : ℕ) (a : X) → j < length xs → slice_get (xs ++ ys) j ≡ Some a → slice_get xs j ≡ Some a
 at-front [] ys j a inside h = absurd (omega arith)
 at-front (x ∷ xs) ys zero a inside h = h
 at-front (x ∷ xs) ys (suc j) a inside h = at-front xs ys j a (omega arith) h
 
--- a test that finds something finds it at a place
+-- if a test finds an element, it finds it at an index
 any-at : {X : Type 0} (p : X → Bool) (xs : List X) → list_any p xs ≡ true → (j : ℕ) × (a : X) × (j < length xs) × (slice_get xs j ≡ Some a) × (p a ≡ true)
 any-at p [] h = absurd (true≢false (sym h))
 any-at {X} p (x ∷ xs) h = by (p x) refl (λ e. any-at p xs e) h
   where
-    -- what passes stands at a place, in front or behind
+    -- the element that passes has an index, first or later
     by : (b : Bool) → p x ≡ b → (list_any p xs ≡ true → (j : ℕ) × (a : X) × (j < length xs) × (slice_get xs j ≡ Some a) × (p a ≡ true))
         → (b || list_any p xs) ≡ true → (j : ℕ) × (a : X) × (j < length (x ∷ xs)) × (slice_get (x ∷ xs) j ≡ Some a) × (p a ≡ true)
     by true e rest h = (0, x, omega arith, refl, e)
     by false e rest h = let (j, a, inside, at, is) = rest h in (suc j, a, omega (arith, inside), at, is)
 
--- and one that finds nothing passes at no place
+-- if a test finds no element, it passes at no index
 none-at : {X : Type 0} (p : X → Bool) (xs : List X) → list_any p xs ≡ false → (j : ℕ) (a : X) → slice_get xs j ≡ Some a → p a ≡ false
 none-at p [] h j a at = absurd (cc)
 none-at p (x ∷ xs) h j a at = by (p x) refl (λ e k there. none-at p xs e k a there) h j at
   where
-    -- nothing passes at any place, in front or behind
+    -- nothing passes at any index, first or later
     by : (b : Bool) → p x ≡ b → (list_any p xs ≡ false → (k : ℕ) → slice_get xs k ≡ Some a → p a ≡ false)
         → (b || list_any p xs) ≡ false → (j : ℕ) → slice_get (x ∷ xs) j ≡ Some a → p a ≡ false
     by true e rest h j at = absurd (true≢false h)
@@ -42,12 +42,12 @@ none-at p (x ∷ xs) h j a at = by (p x) refl (λ e k there. none-at p xs e k a 
     by false e rest h (suc j) at = rest h j at
 
 module _ {X : Type 0} (same : X → X → Bool) where
-  -- the place of the first that an earlier one equals
+  -- the index of the first element that equals an earlier one
   abbrev pub first_repeat : List X → List X → Option ℕ
   first_repeat earlier [] = None
   first_repeat earlier (x ∷ xs) = cond (list_any (same x) earlier) (Some (length earlier)) (first_repeat (earlier ++ x ∷ []) xs)
 
-  -- an earlier one equals the one at this place
+  -- an earlier element equals the one at this index
   pub record Repeats (xs : List X) (k : ℕ) : Type 0 where
     pub twin : ℕ
     pub earlier : twin < k
@@ -57,13 +57,13 @@ module _ {X : Type 0} (same : X → X → Bool) where
     pub at_place : slice_get xs k ≡ Some b
     pub equal : same b a ≡ true
 
-  -- none up to this place does, from another place on
+  -- from the index `from` on, none before `k` repeats, and the one at `k` does
   pub record IsFirst (xs : List X) (from k : ℕ) : Type 0 where
     pub behind : from ≤ k
     pub repeats : Repeats xs k
     pub least : (i : ℕ) → from ≤ i → i < k → ¬ Repeats xs i
 
-  -- the element right behind the front repeats none of it
+  -- the element right after the first part repeats none of it
   fresh : (earlier xs : List X) (x : X) → list_any (same x) earlier ≡ false → ¬ Repeats (earlier ++ x ∷ xs) (length earlier)
   fresh earlier xs x none r =
       let is : x ≡ r.b = some-inj (sym (slice_get_behind earlier x xs (length earlier) refl) ∙ r.at_place) in
@@ -74,11 +74,11 @@ module _ {X : Type 0} (same : X → X → Bool) where
       some-inj : ◌≡◌ {A = Option X} (Some x) (Some r.b) → x ≡ r.b
       some-inj e = cc
 
-  -- one more behind is one more
+  -- one more element makes the list longer by 1
   longer : (earlier : List X) (x : X) → length (earlier ++ x ∷ []) ≡ length earlier + 1
   longer earlier x = length-append earlier (x ∷ [])
 
-  -- what is told is the first
+  -- the index that is returned is the first
   pub first_repeat-Some : (earlier xs : List X) (k : ℕ) → first_repeat earlier xs ≡ Some k → IsFirst (earlier ++ xs) (length earlier) k
   first_repeat-Some earlier [] k h = cc
   first_repeat-Some earlier (x ∷ xs) k h = by (list_any (same x) earlier) refl (first_repeat-Some (earlier ++ x ∷ []) xs k) h
@@ -116,7 +116,7 @@ module _ {X : Type 0} (same : X → X → Bool) where
             ];
           }
 
-  -- where nothing is told, none repeats
+  -- if no index is returned, no element repeats
   pub first_repeat-None : (earlier xs : List X) → first_repeat earlier xs ≡ None → (i : ℕ) → length earlier ≤ i → ¬ Repeats (earlier ++ xs) i
   first_repeat-None earlier [] h = λ i from r. past (earlier ++ []) i r.b (omega (arith, length-append earlier [], from)) r.at_place
     where

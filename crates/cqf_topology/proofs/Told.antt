@@ -1,4 +1,4 @@
--- The name that is told as taken is the first repeated one, and the link that is told as standing twice the first with an
+-- The name that is reported as taken is the first repeated one, and the link that is reported as occurring twice is the first with an
 -- earlier twin.
 use Rattle.std.proofs.Common.{◌≡◌, ◌<◌, ℕ, List, [], ◌∷◌, ◌++◌, Bool, true, false, ◌==◌, ◌&&◌, cond, Option, Some, None, MatchOption, length, slice_get, get_or}
 use Rattle.std.proofs.Common.{refl, ap, sym, ◌∙◌, append_assoc, inl, inr, arith}
@@ -18,26 +18,26 @@ use Rattle.cqf_topology.specs.FirstFaults.{HasTwin, IsFirstRepeated, IsFirstTwin
 use Rattle.cqf_topology.proofs.Accepted.{position-None}
 use Rattle.cqf_topology.proofs.Repeats.{Repeats, first_repeat, first_repeat-None, first_repeat-Some}
 
--- the test on a link's ends passes where both are those
+-- the test on a link's ends passes if both are equal
 leads-there : (from to_from : ℕ) (to to_to : Node) → from ≡ to_from → to ≡ to_to → ((from == to_from) && same_node to to_to) ≡ true
 leads-there from to_from to to_to h e =
     let same : (from == to_from) ≡ true = grind (arith, nat_tests) in
     (λ i. same i && same_node to (sym e i)) ∙ same_node_itself to
 
--- and only there
+-- and only then
 pub leads-only : (from to_from : ℕ) (to to_to : Node) → ((from == to_from) && same_node to to_to) ≡ true → (from ≡ to_from) × (to ≡ to_to)
 leads-only from to_from to to_to h =
     let parts = and_parts (from == to_from) (same_node to to_to) h in
     let first : (from == to_from) ≡ true = parts.0 in
     (grind (arith, nat_tests), same_node_true to to_to parts.1)
 
--- the definition of the reader, by that of the lemmas
+-- the reader's definition agrees with that of the lemmas
 first_twice-repeat : (earlier links : List Link) → first_twice earlier links ≡ first_repeat same_ends earlier links
 first_twice-repeat earlier [] = refl
 first_twice-repeat earlier (l ∷ links) =
     ap (λ rest. cond (list_any (same_ends l) earlier) (Some (length earlier)) rest) (first_twice-repeat (earlier ++ l ∷ []) links)
 
--- a repeated link has a twin, and one with a twin is repeated
+-- a repeated link has a twin
 has-twin : (links : List Link) (k : ℕ) → Repeats same_ends links k → HasTwin links k
 has-twin links k r =
     let ends = leads-only r.b.from r.a.from r.b.to r.a.to r.equal in
@@ -55,22 +55,22 @@ of-twin links k t = record {
   equal = leads-there t.link.from t.twin.from t.link.to t.twin.to t.same_from t.same_to;
 }
 
--- where none is told, no link has a twin
+-- if none is reported, no link has a twin
 twice-None : (links : List Link) → first_twice [] links ≡ None → (k : ℕ) → ¬ HasTwin links k
 twice-None links none k t = first_repeat-None same_ends [] links (sym (first_twice-repeat [] links) ∙ none) k (omega arith) (of-twin links k t)
 
--- the link that is told
+-- the link that is reported
 pub twice-told : TwiceIsFirstTwin
 twice-told links = by (first_twice [] links) refl
   where
-    -- a link that is told is the first twin, and where none is told there is none
+    -- a link that is reported is the first twin, and if none is reported, there is none
     by : (o : Option ℕ) → first_twice [] links ≡ o → MatchOption o ((number : ℕ) → ¬ HasTwin links number) (λ number. IsFirstTwin links number)
     by None e = twice-None links e
     by (Some k) e =
         let f = first_repeat-Some same_ends [] links k (sym (first_twice-repeat [] links) ∙ e) in
         record { repeats = has-twin links k f.repeats; least = λ i before t. f.least i (omega arith) before (of-twin links i t) }
 
--- where none is told, no link stands twice
+-- if none is reported, no link occurs twice
 pub no-link-twice : (links : List Link) → first_twice [] links ≡ None → NoLinkTwice links
 no-link-twice links none i j d before inside both =
     twice-None links none j (record {
@@ -119,34 +119,34 @@ only-link d once from to l link at is_from is_to = by (link_between d from to) r
           ]
         ]
 
--- names that are the same text, as the lemmas ask it
+-- names that are the same text, in the order in which the lemmas compare them
 abbrev same_text : List ℕ → List ℕ → Bool
 same_text name other = is_text other name
 
--- where no name is told as taken, none repeats
+-- if no name is reported as taken, none repeats
 taken-None : (earlier names : List (List ℕ)) → first_taken earlier names ≡ None → first_repeat same_text earlier names ≡ None
 taken-None earlier [] h = refl
 taken-None earlier (x ∷ names) h = by (is_among x earlier) (taken-None (earlier ++ x ∷ []) names) h
   where
-    -- with one name more in front that isn't taken, none repeats
+    -- with one more name first that isn't taken, none repeats
     by : (b : Bool) → (first_taken (earlier ++ x ∷ []) names ≡ None → first_repeat same_text (earlier ++ x ∷ []) names ≡ None)
         → cond b (Some x) (first_taken (earlier ++ x ∷ []) names) ≡ None →
         cond b (Some (length earlier)) (first_repeat same_text (earlier ++ x ∷ []) names) ≡ None
     by true rest h = absurd (cc)
     by false rest h = rest h
 
--- and the one that is told stands at the place of the first that repeats
+-- the reported name is at the index of the first that repeats
 record IsToldAt (earlier names : List (List ℕ)) (name : List ℕ) : Type 0 where
   place : ℕ
   first : first_repeat same_text earlier names ≡ Some place
   stands : slice_get (earlier ++ names) place ≡ Some name
 
--- the name that is told stood earlier, and it is the first such
+-- the reported name occurred earlier, and it is the first such name
 taken-Some : (earlier names : List (List ℕ)) (name : List ℕ) → first_taken earlier names ≡ Some name → IsToldAt earlier names name
 taken-Some earlier [] name h = cc
 taken-Some earlier (x ∷ names) name h = by (is_among x earlier) refl (taken-Some (earlier ++ x ∷ []) names name) h
   where
-    -- the name that is told is the one in front, where it stood earlier, and otherwise one behind it
+    -- the reported name is the first of the rest if it occurred earlier, and otherwise a later one
     by : (b : Bool) → is_among x earlier ≡ b → (first_taken (earlier ++ x ∷ []) names ≡ Some name → IsToldAt (earlier ++ x ∷ []) names name)
         → cond b (Some x) (first_taken (earlier ++ x ∷ []) names) ≡ Some name → IsToldAt earlier (x ∷ names) name
     by true e rest h =
@@ -164,7 +164,7 @@ taken-Some earlier (x ∷ names) name h = by (is_among x earlier) refl (taken-So
           stands = ap (λ all. slice_get all told.place) (sym (append_assoc earlier (x ∷ []) names)) ∙ told.stands;
         }
 
--- a name that stood earlier repeats, and one that repeats stood earlier
+-- a name that occurred earlier repeats
 of-earlier : (names : List (List ℕ)) (k : ℕ) → StoodEarlier names k → Repeats same_text names k
 of-earlier names k s = record {
   twin = s.before;
@@ -177,7 +177,7 @@ of-earlier names k s = record {
       is_text_itself s.name;
 }
 
--- a repeated name stood earlier
+-- a repeated name occurred earlier
 stood-earlier : (names : List (List ℕ)) (k : ℕ) → Repeats same_text names k → StoodEarlier names k
 stood-earlier names k r = record {
   name = r.b;
@@ -188,11 +188,11 @@ stood-earlier names k r = record {
       r.at_place;
 }
 
--- the name that is told
+-- the name that is reported
 pub taken-told : TakenIsFirstRepeated
 taken-told names = by (first_taken [] names) refl
   where
-    -- a name that is told is the first that is repeated, and where none is told none is repeated
+    -- a name that is reported is the first repeated one, and if none is reported, none is repeated
     by : (o : Option (List ℕ)) → first_taken [] names ≡ o → MatchOption o ((place : ℕ) → ¬ StoodEarlier names place) (λ name. IsFirstRepeated names name)
     by None e = λ k s. first_repeat-None same_text [] names (taken-None [] names e) k (omega arith) (of-earlier names k s)
     by (Some name) e =

@@ -1,4 +1,4 @@
--- The domain that a text means, or the first fault of the text.
+-- The domain that a text describes, or the first fault of the text.
 use Rattle.std.specs.Prelude.{ℕ, ◌≡◌, ◌<◌, ◌≤◌, ◌≢◌, List, [], ◌∷◌, ◌++◌, ◌==◌, ◌&&◌, ◌||◌, Bool, true, false, if◌then◌else◌, length}
 use Rattle.std.specs.Prelude.{nat_le, nat_lt, position, slice_get, AllPairs, Option, Some, None, ok_or, Result, Ok, Err, All, IsTrue}
 use Rattle.std.specs.List.{list_any}
@@ -23,15 +23,15 @@ use Rattle.cqf_topology.specs.LinkTimes.{AreReadTimes, has_long_delay, has_long_
 use Rattle.cqf_model.specs.declared.limits.Limits.{Limits}
 use Rattle.cqf_model.specs.Limits.{bridges_within, links_within, longest_cycle, profile, stations_within}
 
--- the keys that a domain text owes, and those that each of its links does, in reading order
+-- the keys that a domain text must have, and those that each of its links must have, in reading order
 abbrev pub domain_keys : List Key
 domain_keys = Cycle ∷ Guard ∷ Bridges ∷ Stations ∷ Links ∷ []
 
 abbrev pub link_keys : List Key
 link_keys = From ∷ To ∷ Rate ∷ Delay ∷ []
 
--- what a domain text says, before it is asked whether a network can be like that: times in nanoseconds, names, and links
--- by the names of their ends; and the limits within which it is read
+-- what a domain text says, before it is checked whether a network can be like that: the limits within which it is read, times in
+-- nanoseconds, names, and links with the names of their ends
 pub record DomainText : Type 0 where
   pub limits : Limits
   pub cycle_time : ℕ
@@ -41,7 +41,7 @@ pub record DomainText : Type 0 where
   pub stations : List (List ℕ)
   pub links : List DraftLink
 
--- an array of at least one name
+-- an array, which must have at least one element
 abbrev pub if_some : {A : Type 0} → Key → List A → Result (List A) TomlFault
 if_some key [] = Err (early.BadValue key)
 if_some key (x ∷ xs) = Ok (x ∷ xs)
@@ -54,12 +54,12 @@ link_read table =
     and_then (times_read table) (λ times.
     Ok (record { from = from; to = to; times = times }))))
 
--- what was read already, before what is read of the rest
+-- what was read so far, followed by what is read of the rest
 abbrev pub with_front : {A E : Type 0} → List A → Result (List A) E → Result (List A) E
 with_front done (Ok rest) = Ok (done ++ rest)
 with_front done (Err e) = Err e
 
--- how far clocks may be apart, by a domain's table: not at all where nothing stands there
+-- how far clocks can be apart, by a domain's table: 0 if the key is missing
 abbrev pub sync_from : Members → Result ℕ TomlFault
 sync_from table = and_then (number_if Sync 0 10000000 table) (λ sync. Ok (unwrap_or sync 0))
 
@@ -74,7 +74,7 @@ domain_from limits table =
     and_then (tables_of_key Links link_read table) (λ links.
     Ok (record { limits = limits; cycle_time = cycle_time; guard = guard; sync = sync; bridges = bridges; stations = stations; links = links })))))))
 
--- the first of some names that stood earlier
+-- whether a name is among some names; and the first of `names` that is among `earlier` or occurs earlier in `names` itself
 abbrev pub is_among : List ℕ → List (List ℕ) → Bool
 is_among name names = list_any (λ other. is_text other name) names
 
@@ -82,38 +82,39 @@ abbrev pub first_taken : List (List ℕ) → List (List ℕ) → Option (List �
 first_taken earlier [] = None
 first_taken earlier (name ∷ names) = if is_among name earlier then Some name else first_taken (earlier ++ name ∷ []) names
 
--- names behind those that are numbered, none of them among these or the others
+-- the names `done`, which are numbered already, followed by the new names. None of these may be among `others` or `done` or occur twice
 abbrev pub numbered_with : List (List ℕ) → List (List ℕ) → List (List ℕ) → Result (List (List ℕ)) DomainFault
 numbered_with others done names = refuse (first_taken (others ++ done) names) fault.NameTaken (Ok (done ++ names))
 
--- a link of these parts
+-- the link with these parts
 abbrev pub link_with : ℕ → Node → LinkTimes → Link
 link_with from to times = record { from = from; to = to; rate = times.rate; delay = times.delay; least = times.least; guard = times.guard }
 
--- a link with its ends found: its `from` has to name a bridge, and its `to` a node other than that
+-- a link between a bridge and a node, which must not be this bridge itself; `name` is the name of `to`
 abbrev pub apart : List ℕ → DraftLink → ℕ → Node → Result Link DomainFault
 apart name link from to =
     if same_node to (Bridge from)
     then Err (fault.UnknownName name)
     else Ok (link_with from to link.times)
 
--- the place of a name among some names
+-- the index of a name in a list of names
 abbrev pub place_of : List ℕ → List (List ℕ) → Option ℕ
 place_of name names = position (λ other. is_text other name) names
 
--- a link of the text with its ends found, or the name that is no such end
+-- a link of the text with the numbers of its ends, or the first of its names that is no such end: `from` must name a bridge, and `to` a
+-- node other than that bridge
 abbrev pub joined_link : List (List ℕ) → List (List ℕ) → DraftLink → Result Link DomainFault
 joined_link bridges stations link =
     and_then (ok_or (place_of link.from bridges) (fault.UnknownName link.from)) (λ from.
     and_then (ok_or (node_or (place_of link.to bridges) (place_of link.to stations)) (fault.UnknownName link.to)) (λ to.
     apart link.to link from to))
 
--- each link of the text with its ends found, or the first fault
+-- the links of the text with the numbers of their ends, or the first fault
 abbrev pub joined : List (List ℕ) → List (List ℕ) → List DraftLink → Result (List Link) DomainFault
 joined bridges stations [] = Ok []
 joined bridges stations (link ∷ links) = and_first (joined_link bridges stations link) (joined bridges stations links)
 
--- the number of the first link whose ends are those of an earlier one
+-- whether two links have the same ends; and the number of the first link that has the same ends as an earlier link
 abbrev pub same_ends : Link → Link → Bool
 same_ends a b = (a.from == b.from) && same_node a.to b.to
 
@@ -122,9 +123,9 @@ first_twice earlier [] = None
 first_twice earlier (link ∷ links) =
     if list_any (same_ends link) earlier then Some (length earlier) else first_twice (earlier ++ link ∷ []) links
 
--- the number of the first link whose guard time isn't below the cycle time; of the first whose greatest delay and how far clocks may be
--- apart, together, aren't below its guard time; of the first whose gap behind a frame is above it; and of the first on which clocks may be
--- further apart than a shortest frame and the least delay take together
+-- the number of the first link whose guard band isn't shorter than the cycle; of the first whose greatest delay plus the distance of clocks
+-- isn't less than its guard band; of the first on which the gap after a frame takes longer than its guard band; and of the first on which
+-- clocks can be further apart than a shortest frame and the least delay take together
 abbrev pub first_long_guard : ℕ → ℕ → List Link → Option ℕ
 first_long_guard cycle_time guard links = position (λ (link : Link). has_long_guard cycle_time guard (times_of link)) links
 
@@ -137,23 +138,23 @@ first_long_gap guard links = position (λ (link : Link). has_long_gap guard (tim
 abbrev pub first_long_sync : ℕ → List Link → Option ℕ
 first_long_sync sync links = position (λ (link : Link). has_long_sync sync (times_of link)) links
 
--- a unit where the test holds
+-- a unit if the test is true, else none
 abbrev pub if_so : Bool → Option (Unit {0})
 if_so true = Some tt
 if_so false = None
 
--- there are more bridges, stations or links than a domain may have
+-- there are more bridges, stations or links than the limits allow
 abbrev pub is_too_many : Limits → List (List ℕ) → List (List ℕ) → List Link → Bool
 is_too_many limits bridges stations links =
     nat_lt (bridges_within limits) (length bridges) || nat_lt (stations_within limits) (length stations)
     || nat_lt (links_within limits) (length links)
 
--- the domain that the text says, with these links
+-- the domain that the text describes, with these links
 abbrev pub with_these : DomainText → List Link → Domain
 with_these d links =
     record { limits = d.limits; cycle_time = d.cycle_time; guard = d.guard; sync = d.sync; bridges = d.bridges; stations = d.stations; links = links }
 
--- the domain that the text says, or the first check that it fails, each made over the whole before the next
+-- the domain that the text describes, or the first check that it fails, each check made over the whole text before the next
 abbrev pub with_links : DomainText → List Link → Result Domain DomainFault
 with_links d links =
     refuse (first_twice [] links) fault.LinkTwice (
@@ -165,13 +166,13 @@ with_links d links =
     refuse (first_long_sync d.sync links) fault.SyncTooLong (
     Ok (with_these d links))))))))
 
--- the domain that the text says, or the first check that it fails, those of its names and ends before the others
+-- the domain that the text describes, or the first check that it fails; names and ends are checked before the rest
 abbrev pub checked : DomainText → Result Domain DomainFault
 checked d =
     refuse (first_taken [] (d.bridges ++ d.stations)) fault.NameTaken (
     and_then (joined d.bridges d.stations d.links) (with_links d))
 
--- a fault in reading, as one of the domain's
+-- a fault of reading as a fault of the domain
 abbrev pub domain_fault : TomlFault → DomainFault
 domain_fault early.NotToml = fault.NotToml
 domain_fault (early.Missing key) = fault.Missing key
@@ -182,19 +183,19 @@ abbrev pub as_domain_fault : {A : Type 0} → Result A TomlFault → Result A Do
 as_domain_fault (Ok x) = Ok x
 as_domain_fault (Err e) = Err (domain_fault e)
 
--- what a domain text says, or its first fault in being read
+-- what a domain text says, or its first fault of reading
 abbrev pub read_text : Limits → List ℕ → Result DomainText TomlFault
 read_text limits text = and_then (whole_document domain_keys Links link_keys text) (domain_from limits)
 
--- the domain that a text means within some limits, or its first fault
+-- the domain that a text describes within some limits, or its first fault
 abbrev pub domain_within : Limits → List ℕ → Result Domain DomainFault
 domain_within limits text = and_then (as_domain_fault (read_text limits text)) checked
 
--- and where none are set
+-- the same if no limits are set
 abbrev pub domain_of_text : List ℕ → Result Domain DomainFault
 domain_of_text text = domain_within profile text
 
--- what the ranges and forms of the values give
+-- the facts that the ranges and forms of the values give
 pub record IsReadable (d : DomainText) : Type 0 where
   pub cycle_least : 10000 ≤ d.cycle_time
   pub cycle_most : d.cycle_time ≤ longest_cycle
@@ -205,17 +206,17 @@ pub record IsReadable (d : DomainText) : Type 0 where
   pub stations_named : All (λ name. IsTrue (is_name name)) d.stations
   pub times_are_read : All (λ (link : DraftLink). AreReadTimes link.times) d.links
 
--- a text's bridges by number: none of them stands twice
+-- the bridges of a text by number: none occurs twice
 pub record HasBridges (d : DomainText) (bridges : List (List ℕ)) : Type 0 where
   pub readable : IsReadable d
   pub bridges_are : refuse (first_taken [] d.bridges) fault.NameTaken (Ok d.bridges) ≡ Ok bridges
 
--- and its stations: none of them stands twice or is a bridge
+-- the bridges and stations of a text by number: no station occurs twice or has the name of a bridge
 pub record HasNames (d : DomainText) (bridges stations : List (List ℕ)) : Type 0 where
   pub has_bridges : HasBridges d bridges
   pub stations_are : refuse (first_taken bridges d.stations) fault.NameTaken (Ok d.stations) ≡ Ok stations
 
--- a text's names and links by number: what its checks up to that of its ends give
+-- the names and links of a text by number: the facts that its checks give, up to the check of the links' ends
 pub record IsNumberedDomain (d : DomainText) (bridges stations : List (List ℕ)) (links : List Link) : Type 0 where
   pub readable : IsReadable d
   pub bridges_are : bridges ≡ d.bridges
@@ -227,17 +228,17 @@ pub record IsNumberedDomain (d : DomainText) (bridges stations : List (List ℕ)
 abbrev pub NoLinkTwice : List Link → Type 0
 NoLinkTwice links = AllPairs (λ (a b : Link). ¬ ((a.from ≡ b.from) × (a.to ≡ b.to))) links
 
--- where a link leads from the bridge to the node, it is what is found
+-- if a link leads from the bridge to the node, then its number is the one found
 abbrev pub IsOnlyLink : Domain → ℕ → Node → Option ℕ → Type 0
 IsOnlyLink d from to found = (number : ℕ) (link : Link) → slice_get d.links number ≡ Some link → link.from ≡ from → link.to ≡ to → found ≡ Some number
 
--- the domain of these parts
+-- the domain with these parts
 abbrev pub domain_with : Limits → ℕ → ℕ → ℕ → List (List ℕ) → List (List ℕ) → List Link → Domain
 domain_with limits cycle_time guard sync bridges stations links =
     record { limits = limits; cycle_time = cycle_time; guard = guard; sync = sync; bridges = bridges; stations = stations; links = links }
 
--- what a domain's text gives beyond being accepted: clocks aren't further apart than a text can say, each name has the form of a name, no
--- two are equal, and no two links have the same ends
+-- the facts that a domain's text gives beyond being accepted: clocks are no further apart than a text can say, each name has the form of a
+-- name, no two names are equal, and no two links have the same ends
 pub record IsDomain (d : Domain) : Type 0 where
   pub accepted : IsAccepted d
   pub sync_most : d.sync ≤ longest_cycle

@@ -1,5 +1,5 @@
--- The texts of the faults of domain texts: a fault's name, and then its value, after a space: a key and a name as
--- they are, a link by its number.
+-- The texts of the faults of domain texts: a fault's name, followed by a space and its value if it has one. A key and a name are written as
+-- they are, a link as its number.
 use Rattle.std.specs.Prelude.{ℕ, ◌++◌, List, codes, decimal}
 use Rattle.cqf_topology.specs.Fields.{key_text}
 use Rattle.cqf_topology.specs.declared.faults.DomainFault.{DomainFault}

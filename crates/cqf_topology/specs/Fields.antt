@@ -1,4 +1,4 @@
--- The tables and values of a TOML document: which keys must be there, and what stands at a key.
+-- The tables and values of a TOML document: which keys must be there, and the value at a key.
 use Rattle.std.specs.Prelude.{ℕ, ◌≡◌, ◌≢◌, ℤ, pos, negsuc, List, [], ◌∷◌, ◌&&◌, Bool, true, if◌then◌else◌, codes, nat_le, is_some, is_none, find, Option, Some}
 use Rattle.std.specs.Prelude.{None, option_and_then, ok_or, Result, Ok, Err}
 use Rattle.std.specs.Option.{option_or}
@@ -14,12 +14,12 @@ use Rattle.cqf_topology.specs.declared.keys.Key.TheVariants.{Deadline, Every, Ph
 use Rattle.cqf_topology.specs.declared.toml_faults.TomlFault.{TomlFault}
 use Rattle.cqf_topology.specs.declared.toml_faults.TomlFault.TheVariants.{NotToml, Missing, BadValue}
 
--- what a call gives is what was wanted, seen by a view; nothing is said where memory was refused
+-- the result of a call, seen through the view `show`, is the wanted result. If the call returns the error `memory`, nothing is claimed
 abbrev pub Gives : {A B E : Type 0} → E → (A → B) → Result A E → Result B E → Type 0
 Gives memory show (Ok x) wanted = wanted ≡ Ok (show x)
 Gives memory show (Err e) wanted = e ≢ memory → wanted ≡ Err e
 
--- a key as it is written
+-- a key as a text has it
 abbrev pub key_text : Key → List ℕ
 key_text Cycle = codes "cycle"
 key_text Guard = codes "guard"
@@ -40,16 +40,16 @@ key_text Deadline = codes "deadline"
 key_text Every = codes "every"
 key_text Phase = codes "phase"
 
--- what stands at a key of a table
+-- the value at a key of a table
 abbrev pub value_at : Key → Members → Option Data
 value_at key table = get_member (key_text key) table
 
--- the key that may stand in place of another: `paths` in place of `path`
+-- the key that can replace another: `paths` replaces `path`
 abbrev pub substitute_of : Key → Option Key
 substitute_of Path = Some Paths
 substitute_of _ = None
 
--- whether a table lacks a key, and what may stand in its place
+-- whether a table has neither the key nor its substitute
 abbrev pub lacks : Key → Members → Bool
 lacks key table = is_none (value_at key table) && is_none (option_and_then (λ other. value_at other table) (substitute_of key))
 
@@ -57,33 +57,32 @@ lacks key table = is_none (value_at key table) && is_none (option_and_then (λ o
 abbrev pub first_absent : List Key → Members → Option Key
 first_absent keys table = find (λ key. lacks key table) keys
 
--- the same over the elements of an array, in order, those that are tables
+-- the first of some keys that an element of an array lacks, element by element; elements that aren't tables are skipped
 abbrev pub first_absent_within : List Key → Items → Option Key
 first_absent_within keys no_items = None
 first_absent_within keys (item d ds) = option_or (option_and_then (first_absent keys) (as_table d)) (first_absent_within keys ds)
 
--- the first key that a document lacks: of its own table, and then, where the key of the elements holds an array, of
--- these
+-- the first key that a document lacks: first of its own table, then, if there is an array at the key `elements`, of its elements
 abbrev pub first_missing : List Key → Key → List Key → Members → Option Key
 first_missing keys elements keys_within table =
     option_or (first_absent keys table)
     (option_and_then (first_absent_within keys_within) (option_and_then as_array (value_at elements table)))
 
--- a text's table, where the text is TOML, and so UTF-8
+-- the table of a text. The text must be TOML, and so UTF-8
 abbrev pub document_of : List ℕ → Result Members TomlFault
 document_of text = if is_utf8 text then ok_or (parse_document text) NotToml else Err NotToml
 
--- a text's table, where no key is missing
+-- the table of a text in which no key is missing
 abbrev pub whole_document : List Key → Key → List Key → List ℕ → Result Members TomlFault
 whole_document keys elements keys_within text =
     and_then (document_of text) (λ table.
     refuse (first_missing keys elements keys_within table) Missing (Ok table))
 
--- what stands at a key, read by a reader of values
+-- the value at a key, read by a reader of values
 abbrev pub read_at : {A : Type 0} → Key → (Data → Option A) → Members → Result A TomlFault
 read_at key reader table = ok_or (option_and_then reader (value_at key table)) (BadValue key)
 
--- each element of an array, read; the first fault ends it
+-- each element of an array, read in order up to the first fault
 abbrev pub and_first : {A E : Type 0} → Result A E → Result (List A) E → Result (List A) E
 and_first (Err e) rest = Err e
 and_first (Ok x) (Err e) = Err e
@@ -98,16 +97,16 @@ abbrev pub are_tables : Items → Bool
 are_tables no_items = true
 are_tables (item d ds) = is_some (as_table d) && are_tables ds
 
--- the elements of an array of tables, each read
+-- the elements of an array, read one by one; each must be a table
 abbrev pub tables_from : {A : Type 0} → Key → (Members → Result A TomlFault) → Items → Result (List A) TomlFault
 tables_from key reader items = each_from (λ d. and_then (ok_or (as_table d) (BadValue key)) reader) items
 
--- the tables of an array of tables, each read
+-- the tables of the array at a key, each read. All elements are checked to be tables before any is read
 abbrev pub tables_of_key : {A : Type 0} → Key → (Members → Result A TomlFault) → Members → Result (List A) TomlFault
 tables_of_key key reader table =
     and_then (read_at key as_array table) (λ items. if are_tables items then tables_from key reader items else Err (BadValue key))
 
--- an integer within a range
+-- an integer, if it is within a range
 abbrev pub within_range : ℕ → ℕ → ℤ → Option ℕ
 within_range least most (pos n) = if nat_le least n && nat_le n most then Some n else None
 within_range least most (negsuc n) = None
@@ -115,7 +114,7 @@ within_range least most (negsuc n) = None
 abbrev pub number_from : ℕ → ℕ → Data → Option ℕ
 number_from least most d = option_and_then (within_range least most) (as_integer d)
 
--- the number of up to 32 bits at a key, by what stands there: another one where nothing does
+-- the number of at most 32 bits at a key, given the value there; the given default if the key is missing
 abbrev pub number_or_by : Option Data → Key → ℕ → Members → Result ℕ TomlFault
 number_or_by None key default table = Ok default
 number_or_by (Some d) key default table = read_at key (number_from 0 4294967295) table
@@ -123,7 +122,7 @@ number_or_by (Some d) key default table = read_at key (number_from 0 4294967295)
 abbrev pub number_or : Key → ℕ → Members → Result ℕ TomlFault
 number_or key default table = number_or_by (value_at key table) key default table
 
--- the number within a range at a key, by what stands there: none where nothing does
+-- the number within a range at a key, given the value there; none if the key is missing
 abbrev pub number_if_by : Option Data → Key → ℕ → ℕ → Members → Result (Option ℕ) TomlFault
 number_if_by None key least most table = Ok None
 number_if_by (Some d) key least most table = and_then (read_at key (number_from least most) table) (λ number. Ok (Some number))
@@ -131,7 +130,7 @@ number_if_by (Some d) key least most table = and_then (read_at key (number_from 
 abbrev pub number_if : Key → ℕ → ℕ → Members → Result (Option ℕ) TomlFault
 number_if key least most table = number_if_by (value_at key table) key least most table
 
--- a text of the form of a name
+-- a text, if it has the form of a name
 abbrev pub if_name : List ℕ → Option (List ℕ)
 if_name text = if is_name text then Some text else None
 
@@ -142,7 +141,7 @@ name_from d = option_and_then if_name (as_str d)
 abbrev pub names_from : Key → Items → Result (List (List ℕ)) TomlFault
 names_from key items = each_from (λ d. ok_or (name_from d) (BadValue key)) items
 
--- an array of names
+-- the array of names at a key
 abbrev pub names_at : Key → Members → Result (List (List ℕ)) TomlFault
 names_at key table = and_then (read_at key as_array table) (names_from key)
 
@@ -150,7 +149,7 @@ names_at key table = and_then (read_at key as_array table) (names_from key)
 abbrev pub texts_from : Key → Items → Result (List (List ℕ)) TomlFault
 texts_from key items = each_from (λ d. ok_or (as_str d) (BadValue key)) items
 
--- an array of texts
+-- the array of texts at a key
 abbrev pub texts_at : Key → Members → Result (List (List ℕ)) TomlFault
 texts_at key table = and_then (read_at key as_array table) (texts_from key)
 
@@ -158,6 +157,6 @@ texts_at key table = and_then (read_at key as_array table) (texts_from key)
 abbrev pub text_lists_from : Key → Items → Result (List (List (List ℕ))) TomlFault
 text_lists_from key items = each_from (λ d. and_then (ok_or (as_array d) (BadValue key)) (texts_from key)) items
 
--- an array of arrays of texts
+-- the array of arrays of texts at a key
 abbrev pub text_lists_at : Key → Members → Result (List (List (List ℕ))) TomlFault
 text_lists_at key table = and_then (read_at key as_array table) (text_lists_from key)

@@ -1,9 +1,9 @@
--- Which name is told as taken, and which link as standing twice, in words of places alone.
+-- Which name is reported as taken, and which link as occurring twice, in terms of indexes alone.
 use Rattle.std.specs.Prelude.{ℕ, ◌≡◌, ◌<◌, List, [], Some, MatchOption, slice_get}
 use Rattle.cqf_model.specs.declared.topology.Link.{Link}
 use Rattle.cqf_topology.specs.DomainText.{first_taken, first_twice}
 
--- the name at this place stood earlier
+-- the name at this index occurred earlier
 pub record StoodEarlier (names : List (List ℕ)) (place : ℕ) : Type 0 where
   pub name : List ℕ
   pub before : ℕ
@@ -11,14 +11,14 @@ pub record StoodEarlier (names : List (List ℕ)) (place : ℕ) : Type 0 where
   pub stood : slice_get names before ≡ Some name
   pub stands : slice_get names place ≡ Some name
 
--- the name stands at the least place whose name stood earlier
+-- the name is at the least index whose name occurred earlier
 pub record IsFirstRepeated (names : List (List ℕ)) (name : List ℕ) : Type 0 where
   pub place : ℕ
   pub stands : slice_get names place ≡ Some name
   pub repeats : StoodEarlier names place
   pub least : (k : ℕ) → k < place → ¬ StoodEarlier names k
 
--- the link of this number has both ends of an earlier one
+-- the link with this number has the same ends as an earlier link
 pub record HasTwin (links : List Link) (number : ℕ) : Type 0 where
   pub link : Link
   pub twin : Link
@@ -29,16 +29,16 @@ pub record HasTwin (links : List Link) (number : ℕ) : Type 0 where
   pub same_from : link.from ≡ twin.from
   pub same_to : link.to ≡ twin.to
 
--- it is the least number with an earlier twin
+-- this is the least number of a link with an earlier twin
 pub record IsFirstTwin (links : List Link) (number : ℕ) : Type 0 where
   pub repeats : HasTwin links number
   pub least : (k : ℕ) → k < number → ¬ HasTwin links k
 
--- of any names: the one that is told as taken is the first that is repeated, and where none is told none stood earlier
+-- for any names: the name reported as taken is the first repeated one, and if none is reported, no name occurred earlier
 abbrev pub TakenIsFirstRepeated : Type 0
 TakenIsFirstRepeated = (names : List (List ℕ))
     → MatchOption (first_taken [] names) ((place : ℕ) → ¬ StoodEarlier names place) (λ name. IsFirstRepeated names name)
 
--- of any links: the one that is told as standing twice is the first with an earlier twin, and where none is told none has one
+-- for any links: the link reported as occurring twice is the first with an earlier twin, and if none is reported, no link has a twin
 abbrev pub TwiceIsFirstTwin : Type 0
 TwiceIsFirstTwin = (links : List Link) → MatchOption (first_twice [] links) ((number : ℕ) → ¬ HasTwin links number) (λ number. IsFirstTwin links number)

@@ -12,12 +12,12 @@ abbrev pub node_of : End → Node
 node_of (end.Bridge b) = Bridge b
 node_of (end.Station s) = Station s
 
--- and the end that a node is
+-- the end that a node is
 abbrev pub end_of_joined : Node → End
 end_of_joined (Bridge b) = end.Bridge b
 end_of_joined (Station s) = end.Station s
 
--- both ends of a link, as a set of ends holds them and as the link has them, and whether two links have the same
+-- both ends of a link, as they are in a set of ends and as they are in the link; and whether two pairs of ends are the same
 abbrev pub ends_held : ℕ × End → ℕ × Node
 ends_held k = (k.0, node_of k.1)
 
@@ -27,7 +27,7 @@ ends_of link = (link.from, link.to)
 abbrev pub are_same_ends : ℕ × Node → ℕ × Node → Bool
 are_same_ends a b = (a.0 == b.0) && same_node a.1 b.1
 
--- the number fits two octets
+-- the number of a node fits two octets, and so do both numbers of a link's ends
 abbrev pub IsSmallNode : Node → Type 0
 IsSmallNode (Bridge b) = b < 65536
 IsSmallNode (Station s) = s < 65536

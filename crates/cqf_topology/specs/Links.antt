@@ -4,10 +4,10 @@ use Rattle.cqf_model.specs.declared.topology.Link.{Link}
 use Rattle.cqf_model.specs.declared.topology.Node.{Node}
 use Rattle.cqf_topology.specs.JoinedLink.{ends_of}
 
--- links, by their numbers
+-- links, by number
 pub record Linked : Type 0 where
   pub items : List Link
 
--- the ends of each of some links, in their order
+-- the ends of the links, in their order
 abbrev pub AreEndsOf : List Link → List (ℕ × Node) → Type 0
 AreEndsOf links ends = ends ≡ map ends_of links

@@ -2,10 +2,10 @@
 use Rattle.std.specs.Prelude.{ℕ, ◌≡◌, List, Option}
 use Rattle.cqf_topology.specs.DomainText.{place_of}
 
--- names, by their numbers
+-- names, by number
 pub record Numbered : Type 0 where
   pub keys : List (List ℕ)
 
--- each name's number is its place, and no other name has one
+-- the number of each name is its index in the list, and a name outside the list has none
 abbrev pub AreNumbered : (List ℕ → Option ℕ) → List (List ℕ) → Type 0
 AreNumbered number names = (name : List ℕ) → number name ≡ place_of name names

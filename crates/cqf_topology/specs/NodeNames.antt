@@ -6,7 +6,7 @@ use Rattle.cqf_model.specs.declared.topology.Node.{Node}
 use Rattle.cqf_model.specs.declared.topology.Node.TheVariants.{Bridge, Station}
 use Rattle.cqf_model.specs.Domain.{Domain}
 
--- a node's name. A node that the domain lacks has none
+-- the name of a bridge, and of a node. A node that the domain lacks has the empty name
 abbrev pub name_of_bridge : Domain → ℕ → List ℕ
 name_of_bridge d bridge = slice_index_or d.bridges bridge []
 
@@ -14,7 +14,7 @@ abbrev pub name_of_node : Domain → Node → List ℕ
 name_of_node d (Bridge bridge) = name_of_bridge d bridge
 name_of_node d (Station station) = slice_index_or d.stations station []
 
--- a link by its ends, as `FROM>TO`
+-- a link by its ends, as `FROM>TO`. A link that the domain lacks gives an empty text
 abbrev pub ends_of_link : Domain → Link → List ℕ
 ends_of_link d link = name_of_bridge d link.from ++ 62 ∷ name_of_node d link.to
 

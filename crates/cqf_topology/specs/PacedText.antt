@@ -1,4 +1,4 @@
--- The streams that a text asks for with the cycles in which they are offered, or the first fault of the text.
+-- The streams that a text requests, with the cycles in which they are offered, or the first fault of the text.
 use Rattle.std.specs.Prelude.{ℕ, List, map, Result, Ok, string_bytes}
 use Rattle.toml.specs.Data.{as_str, Members}
 use Rattle.cqf_lists.specs.Results.{and_then}
@@ -8,8 +8,8 @@ use Rattle.cqf_topology.specs.Fields.{whole_document, read_at, tables_of_key, nu
 use Rattle.cqf_topology.specs.declared.paced.PacedRequest.{PacedRequest}
 use Rattle.cqf_topology.specs.StreamsText.{RequestText, branches_from, streams_keys, stream_keys}
 
--- a request for a stream, as texts and numbers: it is offered in one of so many cycles, the first of which has this phase; each branch
--- of its tree lists its bridges in order, and then the listener's station
+-- a request for a stream, as texts and numbers: it is offered in one of every `every` cycles, first in the cycle `phase`. Each branch of
+-- its tree lists its bridges in order, followed by the listener's station
 pub record PacedText : Type 0 where
   pub name : List ℕ
   pub octets : ℕ
@@ -27,11 +27,11 @@ paced_text r = record {
   paths = map (λ path. map string_bytes path.items) r.paths.items;
 }
 
--- one for a stream that is offered in each cycle
+-- a request for a stream that is offered in each cycle
 abbrev pub in_each_cycle : RequestText → PacedText
 in_each_cycle r = record { name = r.name; octets = r.octets; every = 1; phase = 0; paths = r.paths }
 
--- a stream's table: where nothing is said it is offered in each cycle
+-- a stream's table. Without `every` and `phase` the stream is offered in each cycle
 abbrev pub paced_from : Members → Result PacedText TomlFault
 paced_from table =
     and_then (read_at Name as_str table) (λ name.

@@ -1,4 +1,4 @@
--- The streams that a text asks for with their deadlines, or the first fault of the text.
+-- The streams that a text requests, with their deadlines, or the first fault of the text.
 use Rattle.std.specs.Prelude.{ℕ, List, Option, Result, Ok}
 use Rattle.toml.specs.Data.{Members}
 use Rattle.cqf_lists.specs.Results.{and_then}
@@ -16,11 +16,11 @@ PlannedText = PacedText × Option ℕ
 abbrev pub planned_text : Planned → PlannedText
 planned_text planned = (paced_text planned.request, planned.deadline)
 
--- the deadline of a stream's table: none where nothing stands there
+-- the deadline of a stream's table; none if the key is missing
 abbrev pub deadline_from : Members → Result (Option ℕ) TomlFault
 deadline_from table = number_if Deadline 1 4294967295 table
 
--- a stream's table: the deadline is read behind its other keys
+-- a stream's table. The deadline is read after its other keys
 abbrev pub planned_from : Members → Result PlannedText TomlFault
 planned_from table = and_then (paced_from table) (λ request. and_then (deadline_from table) (λ deadline. Ok (request, deadline)))
 

@@ -1,4 +1,4 @@
--- The streams that a text asks for, or the first fault of the text.
+-- The streams that a text requests, or the first fault of the text.
 use Rattle.std.specs.Prelude.{ℕ, List, [], ◌∷◌, map, Option, Some, None, Result, Ok, Err, string_bytes}
 use Rattle.toml.specs.Data.{Data, as_str, Members}
 use Rattle.cqf_topology.specs.declared.keys.Key.{Key}
@@ -9,15 +9,14 @@ use Rattle.cqf_topology.specs.declared.streams.Request.{Request}
 use Rattle.cqf_lists.specs.Results.{and_then}
 use Rattle.cqf_topology.specs.Fields.{value_at, whole_document, read_at, tables_of_key, number_from, texts_at, text_lists_at}
 
--- the keys of a streams text, and those of each stream, in reading order; `paths` may stand in place of `path`
+-- the keys that a streams text must have, and those that each stream must have, in reading order; `paths` can replace `path`
 abbrev pub streams_keys : List Key
 streams_keys = Streams ∷ []
 
 abbrev pub stream_keys : List Key
 stream_keys = Name ∷ Octets ∷ Path ∷ []
 
--- a request for a stream, as texts and numbers; each branch of its tree lists its bridges in order, and then the
--- listener's station
+-- a request for a stream, as texts and numbers. Each branch of its tree lists its bridges in order, followed by the listener's station
 pub record RequestText : Type 0 where
   pub name : List ℕ
   pub octets : ℕ
@@ -31,7 +30,7 @@ request_text r = record {
   paths = map (λ path. map string_bytes path.items) r.paths.items;
 }
 
--- the branches of a stream, by what stands at `path` and at `paths`: the one of `path`, or those of `paths`, and not both
+-- the branches of a stream, given the values at `path` and at `paths`: the single branch of `path`, or those of `paths`, but not both
 abbrev pub branches_by : Option Data → Option Data → Members → Result (List (List (List ℕ))) TomlFault
 branches_by None paths table = text_lists_at Paths table
 branches_by (Some d) None table = and_then (texts_at Path table) (λ path. Ok (path ∷ []))

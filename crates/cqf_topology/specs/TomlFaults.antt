@@ -1,4 +1,4 @@
--- The texts of the faults of TOML texts: a fault's name, and then its key, after a space.
+-- The texts of the faults of TOML texts: a fault's name, followed by a space and its key if it has one.
 use Rattle.std.specs.Prelude.{ℕ, ◌++◌, List, codes}
 use Rattle.cqf_topology.specs.Fields.{key_text}
 use Rattle.cqf_topology.specs.declared.toml_faults.TomlFault.{TomlFault}

@@ -7,14 +7,14 @@ ghost use Rattle.cqf_model.specs.Table.{begins_at, same_way};
 use crate::domain::Domain;
 use cqf_model::{Hop, Row};
 
-/// Whether a link leaves a bridge. A link that the domain lacks doesn't.
+/// Returns whether a link leaves a bridge. A link that the domain lacks doesn't.
 fn leaves(domain: &Domain, link: u16, bridge: u16) -> bool
     ensures { result ≡ leaves domain.now link bridge }
 {
     link < domain.links() && domain.link(link).from == bridge
 }
 
-/// Whether a hop is the first of its tree at a bridge.
+/// Returns whether a hop is the first of its tree at a bridge.
 fn begins(domain: &Domain, hop: &Hop, bridge: u16) -> bool
     ensures { result ≡ (same_way hop.now.from None && leaves domain.now hop.now.link bridge) }
 {
@@ -24,15 +24,15 @@ fn begins(domain: &Domain, hop: &Hop, bridge: u16) -> bool
     }
 }
 
-/// Whether one of some hops is.
+/// Returns whether one of the hops is the first of its tree at a bridge.
 fn one_begins(domain: &Domain, hops: &[Hop], bridge: u16) -> bool
     ensures { result ≡ list_any (λ hop. same_way hop.from None && leaves domain.now hop.link bridge) hops.now }
 {
     hops.iter().any(|hop| begins(domain, hop, bridge))
 }
 
-/// Whether a row's stream begins at the bridge of a number, 0 to 1,023: a hop of its tree that follows none leaves by a link of this
-/// bridge.
+/// Returns whether a row's stream begins at a bridge: a hop of its tree that follows no other hop leaves over a link of this bridge. No
+/// stream begins at a bridge that the domain lacks.
 pub fn begins_at(domain: &Domain, row: &Row, bridge: u16) -> bool
     ensures { result ≡ begins_at domain.now row.now bridge }
 {

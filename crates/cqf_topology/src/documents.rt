@@ -1,4 +1,4 @@
-//! The table of a text, in which no key is missing.
+//! Reads the table of a text in which no key is missing.
 ghost use Rattle.std.specs.Prelude.{◌≡◌, option_and_then};
 ghost use Rattle.toml.specs.View.{view, table_view, items_view};
 ghost use Rattle.toml.specs.Data.{as_table};
@@ -9,7 +9,7 @@ use crate::{Key, TomlFault};
 use std::alloc::Global;
 use toml::{Table, Value};
 
-/// Whether the table lacks the key, and what may stand in its place.
+/// Returns whether the table has neither the key nor its substitute.
 fn lacks_key(table: &Table, key: Key) -> bool
     ensures { result ≡ lacks key (table_view table.now) }
 {
@@ -22,14 +22,14 @@ fn lacks_key(table: &Table, key: Key) -> bool
     }
 }
 
-/// The first of the keys that the table lacks.
+/// Returns the first of the keys that the table lacks.
 fn first_absent_in(keys: &[Key], table: &Table) -> Option<Key>
     ensures { result ≡ first_absent keys.now (table_view table.now) }
 {
     keys.iter().copied().find(|key| lacks_key(table, *key))
 }
 
-/// The first of the keys that the value lacks, where it is a table.
+/// Returns the first of the keys that the value lacks. Returns `None` if the value isn't a table.
 fn first_absent_from(keys: &[Key], value: &Value) -> Option<Key>
     ensures { result ≡ option_and_then (first_absent keys.now) (as_table (view value.now)) }
 {
@@ -39,7 +39,7 @@ fn first_absent_from(keys: &[Key], value: &Value) -> Option<Key>
     }
 }
 
-/// The first of the keys that one of the values lacks, where it is a table.
+/// Returns the first of the keys that is missing from a value, value by value. Values that aren't tables are skipped.
 fn first_absent_among(keys: &[Key], values: &[Value]) -> Option<Key>
     ensures { result ≡ first_absent_within keys.now (items_view values.now) }
 {
@@ -52,7 +52,7 @@ fn first_absent_among(keys: &[Key], values: &[Value]) -> Option<Key>
     None
 }
 
-/// The first key that a document lacks, of its own keys and then of those of the elements of one of its arrays.
+/// Returns the first key that a document lacks: first of its own keys, then of the keys of the elements of one of its arrays.
 fn first_missing_in(keys: &[Key], elements: Key, keys_within: &[Key], table: &Table) -> Option<Key>
     ensures { result ≡ first_missing keys.now elements keys_within.now (table_view table.now) }
 {
@@ -66,7 +66,7 @@ fn first_missing_in(keys: &[Key], elements: Key, keys_within: &[Key], table: &Ta
     }
 }
 
-/// The table of a text, where the text is TOML.
+/// Returns the table of a text.
 fn document(alloc: Global, text: &[u8]) -> Result<Table, TomlFault>
     ensures { Gives TomlFault.Memory (λ table. table_view table) result (document_of text.now) }
 {
@@ -82,12 +82,12 @@ fn document(alloc: Global, text: &[u8]) -> Result<Table, TomlFault>
     }
 }
 
-/// The table of a text that has all these keys; where there is an array at the key `elements`, each of its elements that
-/// is a table has all of `keys_within`. Other keys are passed over.
+/// Returns the table of a text. The table has all of `keys`. If there is an array at the key `elements`, each of its elements that is a
+/// table has all of `keys_within`. Other keys are ignored.
 ///
 /// # Errors
-/// `NotToml` where the text isn't TOML; `Missing` of the first key that is absent, those of the text before those of the
-/// elements, and these element by element; `Memory` where a growth is refused.
+/// `NotToml` if the text isn't TOML. `Missing` with the first absent key: the keys of the text come before those of the elements, and these
+/// are checked element by element. `Memory` if an allocation fails.
 pub fn read_document(
     alloc: Global,
     text: &[u8],

@@ -21,8 +21,8 @@ use std::alloc::Global;
 use std::marker::Model;
 use std::sync::Arc;
 
-/// A domain: its cycle time and guard time, how far its clocks may be apart, its bridges and stations by name and by number, and its directed links by
-/// number. It is accepted: cyclic queuing and forwarding works on it.
+/// A domain: its limits, its cycle time, its guard band, how far its clocks can be apart, its bridges and stations by name and by number,
+/// and its directed links by number. It is accepted: cyclic queuing and forwarding works on it.
 #[derive(Debug, Drop)]
 pub struct Domain {
     limits: Limits,
@@ -53,7 +53,7 @@ impl Model for Domain {
     }) };
 }
 
-/// The checks of a domain whose links are numbered, but those of its names and ends: the first that it fails.
+/// Makes the checks of a domain whose links are numbered, except those of its names and ends. Returns the first check that fails.
 fn check(alloc: Global, draft: &Draft, joined: &[JoinedLink]) -> Result<(), DomainFault>
     ensures { Gives DomainFault.Memory (λ _. with_these draft.now joined.now) result (with_links draft.now joined.now) }
 {
@@ -87,7 +87,7 @@ fn check(alloc: Global, draft: &Draft, joined: &[JoinedLink]) -> Result<(), Doma
     Ok(())
 }
 
-/// The links of a draft whose names are numbered, or the first check that the draft fails.
+/// Returns the links of a draft whose names are numbered, or the first check that the draft fails.
 fn checked_links(
     alloc: Global,
     draft: &Draft,
@@ -105,14 +105,14 @@ fn checked_links(
 }
 
 impl Domain {
-    /// The domain that a text means where no limits are set, or the first fault of the text. Keys that mean nothing here are passed over.
+    /// Returns the domain that a text describes if no limits are set, or the first fault of the text. Unknown keys are ignored.
     pub fn read(alloc: Global, text: &[u8]) -> Result<Domain, DomainFault>
         ensures { Gives DomainFault.Memory (λ domain. domain) result (domain_of_text text.now) }
     {
         Domain::read_within(alloc, text, Limits::of_profile())
     }
 
-    /// The domain that a text means within these limits, or the first fault of the text.
+    /// Returns the domain that a text describes within these limits, or the first fault of the text.
     pub fn read_within(alloc: Global, text: &[u8], limits: Limits) -> Result<Domain, DomainFault>
         ensures { Gives DomainFault.Memory (λ domain. domain) result (domain_within limits text.now) }
     {
@@ -120,7 +120,7 @@ impl Domain {
         Domain::of_draft(alloc, &draft)
     }
 
-    /// The domain that a draft means, or the first check that it fails.
+    /// Returns the domain that a draft describes, or the first check that it fails.
     fn of_draft(alloc: Global, draft: &Draft) -> Result<Domain, DomainFault>
         requires { IsReadable draft.now }
         ensures { Gives DomainFault.Memory (λ domain. domain) result (checked draft.now) }
@@ -130,7 +130,7 @@ impl Domain {
         Domain::of_bridges(alloc, draft, bridges)
     }
 
-    /// The domain of a draft whose bridges are numbered, or the first check that it fails.
+    /// Returns the domain of a draft whose bridges are numbered, or the first check that it fails.
     fn of_bridges(alloc: Global, draft: &Draft, bridges: NameList) -> Result<Domain, DomainFault>
         requires { HasBridges draft.now bridges.keys }
         ensures { Gives DomainFault.Memory (λ domain. domain) result (checked draft.now) }
@@ -139,7 +139,7 @@ impl Domain {
         Domain::of_names(alloc, draft, bridges, stations)
     }
 
-    /// The domain of a draft whose names are numbered, or the first check that it fails.
+    /// Returns the domain of a draft whose names are numbered, or the first check that it fails.
     fn of_names(
         alloc: Global,
         draft: &Draft,
@@ -162,8 +162,8 @@ impl Domain {
         })
     }
 
-    /// The domain of these parts, which is an accepted one: its limits, its times in nanoseconds, its bridges and stations by number, and its
-    /// links by number.
+    /// Returns the domain with these parts, which must make an accepted one: limits, times in nanoseconds, bridges and stations by number,
+    /// and links by number.
     pub fn of_parts(
         limits: Limits,
         cycle_time: u32,
@@ -187,18 +187,18 @@ impl Domain {
         }
     }
 
-    /// What it may have at most.
+    /// Returns the limits of the domain.
     pub fn limits(&self) -> Limits
         ensures { result ≡ self.now.limits }
     {
         self.limits
     }
 
-    /// The cycle time: all bridges divide time into cycles of it (IEEE 802.1Q, Annex T). It is 10,000 to 10,000,000 ns.
+    /// Returns the cycle time, 10,000 to 10,000,000 ns: all bridges divide time into cycles of this length (IEEE 802.1Q, Annex T).
     ///
-    /// The domain is accepted: each guard time is within the cycle time; each link's greatest delay and how far clocks may be apart,
-    /// together, are within the link's guard time, and so is the gap behind a frame on it; and clocks are no further apart than a
-    /// shortest frame and the link's least delay take together.
+    /// The domain is accepted. Each guard band is shorter than the cycle. On each link, the greatest delay plus the distance of clocks is
+    /// less than the guard band, and the gap after a frame is at most the guard band. Clocks are no further apart than a shortest frame and
+    /// the link's least delay take together.
     pub fn cycle_time(&self) -> Nanos
         ensures value { result.0 ≡ self.now.cycle_time }
         ensures accepted { IsAccepted self.now }
@@ -207,53 +207,52 @@ impl Domain {
         Nanos(u64::from(self.cycle_time))
     }
 
-    /// Does nothing, and makes known to a proof what was seen to when the domain was read: it is accepted, its names are apart, and no
-    /// link of it stands twice.
+    /// Does nothing. It gives a proof what was checked when the domain was read: the domain is accepted, its names are distinct, and no two
+    /// links have the same ends.
     pub fn know(&self)
         ensures accepted { IsAccepted self.now }
         ensures names { IsDomain self.now }
     {
-        // a use of a field: with it the invariant is known
+        // the use of a field makes the invariant known
         let _ = &self.limits;
     }
 
-    /// The guard time of each link that has none of its own: no transmission gate is open in the last so many nanoseconds of a cycle
-    /// 
+    /// Returns the guard band of each link that has none of its own: no transmission gate is open during this last part of a cycle.
     pub fn guard(&self) -> Nanos
         ensures { result.0 ≡ self.now.guard }
     {
         Nanos(u64::from(self.guard))
     }
 
-    /// How far any two clocks of the domain may be apart.
+    /// Returns how far any two clocks of the domain can be apart.
     pub fn sync(&self) -> Nanos
         ensures { result.0 ≡ self.now.sync }
     {
         Nanos(u64::from(self.sync))
     }
 
-    /// How many bridges there are, from 1. They are numbered from 0.
+    /// Returns the number of bridges, at least 1. They are numbered from 0.
     pub fn bridges(&self) -> u16
         ensures { result ≡ length self.now.bridges }
     {
         self.bridges.len() as u16
     }
 
-    /// How many stations there are. They are numbered from 0.
+    /// Returns the number of stations. They are numbered from 0.
     pub fn stations(&self) -> u16
         ensures { result ≡ length self.now.stations }
     {
         self.stations.len() as u16
     }
 
-    /// How many directed links there are. They are numbered from 0.
+    /// Returns the number of directed links. They are numbered from 0.
     pub fn links(&self) -> u16
         ensures { result ≡ length self.now.links }
     {
         self.links.len() as u16
     }
 
-    /// The name of the bridge of this number.
+    /// Returns the name of the bridge with this number.
     pub fn bridge_name(&self, bridge: u16) -> &Name
         requires { bridge < length self.now.bridges }
         ensures { slice_get self.now.bridges bridge ≡ Some result.now }
@@ -261,7 +260,7 @@ impl Domain {
         &self.bridges.as_slice()[usize::from(bridge)]
     }
 
-    /// The name of the station of this number.
+    /// Returns the name of the station with this number.
     pub fn station_name(&self, station: u16) -> &Name
         requires { station < length self.now.stations }
         ensures { slice_get self.now.stations station ≡ Some result.now }
@@ -269,7 +268,7 @@ impl Domain {
         &self.stations.as_slice()[usize::from(station)]
     }
 
-    /// The link of this number.
+    /// Returns the link with this number.
     pub fn link(&self, link: u16) -> Link
         requires { link < length self.now.links }
         ensures { slice_get self.now.links link ≡ Some result }
@@ -277,7 +276,7 @@ impl Domain {
         self.links.as_slice()[usize::from(link)]
     }
 
-    /// The node of this name, or `None` where the domain has none.
+    /// Returns the node with this name, or `None` if the domain has none.
     pub fn find(&self, name: &str) -> Option<Node>
         ensures { result ≡ node_named self.now name.now }
     {
@@ -291,8 +290,8 @@ impl Domain {
         }
     }
 
-    /// The number of the link from a bridge to a node, or `None` where the domain has none. There is no other from that
-    /// bridge to that node.
+    /// Returns the number of the link from a bridge to a node, or `None` if the domain has none. At most one link leads from a bridge to a
+    /// node.
     pub fn find_link(&self, from: u16, to: Node) -> Option<u16>
         ensures number { result ≡ link_between self.now from to }
         ensures only { IsOnlyLink self.now from to result }
@@ -301,7 +300,7 @@ impl Domain {
         Some(link as u16)
     }
 
-    /// The same domain again, unless memory runs out.
+    /// Returns a copy of the domain, or `Memory` if an allocation fails.
     pub fn try_copy(&self, alloc: Global) -> Result<Domain, Memory>
         ensures { IfOk result (λ copy. copy ≡ self.now) }
     {
@@ -319,7 +318,7 @@ impl Domain {
         })
     }
 
-    /// A copy that may be shared, unless memory runs out.
+    /// Returns a copy that can be shared, or `Memory` if an allocation fails.
     pub fn try_share(&self, alloc: Global) -> Result<Arc<Domain>, Memory>
         ensures { IfOk result (λ shared. arc_value shared ≡ self.now) }
     {
@@ -328,7 +327,7 @@ impl Domain {
         Ok(shared)
     }
 
-    /// Whether another has the same limits, times, nodes and links.
+    /// Returns whether another domain has the same limits, times, nodes and links.
     pub fn is_same(&self, other: &Domain) -> bool
         ensures { (result ≡ true) ↔ (self.now ≡ other.now) }
     {

@@ -1,4 +1,4 @@
-//! What a domain text says, before it is asked whether a network can be like that.
+//! What a domain text says, before it is checked whether a network can be like that.
 ghost use Rattle.std.specs.Prelude.{◌≡◌, ◌++◌, ◌∷◌, [], OnOk, IsOkUnless, ok_or};
 ghost use Rattle.toml.specs.View.{view, table_view, items_view};
 ghost use Rattle.toml.specs.Data.{as_table};
@@ -16,7 +16,7 @@ use std::alloc::Global;
 use std::marker::Model;
 use toml::{Table, Value};
 
-/// A link by the names of its ends.
+/// A link, with the names of its ends.
 #[derive(Drop)]
 pub(crate) struct DraftLink {
     pub from: Name,
@@ -24,8 +24,8 @@ pub(crate) struct DraftLink {
     pub times: LinkTimes,
 }
 
-/// A domain as its text says it: times in nanoseconds, and links by the names of their ends; and the limits within which it
-/// is read.
+/// A domain as its text describes it: the limits within which it is read, times in nanoseconds, names, and links with the names of their
+/// ends.
 #[derive(Drop)]
 pub(crate) struct Draft {
     limits: Limits,
@@ -89,7 +89,7 @@ impl Draft {
     }
 }
 
-/// The keys that a domain text owes, in reading order.
+/// The keys that a domain text must have, in reading order.
 const KEYS: [Key; 5] = [
     Key::Cycle,
     Key::Guard,
@@ -98,10 +98,10 @@ const KEYS: [Key; 5] = [
     Key::Links,
 ];
 
-/// The keys that a link's table owes, in reading order.
+/// The keys that a link's table must have, in reading order.
 const LINK_KEYS: [Key; 4] = [Key::From, Key::To, Key::Rate, Key::Delay];
 
-/// A link's table.
+/// Reads a link's table.
 fn read_link(table: &Table) -> Result<DraftLink, TomlFault>
     ensures { result ≡ link_read (table_view table.now) }
 {
@@ -111,7 +111,7 @@ fn read_link(table: &Table) -> Result<DraftLink, TomlFault>
     Ok(DraftLink { from, to, times })
 }
 
-/// A link, as an element of the array of links.
+/// Reads a link, as an element of the array of links.
 fn link_in(value: &Value) -> Result<DraftLink, TomlFault>
     ensures { result ≡ and_then (ok_or (as_table (view value.now)) (TomlFault.BadValue Key.Links)) link_read }
 {
@@ -121,7 +121,7 @@ fn link_in(value: &Value) -> Result<DraftLink, TomlFault>
     }
 }
 
-/// Adds a link to those that were read.
+/// Adds a link to the links read so far.
 fn add_link(links: &mut Vec<DraftLink>, link: DraftLink) -> Result<(), TomlFault>
     ensures added { OnOk result (links.new.items ≡ links.old.items ++ link ∷ []) }
     ensures fault { IsOkUnless result TomlFault.Memory }
@@ -130,7 +130,7 @@ fn add_link(links: &mut Vec<DraftLink>, link: DraftLink) -> Result<(), TomlFault
     Ok(())
 }
 
-/// The elements of the array of links, added to the links that were read.
+/// Adds the elements of the array of links to the links read so far.
 fn add_links(links: &mut Vec<DraftLink>, values: &[Value]) -> Result<(), TomlFault>
     ensures { Gives TomlFault.Memory (λ _. links.new.items) result (with_front links.old.items (tables_from Key.Links link_read (items_view values.now))) }
 {
@@ -141,7 +141,7 @@ fn add_links(links: &mut Vec<DraftLink>, values: &[Value]) -> Result<(), TomlFau
     Ok(())
 }
 
-/// The elements of the array of links.
+/// Reads the elements of the array of links.
 fn links_in(alloc: Global, values: &[Value]) -> Result<Vec<DraftLink>, TomlFault>
     ensures { Gives TomlFault.Memory (λ links. links.items) result (tables_from Key.Links link_read (items_view values.now)) }
 {
@@ -150,7 +150,7 @@ fn links_in(alloc: Global, values: &[Value]) -> Result<Vec<DraftLink>, TomlFault
     Ok(links)
 }
 
-/// The links of a domain's table.
+/// Reads the links of a domain's table.
 fn read_links(alloc: Global, table: &Table) -> Result<Vec<DraftLink>, TomlFault>
     ensures { Gives TomlFault.Memory (λ links. links.items) result (tables_of_key Key.Links link_read (table_view table.now)) }
 {
@@ -161,7 +161,7 @@ fn read_links(alloc: Global, table: &Table) -> Result<Vec<DraftLink>, TomlFault>
     links_in(alloc, values)
 }
 
-/// The bridges of a domain's table, of which there is at least one.
+/// Reads the bridges of a domain's table. There is at least one.
 fn read_bridges(alloc: Global, table: &Table) -> Result<Vec<Name>, TomlFault>
     ensures { Gives TomlFault.Memory (λ names. names.items) result (and_then (names_at Key.Bridges (table_view table.now)) (if_some Key.Bridges)) }
 {
@@ -172,10 +172,10 @@ fn read_bridges(alloc: Global, table: &Table) -> Result<Vec<Name>, TomlFault>
     Ok(bridges)
 }
 
-/// How far any two clocks may be apart, in nanoseconds, by a domain's table: 0 where nothing stands there.
+/// Returns how far any two clocks can be apart by a domain's table, in nanoseconds. Returns 0 if the key is missing.
 ///
 /// # Errors
-/// `BadValue` of `sync`, where no integer from 0 to 10,000,000 stands there.
+/// `BadValue` with `sync` if its value isn't an integer from 0 to 10,000,000.
 pub fn sync_at(table: &Table) -> Result<u32, TomlFault>
     ensures { result ≡ sync_from (table_view table.now) }
 {
@@ -183,7 +183,7 @@ pub fn sync_at(table: &Table) -> Result<u32, TomlFault>
     Ok(sync.unwrap_or(0))
 }
 
-/// A domain's table.
+/// Reads a domain's table.
 fn read_table(alloc: Global, table: &Table, limits: Limits) -> Result<Draft, TomlFault>
     ensures { Gives TomlFault.Memory (λ draft. draft) result (domain_from limits (table_view table.now)) }
 {
@@ -204,7 +204,7 @@ fn read_table(alloc: Global, table: &Table, limits: Limits) -> Result<Draft, Tom
     })
 }
 
-/// What a domain text says, which is read within the limits.
+/// Reads what a domain text says, within the limits.
 pub(crate) fn read_draft(alloc: Global, text: &[u8], limits: Limits) -> Result<Draft, TomlFault>
     ensures { Gives TomlFault.Memory (λ draft. draft) result (read_text limits text.now) }
 {

@@ -9,36 +9,35 @@ use std::alloc::AllocFailed;
 use std::fmt;
 use thiserror::Error;
 
-/// Why a domain text is refused. The checks are made in the order of the variants, each over the whole text
-/// before the next; links are numbered from 0. Nothing is kept of a text that is refused. A fault prints as its name, and
-/// then its value.
+/// Why a domain text is refused. The checks are made in the order of the variants, each over the whole text before the next. Links are
+/// numbered from 0. Nothing is kept of a refused text. A fault prints as its name, followed by its value if it has one.
 #[derive(Debug, PartialEq, Eq, Drop, Error)]
 pub enum DomainFault {
-    /// The text isn't TOML, or not UTF-8, or nests deeper than the `toml` crate reads, past 80 levels.
+    /// The text isn't TOML, isn't UTF-8, or nests deeper than the 80 levels that the `toml` crate reads.
     NotToml,
     /// The first key in reading order that is absent.
     Missing(Key),
-    /// The first key in reading order whose value has another form than it must have.
+    /// The first key in reading order whose value doesn't have the required form.
     BadValue(Key),
-    /// The first name, bridges before stations, that stood earlier.
+    /// The first name, bridges before stations, that occurred earlier.
     NameTaken(NodeName),
-    /// The first `from` that names no bridge, or `to` that names no node other than its `from`.
+    /// The first `from` that names no bridge, or `to` that names no node other than the link's `from`.
     UnknownName(NodeName),
-    /// The first link whose ends are those of an earlier link.
+    /// The first link with the same ends as an earlier link.
     LinkTwice(usize),
-    /// The guard time isn't below the cycle time.
+    /// The guard band isn't shorter than the cycle.
     GuardTooLong,
-    /// The first link whose own guard time isn't below the cycle time.
+    /// The first link whose own guard band isn't shorter than the cycle.
     LinkGuardTooLong(usize),
-    /// The first link whose greatest delay and how far clocks may be apart, together, aren't below its guard time.
+    /// The first link on which the greatest delay plus the distance of clocks isn't less than the guard band.
     DelayTooLong(usize),
-    /// The first link on which the gap behind a frame, of 12 octets, takes longer than its guard time.
+    /// The first link on which the gap of 12 octets after a frame takes longer than the guard band.
     GapTooLong(usize),
-    /// More than 32 bridges, 64 stations or 64 links.
+    /// More bridges, stations or links than the limits allow. If none are set, these are 32 bridges, 64 stations and 64 links.
     TooMany,
-    /// The first link on which a shortest frame, with its preamble, takes less than clocks may be apart, the least delay included.
+    /// The first link on which clocks can be further apart than a shortest frame, with its preamble, and the least delay take together.
     SyncTooLong(usize),
-    /// A growth was refused.
+    /// An allocation failed.
     Memory,
 }
 
@@ -64,7 +63,7 @@ impl fmt::Display for DomainFault {
     }
 }
 
-/// A fault of reading, as a domain text has it.
+/// Converts a fault of reading into a fault of a domain text.
 impl From<TomlFault> for DomainFault {
     ghost from_gives = { λ early fault. fault ≡ domain_fault early };
 
@@ -78,7 +77,7 @@ impl From<TomlFault> for DomainFault {
     }
 }
 
-/// Want of memory, as a fault.
+/// Converts a failed allocation into a fault.
 impl From<Memory> for DomainFault {
     ghost use Rattle.cqf_topology.specs.declared.faults.DomainFault.TheVariants as variant;
 
@@ -89,7 +88,7 @@ impl From<Memory> for DomainFault {
     }
 }
 
-/// Want of room for a value, likewise.
+/// Converts a failed allocation for a value likewise.
 impl<T: Drop> From<AllocFailed<T>> for DomainFault {
     ghost use Rattle.cqf_topology.specs.declared.faults.DomainFault.TheVariants as variant;
 

@@ -1,4 +1,4 @@
-//! What stands at a key of a table.
+//! The values at the keys of a table.
 ghost use Rattle.std.specs.Prelude.{◌≡◌, option_map, ok_or};
 ghost use Rattle.std.specs.Result.{result_map_both};
 ghost use Rattle.toml.specs.View.{view, table_view, items_view};
@@ -10,14 +10,14 @@ use cqf_units::Name;
 use std::alloc::Global;
 use toml::{Table, Value};
 
-/// What stands at a key of the table, or `None` where the table lacks the key.
+/// Returns the value at a key of the table, or `None` if the table lacks the key.
 pub fn value_at<'a>(table: &'a Table, key: Key) -> Option<&'a Value>
     ensures { option_map (λ v. view v.now) result ≡ value_at key (table_view table.now) }
 {
     table.get(key.as_str())
 }
 
-/// A number within a range, of a value.
+/// Returns the number that a value is, if it is an integer from `least` to `most`.
 pub(crate) fn number_of(value: &Value, least: u32, most: u32) -> Option<u32>
     ensures { result ≡ number_from least most (view value.now) }
 {
@@ -32,10 +32,10 @@ pub(crate) fn number_of(value: &Value, least: u32, most: u32) -> Option<u32>
     }
 }
 
-/// The number at a key, which is an integer from `least` to `most`.
+/// Returns the number at a key, an integer from `least` to `most`.
 ///
 /// # Errors
-/// `BadValue` of the key, where another value stands there or none.
+/// `BadValue` with the key if it is missing or has another value.
 pub fn number_at(table: &Table, key: Key, least: u32, most: u32) -> Result<u32, TomlFault>
     ensures { result ≡ read_at key (number_from least most) (table_view table.now) }
 {
@@ -45,10 +45,10 @@ pub fn number_at(table: &Table, key: Key, least: u32, most: u32) -> Result<u32, 
     }
 }
 
-/// The number at a key, which is an integer from 0 to 4,294,967,295, or another where the table lacks the key.
+/// Returns the number at a key, an integer from 0 to 4,294,967,295, or `default` if the table lacks the key.
 ///
 /// # Errors
-/// `BadValue` of the key, where another value stands there.
+/// `BadValue` with the key if it has another value.
 pub fn number_or(table: &Table, key: Key, default: u32) -> Result<u32, TomlFault>
     ensures { result ≡ number_or key default (table_view table.now) }
 {
@@ -58,10 +58,10 @@ pub fn number_or(table: &Table, key: Key, default: u32) -> Result<u32, TomlFault
     number_at(table, key, 0, u32::MAX)
 }
 
-/// The number at a key, which is an integer from `least` to `most`, or `None` where the table lacks the key.
+/// Returns the number at a key, an integer from `least` to `most`, or `None` if the table lacks the key.
 ///
 /// # Errors
-/// `BadValue` of the key, where another value stands there.
+/// `BadValue` with the key if it has another value.
 pub fn number_if(table: &Table, key: Key, least: u32, most: u32) -> Result<Option<u32>, TomlFault>
     ensures { result ≡ number_if key least most (table_view table.now) }
 {
@@ -74,7 +74,7 @@ pub fn number_if(table: &Table, key: Key, least: u32, most: u32) -> Result<Optio
     }
 }
 
-/// The text of a value.
+/// Returns the name that a value is, if it is a text of the form of a name.
 fn name_of(value: &Value) -> Option<Name>
     ensures { result ≡ name_from (view value.now) }
 {
@@ -84,10 +84,10 @@ fn name_of(value: &Value) -> Option<Name>
     }
 }
 
-/// The name at a key: a text of the form of a name.
+/// Returns the name at a key, a text of the form of a name.
 ///
 /// # Errors
-/// As of [`number_at`].
+/// As for [`number_at`].
 pub fn name_at(table: &Table, key: Key) -> Result<Name, TomlFault>
     ensures { result ≡ read_at key name_from (table_view table.now) }
 {
@@ -97,10 +97,10 @@ pub fn name_at(table: &Table, key: Key) -> Result<Name, TomlFault>
     }
 }
 
-/// The elements of the array at a key.
+/// Returns the elements of the array at a key.
 ///
 /// # Errors
-/// As of [`number_at`].
+/// As for [`number_at`].
 pub fn array_at<'a>(table: &'a Table, key: Key) -> Result<&'a [Value], TomlFault>
     ensures { result_map_both (λ values. items_view values.now) (λ fault. fault) result ≡ read_at key as_array (table_view table.now) }
 {
@@ -110,7 +110,7 @@ pub fn array_at<'a>(table: &'a Table, key: Key) -> Result<&'a [Value], TomlFault
     }
 }
 
-/// Whether each value is a table; so where there are none.
+/// Returns whether each value is a table. Returns `true` if there are no values.
 pub fn are_all_tables(values: &[Value]) -> bool
     ensures { result ≡ are_tables (items_view values.now) }
 {
@@ -122,7 +122,7 @@ pub fn are_all_tables(values: &[Value]) -> bool
     true
 }
 
-/// A name, as an element of the array at a key.
+/// Reads a name, as an element of the array at a key.
 fn name_in(value: &Value, key: Key) -> Result<Name, TomlFault>
     ensures { result ≡ ok_or (name_from (view value.now)) (TomlFault.BadValue key) }
 {
@@ -132,7 +132,7 @@ fn name_in(value: &Value, key: Key) -> Result<Name, TomlFault>
     }
 }
 
-/// The elements of an array at a key, each a name.
+/// Reads the elements of an array at a key, each a name.
 fn names_in(alloc: Global, values: &[Value], key: Key) -> Result<Vec<Name>, TomlFault>
     ensures { Gives TomlFault.Memory (λ names. names.items) result (names_from key (items_view values.now)) }
 {
@@ -144,10 +144,10 @@ fn names_in(alloc: Global, values: &[Value], key: Key) -> Result<Vec<Name>, Toml
     Ok(names)
 }
 
-/// The array of names at a key.
+/// Returns the array of names at a key.
 ///
 /// # Errors
-/// As of [`number_at`]; and `Memory` where a growth is refused.
+/// As for [`number_at`], and `Memory` if an allocation fails.
 pub fn names_at(alloc: Global, table: &Table, key: Key) -> Result<Vec<Name>, TomlFault>
     ensures { Gives TomlFault.Memory (λ names. names.items) result (names_at key (table_view table.now)) }
 {

@@ -1,4 +1,4 @@
-//! Links by the numbers of their ends, before these are known to be small.
+//! Links with the numbers of their ends, before these are known to be small.
 ghost use Rattle.std.specs.Prelude.{◌≡◌, ◌++◌, [], ◌∷◌, All, IfOk, OnOk, Ok, option_map, map, false};
 ghost use Rattle.std.specs.List.{list_any};
 ghost use Rattle.cqf_model.specs.Domain.{node_or};
@@ -18,14 +18,14 @@ use indexmap::IndexSet;
 use std::alloc::Global;
 use std::marker::Model;
 
-/// A node by its number among the bridges or among the stations, however many there are.
+/// A node by its number among the bridges or among the stations, of any size.
 #[derive(Clone, Copy, PartialEq, Eq, Hash)]
 pub enum End {
     Bridge(usize),
     Station(usize),
 }
 
-/// A link by the numbers of its ends.
+/// A link with the numbers of its ends.
 #[derive(Clone, Copy)]
 pub(crate) struct JoinedLink {
     from: usize,
@@ -52,14 +52,14 @@ impl Model for JoinedLink {
     ghost inverse = { λ link. record { from = link.from; to = end_of_joined link.to; times = times_of link } };
 }
 
-/// Whether the name is among either names.
+/// Returns whether the name is among `others` or among `names`.
 fn is_taken(others: &NameList, names: &NameList, name: &Name) -> bool
     ensures { result ≡ is_among name.now (others.now.keys ++ names.now.keys) }
 {
     others.contains(name) || names.contains(name)
 }
 
-/// Numbers the names behind those that are numbered: none of them is among these or the others, and none stands twice.
+/// Numbers the names after those that are already numbered. None of them is among these or among the others, and none occurs twice.
 fn number_names(
     numbered: &mut NameList,
     names: &[Name],
@@ -76,10 +76,10 @@ fn number_names(
     Ok(())
 }
 
-/// The names, numbered from 0 in their order: none of them is among the others, and none stands twice.
+/// Returns the names, numbered from 0 in their order. None of them is among the others, and none occurs twice.
 ///
 /// # Errors
-/// `NameTaken` of the first name that stood earlier, or is among the others; `Memory` where a growth is refused.
+/// `NameTaken` with the first name that occurred earlier or is among the others. `Memory` if an allocation fails.
 pub fn numbered_names(
     alloc: Global,
     names: &[Name],
@@ -93,7 +93,7 @@ pub fn numbered_names(
     Ok(numbered)
 }
 
-/// The node of a name, or `None` where neither a bridge nor a station has it.
+/// Returns the node with this name, or `None` if neither a bridge nor a station has it.
 pub fn end_of_name(bridges: &NameList, stations: &NameList, name: &Name) -> Option<End>
     ensures { option_map node_of result ≡ node_or (place_of name.now bridges.now.keys) (place_of name.now stations.now.keys) }
 {
@@ -106,7 +106,7 @@ pub fn end_of_name(bridges: &NameList, stations: &NameList, name: &Name) -> Opti
     }
 }
 
-/// A link, by the numbers of its ends.
+/// Returns a link with the numbers of its ends.
 fn join_link(
     bridges: &NameList,
     stations: &NameList,
@@ -132,7 +132,7 @@ fn join_link(
     })
 }
 
-/// The links, by the numbers of their ends.
+/// Returns the links with the numbers of their ends.
 pub(crate) fn join_links(
     alloc: Global,
     bridges: &NameList,
@@ -149,35 +149,35 @@ pub(crate) fn join_links(
     Ok(joined)
 }
 
-/// Whether the link's guard time isn't below the cycle time.
+/// Returns whether the link's guard band isn't shorter than the cycle.
 fn has_long_guard(link: &JoinedLink, cycle_time: u32, guard: u32) -> bool
     ensures { result ≡ has_long_guard cycle_time guard (times_of link.now) }
 {
     link.times.has_long_guard(cycle_time, guard)
 }
 
-/// Whether the link's greatest delay and how far clocks may be apart, together, aren't below its guard time.
+/// Returns whether the link's greatest delay plus the distance of clocks isn't less than its guard band.
 fn has_long_delay(link: &JoinedLink, sync: u32, guard: u32) -> bool
     ensures { result ≡ has_long_delay sync guard (times_of link.now) }
 {
     link.times.has_long_delay(sync, guard)
 }
 
-/// Whether the gap behind a frame takes longer than the link's guard time.
+/// Returns whether the gap after a frame takes longer than the link's guard band.
 fn has_long_gap(link: &JoinedLink, guard: u32) -> bool
     ensures { result ≡ has_long_gap guard (times_of link.now) }
 {
     link.times.has_long_gap(guard)
 }
 
-/// Whether clocks may be further apart than a shortest frame and the link's least delay take together.
+/// Returns whether clocks can be further apart than a shortest frame and the link's least delay take together.
 fn has_long_sync(link: &JoinedLink, sync: u32) -> bool
     ensures { result ≡ has_long_sync sync (times_of link.now) }
 {
     link.times.has_long_sync(sync)
 }
 
-/// The first link whose guard time isn't below the cycle time.
+/// Returns the first link whose guard band isn't shorter than the cycle.
 pub(crate) fn find_long_guard(links: &[JoinedLink], cycle_time: u32, guard: u32) -> Option<usize>
     ensures { result ≡ first_long_guard cycle_time guard links.now }
 {
@@ -186,7 +186,7 @@ pub(crate) fn find_long_guard(links: &[JoinedLink], cycle_time: u32, guard: u32)
         .position(|link| has_long_guard(link, cycle_time, guard))
 }
 
-/// The first link whose greatest delay and how far clocks may be apart, together, aren't below its guard time.
+/// Returns the first link on which the greatest delay plus the distance of clocks isn't less than the guard band.
 pub(crate) fn find_long_delay(links: &[JoinedLink], sync: u32, guard: u32) -> Option<usize>
     ensures { result ≡ first_long_delay sync guard links.now }
 {
@@ -195,21 +195,21 @@ pub(crate) fn find_long_delay(links: &[JoinedLink], sync: u32, guard: u32) -> Op
         .position(|link| has_long_delay(link, sync, guard))
 }
 
-/// The first link on which the gap behind a frame takes longer than its guard time.
+/// Returns the first link on which the gap after a frame takes longer than the guard band.
 pub(crate) fn find_long_gap(links: &[JoinedLink], guard: u32) -> Option<usize>
     ensures { result ≡ first_long_gap guard links.now }
 {
     links.iter().position(|link| has_long_gap(link, guard))
 }
 
-/// The first link on which clocks may be further apart than a shortest frame and its least delay take together.
+/// Returns the first link on which clocks can be further apart than a shortest frame and the least delay take together.
 pub(crate) fn find_long_sync(links: &[JoinedLink], sync: u32) -> Option<usize>
     ensures { result ≡ first_long_sync sync links.now }
 {
     links.iter().position(|link| has_long_sync(link, sync))
 }
 
-/// The node, where its number is small.
+/// Returns the node of an end whose number is small.
 pub(crate) fn node_of_end(end: End) -> Node
     requires { IsSmallNode (node_of end) }
     ensures { result ≡ node_of end }
@@ -220,7 +220,7 @@ pub(crate) fn node_of_end(end: End) -> Node
     }
 }
 
-/// The link, where the numbers of its ends are small.
+/// Returns the link; the numbers of its ends are small.
 fn link_of(link: &JoinedLink) -> Link
     requires { HasSmallEnds link.now }
     ensures { result ≡ link.now }
@@ -235,7 +235,7 @@ fn link_of(link: &JoinedLink) -> Link
     }
 }
 
-/// The links, where the numbers of their ends are small.
+/// Returns the links, or `Memory` if an allocation fails. The numbers of their ends are small.
 pub(crate) fn links_of(alloc: Global, joined: &[JoinedLink]) -> Result<Vec<Link>, Memory>
     requires { All HasSmallEnds joined.now }
     ensures { IfOk result (λ links. links.items ≡ joined.now) }
@@ -247,14 +247,14 @@ pub(crate) fn links_of(alloc: Global, joined: &[JoinedLink]) -> Result<Vec<Link>
     Ok(links)
 }
 
-/// Whether the link's ends are held.
+/// Returns whether the set has the link's ends.
 fn holds_ends(ends: &IndexSet<(usize, End)>, link: &JoinedLink) -> bool
     ensures { result ≡ list_any (are_same_ends (ends_of link.now)) (map ends_held ends.now.keys) }
 {
     ends.contains(&(link.from, link.to))
 }
 
-/// Holds the link's ends, which aren't held yet.
+/// Adds the link's ends to the set, which lacks them.
 fn hold_ends(ends: &mut IndexSet<(usize, End)>, link: &JoinedLink) -> Result<(), Memory>
     requires { list_any (are_same_ends (ends_of link.now)) (map ends_held ends.old.keys) ≡ false }
     ensures { OnOk result (map ends_held ends.new.keys ≡ map ends_held ends.old.keys ++ ends_of link.now ∷ []) }
@@ -263,7 +263,7 @@ fn hold_ends(ends: &mut IndexSet<(usize, End)>, link: &JoinedLink) -> Result<(),
     Ok(())
 }
 
-/// The first link whose ends are those of an earlier link.
+/// Returns the first link with the same ends as an earlier link, or `Memory` if an allocation fails.
 pub(crate) fn find_twice(alloc: Global, links: &[JoinedLink]) -> Result<Option<usize>, Memory>
     ensures { IfOk result (λ twice. twice ≡ first_twice [] links.now) }
 {

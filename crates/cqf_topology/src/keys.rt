@@ -1,4 +1,4 @@
-//! The keys of the texts that are read.
+//! The keys of the texts.
 ghost use Rattle.std.specs.Prelude.{◌≡◌, Some};
 ghost use Rattle.cqf_topology.specs.Fields.{key_text, substitute_of};
 
@@ -28,7 +28,7 @@ pub enum Key {
 }
 
 impl Key {
-    /// The key as it is written in a text.
+    /// Returns the key as a text has it.
     pub fn as_str(self) -> &'static str
         ensures { result.now ≡ key_text self }
     {
@@ -54,7 +54,7 @@ impl Key {
         }
     }
 
-    /// The key that may stand in place of this one: `paths` in place of `path`.
+    /// Returns the key that can replace this one: `paths` replaces `path`.
     pub(crate) fn substitute(self) -> Option<Key>
         ensures { result ≡ substitute_of self }
     {

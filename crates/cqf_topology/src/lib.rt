@@ -1,16 +1,16 @@
 //! Domains and streams, read from TOML texts, and the keys and values of such texts.
 //!
-//! - [`Domain`] is an accepted domain: its cycle time and guard time, how far its clocks may be apart, its bridges and stations by name and
-//!   number, and its directed links. [`Domain::read`] gives the domain that a text means, or a [`DomainFault`], the first that is
-//!   wrong with it; [`Domain::read_within`] does so within other limits than plants have where none are set.
-//! - [`Request`] is a request for a stream, and [`read_streams`] gives those of a text, or a [`StreamsFault`]. [`PacedRequest`] is one
-//!   for a stream that isn't offered in each cycle, as [`read_paced_streams`] gives them, and [`Planned`] one with its deadline, as
-//!   [`read_planned_streams`] does.
-//! - [`begins_at`] tells whether a stream begins at a bridge.
-//! - [`put_link`] and [`put_ends`] put a link by the names of its ends, and [`put_bridge`] and [`put_node`] the name of a node.
-//! - [`read_document`] gives the table of a text in which no key is missing; [`number_at`], [`number_or`], [`number_if`], [`name_at`], [`names_at`],
-//!   [`text_at`] and [`array_at`] read what stands at a [`Key`] of a table, and [`value_at`] is the value itself. [`TomlFault`] is the first
-//!   thing that is wrong with a text.
+//! - [`Domain`] is an accepted domain: its cycle time and guard band, how far its clocks can be apart, its bridges and stations by name and
+//!   number, and its directed links. [`Domain::read`] returns the domain that a text describes, or a [`DomainFault`], its first fault.
+//!   [`Domain::read_within`] does the same within given limits instead of the default ones.
+//! - [`Request`] is a request for a stream. [`read_streams`] returns those of a text, or a [`StreamsFault`]. [`PacedRequest`] is a request
+//!   for a stream that isn't offered in each cycle, read by [`read_paced_streams`]. [`Planned`] is a request with a deadline, read by
+//!   [`read_planned_streams`].
+//! - [`begins_at`] returns whether a stream begins at a bridge.
+//! - [`put_link`] and [`put_ends`] write a link by the names of its ends. [`put_bridge`] and [`put_node`] write the name of a node.
+//! - [`read_document`] returns the table of a text in which no key is missing. [`number_at`], [`number_or`], [`number_if`], [`name_at`],
+//!   [`names_at`], [`text_at`] and [`array_at`] read the value at a [`Key`] of a table, and [`value_at`] returns it unread. [`TomlFault`] is
+//!   the first fault of a text.
 //!
 //! ```text
 //! cycle = 125000
@@ -25,17 +25,17 @@
 //! delay = 500
 //! ```
 //!
-//! is a domain of one bridge and one station, joined by link 0 from bridge 0 to station 0. With `delay = 5000` it is
-//! refused: `DelayTooLong 0`. With `sync = 500` two clocks of it may be 500 ns apart, and `delay = [400, 600]` is a delay that varies; so each is
-//! refused that the guard time doesn't bear: `sync = 4600` with `delay = 500`, `DelayTooLong 0`.
+//! is a domain of one bridge and one station, joined by link 0 from bridge 0 to station 0. With `delay = 5000` it is refused with
+//! `DelayTooLong 0`. With `sync = 500` two of its clocks can be 500 ns apart. `delay = [400, 600]` is a delay that varies. A domain is
+//! refused if its guard band is too short for both: `sync = 4600` with `delay = 500` gives `DelayTooLong 0`.
 //!
 //! ```text
 //! cycle = 125000
 //! bridges = ["a", "b"]
 //! ```
 //!
-//! has the number 125000 at the key `cycle`, and the names a and b at the key `bridges`; asked for a number at `bridges`,
-//! the reader answers `BadValue bridges`.
+//! has the number 125000 at the key `cycle`, and the names a and b at the key `bridges`. Reading a number at `bridges` gives
+//! `BadValue bridges`.
 #![tactic(auto)]
 
 mod beginning;

@@ -10,12 +10,12 @@ use indexmap::IndexSet;
 use std::alloc::Global;
 use std::marker::Model;
 
-/// Links, of which no two have the same ends, numbered from 0 in their order. One is found by its ends, in a time that doesn't grow with
-/// how many there are.
+/// Links, numbered from 0 in their order. No two have the same ends. The time to find a link by its ends doesn't grow with the number of
+/// links.
 #[derive(Debug, Drop)]
 pub struct LinkList {
     links: Vec<Link>,
-    /// The ends of each, by its number.
+    /// The ends of each link, by its number.
     ends: IndexSet<(u16, Node)>,
 }
 
@@ -31,7 +31,7 @@ impl Model for LinkList {
     ghost invariant = { λ l. l.ends.keys ≡ map ends_of l.links.items };
 }
 
-/// The ends of links, of which no two have the same.
+/// Returns the ends of links. No two links have the same ends.
 fn ends_of(alloc: Global, links: &[Link]) -> Result<IndexSet<(u16, Node)>, Memory>
     requires { NoLinkTwice links.now }
     ensures { IfOk result (λ ends. AreEndsOf links.now ends.keys) }
@@ -44,7 +44,7 @@ fn ends_of(alloc: Global, links: &[Link]) -> Result<IndexSet<(u16, Node)>, Memor
 }
 
 impl LinkList {
-    /// These links by their places, unless memory runs out.
+    /// Returns these links, numbered by their indexes, or `Memory` if an allocation fails.
     pub fn new(alloc: Global, links: Vec<Link>) -> Result<LinkList, Memory>
         requires { NoLinkTwice links.items }
         ensures { IfOk result (λ list. list.items ≡ links.items) }
@@ -53,21 +53,21 @@ impl LinkList {
         Ok(LinkList { links, ends })
     }
 
-    /// How many links there are.
+    /// Returns the number of links.
     pub fn len(&self) -> usize
         ensures { result ≡ length self.now.items }
     {
         self.links.len()
     }
 
-    /// All links, by number.
+    /// Returns all links, by number.
     pub fn as_slice(&self) -> &[Link]
         ensures { result.now ≡ self.now.items }
     {
         self.links.as_slice()
     }
 
-    /// The number of the link from a bridge to a node.
+    /// Returns the number of the link from a bridge to a node.
     pub fn number_of(&self, from: u16, to: Node) -> Option<usize>
         ensures number { result ≡ position (λ link. (link.from == from) && same_node link.to to) self.now.items }
         ensures within { IfSome result (λ number. number < length self.now.items) }
@@ -75,7 +75,7 @@ impl LinkList {
         self.ends.get_index_of(&(from, to))
     }
 
-    /// The same links again, unless memory runs out.
+    /// Returns a copy of the links, or `Memory` if an allocation fails.
     pub fn try_copy(&self, alloc: Global) -> Result<LinkList, Memory>
         ensures { IfOk result (λ copy. copy.items ≡ self.now.items) }
     {

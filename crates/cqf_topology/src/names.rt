@@ -7,12 +7,12 @@ use std::alloc::Global;
 use std::collections::BTreeMap;
 use std::marker::Model;
 
-/// Names, each once, numbered from 0 in the order in which they were added. One is found by its order among them, in a time that
-/// grows with the logarithm of how many there are, whichever they are.
+/// Names, each once, numbered from 0 in the order in which they were added. A lookup uses their sorted order: its time grows
+/// with the logarithm of the number of names, whichever names they are.
 #[derive(Debug, Drop)]
 pub struct NameList {
     names: Vec<Name>,
-    /// By name, its number.
+    /// The number of each name.
     numbers: BTreeMap<Name, usize>,
 }
 
@@ -30,7 +30,7 @@ impl Model for NameList {
 }
 
 impl NameList {
-    /// No names. It takes no memory.
+    /// Returns no names. This takes no memory.
     pub fn new(alloc: Global) -> NameList
         ensures { result.keys ≡ [] }
     {
@@ -40,28 +40,28 @@ impl NameList {
         }
     }
 
-    /// How many names there are.
+    /// Returns the number of names.
     pub fn len(&self) -> usize
         ensures { result ≡ length self.now.keys }
     {
         self.names.len()
     }
 
-    /// All names, by number.
+    /// Returns all names, by number.
     pub fn as_slice(&self) -> &[Name]
         ensures { result.now ≡ self.now.keys }
     {
         self.names.as_slice()
     }
 
-    /// Whether the name is among them.
+    /// Returns whether the name is among these names.
     pub fn contains(&self, name: &Name) -> bool
         ensures { result ≡ is_among name.now self.now.keys }
     {
         self.numbers.contains_key(name)
     }
 
-    /// The name's number.
+    /// Returns the name's number, or `None` if it isn't among these names.
     pub fn number_of(&self, name: &Name) -> Option<usize>
         ensures number { result ≡ place_of name.now self.now.keys }
         ensures within { IfSome result (λ number. number < length self.now.keys) }
@@ -69,7 +69,7 @@ impl NameList {
         self.numbers.get(name).copied()
     }
 
-    /// Gives the next number to a name that isn't among them, unless memory runs out.
+    /// Gives the next number to a name that isn't among these names. Returns `Memory` if an allocation fails; the list is then unchanged.
     pub fn add(&mut self, name: &Name) -> Result<(), Memory>
         requires { is_among name.now self.old.keys ≡ false }
         ensures more { OnOk result (self.new.keys ≡ self.old.keys ++ name.now ∷ []) }
@@ -81,7 +81,7 @@ impl NameList {
         Ok(())
     }
 
-    /// The same names again, in the same order, unless memory runs out.
+    /// Returns a copy of the names, in the same order, or `Memory` if an allocation fails.
     pub fn try_copy(&self, alloc: Global) -> Result<NameList, Memory>
         ensures { IfOk result (λ copy. copy.keys ≡ self.now.keys) }
     {
@@ -91,7 +91,7 @@ impl NameList {
     }
 }
 
-/// The same names again, unless memory runs out.
+/// Returns a copy of the names, or `Memory` if an allocation fails.
 fn copied_names(alloc: Global, names: &[Name]) -> Result<Vec<Name>, Memory>
     ensures { IfOk result (λ copies. copies.items ≡ names.now) }
 {

@@ -1,4 +1,4 @@
-//! The names of a domain's nodes and links, as texts have them.
+//! The names of a domain's nodes and links, as output has them.
 
 ghost use Rattle.cqf_press.specs.Press.{Puts};
 ghost use Rattle.cqf_topology.specs.NodeNames.{ends_of_link, name_of_bridge, name_of_link, name_of_node};
@@ -7,7 +7,7 @@ use crate::Domain;
 use cqf_model::{Link, Node};
 use cqf_press::{Press, Sink};
 
-/// Puts the name of a bridge. A bridge that the domain lacks has none.
+/// Writes the name of a bridge. Writes nothing if the domain lacks the bridge.
 pub fn put_bridge<W: Sink>(press: &mut Press<'_, W>, domain: &Domain, bridge: u16)
     ensures { Puts W.contents press.old press.new (name_of_bridge domain.now bridge) }
 {
@@ -16,7 +16,7 @@ pub fn put_bridge<W: Sink>(press: &mut Press<'_, W>, domain: &Domain, bridge: u1
     }
 }
 
-/// Puts the name of a station. A station that the domain lacks has none.
+/// Writes the name of a station. Writes nothing if the domain lacks the station.
 fn put_station<W: Sink>(press: &mut Press<'_, W>, domain: &Domain, station: u16)
     ensures { Puts W.contents press.old press.new (name_of_node domain.now (Node.Station station)) }
 {
@@ -25,7 +25,7 @@ fn put_station<W: Sink>(press: &mut Press<'_, W>, domain: &Domain, station: u16)
     }
 }
 
-/// Puts the name of a node. One that the domain lacks has none.
+/// Writes the name of a node. Writes nothing if the domain lacks the node.
 pub fn put_node<W: Sink>(press: &mut Press<'_, W>, domain: &Domain, node: Node)
     ensures { Puts W.contents press.old press.new (name_of_node domain.now node) }
 {
@@ -35,7 +35,7 @@ pub fn put_node<W: Sink>(press: &mut Press<'_, W>, domain: &Domain, node: Node)
     }
 }
 
-/// Puts a link by the names of its ends, as `FROM>TO`.
+/// Writes a link by the names of its ends, as `FROM>TO`.
 pub fn put_ends<W: Sink>(press: &mut Press<'_, W>, domain: &Domain, link: Link)
     ensures { Puts W.contents press.old press.new (ends_of_link domain.now link) }
 {
@@ -44,7 +44,7 @@ pub fn put_ends<W: Sink>(press: &mut Press<'_, W>, domain: &Domain, link: Link)
     put_node(press, domain, link.to);
 }
 
-/// Puts a link by the names of its ends. A link that the domain lacks has none.
+/// Writes a link by the names of its ends. Writes nothing if the domain lacks the link.
 pub fn put_link<W: Sink>(press: &mut Press<'_, W>, domain: &Domain, link: u16)
     ensures { Puts W.contents press.old press.new (name_of_link domain.now link) }
 {

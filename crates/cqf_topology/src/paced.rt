@@ -1,4 +1,4 @@
-//! Requests for streams, with the cycles in which their frames are offered.
+//! Requests for streams, with the cycles in which the streams are offered.
 ghost use Rattle.std.specs.Prelude.{◌≡◌, map, ok_or, IfOk};
 ghost use Rattle.toml.specs.Data.{as_table};
 ghost use Rattle.toml.specs.View.{items_view, view, table_view};
@@ -15,24 +15,24 @@ use cqf_units::Memory;
 use std::alloc::Global;
 use toml::{Table, Value};
 
-/// A request for a stream that is offered in some cycles, as a text has it. Whether it can be met is for admission to say.
+/// A request for a stream that is offered in some cycles, as a text has it. Admission decides whether it can be met.
 #[derive(Debug, Drop)]
 pub struct PacedRequest {
-    /// What the stream is to be called.
+    /// The stream's name.
     pub name: String,
-    /// The reservation, in octets in each cycle of its own.
+    /// The reservation, in octets in each of the stream's own cycles.
     pub octets: u32,
-    /// It is offered in one of so many cycles (IEEE Std 802.1Q-2018, 46.2.3.5: Interval; here in cycles).
+    /// The stream is offered in one of every this many cycles (IEEE Std 802.1Q-2018, 46.2.3.5: Interval; here in cycles).
     pub every: u32,
-    /// The first of these cycles (46.2.3.5: EarliestTransmitOffset; here in cycles).
+    /// The first of the stream's own cycles (46.2.3.5: EarliestTransmitOffset; here in cycles).
     pub phase: u32,
-    /// The branches of its tree, one a listener: each the names of its bridges, in order, and then of the listener's
-    /// station.
+    /// The branches of the stream's tree, one for each listener: the names of the branch's bridges, in order, followed by the name of the
+    /// listener's station.
     pub paths: Vec<Vec<String>>,
 }
 
 impl PacedRequest {
-    /// A request for a stream that is offered in each cycle, unless memory runs out.
+    /// Returns a request for a stream that is offered in each cycle, or `Memory` if an allocation fails.
     pub fn in_each_cycle(alloc: Global, request: &Request) -> Result<PacedRequest, Memory>
         ensures { IfOk result (λ copy. paced_text copy ≡ in_each_cycle (request_text request.now)) }
     {
@@ -50,7 +50,7 @@ impl PacedRequest {
         })
     }
 
-    /// The request that this one is where its stream is offered in each cycle.
+    /// Returns this request, whose stream is offered in each cycle, as a plain one.
     pub fn into_request(self) -> Request
         requires every { self.every ≡ 1 }
         requires phase { self.phase ≡ 0 }
@@ -63,7 +63,7 @@ impl PacedRequest {
         }
     }
 
-    /// The same request again, unless memory runs out.
+    /// Returns a copy of the request, or `Memory` if an allocation fails.
     pub fn try_copy(&self, alloc: Global) -> Result<PacedRequest, Memory>
         ensures { IfOk result (λ copy. paced_text copy ≡ paced_text self.now) }
     {
@@ -77,11 +77,10 @@ impl PacedRequest {
     }
 }
 
-/// The request of a stream's table.
+/// Returns the request of a stream's table.
 ///
 /// # Errors
-/// `BadValue` of the first key, in reading order, at which something else stands than must, or nothing; `Memory` where a growth is
-/// refused.
+/// `BadValue` with the first key, in reading order, that is missing or has a wrong value. `Memory` if an allocation fails.
 pub fn read_paced(alloc: Global, table: &Table) -> Result<PacedRequest, StreamsFault>
     ensures { Gives StreamsFault.Memory paced_text result (paced_from (table_view table.now)) }
 {
@@ -99,7 +98,7 @@ pub fn read_paced(alloc: Global, table: &Table) -> Result<PacedRequest, StreamsF
     })
 }
 
-/// A stream, as an element of the array of streams.
+/// Reads a stream, as an element of the array of streams.
 fn paced_in(alloc: Global, value: &Value) -> Result<PacedRequest, StreamsFault>
     ensures { Gives StreamsFault.Memory paced_text result (and_then (ok_or (as_table (view value.now)) (StreamsFault.BadValue Key.Streams)) paced_from) }
 {
@@ -109,7 +108,7 @@ fn paced_in(alloc: Global, value: &Value) -> Result<PacedRequest, StreamsFault>
     }
 }
 
-/// The elements of the array of streams.
+/// Reads the elements of the array of streams.
 fn all_paced_in(alloc: Global, values: &[Value]) -> Result<Vec<PacedRequest>, StreamsFault>
     ensures { Gives StreamsFault.Memory (λ requests. map paced_text requests.items) result
         (tables_from Key.Streams paced_from (items_view values.now)) }
@@ -122,7 +121,7 @@ fn all_paced_in(alloc: Global, values: &[Value]) -> Result<Vec<PacedRequest>, St
     Ok(requests)
 }
 
-/// The streams of a document.
+/// Reads the streams of a document.
 fn all_paced(alloc: Global, table: &Table) -> Result<Vec<PacedRequest>, StreamsFault>
     ensures { Gives StreamsFault.Memory (λ requests. map paced_text requests.items) result (tables_of_key Key.Streams paced_from (table_view table.now)) }
 {
@@ -133,14 +132,14 @@ fn all_paced(alloc: Global, table: &Table) -> Result<Vec<PacedRequest>, StreamsF
     all_paced_in(alloc, values)
 }
 
-/// The requests of a streams text, in its order, with the cycles in which they are offered.
+/// Returns the requests of a streams text, in its order, with the cycles in which the streams are offered.
 ///
-/// The text is that of [`crate::read_streams`], where a table may have `every` and `phase` too, integers from 0 to 4,294,967,295:
-/// the stream is offered in one of `every` cycles, 1 where nothing stands there, of which `phase` is the first, else 0. They are read
-/// behind `octets`.
+/// The text is that of [`crate::read_streams`]. A table can also have `every` and `phase`, integers from 0 to 4,294,967,295: the stream is
+/// offered in one of every `every` cycles, and `phase` is the first of these. If the keys are missing, `every` is 1 and `phase` is 0. They
+/// are read after `octets`.
 ///
 /// # Errors
-/// As of [`crate::read_streams`]; and `BadValue` of `every` or `phase` where another value stands there.
+/// As for [`crate::read_streams`], and `BadValue` with `every` or `phase` if it has another value.
 pub fn read_paced_streams(alloc: Global, text: &[u8]) -> Result<Vec<PacedRequest>, StreamsFault>
     ensures { Gives StreamsFault.Memory (λ requests. map paced_text requests.items) result (paced_of_text text.now) }
 {

@@ -16,26 +16,25 @@ use toml::{Table, Value};
 #[derive(Debug, Drop)]
 pub struct Planned {
     pub request: PacedRequest,
-    /// The most that a frame may take from its offer to being whole at each listener, in nanoseconds, from 1, where the text
-    /// says it.
+    /// The longest time from a frame's offer until each listener has received the whole frame, in nanoseconds, at least 1. `None` if the
+    /// text gives no deadline.
     pub deadline: Option<u32>,
 }
 
-/// The deadline of a stream's table, in nanoseconds, where it has one.
+/// Returns the deadline of a stream's table, in nanoseconds, or `None` if the table has none.
 ///
 /// # Errors
-/// `BadValue` of `deadline`, where no integer from 1 to 4,294,967,295 stands there.
+/// `BadValue` with `deadline` if its value isn't an integer from 1 to 4,294,967,295.
 pub fn deadline_of(table: &Table) -> Result<Option<u32>, StreamsFault>
     ensures { result ≡ deadline_from (table_view table.now) }
 {
     number_if(table, Key::Deadline, 1, u32::MAX)
 }
 
-/// The request of a stream's table, and its deadline.
+/// Returns the request of a stream's table, with its deadline.
 ///
 /// # Errors
-/// `BadValue` of the first key, in reading order, at which something else stands than must, or nothing; `Memory` where a growth is
-/// refused.
+/// `BadValue` with the first key, in reading order, that is missing or has a wrong value. `Memory` if an allocation fails.
 pub fn read_planned(alloc: Global, table: &Table) -> Result<Planned, StreamsFault>
     ensures { Gives StreamsFault.Memory planned_text result (planned_from (table_view table.now)) }
 {
@@ -44,7 +43,7 @@ pub fn read_planned(alloc: Global, table: &Table) -> Result<Planned, StreamsFaul
     Ok(Planned { request, deadline })
 }
 
-/// A stream, as an element of the array of streams.
+/// Reads a stream, as an element of the array of streams.
 fn planned_in(alloc: Global, value: &Value) -> Result<Planned, StreamsFault>
     ensures { Gives StreamsFault.Memory planned_text result (and_then (ok_or (as_table (view value.now)) (StreamsFault.BadValue Key.Streams)) planned_from) }
 {
@@ -54,7 +53,7 @@ fn planned_in(alloc: Global, value: &Value) -> Result<Planned, StreamsFault>
     }
 }
 
-/// The elements of the array of streams.
+/// Reads the elements of the array of streams.
 fn all_planned_in(alloc: Global, values: &[Value]) -> Result<Vec<Planned>, StreamsFault>
     ensures { Gives StreamsFault.Memory (λ streams. map planned_text streams.items) result
         (tables_from Key.Streams planned_from (items_view values.now)) }
@@ -67,7 +66,7 @@ fn all_planned_in(alloc: Global, values: &[Value]) -> Result<Vec<Planned>, Strea
     Ok(streams)
 }
 
-/// The streams of a document.
+/// Reads the streams of a document.
 fn all_planned(alloc: Global, table: &Table) -> Result<Vec<Planned>, StreamsFault>
     ensures { Gives StreamsFault.Memory (λ streams. map planned_text streams.items) result (tables_of_key Key.Streams planned_from (table_view table.now)) }
 {
@@ -78,13 +77,13 @@ fn all_planned(alloc: Global, table: &Table) -> Result<Vec<Planned>, StreamsFaul
     all_planned_in(alloc, values)
 }
 
-/// The requests of a streams text, in its order, with their deadlines.
+/// Returns the requests of a streams text, in its order, with their deadlines.
 ///
-/// The text is that of [`crate::read_paced_streams`], where a table may have `deadline` too, an integer from 1 to 4,294,967,295, in
-/// nanoseconds. It is read behind the table's other keys.
+/// The text is that of [`crate::read_paced_streams`]. A table can also have `deadline`, an integer from 1 to 4,294,967,295, in nanoseconds.
+/// It is read after the table's other keys.
 ///
 /// # Errors
-/// As of [`crate::read_paced_streams`]; and `BadValue` of `deadline` where another value stands there.
+/// As for [`crate::read_paced_streams`], and `BadValue` with `deadline` if it has another value.
 pub fn read_planned_streams(alloc: Global, text: &[u8]) -> Result<Vec<Planned>, StreamsFault>
     ensures { Gives StreamsFault.Memory (λ streams. map planned_text streams.items) result (planned_of_text text.now) }
 {

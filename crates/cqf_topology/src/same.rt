@@ -5,28 +5,28 @@ use crate::Domain;
 use cqf_model::{Limits, Link};
 use cqf_units::Name;
 
-/// Whether two names are the same.
+/// Returns whether two names are the same.
 fn is_same_name(one: &Name, other: &Name) -> bool
     ensures { (result ≡ true) ↔ (one.now ≡ other.now) }
 {
     one == other
 }
 
-/// Whether two plants may have the same at most.
+/// Returns whether two limits are the same.
 fn are_same_limits(one: Limits, other: Limits) -> bool
     ensures { (result ≡ true) ↔ (one ≡ other) }
 {
     one == other
 }
 
-/// Whether two links are the same.
+/// Returns whether two links are the same.
 fn is_same_link(one: Link, other: Link) -> bool
     ensures { (result ≡ true) ↔ (one ≡ other) }
 {
     one == other
 }
 
-/// Whether two domains have the same bridges, by name and number.
+/// Returns whether two domains have the same bridges, by name and number.
 fn have_same_bridges(one: &Domain, other: &Domain) -> bool
     ensures { (result ≡ true) ↔ (one.now.bridges ≡ other.now.bridges) }
 {
@@ -41,7 +41,7 @@ fn have_same_bridges(one: &Domain, other: &Domain) -> bool
     true
 }
 
-/// Whether two domains have the same stations, by name and number.
+/// Returns whether two domains have the same stations, by name and number.
 fn have_same_stations(one: &Domain, other: &Domain) -> bool
     ensures { (result ≡ true) ↔ (one.now.stations ≡ other.now.stations) }
 {
@@ -56,7 +56,7 @@ fn have_same_stations(one: &Domain, other: &Domain) -> bool
     true
 }
 
-/// Whether two domains have the same links, by number.
+/// Returns whether two domains have the same links, by number.
 fn have_same_links(one: &Domain, other: &Domain) -> bool
     ensures { (result ≡ true) ↔ (one.now.links ≡ other.now.links) }
 {
@@ -71,7 +71,7 @@ fn have_same_links(one: &Domain, other: &Domain) -> bool
     true
 }
 
-/// Whether two domains have the same limits, times, nodes and links.
+/// Returns whether two domains have the same limits, times, nodes and links.
 pub(crate) fn is_same_domain(one: &Domain, other: &Domain) -> bool
     ensures { (result ≡ true) ↔ (one.now ≡ other.now) }
 {

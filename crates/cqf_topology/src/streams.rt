@@ -14,26 +14,26 @@ use cqf_units::Memory;
 use std::alloc::Global;
 use toml::{Table, Value};
 
-/// A request for a stream, as a text has it. Whether it can be met is for admission to say.
+/// A request for a stream, as a text has it. Admission decides whether it can be met.
 #[derive(Debug, Drop)]
 pub struct Request {
-    /// What the stream is to be called.
+    /// The stream's name.
     pub name: String,
-    /// The reservation, in octets a cycle.
+    /// The reservation, in octets for each cycle.
     pub octets: u32,
-    /// The branches of its tree, one a listener: each the names of its bridges, in order, and then of the listener's
-    /// station.
+    /// The branches of the stream's tree, one for each listener: the names of the branch's bridges, in order, followed by the name of the
+    /// listener's station.
     pub paths: Vec<Vec<String>>,
 }
 
-/// The keys of a streams text.
+/// The keys that a streams text must have.
 pub(crate) const KEYS: [Key; 1] = [Key::Streams];
 
-/// The keys of a stream's table, in reading order.
+/// The keys that a stream's table must have, in reading order.
 pub(crate) const STREAM_KEYS: [Key; 3] = [Key::Name, Key::Octets, Key::Path];
 
 impl Request {
-    /// The same request again, unless memory runs out.
+    /// Returns a copy of the request, or `Memory` if an allocation fails.
     pub fn try_copy(&self, alloc: Global) -> Result<Request, Memory>
         ensures { IfOk result (λ copy. request_text copy ≡ request_text self.now) }
     {
@@ -45,7 +45,7 @@ impl Request {
     }
 }
 
-/// The same texts again.
+/// Returns a copy of the texts, or `Memory` if an allocation fails.
 fn copied(alloc: Global, texts: &[String]) -> Result<Vec<String>, Memory>
     ensures { IfOk result (λ copies. map string_bytes copies.items ≡ map string_bytes texts.now) }
 {
@@ -56,7 +56,7 @@ fn copied(alloc: Global, texts: &[String]) -> Result<Vec<String>, Memory>
     Ok(copies)
 }
 
-/// The same branches again, unless memory runs out.
+/// Returns a copy of the branches, or `Memory` if an allocation fails.
 pub(crate) fn copied_paths(alloc: Global, paths: &[Vec<String>]) -> Result<Vec<Vec<String>>, Memory>
     ensures { IfOk result (λ copies. map (λ path. map string_bytes path.items) copies.items ≡ map (λ path. map string_bytes path.items) paths.now) }
 {
@@ -67,10 +67,11 @@ pub(crate) fn copied_paths(alloc: Global, paths: &[Vec<String>]) -> Result<Vec<V
     Ok(copies)
 }
 
-/// The branches of a stream's table: the one of `path`, or those of `paths`, and not both.
+/// Returns the branches of a stream's table: the single branch of `path`, or those of `paths`. A table can't have both.
 ///
 /// # Errors
-/// `BadValue` of the key at which something else stands, or nothing; `Memory` where a growth is refused.
+/// `BadValue` with `path` or `paths` if its value has another form. `BadValue` with `paths` if neither is there, or if both are. `Memory`
+/// if an allocation fails.
 pub fn branches_of(alloc: Global, table: &Table) -> Result<Vec<Vec<String>>, StreamsFault>
     ensures { Gives StreamsFault.Memory (λ paths. map (λ path. map string_bytes path.items) paths.items) result (branches_from (table_view table.now)) }
 {
@@ -84,7 +85,7 @@ pub fn branches_of(alloc: Global, table: &Table) -> Result<Vec<Vec<String>>, Str
     one_branch(alloc, path)
 }
 
-/// A branch as the only one.
+/// Returns the branch as the only one of a list.
 fn one_branch(alloc: Global, path: Vec<String>) -> Result<Vec<Vec<String>>, StreamsFault>
     ensures { Gives StreamsFault.Memory (λ paths. map (λ path. map string_bytes path.items) paths.items) result (Ok (map string_bytes path.items ∷ [])) }
 {
@@ -93,7 +94,7 @@ fn one_branch(alloc: Global, path: Vec<String>) -> Result<Vec<Vec<String>>, Stre
     Ok(paths)
 }
 
-/// A stream's table.
+/// Reads a stream's table.
 pub(crate) fn read_request(alloc: Global, table: &Table) -> Result<Request, StreamsFault>
     ensures { Gives StreamsFault.Memory request_text result (request_from (table_view table.now)) }
 {
@@ -107,7 +108,7 @@ pub(crate) fn read_request(alloc: Global, table: &Table) -> Result<Request, Stre
     })
 }
 
-/// A stream, as an element of the array of streams.
+/// Reads a stream, as an element of the array of streams.
 fn request_in(alloc: Global, value: &Value) -> Result<Request, StreamsFault>
     ensures { Gives StreamsFault.Memory request_text result (and_then (ok_or (as_table (view value.now)) (StreamsFault.BadValue Key.Streams)) request_from) }
 {
@@ -117,7 +118,7 @@ fn request_in(alloc: Global, value: &Value) -> Result<Request, StreamsFault>
     }
 }
 
-/// The elements of the array of streams.
+/// Reads the elements of the array of streams.
 fn requests_in(alloc: Global, values: &[Value]) -> Result<Vec<Request>, StreamsFault>
     ensures { Gives StreamsFault.Memory (λ requests. map request_text requests.items) result
         (tables_from Key.Streams request_from (items_view values.now)) }
@@ -130,7 +131,7 @@ fn requests_in(alloc: Global, values: &[Value]) -> Result<Vec<Request>, StreamsF
     Ok(requests)
 }
 
-/// The streams of a document.
+/// Reads the streams of a document.
 fn read_requests(alloc: Global, table: &Table) -> Result<Vec<Request>, StreamsFault>
     ensures { Gives StreamsFault.Memory (λ requests. map request_text requests.items) result (tables_of_key Key.Streams request_from (table_view table.now)) }
 {
@@ -141,16 +142,15 @@ fn read_requests(alloc: Global, table: &Table) -> Result<Vec<Request>, StreamsFa
     requests_in(alloc, values)
 }
 
-/// The requests of a streams text, in its order. Keys that mean nothing here are passed over.
+/// Returns the requests of a streams text, in its order. Unknown keys are ignored.
 ///
-/// `streams` is an array of tables, each with `name`, a text; `octets`, an integer from 0 to 4,294,967,295; and either
-/// `path`, an array of texts, which is its one branch, or `paths`, an array of such arrays. They are read in this
-/// order.
+/// `streams` is an array of tables. Each table has `name`, a text; `octets`, an integer from 0 to 4,294,967,295; and either `path`, an
+/// array of texts, the only branch, or `paths`, an array of such arrays. They are read in this order.
 ///
 /// # Errors
-/// `NotToml` where the text isn't TOML; `Missing` of the first key that is absent, and that is `path` where a stream has
-/// neither `path` nor `paths`; `BadValue` of the first key with another value, and that is `paths` where a stream has a
-/// good `path` and `paths` too; `Memory` where a growth is refused.
+/// `NotToml` if the text isn't TOML. `Missing` with the first absent key; this is `path` if a stream has neither `path` nor `paths`.
+/// `BadValue` with the first key that has another value; this is `paths` if a stream has both a good `path` and `paths`. `Memory` if an
+/// allocation fails.
 pub fn read_streams(alloc: Global, text: &[u8]) -> Result<Vec<Request>, StreamsFault>
     ensures { Gives StreamsFault.Memory (λ requests. map request_text requests.items) result (streams_of_text text.now) }
 {

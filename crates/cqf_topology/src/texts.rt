@@ -1,4 +1,4 @@
-//! Texts at a key.
+//! The texts at a key.
 ghost use Rattle.std.specs.Prelude.{map, ok_or, string_bytes};
 ghost use Rattle.toml.specs.Data.{as_str, as_array};
 ghost use Rattle.toml.specs.View.{view, table_view, items_view};
@@ -10,7 +10,7 @@ use crate::{Key, TomlFault};
 use std::alloc::Global;
 use toml::{Table, Value};
 
-/// A text, as an element of the array at a key.
+/// Reads a text, as an element of the array at a key.
 fn text_in(alloc: Global, value: &Value, key: Key) -> Result<String, TomlFault>
     ensures { Gives TomlFault.Memory string_bytes result (ok_or (as_str (view value.now)) (TomlFault.BadValue key)) }
 {
@@ -20,7 +20,7 @@ fn text_in(alloc: Global, value: &Value, key: Key) -> Result<String, TomlFault>
     }
 }
 
-/// The elements of an array at a key, each a text.
+/// Reads the elements of an array at a key, each a text.
 fn texts_in(alloc: Global, values: &[Value], key: Key) -> Result<Vec<String>, TomlFault>
     ensures { Gives TomlFault.Memory (λ texts. map string_bytes texts.items) result (texts_from key (items_view values.now)) }
 {
@@ -32,17 +32,17 @@ fn texts_in(alloc: Global, values: &[Value], key: Key) -> Result<Vec<String>, To
     Ok(texts)
 }
 
-/// The array of texts at a key.
+/// Returns the array of texts at a key.
 ///
 /// # Errors
-/// `BadValue` of the key, where another value stands there or none; `Memory` where a growth is refused.
+/// `BadValue` with the key if it is missing or has another value. `Memory` if an allocation fails.
 pub fn texts_at(alloc: Global, table: &Table, key: Key) -> Result<Vec<String>, TomlFault>
     ensures { Gives TomlFault.Memory (λ texts. map string_bytes texts.items) result (texts_at key (table_view table.now)) }
 {
     texts_in(alloc, array_at(table, key)?, key)
 }
 
-/// An array of texts, as an element of the array at a key.
+/// Reads an array of texts, as an element of the array at a key.
 fn text_list_in(alloc: Global, value: &Value, key: Key) -> Result<Vec<String>, TomlFault>
     ensures { Gives TomlFault.Memory (λ texts. map string_bytes texts.items) result
         (and_then (ok_or (as_array (view value.now)) (TomlFault.BadValue key)) (texts_from key)) }
@@ -53,7 +53,7 @@ fn text_list_in(alloc: Global, value: &Value, key: Key) -> Result<Vec<String>, T
     }
 }
 
-/// The elements of an array at a key, each an array of texts.
+/// Reads the elements of an array at a key, each an array of texts.
 fn text_lists_in(alloc: Global, values: &[Value], key: Key) -> Result<Vec<Vec<String>>, TomlFault>
     ensures { Gives TomlFault.Memory (λ lists. map (λ texts. map string_bytes texts.items) lists.items) result (text_lists_from key (items_view values.now)) }
 {
@@ -65,20 +65,20 @@ fn text_lists_in(alloc: Global, values: &[Value], key: Key) -> Result<Vec<Vec<St
     Ok(lists)
 }
 
-/// The array of arrays of texts at a key.
+/// Returns the array of arrays of texts at a key.
 ///
 /// # Errors
-/// As of [`texts_at`].
+/// As for [`texts_at`].
 pub fn text_lists_at(alloc: Global, table: &Table, key: Key) -> Result<Vec<Vec<String>>, TomlFault>
     ensures { Gives TomlFault.Memory (λ lists. map (λ texts. map string_bytes texts.items) lists.items) result (text_lists_at key (table_view table.now)) }
 {
     text_lists_in(alloc, array_at(table, key)?, key)
 }
 
-/// The text at a key.
+/// Returns the text at a key.
 ///
 /// # Errors
-/// As of [`texts_at`].
+/// As for [`texts_at`].
 pub fn text_at(alloc: Global, table: &Table, key: Key) -> Result<String, TomlFault>
     ensures { Gives TomlFault.Memory string_bytes result (read_at key as_str (table_view table.now)) }
 {

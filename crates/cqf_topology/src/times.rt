@@ -1,4 +1,4 @@
-//! What a link's table says beside its ends.
+//! What a link's table says besides its ends.
 ghost use Rattle.std.specs.Prelude.{◌≡◌};
 ghost use Rattle.toml.specs.View.{items_view, table_view, view};
 ghost use Rattle.cqf_topology.specs.Fields.{read_at};
@@ -11,7 +11,7 @@ use cqf_model::LONGEST_CYCLE;
 use cqf_units::{Rate, time_of};
 use toml::{Table, Value};
 
-/// What a link's table says beside its ends: the rate, and times in nanoseconds.
+/// What a link's table says besides its ends: the rate, and times in nanoseconds.
 #[derive(Clone, Copy, Debug, PartialEq, Eq)]
 pub struct LinkTimes {
     pub rate: Rate,
@@ -19,40 +19,40 @@ pub struct LinkTimes {
     pub delay: u32,
     /// The least delay, at most the greatest.
     pub least: u32,
-    /// The link's own guard time; none where it has the domain's.
+    /// The link's own guard band; `None` if it has the domain's.
     pub guard: Option<u32>,
 }
 
 impl LinkTimes {
-    /// The link's guard time, where the domain's is this.
+    /// Returns the link's guard band, given the domain's.
     pub fn guard_within(self, guard: u32) -> u32
         ensures { result ≡ guard_within guard self }
     {
         self.guard.unwrap_or(guard)
     }
 
-    /// Whether its guard time isn't below the cycle time.
+    /// Returns whether the link's guard band isn't shorter than the cycle.
     pub fn has_long_guard(self, cycle_time: u32, guard: u32) -> bool
         ensures { result ≡ has_long_guard cycle_time guard self }
     {
         cycle_time <= self.guard_within(guard)
     }
 
-    /// Whether its greatest delay and how far clocks may be apart, together, aren't below its guard time.
+    /// Returns whether the greatest delay plus the distance of clocks isn't less than the link's guard band.
     pub fn has_long_delay(self, sync: u32, guard: u32) -> bool
         ensures { result ≡ has_long_delay sync guard self }
     {
         u64::from(self.guard_within(guard)) <= u64::from(self.delay) + u64::from(sync)
     }
 
-    /// Whether the gap behind a frame takes longer than its guard time.
+    /// Returns whether the gap after a frame takes longer than the link's guard band.
     pub fn has_long_gap(self, guard: u32) -> bool
         ensures { result ≡ has_long_gap guard self }
     {
         u64::from(self.guard_within(guard)) < time_of(12, self.rate)
     }
 
-    /// Whether clocks may be further apart than a shortest frame, with its preamble, and the least delay take together.
+    /// Returns whether clocks can be further apart than a shortest frame, with its preamble, and the least delay take together.
     pub fn has_long_sync(self, sync: u32) -> bool
         ensures { result ≡ has_long_sync sync self }
     {
@@ -60,7 +60,7 @@ impl LinkTimes {
     }
 }
 
-/// The rate of so many Mb/s.
+/// Returns the rate with this number of Mb/s.
 fn rate_of_number(number: i64) -> Option<Rate>
     ensures { result ≡ rate_of number }
 {
@@ -78,7 +78,7 @@ fn rate_of_number(number: i64) -> Option<Rate>
     }
 }
 
-/// The rate that a value means.
+/// Returns the rate that a value means.
 fn rate_of_value(value: &Value) -> Option<Rate>
     ensures { result ≡ rate_from (view value.now) }
 {
@@ -88,10 +88,10 @@ fn rate_of_value(value: &Value) -> Option<Rate>
     }
 }
 
-/// The rate of a link's table.
+/// Returns the rate of a link's table.
 ///
 /// # Errors
-/// `BadValue` of `rate`, where none of the integers 10, 100, 1000, 2500, 5000, 10000, 25000, 40000 and 100000 stands there.
+/// `BadValue` with `rate` unless its value is one of the integers 10, 100, 1000, 2500, 5000, 10000, 25000, 40000 and 100000.
 fn rate_at(table: &Table) -> Result<Rate, TomlFault>
     ensures { result ≡ read_at Key.Rate rate_from (table_view table.now) }
 {
@@ -101,7 +101,7 @@ fn rate_at(table: &Table) -> Result<Rate, TomlFault>
     }
 }
 
-/// The least and the greatest delay that two values mean.
+/// Returns the least and the greatest delay that an array of two values means.
 fn delays_of_two(values: &[Value]) -> Option<(u32, u32)>
     ensures { result ≡ delays_of_two (items_view values.now) }
 {
@@ -115,7 +115,7 @@ fn delays_of_two(values: &[Value]) -> Option<(u32, u32)>
     }
 }
 
-/// The least and the greatest delay that a value means: one number, which is both, or both, the least first.
+/// Returns the least and the greatest delay that a value means: one number, which is both, or an array with the least delay first.
 fn delays_of(value: &Value) -> Option<(u32, u32)>
     ensures { result ≡ delays_from (view value.now) }
 {
@@ -128,7 +128,7 @@ fn delays_of(value: &Value) -> Option<(u32, u32)>
     }
 }
 
-/// The least and the greatest delay of a link's table.
+/// Returns the least and the greatest delay of a link's table.
 fn delays_at(table: &Table) -> Result<(u32, u32), TomlFault>
     ensures { result ≡ read_at Key.Delay delays_from (table_view table.now) }
 {
@@ -138,11 +138,11 @@ fn delays_at(table: &Table) -> Result<(u32, u32), TomlFault>
     }
 }
 
-/// What a link's table says beside its ends: `rate` in Mb/s; `delay`, an integer from 0 to 10,000,000, or an array of two such, the least
-/// and then the greatest; and `guard`, an integer from 1 to 10,000,000, if any.
+/// Returns what a link's table says besides its ends: `rate` in Mb/s; `delay`, an integer from 0 to 10,000,000, or an array of two such
+/// integers, the least delay first; and `guard`, an integer from 1 to 10,000,000, if it is there.
 ///
 /// # Errors
-/// `BadValue` of the first of these keys at which something else stands.
+/// `BadValue` with the first of these keys that has another value, or of `rate` and `delay` that is missing.
 pub fn times_at(table: &Table) -> Result<LinkTimes, TomlFault>
     ensures { result ≡ times_read (table_view table.now) }
 {

@@ -8,17 +8,17 @@ use std::alloc::AllocFailed;
 use std::fmt;
 use thiserror::Error;
 
-/// Why a TOML text is refused. The checks are made in the order of the variants, each over the whole text
-/// before the next. Nothing is kept of a text that is refused. A fault prints as its name, and then its key.
+/// Why a TOML text is refused. The checks are made in the order of the variants, each over the whole text before the next. Nothing is kept
+/// of a refused text. A fault prints as its name, followed by its key if it has one.
 #[derive(Clone, Copy, Debug, PartialEq, Eq, Error)]
 pub enum TomlFault {
-    /// The text isn't TOML, or not UTF-8, or nests deeper than the `toml` crate reads, past 80 levels.
+    /// The text isn't TOML, isn't UTF-8, or nests deeper than the 80 levels that the `toml` crate reads.
     NotToml,
     /// The first key in reading order that is absent.
     Missing(Key),
-    /// The first key in reading order whose value has another form than it must have.
+    /// The first key in reading order whose value doesn't have the required form.
     BadValue(Key),
-    /// A growth was refused.
+    /// An allocation failed.
     Memory,
 }
 
@@ -35,7 +35,7 @@ impl fmt::Display for TomlFault {
     }
 }
 
-/// Want of memory, as a fault.
+/// Converts a failed allocation into a fault.
 impl From<Memory> for TomlFault {
     ghost use Rattle.cqf_topology.specs.declared.toml_faults.TomlFault.TheVariants as variant;
 
@@ -46,7 +46,7 @@ impl From<Memory> for TomlFault {
     }
 }
 
-/// Want of room for a value, likewise.
+/// Converts a failed allocation for a value likewise.
 impl<T: Drop> From<AllocFailed<T>> for TomlFault {
     ghost use Rattle.cqf_topology.specs.declared.toml_faults.TomlFault.TheVariants as variant;
 

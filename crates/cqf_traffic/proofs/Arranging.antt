@@ -17,16 +17,16 @@ use Rattle.cqf_traffic.specs.Offering.{block_before, block_of, blocks_before, fr
 abbrev pub at_of : Offer → ℕ
 at_of x = x.at.0
 
--- an offer of any instant
+-- an offer at an instant
 at_instant : ℕ → Offer
 at_instant t = record { at = record { 0 = t }; bridge = 0; stream = []; octets = 0 }
 
--- which is its instant
+-- the instant of this offer
 at_instants : (t : ℕ) → at_of (at_instant t) ≡ t
 unfolding at_instant
 at_instants t = refl
 
--- what a stream offers comes in time
+-- what a stream offers is before the end
 sent_early : (until : ℕ) (sender : TalkerStream) (words : Option Lcg) (traffic : Option TrafficText) (x : Offer) →
     Contains (sent_with until sender words traffic) x → at_of x < until
 sent_early until sender words None x c = absurd (contains_none x c)
@@ -38,7 +38,7 @@ sent_early until sender words (Some t) x c =
     let same = ap at_of (contains_one (frame_of sender t (at block.0)) x one.2) in
     omega (arith, same, ltb-true (at block.0) until here.0)
 
--- and so does what streams offer
+-- so is what streams offer
 all_early : (until : ℕ) (seed : Option ℕ) (n : ℕ) (senders : List TalkerStream) (x : Offer) → Contains (sent_from until seed n senders) x → at_of x < until
 all_early until seed n [] x c = absurd (contains_none x c)
 all_early until seed n (s ∷ senders) x c =

@@ -1,4 +1,4 @@
--- What streams offer keeps their talkers' word.
+-- What streams offer keeps their talkers' promises.
 use Rattle.std.proofs.Common.{◌≡◌, ◌∙◌, ℕ, zero, suc, ◌+◌, ◌-◌, ◌*◌, ◌/◌, ◌%◌, ◌^◌, ◌==◌, ◌&&◌, ◌<◌, ◌≤◌, ◌++◌, ◌∷◌, [], Bool, true, false, List, Option, Some, None}
 use Rattle.std.proofs.Common.{◌⊎◌, Contains, ap, append-nil, arith, bit_xor, div-add-mod', filter, get_or, inl, inr, length, ltb-true, mul-le-mul_right, nat_lt, refl, slice_get, subst, sym}
 use Rattle.std.specs.List.Sorted.{IsNonDecreasingBy}
@@ -42,7 +42,7 @@ word_small g =
     or_lt 32 (n / 2 ^ (by % 32)) (n * 2 ^ ((32 - by % 32) % 32) % 2 ^ 32) (omega (arith, less, few))
     (mod-lt (n * 2 ^ ((32 - by % 32) % 32)) (omega arith))
 
--- a part of all words below 2^32 is a part of the numbers up to the jitter
+-- a share of all words below 2^32 is a share of the numbers up to the jitter
 part_most : (word jitter : ℕ) → word < 4294967296 → word * (jitter + 1) / 4294967296 ≤ jitter
 part_most word jitter few =
     let most : word * (jitter + 1) ≤ 4294967295 * (jitter + 1) = mul-le-mul_right (jitter + 1) (omega (arith, few)) in
@@ -50,7 +50,7 @@ part_most word jitter few =
     cycle_below 4294967296 (word * (jitter + 1)) (jitter + 1) (omega (arith, most)) in
     omega (arith, below)
 
--- so nothing is later than the jitter
+-- so no block is later than the jitter
 late_most : (jitter : ℕ) (words : Option Lcg) → late_by jitter words ≤ jitter
 late_most jitter None = omega arith
 late_most jitter (Some g) = part_most (pcg32 g).0 jitter (word_small g)
@@ -60,7 +60,7 @@ module _ (t : TrafficText) (words : Option Lcg) where
   on_late : (i : ℕ) → on_grid t i ≤ reached t words (suc i)
   on_late i = omega (arith, le-max_right (reached t words i) (on_grid t i + late_by t.jitter (words_behind words i)))
 
-  -- and no later than so by the jitter
+  -- it is late by at most the jitter
   reached_most : (i : ℕ) → reached t words (suc i) ≤ on_grid t i + t.jitter
   reached_most zero = max-le (omega arith) (omega (arith, late_most t.jitter words))
   reached_most (suc i) = max-le (omega (arith, reached_most i, mul-le-mul_right t.interval (one_on i)))
@@ -69,7 +69,7 @@ module _ (t : TrafficText) (words : Option Lcg) where
       one_on : (i : ℕ) → i ≤ suc i
       one_on i = omega arith
 
-  -- and no earlier than those before it
+  -- it isn't earlier than those before it
   rises : (i k : ℕ) → i ≤ k → reached t words i ≤ reached t words k
   rises zero zero order = omega arith
   rises (suc i) zero order = absurd (omega (arith, order))
@@ -85,7 +85,7 @@ module _ (t : TrafficText) (words : Option Lcg) where
 -- ---- copies by blocks
 
 module _ {X : Type 0} (g : ℕ → X) (frames : ℕ) where
-  -- so many copies of one, and so many of each
+  -- copies of one element, and copies of each element
   copies : ℕ → List X
   copies b = each_below (λ _. g b ∷ []) frames
 
@@ -98,7 +98,7 @@ module _ {X : Type 0} (g : ℕ → X) (frames : ℕ) where
       let before = copies_length n in
       omega (arith, more, each, before, suc-mul n frames)
 
-  -- what stands at a place is a copy of the one of its block
+  -- the element at an index is a copy of the one of its block
   copy_at : 0 < frames → (n i : ℕ) (a : X) → slice_get (each_below (λ b. each_below (λ _. g b ∷ []) frames) n) i ≡ Some a → a ≡ g (i / frames)
   copy_at some zero i a e = absurd cc
   copy_at some (suc n) i a e =
@@ -115,7 +115,7 @@ module _ {X : Type 0} (g : ℕ → X) (frames : ℕ) where
 
 -- ---- one stream
 
--- a member of copies of one is that one
+-- an element among copies of one is that one
 copied_once : {X : Type 0} (x y : X) (n : ℕ) → Contains (each_below (λ _. x ∷ []) n) y → x ≡ y
 copied_once x y n c = contains_one x y (contains_from_below (λ _. x ∷ []) n y c).2
 
@@ -124,14 +124,14 @@ module _ (until : ℕ) (sender : TalkerStream) (t : TrafficText) (words : Option
   abbrev early : Offer → Bool
   early x = nat_lt x.at.0 until
 
-  -- the frame of each block, and all frames of the blocks on the grid, late ones too
+  -- the frame of each block, and all frames of the blocks on the grid, including late ones
   abbrev frame_at : ℕ → Offer
   frame_at block = frame_of sender t (reached t words (suc block))
 
   abbrev all_frames : List Offer
   all_frames = each_below (λ block. each_below (λ _. frame_at block ∷ []) t.frames) (blocks_before until t)
 
-  -- of a block's frames all are early, or none
+  -- of a block's frames all are early, or none is
   early_block : (at : ℕ) → filter early (block_of sender t at) ≡ block_before until sender t at
   early_block at = elim (cases_Bool (nat_lt at until)) [
     | inl yes' ↦
@@ -142,7 +142,7 @@ module _ (until : ℕ) (sender : TalkerStream) (t : TrafficText) (words : Option
         ∙ sym (cond-false (nat_lt at until) (block_of sender t at) [] no')
   ]
 
-  -- so what is offered is what is early of all
+  -- so what is offered is what is early of all frames
   sent_is_early : sent_with until sender words (Some t) ≡ filter early all_frames
   sent_is_early =
       same_below (λ block. block_before until sender t (reached t words (suc block))) (λ block. filter early (each_below (λ _. frame_at block ∷ []) t.frames))
@@ -157,11 +157,11 @@ module _ (until : ℕ) (sender : TalkerStream) (t : TrafficText) (words : Option
     is_traffic : IsTraffic (promise_of t)
     is_traffic = record { some_interval = omega (arith, ranges.interval.least); some_frames = omega (arith, ranges.frames.least) }
 
-    -- what stands at a place is the frame of its block
+    -- the element at an index is the frame of its block
     stands : (i : ℕ) (a : Offer) → slice_get all_frames i ≡ Some a → a ≡ frame_at (i / t.frames)
     stands i a e = copy_at frame_at t.frames some_frames (blocks_before until t) i a e
 
-    -- block by block all frames keep the word
+    -- block by block, all frames keep the promise
     apart : (i k : ℕ) (a b : Offer) → i ≤ k → slice_get all_frames i ≡ Some a → slice_get all_frames k ≡ Some b →
         a.at.0 + (k / t.frames - i / t.frames) * t.interval ≤ b.at.0 + t.jitter
     apart i k a b order e f =
@@ -182,13 +182,13 @@ module _ (until : ℕ) (sender : TalkerStream) (t : TrafficText) (words : Option
       spaced = apart;
     }
 
-    -- and so does what is early
+    -- so does what is early of them
     sent_conforms : BlocksConform → SkippingConforms → Conforms (promise_of t) (sent_with until sender words (Some t))
     sent_conforms blocks skips =
         subst (λ (xs : List Offer). Conforms (promise_of t) xs) (sym sent_is_early)
         (skips (promise_of t) all_frames early is_traffic (blocks (promise_of t) all_frames is_traffic by_blocks))
 
-    -- all frames stand by instant
+    -- all frames are in order of instant
     ascends : IsNonDecreasingBy (λ (x : Offer). x.at.0) all_frames
     ascends i k d order inside =
         let first = slice_get-get_or all_frames i d (omega (arith, order, inside)) in
@@ -198,7 +198,7 @@ module _ (until : ℕ) (sender : TalkerStream) (t : TrafficText) (words : Option
         let up : i / t.frames ≤ k / t.frames = cycles_ordered t.frames i k some_frames order in
         omega (arith, from, to, rises t words (suc (i / t.frames)) (suc (k / t.frames)) (omega (arith, up)))
 
-    -- so what is offered stands by instant as it is
+    -- so what is offered is in order of instant already
     sent_in_order : in_order until (sent_with until sender words (Some t)) ≡ sent_with until sender words (Some t)
     sent_in_order = subst (λ (xs : List Offer). in_order until xs ≡ xs) (sym sent_is_early)
         (sym (by_key (λ (x : Offer). x.at.0) until (filter early all_frames) (IsNonDecreasingBy-filter (λ (x : Offer). x.at.0) early all_frames ascends)
@@ -206,7 +206,7 @@ module _ (until : ℕ) (sender : TalkerStream) (t : TrafficText) (words : Option
 
 -- ---- all streams
 
--- each frame is of its stream's name
+-- each frame has the name of its stream
 sent_named : (until : ℕ) (sender : TalkerStream) (words : Option Lcg) (traffic : Option TrafficText) (x : Offer) →
     Contains (sent_with until sender words traffic) x → x.stream ≡ sender.name
 sent_named until sender words None x c = absurd (contains_none x c)
@@ -221,20 +221,20 @@ abbrev has_name : List ℕ → Offer → Bool
 has_name name x = is_text name x.stream
 
 module _ (until : ℕ) (seed : Option ℕ) (name : List ℕ) where
-  -- a stream of the name has none but such frames
+  -- a stream with the name has only such frames
   all_of_name : (n : ℕ) (s : TalkerStream) → s.name ≡ name → filter (has_name name) (sent_by until seed n s) ≡ sent_by until seed n s
   all_of_name n s same = filter_each (has_name name) (sent_by until seed n s) (λ x c.
       let is : name ≡ x.stream = sym same ∙ sym (sent_named until s (words_of seed n) s.traffic x c) in
       subst (λ (other : List ℕ). is_text name other ≡ true) is (is_text_itself name))
 
-  -- one of another name has none
+  -- a stream with another name has none
   none_of_name : (n : ℕ) (s : TalkerStream) → (s.name ≡ name → ⊥) → filter (has_name name) (sent_by until seed n s) ≡ []
   none_of_name n s differs = filter_none (has_name name) (sent_by until seed n s) (λ x c. elim (cases_Bool (has_name name x)) [
     | inl e ↦ absurd (differs (sym (sent_named until s (words_of seed n) s.traffic x c) ∙ sym (is_text_same name x.stream e)))
     | inr e ↦ e
   ])
 
-  -- nor have streams of other names
+  -- nor have streams with other names
   none_of_others : (n : ℕ) (senders : List TalkerStream) → ((i : ℕ) (a : TalkerStream) → slice_get senders i ≡ Some a → a.name ≡ name → ⊥) →
       filter (has_name name) (sent_from until seed n senders) ≡ []
   none_of_others n [] others = refl
@@ -242,7 +242,7 @@ module _ (until : ℕ) (seed : Option ℕ) (name : List ℕ) where
       filter-append (has_name name) (sent_by until seed n s) (sent_from until seed (n + 1) senders)
       ∙ (λ i. none_of_name n s (others 0 s refl) i ++ none_of_others (n + 1) senders (λ k a e. others (suc k) a e) i)
 
--- of all that is offered, a stream's is what has its name
+-- of all that is offered, what has a stream's name is what the stream offers
 only_its_own : (until : ℕ) (seed : Option ℕ) (sender : TalkerStream) (n : ℕ) (senders : List TalkerStream) (k : ℕ) → AreNamedApart senders →
     slice_get senders k ≡ Some sender → (number : ℕ) × (filter (has_name sender.name) (sent_from until seed n senders) ≡ sent_by until seed number sender)
 only_its_own until seed sender n [] k apart e = absurd cc
@@ -262,18 +262,18 @@ only_its_own until seed sender n (s ∷ senders) (suc k) apart e =
           ∙ (λ i. none_of_name until seed sender.name n s (apart 0 (suc k) s sender (omega arith) refl e) i ++ rest.1 i),
     )
 
--- two filters in either order
+-- two filters commute
 swapped : {X : Type 0} (p q : X → Bool) (xs : List X) → filter p (filter q xs) ≡ filter q (filter p xs)
 swapped p q xs = filter_twice p q xs ∙ filter_alike (λ x. p x && q x) (λ x. q x && p x) xs (λ x c. and_comm (p x) (q x)) ∙ sym (filter_twice q p xs)
 
--- what has a name, by instant, is by instant what has it
+-- sorting by instant and selecting a name commute
 named_in_order : (until : ℕ) (name : List ℕ) (sent : List Offer) → offers_named name (in_order until sent) ≡ in_order until (offers_named name sent)
 named_in_order until name sent =
     filter_below (has_name name) (λ at. filter (λ (x : Offer). x.at.0 == at) sent) until
     ∙ same_below (λ at. filter (has_name name) (filter (λ (x : Offer). x.at.0 == at) sent)) (λ at. filter (λ (x : Offer). x.at.0 == at) (filter (has_name name) sent)) until
     (λ at l. swapped (has_name name) (λ (x : Offer). x.at.0 == at) sent)
 
--- so all that is offered of a stream keeps its talker's word
+-- so all that is offered of a stream keeps its talker's promise
 pub offers_conform : BlocksConform → SkippingConforms → OffersConform
 offers_conform blocks skips until seed senders sender t apart among is ranges =
     let place = place_of_member senders sender among in
@@ -284,9 +284,9 @@ offers_conform blocks skips until seed senders sender t apart among is ranges =
     named_in_order until sender.name (sent_from until seed 0 senders) ∙ ap (in_order until) (own.1 ∙ with) ∙ sent_in_order until sender t words ranges in
     subst (λ (xs : List Offer). Conforms (promise_of t) xs) (sym all) (sent_conforms until sender t words ranges blocks skips)
 
--- ---- the cycles in which frames come
+-- ---- the cycles of frames
 
--- where intervals are some times so many cycles long, and no frame is too late for its cycle, each comes in one of so many
+-- if intervals are a multiple of `every` cycles long, and no frame is too late for its cycle, each comes in every `every`-th cycle
 in_turn : (t : TrafficText) (cycle_time every sync block at : ℕ) → 0 < cycle_time → t.interval % (every * cycle_time) ≡ 0 →
     sync ≤ t.offset % cycle_time → t.offset % cycle_time + t.jitter + sync < cycle_time → on_grid t block ≤ at + sync →
     at ≤ on_grid t block + t.jitter + sync → at / cycle_time % every ≡ t.offset / cycle_time % every
@@ -301,7 +301,7 @@ in_turn t cycle_time every sync block at some whole behind_start within from upt
     (cycle_is cycle_time (first + block * times * every) at (omega (arith, grid, from, behind_start)) (omega (arith, grid, upto, within)))
     ∙ add-mul-mod_self_right first (block * times) every
 
--- so does each of a stream
+-- so does each frame of a stream
 sent_in_turns : (until : ℕ) (sender : TalkerStream) (words : Option Lcg) (t : TrafficText) (cycle_time every sync : ℕ) → 0 < cycle_time →
     t.interval % (every * cycle_time) ≡ 0 → sync ≤ t.offset % cycle_time → t.offset % cycle_time + t.jitter + sync < cycle_time → (x : Offer) →
     Contains (sent_with until sender words (Some t)) x → (at : ℕ) → x.at.0 ≤ at + sync → at ≤ x.at.0 + sync →
@@ -315,7 +315,7 @@ sent_in_turns until sender words t cycle_time every sync some whole behind withi
     let most : by_talker block.0 ≤ on_grid t block.0 + t.jitter = reached_most t words block.0 in
     in_turn t cycle_time every sync block.0 at some whole behind within (omega (arith, comes, late, no_sooner)) (omega (arith, comes, most, no_later))
 
--- and each of those that are offered of one by one
+-- so does each frame of a stream among all that is offered
 pub offers_come_in_turns : OffersComeInTurns
 offers_come_in_turns until seed senders sender t cycle_time every sync apart among is some more whole behind within x c at no_sooner no_later =
     let place = place_of_member senders sender among in

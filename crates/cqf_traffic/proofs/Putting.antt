@@ -1,4 +1,4 @@
--- What a talker's blocks leave behind, one after the other.
+-- The offers of a talker's blocks, one after the other.
 use Rattle.std.proofs.Common.{◌≡◌, ◌∙◌, ℕ, suc, ◌+◌, ◌<◌, ◌++◌, ◌∷◌, [], List, Option, add-one, append_assoc, append-nil, ap, arith, get_or, length, max, subst, sym, take}
 use Rattle.std.proofs.lemmas.List.{length-take-le, take_more}
 use Rattle.rand_pcg.specs.Lcg.{Lcg}
@@ -9,11 +9,11 @@ use Rattle.cqf_traffic.specs.declared.senders.TalkerStream.{TalkerStream}
 use Rattle.cqf_traffic.specs.declared.talkers.Talker.{Talker}
 use Rattle.cqf_traffic.specs.Offering.{behind_word, block_before, late_by, on_grid, reached, sent_by, sent_from, words_behind}
 
--- the frames of a block, where they come in time
+-- the frames of a block that comes in time
 abbrev pub block_at : ℕ → TalkerStream → TrafficText → Option Lcg → ℕ → List Offer
 block_at until sender t words block = block_before until sender t (reached t words (suc block))
 
--- so many blocks stand behind what was there, and the talker is behind them
+-- the offers of the first blocks come after those from before, and the talker is at its next block
 pub record ArePut (until : ℕ) (sender : TalkerStream) (t : TrafficText) (words : Option Lcg) (before : List Offer) (block : ℕ) (talker : Talker) (list : List Offer) : Type 0 where
   pub traffic_is : talker.traffic ≡ t
   pub words_are : talker.words ≡ words_behind words block
@@ -21,7 +21,7 @@ pub record ArePut (until : ℕ) (sender : TalkerStream) (t : TrafficText) (words
   pub put : list ≡ before ++ each_below (block_at until sender t words) block
 
 module _ (until : ℕ) (sender : TalkerStream) (t : TrafficText) (words : Option Lcg) (before : List Offer) where
-  -- before the first
+  -- before the first block
   pub none_put : (talker : Talker) → talker ≡ record { traffic = t; words = words; reached = 0 } → ArePut until sender t words before 0 talker before
   none_put talker is = record {
     traffic_is = ap (λ (w : Talker). w.traffic) is;
@@ -30,7 +30,7 @@ module _ (until : ℕ) (sender : TalkerStream) (t : TrafficText) (words : Option
     put = sym (append-nil before);
   }
 
-  -- and one more
+  -- one more block
   pub one_put : (block : ℕ) (talker after : Talker) (list more : List Offer) (at : ℕ) → ArePut until sender t words before block talker list →
       at ≡ max talker.reached (on_grid talker.traffic block + late_by talker.traffic.jitter talker.words) →
       after ≡ record talker { words = behind_word talker.words; reached = at } → more ≡ list ++ block_before until sender t at →
@@ -47,7 +47,7 @@ module _ (until : ℕ) (sender : TalkerStream) (t : TrafficText) (words : Option
       } in
       subst (λ n. ArePut until sender t words before n after more) (sym (add-one block)) next
 
--- what streams offer, and one more
+-- what streams offer, and what one more stream offers
 sent_push : (until : ℕ) (seed : Option ℕ) (n : ℕ) (senders : List TalkerStream) (s : TalkerStream) →
     sent_from until seed n (senders ++ s ∷ []) ≡ sent_from until seed n senders ++ sent_by until seed (n + length senders) s
 sent_push until seed n [] s = append-nil (sent_by until seed n s) ∙ ap (λ k. sent_by until seed k s) (omega arith)
@@ -56,7 +56,7 @@ sent_push until seed n (x ∷ senders) s =
     ap (λ rest. sent_by until seed n x ++ rest) (sent_push until seed (n + 1) senders s ∙ ap (λ k. sent_from until seed (n + 1) senders ++ sent_by until seed k s) on)
     ∙ sym (append_assoc (sent_by until seed n x) (sent_from until seed (n + 1) senders) (sent_by until seed (n + suc (length senders)) s))
 
--- what the streams before a place offer, and the one there
+-- what the streams before an index offer, and what the stream there offers
 pub sent_more : (until : ℕ) (seed : Option ℕ) (senders : List TalkerStream) (k : ℕ) (s : TalkerStream) → k < length senders → s ≡ get_or senders k s →
     (list more : List Offer) → list ≡ sent_from until seed 0 (take k senders) → more ≡ list ++ sent_by until seed k s →
     more ≡ sent_from until seed 0 (take (k + 1) senders)

@@ -1,4 +1,4 @@
--- The streams that a text asks for with their deadlines and traffic, or the first fault of the text.
+-- The streams that a text requests, with their deadlines and traffic, or the first fault of the text.
 use Rattle.std.specs.Prelude.{ℕ, ◌++◌, List, [], Option, None, Result, Ok, Err, codes, if◌then◌else◌, ok_or, option_map, option_and_then}
 use Rattle.std.specs.Option.{option_or}
 use Rattle.std.specs.Result.{result_map_both}
@@ -17,7 +17,7 @@ use Rattle.cqf_traffic.specs.declared.flows.Flow.{Flow}
 use Rattle.cqf_traffic.specs.Keys.{key_text}
 use Rattle.cqf_traffic.specs.TrafficText.{TrafficText, first_owed, traffic_from}
 
--- why a text is refused, as it is told
+-- why a text is refused, as it is printed
 abbrev pub flows_fault_text : FlowsFault → List ℕ
 flows_fault_text (flows_fault.Streams fault) = toml_fault_text fault
 flows_fault_text (flows_fault.Missing key) = codes "Missing " ++ key_text key
@@ -31,17 +31,17 @@ FlowText = PlannedText × Option TrafficText
 abbrev pub flow_text : Flow → FlowText
 flow_text flow = (planned_text flow.planned, flow.traffic)
 
--- what is refused of a stream but its traffic
+-- a refusal of a stream for anything except its traffic
 abbrev pub or_streams : {A : Type 0} → Result A TomlFault → Result A FlowsFault
 or_streams r = result_map_both (λ x. x) flows_fault.Streams r
 
--- the first key that a stream's table lacks: of those that each has, and then of those that its traffic owes
+-- the first key that a stream's table lacks: first of those that each stream has, then of those that its traffic must have
 abbrev pub first_lack : Members → Option FlowsFault
 first_lack table =
     option_or (option_map (λ key. flows_fault.Streams (toml_fault.Missing key)) (first_absent stream_keys table))
     (option_map flows_fault.Missing (first_owed table))
 
--- the same over the elements of an array, in order, those that are tables
+-- the first key that an element of an array lacks, element by element; elements that aren't tables are skipped. And the same for a document
 abbrev pub first_lack_within : Items → Option FlowsFault
 first_lack_within no_items = None
 first_lack_within (item d ds) = option_or (option_and_then first_lack (as_table d)) (first_lack_within ds)
@@ -53,14 +53,14 @@ first_lack_of table = option_and_then first_lack_within (option_and_then as_arra
 abbrev pub traffic_or : Members → Result (Option TrafficText) FlowsFault
 traffic_or table = result_map_both (λ t. t) flows_fault.BadValue (traffic_from table)
 
--- a stream's table: its traffic is read behind its other keys
+-- a stream's table. Its traffic is read after its other keys
 abbrev pub flow_from : Members → Result FlowText FlowsFault
 flow_from table =
     and_then (or_streams (planned_from table)) (λ planned.
     and_then (traffic_or table) (λ traffic.
     Ok (planned, traffic)))
 
--- the elements of the array of streams, each a table
+-- the elements of the array of streams; each must be a table
 abbrev pub flows_from : Items → Result (List FlowText) FlowsFault
 flows_from items = each_from (λ d. and_then (ok_or (as_table d) (flows_fault.Streams (toml_fault.BadValue key.Streams))) flow_from) items
 
@@ -71,7 +71,7 @@ flows_of_array items = if are_tables items then flows_from items else Err (flows
 abbrev pub flows_in : Members → Result (List FlowText) FlowsFault
 flows_in table = and_then (or_streams (read_at key.Streams as_array table)) flows_of_array
 
--- the streams of a text: where it is TOML and no key is missing, each is read
+-- the streams of a text. If the text is TOML and no key is missing, each stream is read
 abbrev pub flows_of_text : List ℕ → Result (List FlowText) FlowsFault
 flows_of_text text =
     and_then (or_streams (whole_document streams_keys key.Streams [] text)) (λ table.

@@ -3,11 +3,11 @@ use Rattle.std.specs.Prelude.{ℕ, List, [], ◌∷◌, Option, Some, None, code
 use Rattle.cqf_traffic.specs.declared.keys.TrafficKey.{TrafficKey}
 use Rattle.cqf_traffic.specs.declared.keys.TrafficKey.TheVariants.{Interval, Frames, Size, Jitter, Offset}
 
--- all of them, in reading order
+-- all keys, in reading order
 abbrev pub traffic_keys : List TrafficKey
 traffic_keys = Interval ∷ Frames ∷ Size ∷ Jitter ∷ Offset ∷ []
 
--- a key as it is written
+-- a key as a text has it
 abbrev pub key_text : TrafficKey → List ℕ
 key_text Interval = codes "interval"
 key_text Frames = codes "frames"
@@ -15,7 +15,7 @@ key_text Size = codes "size"
 key_text Jitter = codes "jitter"
 key_text Offset = codes "offset"
 
--- the least number that may stand there, in nanoseconds, frames or octets
+-- the least number at a key, in nanoseconds, frames or octets
 abbrev pub least_of : TrafficKey → ℕ
 least_of Interval = 1
 least_of Frames = 1
@@ -23,7 +23,7 @@ least_of Size = 64
 least_of Jitter = 0
 least_of Offset = 0
 
--- the greatest
+-- the greatest number at a key
 abbrev pub most_of : TrafficKey → ℕ
 most_of Interval = 1000000000
 most_of Frames = 1000
@@ -31,7 +31,7 @@ most_of Size = 1522
 most_of Jitter = 1000000000
 most_of Offset = 1000000000
 
--- what stands for one that is absent; an interval and a size are owed
+-- the default of a key that is absent. An interval and a size must be there
 abbrev pub default_of : TrafficKey → Option ℕ
 default_of Interval = None
 default_of Frames = Some 1

@@ -17,12 +17,12 @@ pub record TrafficText : Type 0 where
   pub jitter : ℕ
   pub offset : ℕ
 
--- a number that may stand at a key
+-- a number that is allowed at a key
 pub record IsInRange (key : TrafficKey) (n : ℕ) : Type 0 where
   pub least : least_of key ≤ n
   pub most : n ≤ most_of key
 
--- each may stand at its key
+-- each number is allowed at its key
 pub record IsTrafficText (t : TrafficText) : Type 0 where
   pub interval : IsInRange Interval t.interval
   pub frames : IsInRange Frames t.frames
@@ -30,27 +30,27 @@ pub record IsTrafficText (t : TrafficText) : Type 0 where
   pub jitter : IsInRange Jitter t.jitter
   pub offset : IsInRange Offset t.offset
 
--- what the talker promises; when its offers begin is no part of it
+-- what the talker promises. The instant at which its offers begin isn't part of it
 abbrev pub promise_of : TrafficText → Traffic
 promise_of t = record { interval = t.interval; frames = t.frames; size = t.size; jitter = t.jitter }
 
--- what stands at a key of a stream's table
+-- the value at a key of a stream's table
 abbrev pub value_at : TrafficKey → Members → Option Data
 value_at key table = get_member (key_text key) table
 
--- whether one of the keys stands there
+-- whether the table has any of the keys
 abbrev pub has_traffic : Members → Bool
 has_traffic table = list_any (λ key. is_some (value_at key table)) traffic_keys
 
--- whether a key is owed where there is traffic, and absent
+-- whether a key must be there if there is traffic, and is absent
 abbrev pub is_lacked : Members → TrafficKey → Bool
 is_lacked table key = is_none (default_of key) && is_none (value_at key table)
 
--- the first that is
+-- the first such key, if there is traffic
 abbrev pub first_owed : Members → Option TrafficKey
 first_owed table = if has_traffic table then find (is_lacked table) traffic_keys else None
 
--- the number at a key, by what stands there; where it can't be had, the key
+-- the number at a key, given the value there, or the default; the key itself if there is neither a valid number nor a default
 abbrev pub number_by : Option Data → TrafficKey → Result ℕ TrafficKey
 number_by None key = ok_or (default_of key) key
 number_by (Some d) key = ok_or (number_from (least_of key) (most_of key) d) key
@@ -58,7 +58,7 @@ number_by (Some d) key = ok_or (number_from (least_of key) (most_of key) d) key
 abbrev pub number_at : TrafficKey → Members → Result ℕ TrafficKey
 number_at key table = number_by (value_at key table) key
 
--- the traffic of a stream's table, or the first key that has another value than it may have
+-- the traffic of a stream's table, or the first key whose value isn't allowed or is missing
 abbrev pub numbers_from : Members → Result TrafficText TrafficKey
 numbers_from table =
     and_then (number_at Interval table) (λ interval.
@@ -68,6 +68,6 @@ numbers_from table =
     and_then (number_at Offset table) (λ offset.
     Ok (record { interval = interval; frames = frames; size = size; jitter = jitter; offset = offset }))))))
 
--- none where no key of it stands
+-- the traffic of a stream's table; none if the table has no key of it
 abbrev pub traffic_from : Members → Result (Option TrafficText) TrafficKey
 traffic_from table = if has_traffic table then and_then (numbers_from table) (λ t. Ok (Some t)) else Ok None

@@ -9,17 +9,17 @@ use std::alloc::AllocFailed;
 use std::fmt;
 use thiserror::Error;
 
-/// Why a text of streams with traffic is refused: as a text of streams is, and by the keys of traffic. What is missing is
-/// told before any bad value. A fault prints as its name, and then its key.
+/// Why a text of streams with traffic is refused: for the reasons of a text of streams, or for a key of traffic. A missing key is reported
+/// before any bad value. A fault prints as its name, followed by its key if it has one.
 #[derive(Clone, Copy, Debug, PartialEq, Eq, Error)]
 pub enum FlowsFault {
-    /// What is wrong but for traffic, want of memory too.
+    /// A fault that doesn't concern traffic, including a failed allocation.
     Streams(StreamsFault),
-    /// The first key that a stream's traffic owes and that is absent.
+    /// The first key that a stream's traffic must have and that is absent.
     Missing(TrafficKey),
-    /// The first key of a stream's traffic whose value has another form than it must have.
+    /// The first key of a stream's traffic whose value doesn't have the required form.
     BadValue(TrafficKey),
-    /// What stands at `in-step` of a sketch's stream is no boolean.
+    /// The value at `in-step` of a stream in a network file isn't a boolean.
     BadInStep,
 }
 
@@ -36,7 +36,7 @@ impl fmt::Display for FlowsFault {
     }
 }
 
-/// Want of memory, as a fault.
+/// Converts a failed allocation into a fault.
 impl From<Memory> for FlowsFault {
     ghost use Rattle.cqf_topology.specs.declared.toml_faults.TomlFault.TheVariants as toml;
     ghost use Rattle.cqf_traffic.specs.declared.faults.FlowsFault.TheVariants as variant;
@@ -48,7 +48,7 @@ impl From<Memory> for FlowsFault {
     }
 }
 
-/// Want of room for a value, likewise.
+/// Converts a failed allocation for a value likewise.
 impl<T: Drop> From<AllocFailed<T>> for FlowsFault {
     ghost use Rattle.cqf_topology.specs.declared.toml_faults.TomlFault.TheVariants as toml;
     ghost use Rattle.cqf_traffic.specs.declared.faults.FlowsFault.TheVariants as variant;
@@ -60,7 +60,7 @@ impl<T: Drop> From<AllocFailed<T>> for FlowsFault {
     }
 }
 
-/// What is wrong with a stream but for its traffic.
+/// Converts a fault that doesn't concern traffic.
 impl From<StreamsFault> for FlowsFault {
     ghost use Rattle.cqf_traffic.specs.declared.faults.FlowsFault.TheVariants as variant;
 

@@ -16,14 +16,14 @@ use cqf_topology::{
 use std::alloc::Global;
 use toml::{Table, Value};
 
-/// A stream of a text: its request and deadline, and what its talker promises, where the text says it.
+/// A stream of a text: its request and deadline, and what its talker promises, if the text says it.
 #[derive(Debug, Drop)]
 pub struct Flow {
     pub planned: Planned,
     pub traffic: Option<Traffic>,
 }
 
-/// The first key that a stream's table lacks, of those that each has.
+/// Returns the first key that a stream's table lacks, of those that each stream must have.
 fn first_absent_of(table: &Table) -> Option<Key>
     ensures { result ≡ first_absent stream_keys (table_view table.now) }
 {
@@ -39,7 +39,7 @@ fn first_absent_of(table: &Table) -> Option<Key>
     None
 }
 
-/// What a stream's table lacks first.
+/// Returns the first key that a stream's table lacks.
 fn first_lack(table: &Table) -> Option<FlowsFault>
     ensures { result ≡ first_lack (table_view table.now) }
 {
@@ -52,7 +52,7 @@ fn first_lack(table: &Table) -> Option<FlowsFault>
     }
 }
 
-/// What a value lacks first, where it is a table.
+/// Returns the first key that a value lacks. Returns `None` if the value isn't a table.
 fn first_lack_from(value: &Value) -> Option<FlowsFault>
     ensures { result ≡ option_and_then first_lack (as_table (view value.now)) }
 {
@@ -62,7 +62,7 @@ fn first_lack_from(value: &Value) -> Option<FlowsFault>
     }
 }
 
-/// What one of the values lacks first, where it is a table.
+/// Returns the first key that is missing from a value, value by value. Values that aren't tables are skipped.
 fn first_lack_among(values: &[Value]) -> Option<FlowsFault>
     ensures { result ≡ first_lack_within (items_view values.now) }
 {
@@ -75,7 +75,7 @@ fn first_lack_among(values: &[Value]) -> Option<FlowsFault>
     None
 }
 
-/// What a document's streams lack first.
+/// Returns the first key that a document's streams lack.
 pub(crate) fn first_lack_of(table: &Table) -> Option<FlowsFault>
     ensures { result ≡ first_lack_of (table_view table.now) }
 {
@@ -85,7 +85,7 @@ pub(crate) fn first_lack_of(table: &Table) -> Option<FlowsFault>
     }
 }
 
-/// The traffic of a stream's table, or the fault of its first bad value.
+/// Returns the traffic of a stream's table, or the fault of its first bad value.
 pub(crate) fn read_traffic(table: &Table) -> Result<Option<Traffic>, FlowsFault>
     ensures { result ≡ traffic_or (table_view table.now) }
 {
@@ -95,7 +95,7 @@ pub(crate) fn read_traffic(table: &Table) -> Result<Option<Traffic>, FlowsFault>
     }
 }
 
-/// A stream's table.
+/// Reads a stream's table.
 fn read_flow(alloc: Global, table: &Table) -> Result<Flow, FlowsFault>
     ensures { Gives (FlowsFault.Streams StreamsFault.Memory) flow_text result (flow_from (table_view table.now)) }
 {
@@ -104,7 +104,7 @@ fn read_flow(alloc: Global, table: &Table) -> Result<Flow, FlowsFault>
     Ok(Flow { planned, traffic })
 }
 
-/// A stream, as an element of the array of streams.
+/// Reads a stream, as an element of the array of streams.
 fn flow_in(alloc: Global, value: &Value) -> Result<Flow, FlowsFault>
     ensures { Gives (FlowsFault.Streams StreamsFault.Memory) flow_text result
         (and_then (ok_or (as_table (view value.now)) (FlowsFault.Streams (StreamsFault.BadValue Key.Streams))) flow_from) }
@@ -115,7 +115,7 @@ fn flow_in(alloc: Global, value: &Value) -> Result<Flow, FlowsFault>
     }
 }
 
-/// The elements of the array of streams.
+/// Reads the elements of the array of streams.
 fn all_flows_in(alloc: Global, values: &[Value]) -> Result<Vec<Flow>, FlowsFault>
     ensures { Gives (FlowsFault.Streams StreamsFault.Memory) (λ flows. map flow_text flows.items) result (flows_from (items_view values.now)) }
 {
@@ -127,7 +127,7 @@ fn all_flows_in(alloc: Global, values: &[Value]) -> Result<Vec<Flow>, FlowsFault
     Ok(flows)
 }
 
-/// The streams of a document.
+/// Reads the streams of a document.
 fn flows_of_table(alloc: Global, table: &Table) -> Result<Vec<Flow>, FlowsFault>
     ensures { Gives (FlowsFault.Streams StreamsFault.Memory) (λ flows. map flow_text flows.items) result (flows_in (table_view table.now)) }
 {
@@ -138,14 +138,14 @@ fn flows_of_table(alloc: Global, table: &Table) -> Result<Vec<Flow>, FlowsFault>
     all_flows_in(alloc, values)
 }
 
-/// The streams of a text, in its order, with their deadlines and their traffic.
+/// Returns the streams of a text, in its order, with their deadlines and their traffic.
 ///
-/// The text is that of [`cqf_topology::read_planned_streams`], where a table may have the keys of traffic too, which are read behind
-/// its others ([`crate::traffic_of`]).
+/// The text is that of [`cqf_topology::read_planned_streams`]. A table can also have the keys of traffic ([`crate::traffic_of`]), which are
+/// read after its others.
 ///
 /// # Errors
-/// As of [`cqf_topology::read_planned_streams`], where what a stream's traffic owes is missing behind its other keys, and a bad value of
-/// traffic comes behind those of the stream's other keys; `Memory` where a growth is refused.
+/// As for [`cqf_topology::read_planned_streams`]. A missing key of a stream's traffic comes after the stream's other missing keys, and a
+/// bad value of its traffic after those of its other keys. `Memory` if an allocation fails.
 pub fn read_flows(alloc: Global, text: &[u8]) -> Result<Vec<Flow>, FlowsFault>
     ensures { Gives (FlowsFault.Streams StreamsFault.Memory) (λ flows. map flow_text flows.items) result (flows_of_text text.now) }
 {

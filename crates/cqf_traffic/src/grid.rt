@@ -1,11 +1,11 @@
-//! How many frames stand on the grids of streams.
+//! The number of frames on the grids of streams.
 ghost use Rattle.std.specs.Prelude.{◌≡◌, ◌<◌, ◌^◌, nat_le};
 ghost use Rattle.cqf_traffic.specs.Offering.{blocks_before, frames_before, frames_of};
 
 use crate::{TalkerStream, Traffic};
 use cqf_units::Nanos;
 
-/// How many blocks stand on the grid before an instant.
+/// Returns the number of blocks on the grid before an instant.
 pub(crate) fn blocks_before(end: Nanos, traffic: Traffic) -> u64
     ensures { result ≡ blocks_before end.0 traffic }
 {
@@ -14,7 +14,7 @@ pub(crate) fn blocks_before(end: Nanos, traffic: Traffic) -> u64
     ((open + u128::from(interval) - 1) / u128::from(interval)) as u64
 }
 
-/// How many frames these are.
+/// Returns the number of frames in these blocks.
 fn frames_of(end: Nanos, traffic: Option<Traffic>) -> u128
     ensures value { result ≡ frames_of end.0 traffic }
     ensures bounded { result < 2 ^ 96 }
@@ -25,7 +25,7 @@ fn frames_of(end: Nanos, traffic: Option<Traffic>) -> u128
     }
 }
 
-/// Whether senders have no more frames together before an instant than so many, none of them late.
+/// Returns whether senders have at most `most` frames together before an instant, if none is late.
 pub fn are_few(end: Nanos, senders: &[TalkerStream], most: u32) -> bool
     ensures { result ≡ nat_le (frames_before end.0 senders.now) most }
 {

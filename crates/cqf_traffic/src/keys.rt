@@ -4,23 +4,23 @@ ghost use Rattle.cqf_traffic.specs.Keys.{default_of, key_text, least_of, most_of
 
 use std::fmt;
 
-/// A key of a stream's traffic, in reading order; the terms are those of IEEE Std 802.1Q-2018, 46.2.3.5. It prints as it is written,
-/// in lower case.
+/// A key of a stream's traffic, in reading order. The terms are those of IEEE Std 802.1Q-2018, 46.2.3.5. A key prints as a text has it, in
+/// lower case.
 #[derive(Clone, Copy, Debug, PartialEq, Eq)]
 pub enum TrafficKey {
     /// An interval of the talker's clock, in nanoseconds (Interval).
     Interval,
-    /// How many frames the talker sends in each at most (MaxFramesPerInterval).
+    /// The most frames that the talker sends in each interval (MaxFramesPerInterval).
     Frames,
-    /// Octets of a frame at most, with header, tag and FCS (MaxFrameSize leaves these out).
+    /// The most octets of a frame, with header, tag and FCS (MaxFrameSize leaves these out).
     Size,
-    /// How late a frame may be at its edge bridge against the regular grid, in nanoseconds.
+    /// How late a frame can be at its edge bridge compared with the regular grid, in nanoseconds.
     Jitter,
-    /// When the stream's offers begin, in nanoseconds.
+    /// The instant at which the stream's offers begin, in nanoseconds.
     Offset,
 }
 
-/// All of them, in reading order.
+/// All keys, in reading order.
 pub const TRAFFIC_KEYS: [TrafficKey; 5] = [
     TrafficKey::Interval,
     TrafficKey::Frames,
@@ -30,7 +30,7 @@ pub const TRAFFIC_KEYS: [TrafficKey; 5] = [
 ];
 
 impl TrafficKey {
-    /// The key as it is written in a text.
+    /// Returns the key as a text has it.
     pub fn as_str(self) -> &'static str
         ensures { result.now ≡ key_text self }
     {
@@ -43,7 +43,7 @@ impl TrafficKey {
         }
     }
 
-    /// The least number that may stand there.
+    /// Returns the least number allowed at the key.
     pub fn least(self) -> u32
         ensures { result ≡ least_of self }
     {
@@ -54,7 +54,7 @@ impl TrafficKey {
         }
     }
 
-    /// The greatest number that may stand there.
+    /// Returns the greatest number allowed at the key.
     pub fn most(self) -> u32
         ensures { result ≡ most_of self }
     {
@@ -65,7 +65,7 @@ impl TrafficKey {
         }
     }
 
-    /// What stands for it where it is absent, or `None` where it is owed.
+    /// Returns the default if the key is absent, or `None` if the key must be there.
     pub fn default(self) -> Option<u32>
         ensures { result ≡ default_of self }
     {

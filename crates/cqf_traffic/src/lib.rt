@@ -1,14 +1,15 @@
 //! Traffic: what a talker promises to send of a stream, read from TOML texts, and what streams with traffic offer.
 //!
-//! - **Promises.** [`Traffic`] is one: in each interval at most so many frames of at most so many octets, each at most so late.
-//!   [`Traffic::needed`] is what it needs of a cycle.
-//! - **Read.** [`read_flows`] gives the streams of a text, each a [`Flow`], with its deadline and its traffic, or a [`FlowsFault`], the first
-//!   thing wrong; [`read_paced_flows`] passes over deadlines, and gives each as a [`PacedFlow`]. [`traffic_of`] and [`first_owed`] read a single stream's table, by each [`TrafficKey`].
-//! - **Offered.** A [`TalkerStream`] is a stream as its talker sees it: its name, its edge bridge and its traffic. [`offers_before`] gives what senders
-//!   offer before an instant, as [`Until`] has it: blocks of frames on a regular grid, or, with a seed, each late by chance. [`are_few`] says
-//!   whether these are as few as a run takes.
-//! - **Laws**, functions that do nothing: what is offered so keeps each talker's word ([`offers_conform`]), and of one in step comes in its turns
-//!   ([`offers_come_in_turns`]).
+//! - **Promises.** [`Traffic`] is a promise: in each interval at most a given number of frames, each with at most a given number of octets,
+//!   and each late by at most a given time. [`Traffic::needed`] returns what it needs of a cycle.
+//! - **Read.** [`read_flows`] returns the streams of a text, each a [`Flow`], with its deadline and its traffic, or a [`FlowsFault`], the
+//!   first fault. [`read_paced_flows`] ignores deadlines, and returns each stream as a [`PacedFlow`]. [`traffic_of`] and [`first_owed`]
+//!   read a single stream's table, by each [`TrafficKey`].
+//! - **Offered.** A [`TalkerStream`] is a stream as its talker sees it: its name, its edge bridge and its traffic. [`offers_before`]
+//!   returns what senders offer before an instant, given by [`Until`]: blocks of frames on a regular grid, or, with a seed, each late by
+//!   chance. [`are_few`] returns whether there are few enough for a run.
+//! - **Laws**, functions that do nothing: these offers keep each talker's promise ([`offers_conform`]), and those of a stream in step come
+//!   in its turns ([`offers_come_in_turns`]).
 //!
 //! ```text
 //! [[streams]]

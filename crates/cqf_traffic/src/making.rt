@@ -9,7 +9,7 @@ use cqf_model::Offer;
 use cqf_units::{Memory, Nanos, Octets};
 use std::alloc::Global;
 
-/// Puts a sender's frames of a block behind others.
+/// Appends a sender's frames of a block. Returns `Memory` if an allocation fails.
 fn put_block(
     list: &mut Vec<Offer>,
     sender: &TalkerStream,
@@ -29,7 +29,7 @@ fn put_block(
     Ok(())
 }
 
-/// Puts them there where they come before an instant.
+/// Appends them if the block comes before an instant.
 fn put_block_before(
     list: &mut Vec<Offer>,
     end: Nanos,
@@ -46,7 +46,7 @@ fn put_block_before(
     }
 }
 
-/// Puts what a sender with traffic offers behind others.
+/// Appends what a sender with traffic offers.
 fn put_blocks(
     list: &mut Vec<Offer>,
     until: Until,
@@ -64,7 +64,7 @@ fn put_blocks(
     Ok(())
 }
 
-/// Puts what the sender of a number, from 0, offers behind others.
+/// Appends what the sender with a number, from 0, offers.
 fn put_sent(
     list: &mut Vec<Offer>,
     until: Until,
@@ -79,7 +79,7 @@ fn put_sent(
     }
 }
 
-/// What senders offer, one behind the other.
+/// Returns what senders offer, one sender after the other.
 fn sent_from(alloc: Global, until: Until, senders: &[TalkerStream]) -> Result<Vec<Offer>, Memory>
     ensures { IfOk result (λ list. list.items ≡ sent_from until.end.0 until.seed 0 senders.now) }
 {
@@ -90,9 +90,9 @@ fn sent_from(alloc: Global, until: Until, senders: &[TalkerStream]) -> Result<Ve
     Ok(list)
 }
 
-/// What senders offer before an instant: block 0, 1, .. of each with traffic comes at its offset and so many intervals, with a seed late by
-/// up to its jitter, but none before the one before it. They stand by instant, then by the sender's place, then in order.
-/// `Memory` where a growth is refused.
+/// Returns what senders offer before an instant, or `Memory` if an allocation fails. Blocks 0, 1, .. of each sender with traffic come at
+/// its offset plus that many intervals. With a seed they are late by up to the jitter, but none comes before the previous one. The offers
+/// are ordered by instant, then by the sender's index, then by their order.
 pub fn offers_before(
     alloc: Global,
     until: Until,

@@ -1,4 +1,4 @@
-//! What a stream's traffic owes.
+//! The keys that a stream's traffic must have.
 ghost use Rattle.std.specs.Prelude.{◌≡◌};
 ghost use Rattle.toml.specs.View.{table_view};
 ghost use Rattle.cqf_traffic.specs.TrafficText.{first_owed, is_lacked};
@@ -8,7 +8,7 @@ use crate::keys::TRAFFIC_KEYS;
 use crate::traffic::{has_traffic, value_at};
 use toml::Table;
 
-/// Whether the key is owed where a stream has traffic, and the table lacks it.
+/// Returns whether the key must be there if a stream has traffic, and the table lacks it.
 fn is_lacked(table: &Table, key: TrafficKey) -> bool
     ensures { result ≡ is_lacked (table_view table.now) key }
 {
@@ -18,7 +18,7 @@ fn is_lacked(table: &Table, key: TrafficKey) -> bool
     value_at(table, key).is_none()
 }
 
-/// The first key that is owed, and absent, where a key of traffic stands in a stream's table: `interval`, or `size`.
+/// Returns the first key that a stream's table must have but lacks, if the table has any key of traffic: `interval` or `size`.
 pub fn first_owed(table: &Table) -> Option<TrafficKey>
     ensures { result ≡ first_owed (table_view table.now) }
 {

@@ -1,4 +1,4 @@
-//! Streams with their traffic, whatever their deadlines are.
+//! Streams with their traffic, without their deadlines.
 ghost use Rattle.std.specs.Prelude.{◌≡◌, [], map, ok_or};
 ghost use Rattle.toml.specs.Data.{as_table};
 ghost use Rattle.toml.specs.View.{items_view, table_view, view};
@@ -15,14 +15,14 @@ use cqf_topology::{
 use std::alloc::Global;
 use toml::{Table, Value};
 
-/// A stream of a text: its request, and what its talker promises, where the text says it.
+/// A stream of a text: its request, and what its talker promises, if the text says it.
 #[derive(Debug, Drop)]
 pub struct PacedFlow {
     pub request: PacedRequest,
     pub traffic: Option<Traffic>,
 }
 
-/// A stream's table.
+/// Reads a stream's table.
 fn read_paced_flow(alloc: Global, table: &Table) -> Result<PacedFlow, FlowsFault>
     ensures { Gives (FlowsFault.Streams StreamsFault.Memory) paced_flow_text result (paced_flow_from (table_view table.now)) }
 {
@@ -31,7 +31,7 @@ fn read_paced_flow(alloc: Global, table: &Table) -> Result<PacedFlow, FlowsFault
     Ok(PacedFlow { request, traffic })
 }
 
-/// A stream, as an element of the array of streams.
+/// Reads a stream, as an element of the array of streams.
 fn paced_flow_in(alloc: Global, value: &Value) -> Result<PacedFlow, FlowsFault>
     ensures { Gives (FlowsFault.Streams StreamsFault.Memory) paced_flow_text result
         (and_then (ok_or (as_table (view value.now)) (FlowsFault.Streams (StreamsFault.BadValue Key.Streams))) paced_flow_from) }
@@ -42,7 +42,7 @@ fn paced_flow_in(alloc: Global, value: &Value) -> Result<PacedFlow, FlowsFault>
     }
 }
 
-/// The elements of the array of streams.
+/// Reads the elements of the array of streams.
 fn all_paced_flows_in(alloc: Global, values: &[Value]) -> Result<Vec<PacedFlow>, FlowsFault>
     ensures { Gives (FlowsFault.Streams StreamsFault.Memory) (λ flows. map paced_flow_text flows.items) result
         (paced_flows_from (items_view values.now)) }
@@ -55,7 +55,7 @@ fn all_paced_flows_in(alloc: Global, values: &[Value]) -> Result<Vec<PacedFlow>,
     Ok(flows)
 }
 
-/// The streams of a document.
+/// Reads the streams of a document.
 fn paced_flows_of_table(alloc: Global, table: &Table) -> Result<Vec<PacedFlow>, FlowsFault>
     ensures { Gives (FlowsFault.Streams StreamsFault.Memory) (λ flows. map paced_flow_text flows.items) result (paced_flows_in (table_view table.now)) }
 {
@@ -66,14 +66,14 @@ fn paced_flows_of_table(alloc: Global, table: &Table) -> Result<Vec<PacedFlow>, 
     all_paced_flows_in(alloc, values)
 }
 
-/// The streams of a text, in its order, with their traffic. What stands at their deadlines is passed over.
+/// Returns the streams of a text, in its order, with their traffic. Their deadlines are ignored.
 ///
-/// The text is that of [`cqf_topology::read_paced_streams`], where a table may have the keys of traffic too, which are read behind
-/// its others ([`crate::traffic_of`]).
+/// The text is that of [`cqf_topology::read_paced_streams`]. A table can also have the keys of traffic ([`crate::traffic_of`]), which are
+/// read after its others.
 ///
 /// # Errors
-/// As of [`cqf_topology::read_paced_streams`], where what a stream's traffic owes is missing behind its other keys, and a bad value of
-/// traffic comes behind those of the stream's other keys; `Memory` where a growth is refused.
+/// As for [`cqf_topology::read_paced_streams`]. A missing key of a stream's traffic comes after the stream's other missing keys, and a bad
+/// value of its traffic after those of its other keys. `Memory` if an allocation fails.
 pub fn read_paced_flows(alloc: Global, text: &[u8]) -> Result<Vec<PacedFlow>, FlowsFault>
     ensures { Gives (FlowsFault.Streams StreamsFault.Memory) (λ flows. map paced_flow_text flows.items) result (paced_flows_of_text text.now) }
 {

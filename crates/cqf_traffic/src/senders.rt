@@ -9,15 +9,15 @@ pub struct TalkerStream {
     pub name: Name,
     /// The number of its edge bridge.
     pub bridge: u16,
-    /// What its talker promises. Without it nothing is offered.
+    /// What its talker promises. Without a promise nothing is offered.
     pub traffic: Option<Traffic>,
 }
 
-/// Up to when is offered, and how late blocks are.
+/// The end of the offers, and how late blocks are.
 #[derive(Clone, Copy, Debug)]
 pub struct Until {
-    /// What comes at this instant or later isn't offered.
+    /// Nothing is offered at this instant or later.
     pub end: Nanos,
-    /// Without a seed each block comes on the grid.
+    /// The seed of the chance by which blocks are late. Without a seed each block comes on the grid.
     pub seed: Option<u32>,
 }

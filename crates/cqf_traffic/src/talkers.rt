@@ -1,4 +1,4 @@
-//! When a talker's blocks come.
+//! The instants of a talker's blocks.
 ghost use Rattle.std.specs.Prelude.{◌≡◌, ◌+◌, max};
 ghost use Rattle.cqf_traffic.specs.Offering.{behind_word, late_by, on_grid, words_of};
 
@@ -7,7 +7,7 @@ use cqf_units::Nanos;
 use rand_core::utils::NextWord;
 use rand_pcg::Pcg32;
 
-/// A talker between two of its blocks: what it promises, the words by which the next blocks are late, and the instant of the last.
+/// A talker between two of its blocks: its promise, the words by which the next blocks are late, and the instant of the last block.
 #[derive(Drop)]
 pub(crate) struct Talker {
     pub(crate) traffic: Traffic,
@@ -15,7 +15,7 @@ pub(crate) struct Talker {
     reached: u128,
 }
 
-/// The words of the stream of this number, from 0.
+/// Returns the words of the stream with this number, from 0.
 fn words_of(seed: Option<u32>, number: u64) -> Option<Pcg32>
     ensures { result ≡ words_of seed number }
 {
@@ -26,7 +26,7 @@ fn words_of(seed: Option<u32>, number: u64) -> Option<Pcg32>
 }
 
 impl Talker {
-    /// A talker before its first block.
+    /// Returns a talker before its first block.
     pub(crate) fn new(traffic: Traffic, seed: Option<u32>, number: u64) -> Talker
         ensures { result ≡ record { traffic = traffic; words = words_of seed number; reached = 0 } }
     {
@@ -37,7 +37,7 @@ impl Talker {
         }
     }
 
-    /// How late the next block is, up to the jitter, in nanoseconds. It takes a word.
+    /// Returns how late the next block is, at most the jitter, in nanoseconds. This takes a word.
     fn late(&mut self) -> u64
         ensures late { result ≡ late_by self.old.traffic.jitter self.old.words }
         ensures next { self.new ≡ record self.old { words = behind_word self.old.words } }
@@ -49,7 +49,7 @@ impl Talker {
         }
     }
 
-    /// The instant at which the block of this number comes, the next of its talker's.
+    /// Returns the instant of the block with this number, which is the talker's next one.
     pub(crate) fn next(&mut self, block: u64) -> u128
         ensures at { result ≡ max self.old.reached (on_grid self.old.traffic block + late_by self.old.traffic.jitter self.old.words) }
         ensures next { self.new ≡ record self.old { words = behind_word self.old.words; reached = result } }

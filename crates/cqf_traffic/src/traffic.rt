@@ -1,4 +1,4 @@
-//! A talker's promise, as its stream's table has it.
+//! A talker's promise, as its stream's table says it.
 ghost use Rattle.std.specs.Prelude.{◌≡◌, ◌≤◌, option_map};
 ghost use Rattle.toml.specs.View.{table_view, view};
 ghost use Rattle.cqf_laws_timing.specs.Traffic.{intervals_in, needed};
@@ -11,9 +11,9 @@ use cqf_units::{Nanos, Octets};
 use std::marker::Model;
 use toml::{Table, Value};
 
-/// What a talker promises of a stream: in each interval at most so many frames of at most so many octets, each at its edge bridge at
-/// most so late against the regular grid; and when its offers begin, on which no promise hangs (after IEEE Std 802.1Q-2018,
-/// 46.2.3.5). Each number is in the range of its key.
+/// What a talker promises of a stream (after IEEE Std 802.1Q-2018, 46.2.3.5): the most frames in each interval, the most octets of a frame,
+/// and how late a frame can be at its edge bridge compared with the regular grid. It also has the instant at which the stream's offers
+/// begin, which isn't part of the promise. Each number is in the range of its key.
 #[derive(Clone, Copy, Debug)]
 pub struct Traffic {
     interval: u32,
@@ -38,15 +38,15 @@ impl Model for Traffic {
 impl Traffic {
     ghost use Rattle.cqf_traffic.specs.TrafficText.{IsTrafficText};
 
-    /// Does nothing, and makes known to a proof what was seen to when the traffic was read: each number is in its range.
+    /// Does nothing. It gives a proof what was checked when the traffic was read: each number is in its range.
     pub fn know(self)
         ensures range { IsTrafficText self }
     {
-        // a use of a field: with it the invariant is known
+        // the use of a field makes the invariant known
         let _ = self.interval;
     }
 
-    /// How long an interval is, from 1 to 1,000,000,000 ns.
+    /// Returns the length of an interval, from 1 to 1,000,000,000 ns.
     pub fn interval(self) -> Nanos
         ensures value { result.0 ≡ self.interval }
         ensures range { IsTrafficText self }
@@ -54,7 +54,7 @@ impl Traffic {
         Nanos(u64::from(self.interval))
     }
 
-    /// How many frames come in each interval at most, from 1 to 1,000.
+    /// Returns the most frames in each interval, from 1 to 1,000.
     pub fn frames(self) -> u32
         ensures value { result ≡ self.frames }
         ensures range { IsTrafficText self }
@@ -62,7 +62,7 @@ impl Traffic {
         self.frames
     }
 
-    /// How many octets a frame has at most, from 64 to 1,522.
+    /// Returns the most octets of a frame, from 64 to 1,522.
     pub fn size(self) -> Octets
         ensures value { result.0 ≡ self.size }
         ensures range { IsTrafficText self }
@@ -70,7 +70,7 @@ impl Traffic {
         Octets(self.size)
     }
 
-    /// How late a frame may be, up to 1,000,000,000 ns.
+    /// Returns how late a frame can be, up to 1,000,000,000 ns.
     pub fn jitter(self) -> Nanos
         ensures value { result.0 ≡ self.jitter }
         ensures range { IsTrafficText self }
@@ -78,7 +78,7 @@ impl Traffic {
         Nanos(u64::from(self.jitter))
     }
 
-    /// When the stream's offers begin, up to 1,000,000,000 ns.
+    /// Returns the instant at which the stream's offers begin, up to 1,000,000,000 ns.
     pub fn offset(self) -> Nanos
         ensures value { result.0 ≡ self.offset }
         ensures range { IsTrafficText self }
@@ -86,7 +86,7 @@ impl Traffic {
         Nanos(u64::from(self.offset))
     }
 
-    /// The same promise of offers that begin at another instant, up to 1,000,000,000 ns.
+    /// Returns the same promise, with offers that begin at another instant, up to 1,000,000,000 ns.
     pub fn from_instant(self, offset: Nanos) -> Traffic
         requires { offset.0 ≤ most_of TrafficKey.Offset }
         ensures { result ≡ record { interval = self.interval; frames = self.frames; size = self.size; jitter = self.jitter; offset = offset.0 } }
@@ -97,7 +97,7 @@ impl Traffic {
         }
     }
 
-    /// Into how many intervals a cycle can reach, by the cycle time.
+    /// Returns the greatest number of intervals from which frames can come in one cycle, given the cycle time.
     fn intervals_in(self, cycle_time: Nanos) -> u128
         ensures value { result ≡ intervals_in cycle_time.0 (promise_of self) }
     {
@@ -105,7 +105,8 @@ impl Traffic {
         (u128::from(cycle_time.0) + u128::from(self.jitter) + interval - 1) / interval
     }
 
-    /// What a cycle needs of the stream, in octets, by the cycle time: as many frames of the greatest size as it can hold.
+    /// Returns what a cycle needs of the stream, in octets, given the cycle time: the most frames that it can hold, each of the greatest
+    /// size.
     pub fn needed(self, cycle_time: Nanos) -> u128
         ensures { result ≡ needed cycle_time.0 (promise_of self) }
     {
@@ -114,14 +115,14 @@ impl Traffic {
     }
 }
 
-/// What stands at a key of a stream's table, or `None` where it lacks the key.
+/// Returns the value at a key of a stream's table, or `None` if the table lacks the key.
 pub(crate) fn value_at<'t>(table: &'t Table, key: TrafficKey) -> Option<&'t Value>
     ensures { option_map (λ v. view v.now) result ≡ value_at key (table_view table.now) }
 {
     table.get(key.as_str())
 }
 
-/// Whether a key of traffic stands in the table.
+/// Returns whether the table has a key of traffic.
 pub(crate) fn has_traffic(table: &Table) -> bool
     ensures { result ≡ has_traffic (table_view table.now) }
 {
@@ -130,7 +131,7 @@ pub(crate) fn has_traffic(table: &Table) -> bool
         .any(|key| value_at(table, *key).is_some())
 }
 
-/// A number that may stand at the key, of a value.
+/// Returns the number that a value is, if it is allowed at the key.
 fn number_of(value: &Value, key: TrafficKey) -> Option<u32>
     ensures { result ≡ number_from (least_of key) (most_of key) (view value.now) }
 {
@@ -145,7 +146,7 @@ fn number_of(value: &Value, key: TrafficKey) -> Option<u32>
     }
 }
 
-/// The number at a key, or what stands for it where it is absent; else the key.
+/// Returns the number at a key, or the default if the key is absent. The error is the key, if it has another value or must be there.
 fn number_at(table: &Table, key: TrafficKey) -> Result<u32, TrafficKey>
     ensures { result ≡ number_at key (table_view table.now) }
 {
@@ -159,7 +160,7 @@ fn number_at(table: &Table, key: TrafficKey) -> Result<u32, TrafficKey>
     }
 }
 
-/// The traffic of a stream's table that has one.
+/// Returns the traffic of a stream's table that has traffic.
 fn numbers_of(table: &Table) -> Result<Traffic, TrafficKey>
     ensures { result ≡ numbers_from (table_view table.now) }
 {
@@ -177,12 +178,12 @@ fn numbers_of(table: &Table) -> Result<Traffic, TrafficKey>
     })
 }
 
-/// The traffic of a stream's table, or `None` where none of its keys stands there. Each of `interval`, from 1 to 1,000,000,000 ns,
-/// `frames`, from 1 to 1,000, else 1, `size`, from 64 to 1,522 octets, `jitter` and `offset`, up to 1,000,000,000 ns, else 0, is an
-/// integer.
+/// Returns the traffic of a stream's table, or `None` if the table has no key of it. The keys are integers: `interval`, from 1 to
+/// 1,000,000,000 ns; `frames`, from 1 to 1,000, by default 1; `size`, from 64 to 1,522 octets; `jitter` and `offset`, up to 1,000,000,000
+/// ns, by default 0.
 ///
 /// # Errors
-/// The first of these keys, in this order, at which something else stands, or which is owed and absent.
+/// The first of these keys, in this order, that has another value, or that must be there and is absent.
 pub fn traffic_of(table: &Table) -> Result<Option<Traffic>, TrafficKey>
     ensures { result ≡ traffic_from (table_view table.now) }
 {

@@ -1,4 +1,4 @@
--- The bytes so far have been kept.
+-- The bytes so far have been copied.
 use Rattle.std.proofs.Common.{◌≡◌, take}
 use Rattle.cqf_addressing.proofs.interfaces.kept.Given as goal
 

@@ -1,4 +1,4 @@
--- Which indexes were seen up to a place.
+-- The gate indexes that were seen so far.
 use Rattle.cqf_addressing.proofs.Seen.{HasSeen}
 use Rattle.cqf_addressing.proofs.twice.first_gate_twice.Given as goal
 

@@ -1,4 +1,4 @@
--- The places so far aren't broken.
+-- The branch isn't broken at the indexes so far.
 use Rattle.std.proofs.Common.{◌≡◌, ℕ, ◌<◌, false}
 use Rattle.std.specs.Prelude.{map, string_bytes}
 use Rattle.cqf_model.specs.History.{is_broken_at}

@@ -1,4 +1,4 @@
--- The places of the branches so far.
+-- The number of names in the branches so far.
 use Rattle.std.proofs.Common.{◌≡◌, take}
 use Rattle.cqf_admission.specs.Branches.{branches_of, places_of}
 use Rattle.cqf_admission.proofs.branches.count_places.Given as goal

@@ -1,4 +1,4 @@
--- The branches so far pass the check, the places so far are theirs, and the nodes that are left are those of the others.
+-- The branches so far pass the check, their names are counted, and the nodes that are left are those of the other branches.
 use Rattle.std.proofs.Common.{drop}
 use Rattle.std.specs.List.{flat_map}
 use Rattle.cqf_admission.specs.Branches.{AreNodes, branches_of}

@@ -1,4 +1,4 @@
--- The nodes so far didn't stand earlier.
+-- The nodes so far didn't occur earlier.
 use Rattle.std.proofs.Common.{◌≡◌, ℕ, ◌<◌, false}
 use Rattle.std.specs.Prelude.{map, string_bytes}
 use Rattle.cqf_model.specs.History.{is_loop_at}

@@ -1,4 +1,4 @@
--- The greatest so far, and that of the lines that are left.
+-- The greatest count so far, and that of the remaining lines.
 use Rattle.std.proofs.Common.{◌≡◌, length, max}
 use Rattle.cqf_text.specs.Lines.{lines_of}
 use Rattle.cqf_admission.specs.Script.{administrators}

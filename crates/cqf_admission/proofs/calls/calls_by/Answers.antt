@@ -8,7 +8,7 @@ use Rattle.cqf_admission.proofs.calls.calls_by.Goals as goal
 pub loop-order-init : goal.loop-order-init
 loop-order-init c = ap (map called_of) c.new-calls.ensures.items
 
--- at the end they are those of all orders, and what they share is what was asked for
+-- at the end they are the calls of all orders, with the requests that are shared
 pub returns : goal.returns
 returns c =
     let whole : take c.loop-order.order-index c.args.orders.now ≡ c.args.orders.now =

@@ -1,4 +1,4 @@
--- Each call adds one that is for the same.
+-- Each call adds one with the same act.
 use Rattle.std.proofs.Common.{◌∙◌, ◌++◌, ◌∷◌, [], map, ap, sym, append_assoc}
 use Rattle.std.proofs.lemmas.List.{map-append}
 use Rattle.cqf_admission.specs.Script.{called_of}

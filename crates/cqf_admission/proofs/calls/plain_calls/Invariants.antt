@@ -1,4 +1,4 @@
--- The calls so far are for the same.
+-- The calls so far have the same acts.
 use Rattle.std.proofs.Common.{◌≡◌, ◌++◌, map}
 use Rattle.std.specs.Vec.Iter.{into_iter_items}
 use Rattle.cqf_admission.specs.Script.{called_of}

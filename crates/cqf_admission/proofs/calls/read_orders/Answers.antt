@@ -1,4 +1,4 @@
--- Each line adds its order to those that have been read.
+-- Each line adds its order to those read so far.
 use Rattle.std.proofs.Common.{◌≡◌, ◌∙◌, ◌++◌, [], ◌∷◌, ◌+◌, ◌-◌, Ok, Err, ap, length, map, arith}
 use Rattle.std.proofs.lemmas.Grind.{common_steps}
 use Rattle.std.proofs.lemmas.List.{map-append}
@@ -60,7 +60,7 @@ loop-line-preserved c =
       orders-one_more requests text orders c.push.new.self.items left behind c.in-Ok.order stood (c.in-Ok.ensures.stands text ends) more is_behind,
     )
 
--- and they are few
+-- the orders are few
 pub returns-clause-few : goal.returns-clause-few
 returns-clause-few c =
     let requests = map asked_paced c.args.names.now in

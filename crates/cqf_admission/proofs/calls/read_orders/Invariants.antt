@@ -1,4 +1,4 @@
--- The script's orders are those that have been read and those of the lines that are left.
+-- The script's orders are those read so far and those of the remaining lines.
 use Rattle.std.proofs.Common.{length, map}
 use Rattle.cqf_admission.specs.Asking.{asked_paced}
 use Rattle.cqf_admission.specs.Orders.{ordered_in}

@@ -1,4 +1,4 @@
--- Those that were taken are let go of.
+-- The streams whose numbers were taken are released.
 use Rattle.std.proofs.Common.{◌≡◌}
 use Rattle.cqf_admission.proofs.LetGo.{AreTaken}
 use Rattle.cqf_admission.proofs.ends.let_go_of.Given as goal

@@ -1,4 +1,4 @@
--- So many are unseen.
+-- The forms so far are unseen.
 use Rattle.std.proofs.Common.{ℕ, ◌≡◌, ◌<◌, length, get_or}
 use Rattle.cqf_admission.specs.declared.forms.RequestForm.TheVariants.{Unseen}
 use Rattle.cqf_admission.proofs.forms.unseen.Given as goal

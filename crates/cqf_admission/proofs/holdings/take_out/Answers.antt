@@ -17,7 +17,7 @@ rising numbers order i j le low = elim (cases_lt i j) [
       omega (arith, ap (λ (k : ℕ). get_or numbers k 0) e)
 ]
 
--- a number that stands among them is found
+-- a number among them is found
 abbrev Finds : List ℕ → ℕ → Result ℕ ℕ → Type 0
 Finds numbers number r = MatchResult r (λ place. (place < length numbers) × (get_or numbers place 0 ≡ number)) (λ place. Contains numbers number → ⊥)
 

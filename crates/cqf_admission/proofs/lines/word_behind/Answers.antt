@@ -1,4 +1,4 @@
--- Where the text begins otherwise there is no word.
+-- If the text doesn't begin with the prefix, there is no word.
 use Rattle.std.proofs.Common.{◌≡◌, false, None, List, ℕ, take, length, refl, sym, ap, ◌∙◌, nat_eq}
 use Rattle.std.specs.Prelude.{option_map}
 use Rattle.std.specs.Cmp.Lexicographic.{pointwise}
@@ -7,7 +7,7 @@ use Rattle.cqf_model.proofs.Texts.{pointwise-is_text}
 use Rattle.cqf_admission.specs.Lines.{word_behind}
 use Rattle.cqf_admission.proofs.lines.word_behind.Goals as goal
 
--- a text that begins otherwise
+-- a text that doesn't begin with the prefix
 begins_otherwise : (start text : List ℕ) → pointwise nat_eq (take (length start) text) start ≡ false → word_behind start text ≡ None
 begins_otherwise start text h =
     let other : is_text start (take (length start) text) ≡ false = sym (pointwise-is_text (take (length start) text) start) ∙ h in

@@ -1,4 +1,4 @@
--- The number has come to the sums of the links so far.
+-- The number was added to the sums of the links so far.
 use Rattle.std.proofs.Common.{take}
 use Rattle.cqf_model.specs.Table.{links_in}
 use Rattle.cqf_admission.specs.Sums.{AreMoreOn}

@@ -1,4 +1,4 @@
--- The hops to the places so far have been added.
+-- The hops up to this index have been added.
 use Rattle.cqf_admission.specs.Branches.{branch_of}
 use Rattle.cqf_admission.proofs.TreeLemmas.{AreAdded}
 use Rattle.cqf_admission.proofs.trees.add_branch.Given as goal

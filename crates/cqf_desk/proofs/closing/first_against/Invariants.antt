@@ -1,4 +1,4 @@
--- Unless one was found, the seats so far are borne out; else those of lesser numbers are.
+-- If none was found, the seats so far are borne out; otherwise those with smaller numbers are.
 use Rattle.std.proofs.Common.{◌++◌, length, map, take}
 use Rattle.cqf_admission.specs.Admission.{recorded_of}
 use Rattle.cqf_desk.specs.Closing.{ComesToLeast}

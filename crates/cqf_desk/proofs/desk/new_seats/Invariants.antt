@@ -1,4 +1,4 @@
--- So many seats that are fresh.
+-- The seats so far are fresh.
 use Rattle.std.proofs.Common.{◌≡◌}
 use Rattle.cqf_desk.specs.Desk.{fresh_seats}
 use Rattle.cqf_desk.proofs.desk.new_seats.Given as goal

@@ -1,4 +1,4 @@
--- The most of those so far.
+-- The greatest so far.
 use Rattle.std.proofs.Common.{◌≡◌, fold, max, take}
 use Rattle.cqf_report.proofs.columns.most_of.Given as goal
 

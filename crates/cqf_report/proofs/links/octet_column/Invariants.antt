@@ -1,4 +1,4 @@
--- The octets of the starts so far stand in the column.
+-- The octets of the starts so far are in the column.
 use Rattle.std.proofs.Common.{◌≡◌, take, map}
 use Rattle.cqf_report.proofs.links.octet_column.Given as goal
 

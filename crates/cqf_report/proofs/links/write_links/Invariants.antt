@@ -1,4 +1,4 @@
--- The links so far are put.
+-- The lines of the links so far are written.
 use Rattle.std.proofs.Common.{Global, Some, Vec, ℕ}
 use Rattle.cqf_lists.specs.Lists.{each_below}
 use Rattle.cqf_press.specs.Press.{Puts}

@@ -3,7 +3,7 @@ use Rattle.csv.specs.Reading.{Ready}
 use Rattle.cqf_report.proofs.TableLemmas.{Taken}
 use Rattle.cqf_report.proofs.rows.read_rows.Given as goal
 
--- each row so far was taken, and the reader gives the others
+-- each row so far was taken, and the reader returns the others
 abbrev pub invariant-loop-place : goal.invariant-loop-place
 invariant-loop-place g l = record {
   ready : Ready l.reader;

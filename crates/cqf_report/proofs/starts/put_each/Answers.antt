@@ -1,4 +1,4 @@
--- One more start is put.
+-- One more start is written.
 use Rattle.std.proofs.Common.{◌+◌, take, arith}
 use Rattle.std.proofs.lemmas.Grind.{common_steps}
 use Rattle.cqf_press.proofs.PressLemmas.{Puts-as, Puts-then}

@@ -1,4 +1,4 @@
--- The starts so far are put.
+-- The starts so far are written.
 use Rattle.std.proofs.Common.{take}
 use Rattle.cqf_press.specs.Press.{Puts}
 use Rattle.cqf_units.specs.Timing.{ticks_of_octet}

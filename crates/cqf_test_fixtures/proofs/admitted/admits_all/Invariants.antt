@@ -1,4 +1,4 @@
--- The admission's domain stays.
+-- The admission's domain is unchanged.
 use Rattle.std.proofs.Common.{◌≡◌}
 use Rattle.cqf_test_fixtures.proofs.admitted.admits_all.Given as goal
 

@@ -29,7 +29,7 @@ number_is next effect None receipt is = ap number is
     number Sealed = next
 number_is next effect (Some refused) receipt is = absurd cc
 
--- tables are made from what is held behind it
+-- tables are made from what is held after it
 tabled : (d : Domain) (entries : List Recorded) (seat : ℕ) (asked : Asked) (before after : Tables) (answer : Result Receipt Refused) →
     AreTablesOf d entries before → IsNoted before after (is_ok answer) →
     Answers (of_entries d entries) (of_entries d (entries_with entries seat (Admits asked) answer)) seat (Admits asked) answer →
@@ -54,7 +54,7 @@ admit-requires-clause-request c =
           c.of_judged-form.ensures.pace c.of_judged-form.ensures.tree;
     }
 
--- what an administration has beside its state and its history
+-- what an admission controller has besides its state and its history
 record Beside : Type 0 where
   domain : Domain
   tabling : Tables
@@ -81,7 +81,7 @@ module _ (c : goal.After-enter) where
       subst (λ (sealed : ℕ). length entries - sealed < 100000) (sym c.self.invariant.0.0.running.counted)
       (subst (λ (a : Administration). length a.entries - seals a.entries < 100000) (sym c.self.view_is) c.requires.room)
 
-  -- what it leaves with an answer
+  -- the effect with an answer
   abbrev Left : Figures → Result Receipt Refused → Type 0
   Left figures answer =
       Leaves d entries figures c.args.seat (Admits asked) answer
@@ -152,7 +152,7 @@ returns-clause-answers c =
     (subst (λ (b : Beside). Answers (of_entries (d c) (entries c)) (of_entries b.domain (map recorded_of items)) c.args.seat (Admits (asked c))
     c.match-judged.answer) (sym (alike c)) (entered c).answers))
 
--- two acts that admit admit the same
+-- two acts that admit the same request
 same_asked : (act : Act) (one other : Asked) → act ≡ Admits one → act ≡ Admits other → one ≡ other
 same_asked act one other is same = cc
 

@@ -1,4 +1,4 @@
--- A request is judged by itself, and asked for.
+-- A request is judged by itself, and is what the call requests.
 use Rattle.std.proofs.Common.{◌∙◌, ap, arith, subst}
 use Rattle.std.specs.Arc.{arc_value}
 use Rattle.cqf_model.specs.History.{Act, Admits}

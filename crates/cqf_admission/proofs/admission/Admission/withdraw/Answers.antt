@@ -14,7 +14,7 @@ use Rattle.cqf_admission.proofs.Entered.{Entered, entered_behind, entered_with, 
 use Rattle.cqf_admission.proofs.Tabled.{tables_ended, tables_same}
 use Rattle.cqf_admission.proofs.admission.Admission.withdraw.Goals as goal
 
--- tables are made from what is held behind it
+-- tables are made from what is held after it
 tabled : (d : Domain) (entries : List Recorded) (seat : ℕ) (name : List ℕ) (before after : Tables) (answer : Result Receipt Refused) →
     AreTablesOf d entries before → IsNoted before after (is_ok answer) →
     EndsOne (of_entries d entries) (of_entries d (entries_with entries seat (Withdraws name) answer)) answer →

@@ -10,7 +10,7 @@ use Rattle.cqf_admission.proofs.Lists.{mapped_there}
 use Rattle.cqf_admission.proofs.MappedRows.{mapped_more}
 use Rattle.cqf_admission.proofs.holdings.Holdings.held_rows.Goals as goal
 
--- the rows of those that are held
+-- the rows of the held streams
 abbrev wanted : List Stand → List Row
 wanted stands = map (λ (stand : Standing). stand.row) (filter (λ (stand : Standing). stand.held) (map standing_of stands))
 
@@ -24,7 +24,7 @@ module _ (stands : List Stand) (held : List ℕ) (are : held ≡ numbers_from 0 
   is_there : number ≡ get_or held place number
   is_there = is ∙ get_or_default held place 0 number low
 
-  -- a number that is listed is that of a stream that is held
+  -- a listed number is that of a held stream
   at_number : IsHeldAt (map standing_of stands) number
   at_number =
       let among : Contains held number = (place, low, sym is_there) in
@@ -33,7 +33,7 @@ module _ (stands : List Stand) (held : List ℕ) (are : held ≡ numbers_from 0 
   inside : number < length stands
   inside = omega (arith, at_number.inside, length-map stands standing_of)
 
-  -- whose row is the next one
+  -- the row of that stream is the next one
   next_is : (stand : Stand) → stand ≡ get_or stands number stand → get_or (wanted stands) place (arc_value stand.row) ≡ arc_value stand.row
   next_is stand there =
       mapped_there (λ (s : Standing). s.row) (filter (λ (s : Standing). s.held) (map standing_of stands)) place (standing_of stand) (arc_value stand.row)

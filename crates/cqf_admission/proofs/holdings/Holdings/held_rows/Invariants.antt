@@ -1,4 +1,4 @@
--- The rows of the first of those that are held.
+-- The rows of the first held streams.
 use Rattle.std.proofs.Common.{◌≡◌, map, filter, take}
 use Rattle.std.specs.Arc.{arc_value}
 use Rattle.cqf_admission.specs.Holdings.{Standing, standing_of}

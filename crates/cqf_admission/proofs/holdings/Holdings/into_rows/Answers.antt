@@ -7,7 +7,7 @@ use Rattle.cqf_admission.specs.declared.holdings.Stand.{Stand}
 use Rattle.cqf_admission.specs.Holdings.{Standing, Stands, standing_of}
 use Rattle.cqf_admission.proofs.holdings.Holdings.into_rows.Goals as goal
 
--- to take each as it is gives the list
+-- mapping each element to itself gives the same list
 map_same : (stands : List Stand) → map (λ (stand : Stand). stand) stands ≡ stands
 map_same [] = refl
 map_same (stand ∷ stands) = ap (λ (rest : List Stand). stand ∷ rest) (map_same stands)

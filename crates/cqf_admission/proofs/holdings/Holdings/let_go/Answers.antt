@@ -20,7 +20,7 @@ use Rattle.cqf_admission.proofs.HeldNumbers.{number_of_held, numbers_ascend, wit
 use Rattle.cqf_admission.proofs.Lists.{map_set, mapped_there, read_same}
 use Rattle.cqf_admission.proofs.holdings.Holdings.let_go.Goals as goal
 
--- what is known of a stream that is held
+-- what is known of a held stream
 module _ (stands : List Stand) (under : List ℕ → Option ℕ) (held : List ℕ) (sums : Turned) (h : HaveFigures (map standing_of stands) under held sums) (number : ℕ)
     (at : IsHeldAt (map standing_of stands) number) (old : Stand) (is : old ≡ get_or stands number old) where
   low : number < length stands

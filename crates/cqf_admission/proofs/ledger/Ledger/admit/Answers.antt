@@ -27,7 +27,7 @@ use Rattle.cqf_admission.proofs.RunLemmas.{answers_memory}
 use Rattle.cqf_admission.proofs.ledger.Ledger.admit.Goals as goal
 use Rattle.cqf_admission.proofs.ledger.Ledger.admit.Goals.{in-Bad, in-Good+in_ok-answer-in-Good}
 
--- the request at the place, whose form is among those that are known
+-- the request at the index, whose form is among the known ones
 module _ (d : Domain) (rs : List PacedRequest) (forms : List RequestForm) (place : ℕ) (read : PacedRequest) (there : place < length (map asked_paced rs))
     (known : AreForms d rs forms) where
   low : place < length rs
@@ -45,7 +45,7 @@ module _ (d : Domain) (rs : List PacedRequest) (forms : List RequestForm) (place
   found : (form : RequestForm) → form ≡ get_or forms place form → IsFormOf d (asked_paced request) form
   found form at = form_at d rs forms place request form known low is_there at
 
-  -- and with its form seen these are known
+  -- with its form seen, the forms are still known
   seen : (form : RequestForm) → IsFormOf d (asked_paced request) form → AreForms d rs (set forms place form)
   seen form of = forms_set d rs forms place request form known low is_there of
 
@@ -117,7 +117,7 @@ returns-in_err-answer-in-Good-clause-answers c =
     (ap (λ (log : List Logged). of_entries i.domain.now (map (recorded_in asked i.script.now) log)) c.reserve.ensures.items
     ∙ ap (λ (k : Kept). k.administration) c.self.view_is)
 
--- what a ledger has beside its state and its log
+-- what a ledger has besides its state and its log
 record Beside : Type 0 where
   domain : Domain
   requests : List PacedRequest
@@ -166,7 +166,7 @@ module _ (c : goal.After-enter) where
     length-map c.self.inside.log.items (recorded_in requests script),
   )
 
-  -- what it leaves with an answer
+  -- the effect with an answer
   abbrev Left : Figures → Result Receipt Refused → Type 0
   Left figures answer =
       Leaves d entries figures c.args.seat (Admits asked) answer

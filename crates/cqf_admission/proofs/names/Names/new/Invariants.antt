@@ -1,4 +1,4 @@
--- What stands under each name is the place of the first of the requests so far.
+-- The index stored under each name is that of the first of the requests so far.
 use Rattle.std.proofs.Common.{take}
 use Rattle.cqf_admission.specs.Names.{LeadToFirst, place_under}
 use Rattle.cqf_admission.proofs.names.Names.new.Given as goal

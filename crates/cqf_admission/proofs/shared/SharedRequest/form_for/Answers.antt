@@ -1,4 +1,4 @@
--- What was found for a domain that is the same was found for this one.
+-- What was found for an equal domain was found for this one.
 use Rattle.std.proofs.Common.{◌≡◌, ◌∙◌, subst, subst₂, sym}
 use Rattle.std.specs.Arc.{arc_value}
 use Rattle.cqf_model.specs.Domain.{Domain}

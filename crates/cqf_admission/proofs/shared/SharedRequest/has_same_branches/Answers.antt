@@ -1,4 +1,4 @@
--- Branches are the same where they are spelled as the same.
+-- Branches are the same if and only if their spellings are.
 use Rattle.std.proofs.Common.{◌∙◌, ap, sym}
 use Rattle.cqf_admission.specs.Branches.{branches_of}
 use Rattle.cqf_admission.specs.Spelled.{spelled}

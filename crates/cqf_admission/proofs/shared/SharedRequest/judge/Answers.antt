@@ -1,4 +1,4 @@
--- What was found is what the request is by itself.
+-- What was found is the judgement of the request by itself.
 use Rattle.std.proofs.Common.{ap, arith, subst}
 use Rattle.cqf_model.specs.declared.topology.Row.{Row}
 use Rattle.cqf_admission.specs.Asking.{asked_paced}

@@ -1,4 +1,4 @@
--- It was looked over for the domain that is shared.
+-- The request was checked for the shared domain.
 use Rattle.std.proofs.Common.{◌∙◌, ap, subst, sym}
 use Rattle.cqf_model.specs.Domain.{Domain}
 use Rattle.cqf_admission.specs.Asking.{asked_paced}

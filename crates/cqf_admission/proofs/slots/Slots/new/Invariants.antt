@@ -1,4 +1,4 @@
--- So many lists have no numbers.
+-- The lists so far have no numbers.
 use Rattle.std.proofs.Common.{ℕ, ◌≡◌, ◌<◌, [], length, get_or, map}
 use Rattle.cqf_admission.proofs.slots.Slots.new.Given as goal
 

@@ -1,4 +1,4 @@
--- The number has gone from the sums of the hops so far.
+-- The number was subtracted from the sums of the hops so far.
 use Rattle.std.proofs.Common.{◌-◌, take}
 use Rattle.cqf_admission.specs.Turns.{AreKept}
 use Rattle.cqf_admission.proofs.TurnLemmas.{AreFor}

@@ -1,4 +1,4 @@
--- The calls so far were made, and leave the seat's tables.
+-- The calls so far were made, and the seat's tables are unchanged.
 use Rattle.cqf_desk.proofs.Followers.{HasPassed}
 use Rattle.cqf_desk.proofs.following.Follower.passes_all.Given as goal
 

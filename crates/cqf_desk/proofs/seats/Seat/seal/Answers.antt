@@ -8,7 +8,7 @@ use Rattle.cqf_admission.specs.Tables.{CycleTable}
 use Rattle.cqf_desk.specs.Desk.{Sitting, with_seal}
 use Rattle.cqf_desk.proofs.seats.Seat.seal.Goals as goal
 
--- a seat whose lists have a Seal and its table more
+-- a seat whose lists have one more Seal and its table
 sealed : (old : Sitting) (number : ℕ) (had calls : List Entry) (kept tables : List CycleTable) (own : CycleTable) →
     old ≡ record { number = number; calls = map recorded_of had; tables = kept } → calls ≡ had ++ record { seat = number; call = Seal; reply = Sealed } ∷ [] →
     tables ≡ kept ++ own ∷ [] → record { number = number; calls = map recorded_of calls; tables = tables } ≡ with_seal old own

@@ -6,7 +6,7 @@ use Rattle.cqf_topology.specs.DomainText.{place_of}
 use Rattle.cqf_topology.specs.Names.{Numbered}
 use Rattle.cqf_topology.proofs.names.NameList.number_of.Goals as goal
 
--- a name's place is among the names
+-- the index of a name is below the number of names
 inside : (name : List ℕ) (names : List (List ℕ)) (found : Option ℕ) → found ≡ place_of name names → IfSome found (λ number. number < length names)
 inside name names None is = tt
 inside name names (Some number) is = (position-Some (λ other. is_text other name) names number [] (sym is)).0
