@@ -150,7 +150,6 @@ module _ (d : Domain) (reels : List Reel) (left after : List (Vec Tape Global)) 
   }
 
 -- ---- as in the code: links are counted from the greatest down, and tapes are in the order in which they were taken
--- the bridge that is found is the link's
 
 -- the bridge that is found is the link's
 its_bridge : (d : Domain) (link : ℕ) (found : Link) → slice_get d.links link ≡ Some found → found.from ≡ bridge_of d link

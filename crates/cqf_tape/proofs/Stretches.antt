@@ -103,9 +103,8 @@ late_instant d cycle t time end some is at least =
     le-div (cycle + 1) t d.cycle_time some (omega (arith, bound, least))
 
 -- ---- where a cycle's marks end, counted on from where those of the earlier cycles end
--- no mark before the index is of a later cycle
 
--- no mark before the place is of a later cycle
+-- no mark before the index is of a later cycle
 abbrev pub NoneLater : Domain → ℕ → List Mark → ℕ → Type 0
 NoneLater d cycle marks place = (k : ℕ) (m : Mark) → slice_get marks k ≡ Some m → k < place → cycle_of d m.start.0 < cycle + 1
 
