@@ -2,7 +2,7 @@
 //! bridges that follow the legal network of a run.
 //!
 //! - **The bridge.** A [`Bridge`] has one port for each link that leaves it. [`Bridge::receive`] takes the frames that arrive in a cycle.
-//!   [`Bridge::send`] runs the ports to the end of a cycle. It returns one [`Batch`] a link, with the streams' frames that the link carries
+//!   [`Bridge::send`] runs the ports to the end of a cycle. It appends one [`Batch`] a link, with the streams' frames that the link carries
 //!   ([`Sent`]), for the bridge or station at the link's end; [`Bridge::background_starts`] returns the background frames that started. In
 //!   `specs/` a bridge is its `BridgeState`: its domain and number, its cycle, and all that was recorded at its ports. A [`BridgeFault`] is the
 //!   reason for which it refuses a call.
