@@ -274,7 +274,7 @@ module _ (place told : ℕ) (stretch : Stretch) (older before after : Relay) (ol
       (back_tidy hands.outlet hands.handed new told stretch hands.takes back_to_it told_then
       (all_at IsTidy older.outlets.items place hands.outlet tidy hands.was)) tidy
 
--- a bridge, one link of which takes back what it handed on
+-- a bridge with one link that takes back what it handed on
 pub relay_keeps_back : (place told : ℕ) (stretch : Stretch) (before after : Relay) (old new : Outlet) → IsSameButLinks before after →
     slice_get before.outlets.items place ≡ Some old → after.outlets.items ≡ set before.outlets.items place new → KeepsStretchBack told stretch old new →
     KeepsBack place told stretch before after

@@ -182,7 +182,7 @@ room_learned l known (row ∷ rows) before after learn come room =
     let long : length between.rows.items ≡ row.no + 1 = ap length learn.1.rows ∙ length_learned before.rows.items row.no by fits in
     room_learned l (row.no + 1) rows between after learn.2 (later_behind known row rows come) (omega (arith, long))
 
--- three tests, of which one passes
+-- three tests, one of them passes
 either_of_three : (a b c : Bool) → ((a || b) || c) ≡ (a || (b || c))
 either_of_three true b c = refl
 either_of_three false b c = refl

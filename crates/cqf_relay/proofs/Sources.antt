@@ -106,7 +106,7 @@ module _ {X : Type 0} (key : X → ℕ) where
       sym (kept_between (λ x. key x == t) (take from xs) (take count rest) (drop count rest) early here late)
       ∙ ap (filter (λ x. key x == t)) (parts ∙ same)
 
--- frames of which those from a cycle on are kept
+-- frames; those from a cycle on are kept
 pub keeps_from : (before : ℕ) (old new : List ArrivedFrame) → new ≡ filter (λ (came : ArrivedFrame). nat_le before came.cycle) old → KeepsFrom before old new
 keeps_from before old new is =
     let keeps = λ (came : ArrivedFrame). nat_le before came.cycle in

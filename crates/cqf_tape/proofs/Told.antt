@@ -44,7 +44,7 @@ told_stretch d cycle link marks own is =
     ∙ map_same (started_in cycle link) (started_by d link) (filter (is_in d cycle) marks)
     (λ m kept. ap (λ (n : ℕ). started_in n link m) (sym (eqb-true (cycle_of d m.start.0) cycle (contains_from_filter (is_in d cycle) marks m kept).1)))
 
--- ---- indices of which the first are those after a cycle, and the others those before it
+-- ---- indices: first those after a cycle, then those before it
 
 pub record ArePlacedTo (Before After : ℕ → ℕ → Type 0) (many next : ℕ) (places : List ℕ) : Type 0 where
   pub enough : many ≤ length places
